@@ -1,0 +1,115 @@
+-- A legal history of one stream's calls is what answering them one after another gives.
+use Rattle.std.proofs.Common.{◌≡◌, ℕ, zero, suc, eqb, inl, inr, subst, Bool, true, false, cond, List, [], ◌∷◌, ◌++◌, map, refl, sym, ap, ◌∙◌, arith}
+use Rattle.std.proofs.lemmas.Bool.{eq-eqb, ne_eqb}
+use Rattle.std.proofs.lemmas.Bool.Decides.{eqb_tells}
+use Rattle.volume_model.specs.declared.call.Call.{Call}
+use Rattle.volume_model.specs.declared.call.Reply.{Reply}
+use Rattle.volume_model.specs.declared.entry.Answer.{Answer}
+use Rattle.volume_model.specs.declared.entry.Entry.{Entry}
+use Rattle.volume_model.specs.declared.entry.Entry.TheVariants as entry
+use Rattle.volume_model.specs.PlainState.{PlainState}
+use Rattle.volume_model.specs.PlainStep.{plain_step}
+use Rattle.volume_model.specs.Replay.{after_entry, replay}
+use Rattle.volume_model.specs.History.{Opening, LegalAfter, answers_from, InOrderFrom, IsHistory}
+use Rattle.volume_model.specs.OneWorker.{answer_at, served_from, served, stream_of}
+use Rattle.volume_model.proofs.StepLemmas.{replay-push, after_entry-answer_at}
+
+abbrev answer_of : ℕ → ℕ → ℕ → Call → Reply → Answer
+answer_of s i n c r = record { call = c; reply = r; index = i; saw = n; stream = s }
+
+-- these answers of stream 0, and no entry of another stream
+record Follows (calls : List Call) (journal : List Entry) (k : ℕ) : Type 0 where
+  order : InOrderFrom k k (answers_from 0 k journal)
+  own : map (λ p. p.1.call) (answers_from 0 k journal) ≡ calls
+  other : (stream : ℕ) → answers_from (suc stream) k journal ≡ []
+
+same_answer : (state : PlainState) (k : ℕ) (c : Call) (a : Answer) → a.stream ≡ 0 → a.index ≡ k → a.saw ≡ k → a.call ≡ c → a.reply ≡ (plain_step state c).1
+    → entry.Answer a ≡ answer_at state k c
+same_answer state k c a own index saw call reply = ap entry.Answer (parts a.stream 0 a.index k a.saw k a.call c a.reply _ own index saw call reply)
+  where
+    parts : (s t i j m n : ℕ) (c d : Call) (r q : Reply) → s ≡ t → i ≡ j → m ≡ n → c ≡ d → r ≡ q
+        → answer_of s i m c r ≡ answer_of t j n d q
+    parts s t i j m n c d r q e f g h l = cc
+
+-- the first entry, where the entries behind it are known
+first_entry : (opening : Opening) (before : List Entry) (state : PlainState) (k : ℕ) (cs : List Call) (a : Answer) (es : List Entry)
+    → replay opening.state before ≡ state → LegalAfter opening before (entry.Answer a ∷ es) → Follows cs (entry.Answer a ∷ es) k
+    → ((more : List Entry) (s : PlainState) (rest : List Call) → replay opening.state more ≡ s → LegalAfter opening more es → Follows rest es (suc k) → es ≡ served_from s (suc k) rest)
+    → entry.Answer a ∷ es ≡ served_from state k cs
+first_entry opening before state k cs a es at legal follows later' =
+    elim (eqb_tells a.stream 0) [ inl own ↦ mine own.0 own.1 | inr other ↦ absurd (not_mine a.stream other.1 refl) ]
+  where
+    cond_is : {A : Type 0} (b c : Bool) (x y : A) → b ≡ c → cond b x y ≡ cond c x y
+    cond_is b c x y e = ap (λ t. cond t x y) e
+
+    not_nil : {A : Type 0} (x : A) (xs : List A) → x ∷ xs ≡ [] → ⊥
+    not_nil x xs e = cc
+
+    not_mine : (s : ℕ) → (s ≡ 0 → ⊥) → a.stream ≡ s → ⊥
+    not_mine zero other is = other refl
+    not_mine (suc s) other is =
+        not_nil (k, a) _ (sym (cond_is (eqb a.stream (suc s)) true ((k, a) ∷ answers_from (suc s) (suc k) es) (answers_from (suc s) (suc k) es) (eq-eqb _ _ is)) ∙ follows.other s)
+
+    mine : eqb a.stream 0 ≡ true → a.stream ≡ 0 → entry.Answer a ∷ es ≡ served_from state k cs
+    mine test own =
+        let answers : answers_from 0 k (entry.Answer a ∷ es) ≡ (k, a) ∷ answers_from 0 (suc k) es =
+        cond_is (eqb a.stream 0) true ((k, a) ∷ answers_from 0 (suc k) es) (answers_from 0 (suc k) es) test in
+        let order : InOrderFrom k k ((k, a) ∷ answers_from 0 (suc k) es) = subst (InOrderFrom k k) answers follows.order in
+        let calls : a.call ∷ map (λ p. p.1.call) (answers_from 0 (suc k) es) ≡ cs = sym (ap (map (λ p. p.1.call)) answers) ∙ follows.own in
+        go cs own order calls
+      where
+        go : (cs : List Call) → a.stream ≡ 0 → InOrderFrom k k ((k, a) ∷ answers_from 0 (suc k) es) → a.call ∷ map (λ p. p.1.call) (answers_from 0 (suc k) es) ≡ cs
+            → entry.Answer a ∷ es ≡ served_from state k cs
+        go [] own order calls = absurd (not_nil _ _ calls)
+        go (c ∷ rest) own order calls =
+            let call : a.call ≡ c = heads calls in
+            let first : entry.Answer a ≡ answer_at state k c =
+            same_answer state k c a own order.0 (omega (arith, order.1, order.2)) call (legal.0.reply ∙ both at call) in
+            let next : replay opening.state (before ++ entry.Answer a ∷ []) ≡ (plain_step state c).0 =
+            replay-push opening.state before (entry.Answer a) ∙ ap (λ s. after_entry s (entry.Answer a)) at ∙ ap (after_entry state) first ∙ after_entry-answer_at state k c in
+            let later = later' (before ++ entry.Answer a ∷ []) (plain_step state c).0 rest next legal.1 (record {
+              order = order.3;
+              own = tails calls;
+              other = λ stream. sym (skip stream) ∙ follows.other stream;
+            }) in
+            joined first later
+          where
+            heads : {x y : Call} {xs ys : List Call} → x ∷ xs ≡ y ∷ ys → x ≡ y
+            heads e = cc
+
+            tails : {x y : Call} {xs ys : List Call} → x ∷ xs ≡ y ∷ ys → xs ≡ ys
+            tails e = cc
+
+            both : {s t : PlainState} {x y : Call} → s ≡ t → x ≡ y → (plain_step s x).1 ≡ (plain_step t y).1
+            both e f = cc
+
+            joined : {x y : Entry} {xs ys : List Entry} → x ≡ y → xs ≡ ys → x ∷ xs ≡ y ∷ ys
+            joined e f = cc
+
+            zero_not_suc : (stream : ℕ) → 0 ≡ suc stream → ⊥
+            zero_not_suc stream e = omega arith
+
+            skip : (stream : ℕ) → answers_from (suc stream) k (entry.Answer a ∷ es) ≡ answers_from (suc stream) (suc k) es
+            skip stream = cond_is (eqb a.stream (suc stream)) false ((k, a) ∷ answers_from (suc stream) (suc k) es) (answers_from (suc stream) (suc k) es)
+                (ne_eqb _ _ (λ e. zero_not_suc stream (sym own ∙ e)))
+
+unique : (opening : Opening) (before : List Entry) (state : PlainState) (k : ℕ) (cs : List Call) (journal : List Entry)
+    → replay opening.state before ≡ state → LegalAfter opening before journal → Follows cs journal k → journal ≡ served_from state k cs
+unique opening before state k cs [] at legal follows = ap (served_from state k) follows.own
+unique opening before state k cs (entry.Answer a ∷ es) at legal follows =
+    first_entry opening before state k cs a es at legal follows (λ more s rest e l f. unique opening more s (suc k) rest es e l f)
+
+nil_from_map : (answers : List (ℕ × Answer)) → map (λ p. p.1.call) answers ≡ [] → answers ≡ []
+nil_from_map [] e = refl
+nil_from_map (p ∷ ps) e = absurd (not_nil e)
+  where
+    not_nil : p.1.call ∷ map (λ p. p.1.call) ps ≡ [] → ⊥
+    not_nil e = cc
+
+pub only_served : (opening : Opening) (counted : ℕ → ℕ → ℕ) (calls : List Call) (journal : List Entry)
+    → IsHistory opening counted (stream_of (calls ∷ [])) journal → journal ≡ served opening.state calls
+only_served opening counted calls journal history = unique opening [] opening.state 0 calls journal refl history.legal (record {
+  order = history.order 0;
+  own = history.each_once 0;
+  other = λ stream. nil_from_map _ (history.each_once (suc stream));
+})

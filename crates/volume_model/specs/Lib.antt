@@ -1,0 +1,9 @@
+pub mod Texts
+pub mod Disk
+pub mod PlainState
+pub mod PlainStep
+pub mod Replay
+pub mod Modes
+pub mod Faults
+pub mod History
+pub mod OneWorker
