@@ -1,0 +1,3 @@
+pub mod Fields
+pub mod OneSpelling
+pub mod OneAnswer
