@@ -1,0 +1,4 @@
+pub mod RunsLemmas
+pub mod Fronts
+pub mod LongestRuns
+pub mod TextTells

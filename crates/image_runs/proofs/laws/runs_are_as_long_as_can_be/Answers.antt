@@ -1,0 +1,11 @@
+use Rattle.image_runs.proofs.LongestRuns.{bytes_of-runs, All_runs_filled, runs_apart}
+use Rattle.image_runs.proofs.laws.runs_are_as_long_as_can_be.Goals as goal
+
+pub returns-clause-spelled : goal.returns-clause-spelled
+returns-clause-spelled c = bytes_of-runs
+
+pub returns-clause-filled : goal.returns-clause-filled
+returns-clause-filled c = All_runs_filled
+
+pub returns-clause-apart : goal.returns-clause-apart
+returns-clause-apart c = runs_apart

@@ -1,0 +1,13 @@
+//! Bytes as text, each run of equal bytes as the byte and its count.
+#![tactic(auto)]
+
+pub mod laws;
+mod lone;
+mod print;
+mod run;
+mod table;
+
+pub use print::print_runs;
+
+#[cfg(test)]
+mod tests;
