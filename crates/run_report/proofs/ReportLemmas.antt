@@ -1,0 +1,86 @@
+-- How the lines of a report are printed from left to right.
+use Rattle.std.proofs.Common.{◌≡◌, ℕ, suc, ◌+◌, ◌<◌, ◌≤◌, Bool, true, false, cond, eqb, List, [], ◌∷◌, ◌++◌, length, get_or, drop, refl, sym, ap, ◌∙◌, append_assoc, append-nil, add-one, drop-cons}
+use Rattle.std.proofs.Math.ListN.{drop_of_length-le}
+use Rattle.std.proofs.lemmas.Bool.{eq-eqb, ne_eqb}
+use Rattle.volume_model.specs.declared.entry.Entry.{Entry}
+use Rattle.volume_model.specs.declared.entry.Entry.TheVariants as entry
+use Rattle.volume_model.specs.declared.entry.Answer.{Answer}
+use Rattle.volume_model.specs.History.{answers_from}
+use Rattle.frame_wire.specs.declared.head.Head.{Head}
+use Rattle.run_report.specs.Lines.{entry_line, reply_line}
+use Rattle.run_report.specs.Report.{journal_lines, reply_lines}
+
+cond_is_true : {A : Type 0} (b : Bool) (x y : A) → b ≡ true → cond b x y ≡ x
+cond_is_true b x y e = rw e refl
+
+cond_is_false : {A : Type 0} (b : Bool) (x y : A) → b ≡ false → cond b x y ≡ y
+cond_is_false b x y e = rw e refl
+
+-- the next line, and the lines behind it
+pub next_line : (into whole : List ℕ) (place : ℕ) (entries : List Entry) (e : Entry) → place < length entries → get_or entries place e ≡ e
+    → into ++ journal_lines place (drop place entries) ≡ whole
+    → (into ++ entry_line place e) ++ journal_lines (place + 1) (drop (place + 1) entries) ≡ whole
+next_line into whole place entries e inside is text =
+    let cut : drop place entries ≡ e ∷ drop (suc place) entries = drop-cons entries place e inside ∙ ap (λ x. x ∷ drop (suc place) entries) is in
+    append_assoc into (entry_line place e) _
+    ∙ ap (λ n. into ++ (entry_line place e ++ journal_lines n (drop n entries))) (add-one place)
+    ∙ ap (λ l. into ++ journal_lines place l) (sym cut) ∙ text
+
+-- no line is left
+pub no_line : (into whole : List ℕ) (place : ℕ) (entries : List Entry) → length entries ≤ place
+    → into ++ journal_lines place (drop place entries) ≡ whole → into ≡ whole
+no_line into whole place entries past text =
+    sym (append-nil into) ∙ ap (λ l. into ++ journal_lines place l) (sym (drop_of_length-le entries past)) ∙ text
+
+-- the answers of stream 0 from an entry on
+answers-cut : (place : ℕ) (entries : List Entry) (a : Answer) → place < length entries → get_or entries place (entry.Answer a) ≡ entry.Answer a
+    → answers_from 0 place (drop place entries)
+    ≡ cond (eqb a.stream 0) ((place, a) ∷ answers_from 0 (place + 1) (drop (place + 1) entries)) (answers_from 0 (place + 1) (drop (place + 1) entries))
+answers-cut place entries a inside is =
+    let cut : drop place entries ≡ entry.Answer a ∷ drop (suc place) entries =
+    drop-cons entries place (entry.Answer a) inside ∙ ap (λ x. x ∷ drop (suc place) entries) is in
+    ap (answers_from 0 place) cut
+    ∙ ap (λ n. cond (eqb a.stream 0) ((place, a) ∷ answers_from 0 n (drop n entries)) (answers_from 0 n (drop n entries))) (sym (add-one place))
+
+-- The entry answers the next header.
+pub next_reply : (into whole : List ℕ) (next place : ℕ) (heads : List Head) (entries : List Entry) (h : Head) (a : Answer)
+    → place < length entries → get_or entries place (entry.Answer a) ≡ entry.Answer a → next < length heads → get_or heads next h ≡ h → a.stream ≡ 0
+    → into ++ reply_lines (drop next heads) (answers_from 0 place (drop place entries)) ≡ whole
+    → (into ++ reply_line h a) ++ reply_lines (drop (next + 1) heads) (answers_from 0 (place + 1) (drop (place + 1) entries)) ≡ whole
+next_reply into whole next place heads entries h a inside is room at own text =
+    let rest = answers_from 0 (place + 1) (drop (place + 1) entries) in
+    let cut : drop next heads ≡ h ∷ drop (next + 1) heads =
+    drop-cons heads next h room ∙ ap (λ x. x ∷ drop (suc next) heads) at ∙ ap (λ n. h ∷ drop n heads) (sym (add-one next)) in
+    let answers : answers_from 0 place (drop place entries) ≡ (place, a) ∷ rest =
+    answers-cut place entries a inside is ∙ cond_is_true (eqb a.stream 0) _ _ (eq-eqb _ _ own) in
+    append_assoc into (reply_line h a) _ ∙ ap (λ l. into ++ l) (sym (both cut answers)) ∙ text
+  where
+    both : {hs gs : List Head} {ps qs : List (ℕ × Answer)} → hs ≡ gs → ps ≡ qs → reply_lines hs ps ≡ reply_lines gs qs
+    both p q = cc
+
+-- The entry is of another stream, or no header is left.
+pub skip_other : (into whole : List ℕ) (next place : ℕ) (heads : List Head) (entries : List Entry) (a : Answer)
+    → place < length entries → get_or entries place (entry.Answer a) ≡ entry.Answer a → (a.stream ≡ 0 → ⊥)
+    → into ++ reply_lines (drop next heads) (answers_from 0 place (drop place entries)) ≡ whole
+    → into ++ reply_lines (drop next heads) (answers_from 0 (place + 1) (drop (place + 1) entries)) ≡ whole
+skip_other into whole next place heads entries a inside is other text =
+    let answers : answers_from 0 place (drop place entries) ≡ answers_from 0 (place + 1) (drop (place + 1) entries) =
+    answers-cut place entries a inside is ∙ cond_is_false (eqb a.stream 0) _ _ (ne_eqb _ _ other) in
+    ap (λ l. into ++ reply_lines (drop next heads) l) (sym answers) ∙ text
+
+pub skip_past : (into whole : List ℕ) (next : ℕ) (heads : List Head) (ps qs : List (ℕ × Answer)) → length heads ≤ next
+    → into ++ reply_lines (drop next heads) ps ≡ whole → into ++ reply_lines (drop next heads) qs ≡ whole
+skip_past into whole next heads ps qs past text =
+    let none : drop next heads ≡ [] = drop_of_length-le heads past in
+    ap (λ l. into ++ reply_lines l qs) none ∙ sym (ap (λ l. into ++ reply_lines l ps) none) ∙ text
+
+-- no entry is left
+pub no_reply : (into whole : List ℕ) (next place : ℕ) (heads : List Head) (entries : List Entry) → length entries ≤ place
+    → into ++ reply_lines (drop next heads) (answers_from 0 place (drop place entries)) ≡ whole → into ≡ whole
+no_reply into whole next place heads entries past text =
+    sym (append-nil into) ∙ ap (λ l. into ++ l) (sym (no_answer (drop next heads)))
+    ∙ sym (ap (λ l. into ++ reply_lines (drop next heads) (answers_from 0 place l)) (drop_of_length-le entries past)) ∙ text
+  where
+    no_answer : (hs : List Head) → reply_lines hs [] ≡ []
+    no_answer [] = refl
+    no_answer (h ∷ hs) = refl

@@ -1,0 +1,77 @@
+-- The lines that a run prints of its calls: one for an entry of the journal, one for the frame that replies to a frame.
+use Rattle.std.specs.Prelude.{ℕ, List, [], ◌∷◌, ◌++◌, length, codes}
+use Rattle.std.specs.Fmt.{decimal, signed_decimal}
+use Rattle.frame_wire.specs.declared.head.Head.{Head}
+use Rattle.image_runs.specs.Runs.{runs_text}
+use Rattle.volume_model.specs.declared.call.Call.{Call}
+use Rattle.volume_model.specs.declared.call.Call.TheVariants as call
+use Rattle.volume_model.specs.declared.call.Reply.{Reply}
+use Rattle.volume_model.specs.declared.call.Reply.TheVariants as reply
+use Rattle.volume_model.specs.declared.entry.Answer.{Answer}
+use Rattle.volume_model.specs.declared.entry.Entry.{Entry}
+use Rattle.volume_model.specs.declared.entry.Entry.TheVariants as entry
+use Rattle.volume_model.specs.Texts.{refusal_text}
+
+-- a word of a line, and the space behind it
+abbrev pub word : List ℕ → List ℕ
+word text = text ++ 32 ∷ []
+
+-- what is asked
+abbrev pub call_text : Call → List ℕ
+call_text (call.Read offset n) = codes "read " ++ word (signed_decimal offset) ++ decimal n
+call_text (call.Write offset bytes) = codes "write " ++ word (signed_decimal offset) ++ word (decimal (length bytes)) ++ runs_text bytes
+call_text call.Ping = codes "ping"
+call_text (call.Other kind) = codes "other " ++ decimal kind
+
+-- what is answered
+abbrev pub reply_text : Reply → List ℕ
+reply_text reply.Done = codes "ok"
+reply_text (reply.Read bytes) = codes "ok " ++ runs_text bytes
+reply_text (reply.Refused why) = codes "error " ++ refusal_text why
+
+-- place, saw, stream and index
+abbrev pub place_words : ℕ → Answer → List ℕ
+place_words place a = word (decimal place) ++ word (decimal a.saw) ++ word (decimal a.stream) ++ word (decimal a.index)
+
+-- the words of the place, then call and reply
+abbrev pub answer_line : ℕ → Answer → List ℕ
+answer_line place a = place_words place a ++ word (call_text a.call) ++ reply_text a.reply ++ 10 ∷ []
+
+-- the line of an entry at a place
+abbrev pub entry_line : ℕ → Entry → List ℕ
+entry_line place (entry.Answer a) = answer_line place a
+
+-- the type of the frame that replies: 2 is a response, 3 an error
+abbrev pub reply_kind : Reply → ℕ
+reply_kind reply.Done = 2
+reply_kind (reply.Read bytes) = 2
+reply_kind (reply.Refused why) = 3
+
+-- the data of that frame
+abbrev pub reply_body : Reply → List ℕ
+reply_body reply.Done = []
+reply_body (reply.Read bytes) = bytes
+reply_body (reply.Refused why) = refusal_text why
+
+-- how many bytes a call that was done has put
+abbrev pub put_count : Call → ℕ
+put_count (call.Read offset n) = 0
+put_count (call.Write offset bytes) = length bytes
+put_count call.Ping = 0
+put_count (call.Other kind) = 0
+
+-- what the size of that frame says: the bytes put by a write, and else the length of its data
+abbrev pub reply_size : Call → Reply → ℕ
+reply_size asked reply.Done = put_count asked
+reply_size asked (reply.Read bytes) = length bytes
+reply_size asked (reply.Refused why) = length (refusal_text why)
+
+-- the header of the frame that replies: seq and offset of the frame that asked, its own type and size
+abbrev pub header_words : Head → Answer → List ℕ
+header_words asked a = word (decimal asked.seq) ++ word (decimal (reply_kind a.reply)) ++ word (signed_decimal asked.offset)
+    ++ word (decimal (reply_size a.call a.reply))
+
+-- stream, index, and the frame that replies
+abbrev pub reply_line : Head → Answer → List ℕ
+reply_line asked a = codes "reply " ++ word (decimal a.stream) ++ word (decimal a.index) ++ header_words asked a
+    ++ runs_text (reply_body a.reply) ++ 10 ∷ []

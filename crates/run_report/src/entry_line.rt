@@ -1,0 +1,88 @@
+ghost use Rattle.std.specs.Prelude.{◌≡◌, ◌++◌, ◌∷◌, [], OnOk, OnErr, take, length};
+ghost use Rattle.std.specs.Fmt.{decimal};
+ghost use Rattle.run_report.specs.Lines.{entry_line, answer_line, place_words, call_text, reply_text, word};
+
+use crate::words::{append_number, append_offset};
+use image_runs::print_runs;
+use itoa::Buffer;
+use journal_book::{Answer, Call, Entry, Reply};
+use std::alloc::AllocError;
+
+/// Appends the line of the entry at a place of the journal.
+pub fn print_entry(place: u64, entry: &Entry, into: &mut Vec<u8>) -> Result<(), AllocError>
+    ensures ok { OnOk result (into.new.items ≡ into.old.items ++ entry_line place entry.now) }
+    ensures err { OnErr result (into.new.items ≡ into.old.items) }
+{
+    let start = into.len();
+    let printed = append_answer(place, entry.answer(), into);
+    if printed.is_err() {
+        // A part of a line would be read as a line.
+        into.truncate(start);
+    }
+    printed
+}
+
+fn append_answer(place: u64, answer: &Answer, into: &mut Vec<u8>) -> Result<(), AllocError>
+    ensures ok { OnOk result (into.new.items ≡ into.old.items ++ answer_line place answer.now) }
+    ensures kept { take (length into.old.items) into.new.items ≡ into.old.items }
+{
+    append_place(place, answer, into)?;
+    append_call(&answer.call, into)?;
+    into.push(b' ')?;
+    append_reply(&answer.reply, into)?;
+    into.push(b'\n')?;
+    Ok(())
+}
+
+fn append_place(place: u64, answer: &Answer, into: &mut Vec<u8>) -> Result<(), AllocError>
+    ensures ok { OnOk result (into.new.items ≡ into.old.items ++ place_words place answer.now) }
+    ensures kept { take (length into.old.items) into.new.items ≡ into.old.items }
+{
+    append_number(place, into)?;
+    append_number(answer.saw, into)?;
+    append_number(u64::from(answer.stream), into)?;
+    append_number(answer.index, into)
+}
+
+fn append_call(call: &Call, into: &mut Vec<u8>) -> Result<(), AllocError>
+    ensures ok { OnOk result (into.new.items ≡ into.old.items ++ call_text call.now) }
+    ensures kept { take (length into.old.items) into.new.items ≡ into.old.items }
+{
+    match call {
+        Call::Read { offset, length } => {
+            into.extend_from_slice(b"read ")?;
+            append_offset(*offset, into)?;
+            let mut buffer = Buffer::new();
+            into.extend_from_slice(buffer.format(*length).as_bytes())
+        }
+        Call::Write { offset, bytes } => {
+            into.extend_from_slice(b"write ")?;
+            append_offset(*offset, into)?;
+            append_number(bytes.len() as u64, into)?;
+            print_runs(bytes.as_slice(), into)
+        }
+        Call::Ping => into.extend_from_slice(b"ping"),
+        Call::Other(kind) => {
+            into.extend_from_slice(b"other ")?;
+            let mut buffer = Buffer::new();
+            into.extend_from_slice(buffer.format(*kind).as_bytes())
+        }
+    }
+}
+
+fn append_reply(reply: &Reply, into: &mut Vec<u8>) -> Result<(), AllocError>
+    ensures ok { OnOk result (into.new.items ≡ into.old.items ++ reply_text reply.now) }
+    ensures kept { take (length into.old.items) into.new.items ≡ into.old.items }
+{
+    match reply {
+        Reply::Done => into.extend_from_slice(b"ok"),
+        Reply::Read(bytes) => {
+            into.extend_from_slice(b"ok ")?;
+            print_runs(bytes.as_slice(), into)
+        }
+        Reply::Refused(why) => {
+            into.extend_from_slice(b"error ")?;
+            into.extend_from_slice(why.text().as_bytes())
+        }
+    }
+}
