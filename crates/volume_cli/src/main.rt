@@ -1,0 +1,33 @@
+//! `longhorn`: serves the streams of a script on a replicated volume, and prints the journal of the run
+//! with the replies.
+#![tactic(auto)]
+
+mod form;
+mod frame;
+mod input;
+mod output;
+mod report;
+mod solo;
+mod standard;
+mod status;
+mod stop;
+#[cfg(test)]
+mod tests;
+mod top;
+
+use standard::{StdSink, StdSource};
+use std::io;
+use std::process::ExitCode;
+
+fn main(rt: HostRuntime) -> ExitCode {
+    let status = match standard::words(&rt) {
+        Ok(words) => {
+            let mut source = StdSource::new(rt.reader());
+            let mut sink = StdSink::new(io::writer(&rt));
+            top::longhorn(rt.alloc(), &words, &mut source, &mut sink)
+        }
+        Err(status) => status,
+    };
+    standard::note(&rt, &status);
+    ExitCode::from(status.code())
+}
