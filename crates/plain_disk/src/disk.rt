@@ -1,11 +1,12 @@
-ghost use Rattle.std.specs.Prelude.{◌≡◌, ◌+◌, ◌≤◌, length, is_some, IfOk, IfSome, OnErr};
-ghost use Rattle.volume_model.specs.Disk.{zeros, is_good, place_of};
+ghost use Rattle.std.specs.Prelude.{◌≡◌, IfOk, OnErr};
+ghost use Rattle.volume_model.specs.Disk.{zeros};
 ghost use Rattle.volume_model.specs.PlainState.{state_of};
 ghost use Rattle.volume_model.specs.PlainStep.{plain_step};
 
 use journal_book::{Bytes, Call, Refusal, Reply};
 use std::alloc::{AllocError, Global};
 use std::marker::Model;
+use vol_units::place_within;
 
 /// The most bytes that one call reads.
 const LONGEST_CALL: u32 = 1_048_576;
@@ -26,7 +27,7 @@ impl Model for PlainDisk {
 
 impl PlainDisk {
     /// A disk of so many zeros.
-    #[tactic(auto, unfolding(volume_model::specs::Disk::zeros))]
+    #[tactic(auto, unfolding(vol_units::specs::Bytes::zeros))]
     pub fn zeros(alloc: Global, size: usize) -> Result<PlainDisk, AllocError>
         ensures { IfOk result (λ disk. disk ≡ state_of (zeros size)) }
     {
@@ -70,21 +71,5 @@ impl PlainDisk {
         };
         self.bytes[at..at + bytes.len()].copy_from_slice(bytes);
         Reply::Done
-    }
-}
-
-/// The place that an offset names, where so many bytes from there on lie within the size.
-fn place_within(offset: i64, length: usize, size: usize) -> Option<usize>
-    ensures some { is_some result ≡ is_good size offset length }
-    ensures place { IfSome result (λ at. (at ≡ place_of offset) × (at + length ≤ size)) }
-{
-    if offset < 0 {
-        return None;
-    }
-    let at = offset as usize;
-    if at <= size && length <= size - at {
-        Some(at)
-    } else {
-        None
     }
 }

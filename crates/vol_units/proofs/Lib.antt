@@ -1,0 +1,4 @@
+pub mod BytesLemmas
+pub mod CharsLemmas
+pub mod NameLemmas
+pub mod RangeLemmas

@@ -1,0 +1,5 @@
+pub mod Bytes
+pub mod Chars
+pub mod Name
+pub mod Range
+pub mod Size
