@@ -1,0 +1,130 @@
+ghost use Rattle.std.specs.Prelude.{◌≡◌, ◌+◌, ◌*◌, ◌/◌, ◌<◌, ◌≤◌, length, Some, IfOk, IfSome, OnOk, OnErr, IsTrue, false, is_some, slice_range};
+ghost use Rattle.std.specs.Option.{option_map, option_copied};
+ghost use Rattle.vol_units.specs.Bytes.{with_bytes_at, zeros};
+ghost use Rattle.sparse_image.specs.Disk.{bytes_of, disk_of};
+ghost use Rattle.sparse_image.specs.Image.{block_at, has_page, IsEmpty, MakesPage, ChangesBlock, EmptiesPage, LaysPageOver};
+
+use crate::block::{BLOCK_BYTES, Block, PAGE_BLOCKS};
+use crate::page::Page;
+use std::alloc::{AllocError, Global};
+use std::marker::Model;
+
+/// The blocks of one layer.
+#[derive(Drop)]
+pub struct Image {
+    pages: Vec<Page>,
+}
+
+impl Model for Image {
+    ghost use Rattle.sparse_image.specs.Image.{Tables};
+    ghost use Rattle.sparse_image.specs.Whole.{IsImage};
+
+    ghost Value = { Tables };
+
+    ghost view = { λ i. i.pages.items };
+
+    ghost invariant = { λ i. IsImage i.pages.items };
+}
+
+impl Image {
+    pub fn with_pages(alloc: Global, page_count: u32) -> Result<Image, AllocError>
+        ensures empty { IfOk result (λ i. IsEmpty i page_count) }
+        ensures disk { IfOk result
+            (λ i. disk_of i ≡ zeros (page_count * PAGE_BLOCKS * BLOCK_BYTES)) }
+    {
+        let mut pages = Vec::with_capacity(alloc, page_count as usize)?;
+        for _page in 0..page_count {
+            pages.push(Page::unmade(alloc))?;
+        }
+        Ok(Image { pages })
+    }
+
+    pub fn page_count(&self) -> u32
+        ensures count { result ≡ length self.now }
+        ensures disk { length (disk_of self.now) ≡ result * PAGE_BLOCKS * BLOCK_BYTES }
+    {
+        self.pages.len() as u32
+    }
+
+    #[tactic(auto, unfolding(crate::specs::Image::has_page))]
+    pub fn has_page(&self, page: u32) -> bool
+        ensures { result ≡ has_page self.now page }
+    {
+        match self.pages.get(page as usize) {
+            Some(page) => page.is_made(),
+            None => false,
+        }
+    }
+
+    /// Makes the table of a page, if it is not there. No block changes.
+    pub fn ensure_page(&mut self, alloc: Global, page: u32) -> Result<(), AllocError>
+        requires { page < length self.old }
+        ensures ok { OnOk result (MakesPage self.old self.new page) }
+        ensures err { OnErr result (self.new ≡ self.old) }
+        ensures disk { disk_of self.new ≡ disk_of self.old }
+    {
+        if !self.pages[page as usize].is_made() {
+            self.pages[page as usize] = Page::made(alloc)?;
+        }
+        Ok(())
+    }
+
+    pub fn present(&self, block: u32) -> bool
+        ensures { result ≡ is_some (block_at self.now block) }
+    {
+        self.get(block).is_some()
+    }
+
+    #[tactic(auto, unfolding(crate::specs::Image::block_at))]
+    pub fn get(&self, block: u32) -> Option<&Block>
+        ensures value { option_copied result ≡ block_at self.now block }
+        ensures whole { IfSome result (λ b. length b.now ≡ BLOCK_BYTES) }
+        ensures disk { let start = block * BLOCK_BYTES in block / PAGE_BLOCKS < length self.now
+            → slice_range (disk_of self.now) start (start + BLOCK_BYTES)
+            ≡ bytes_of (option_copied result) }
+    {
+        match self.pages.get((block / PAGE_BLOCKS) as usize) {
+            Some(page) => page.get((block % PAGE_BLOCKS) as usize),
+            None => None,
+        }
+    }
+
+    /// Puts a block in, and gives back the one that was there.
+    pub fn put(&mut self, block: u32, new: Box<Block>) -> Option<Box<Block>>
+        requires { IsTrue (has_page self.old (block / PAGE_BLOCKS)) }
+        ensures changes { ChangesBlock self.old self.new block (Some new.value) }
+        ensures old { option_map (λ b. b.value) result ≡ block_at self.old block }
+        ensures whole { length new.value ≡ BLOCK_BYTES }
+        ensures disk { disk_of self.new
+            ≡ with_bytes_at (disk_of self.old) (block * BLOCK_BYTES) new.value }
+    {
+        self.pages[(block / PAGE_BLOCKS) as usize].put((block % PAGE_BLOCKS) as usize, new)
+    }
+
+    /// Writes over part of a block that is there, and is false where there is none.
+    pub fn overwrite(&mut self, block: u32, start: usize, bytes: &[u8]) -> bool
+        requires { start + length bytes.now ≤ BLOCK_BYTES }
+        ensures there { result ≡ is_some (block_at self.old block) }
+        ensures absent { result ≡ false → self.new ≡ self.old }
+        ensures changes { ChangesBlock self.old self.new block
+            (option_map (λ b. with_bytes_at b start bytes.now) (block_at self.old block)) }
+        ensures disk { IsTrue result → disk_of self.new
+            ≡ with_bytes_at (disk_of self.old) (block * BLOCK_BYTES + start) bytes.now }
+    {
+        let page = (block / PAGE_BLOCKS) as usize;
+        if page >= self.pages.len() {
+            return false;
+        }
+        self.pages[page].overwrite((block % PAGE_BLOCKS) as usize, start, bytes)
+    }
+
+    /// Moves the blocks of a page onto the image below, over its own. The boxes move, and nothing is copied.
+    pub fn move_page_onto(&mut self, page: u32, below: &mut Image)
+        requires own { page < length self.old }
+        requires under { page < length below.old }
+        ensures own { EmptiesPage self.old self.new page }
+        ensures under { LaysPageOver self.old below.old below.new page }
+    {
+        self.pages[page as usize].move_onto(&mut below.pages[page as usize]);
+    }
+}
