@@ -1,0 +1,4 @@
+pub mod AskedLemmas
+pub mod FaultlessUses
+pub mod FaultlessWalk
+pub mod FaultlessWords

@@ -1,0 +1,11 @@
+//! The words of the command line, as `clap` reads them.
+#![tactic(auto)]
+
+mod program;
+pub mod rows;
+mod words;
+
+pub use words::{Words, WordsError, Workers, read_words};
+
+#[cfg(test)]
+mod tests;

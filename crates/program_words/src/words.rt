@@ -1,0 +1,105 @@
+ghost use Rattle.std.specs.Prelude.{◌≡◌, None, Some, map, IfOk, IsErrOf, codes, string_bytes};
+ghost use Rattle.clap.specs.Words.{first_of, found_of, kind_of, rows_of, subcommand_rows_of};
+ghost use Rattle.program_words.specs.Asked.{asked_at, asked_by, asked_of, workers_named, workers_of, IsErrorOf};
+ghost use Rattle.program_words.specs.declared.words.WordsError.TheVariants.{NoMemory};
+
+use crate::program::command;
+use clap::ArgMatches;
+use clap::error::ErrorKind;
+use std::alloc::{AllocError, Global};
+
+/// Who serves the streams of a script.
+#[derive(Clone, Copy, Debug, PartialEq, Eq)]
+pub enum Workers {
+    /// One worker, stream after stream.
+    One,
+    /// A worker for each stream.
+    Each,
+}
+
+/// What the program is asked to do.
+#[derive(Clone, Copy, Debug, PartialEq, Eq)]
+pub enum Words {
+    /// To run a script.
+    Run { workers: Workers },
+}
+
+/// Why nothing is asked.
+#[derive(Clone, Copy, Debug, PartialEq, Eq)]
+pub enum WordsError {
+    /// The words ask for nothing that there is.
+    Usage,
+    /// Memory ran out.
+    NoMemory,
+}
+
+impl From<AllocError> for WordsError {
+    ghost from_gives = { λ _ e. e ≡ NoMemory };
+
+    fn from(_e: AllocError) -> WordsError {
+        WordsError::NoMemory
+    }
+}
+
+impl From<clap::Error> for WordsError {
+    ghost from_gives = { λ refusal e. IsErrorOf (kind_of refusal) e };
+
+    fn from(refusal: clap::Error) -> WordsError {
+        match refusal.kind() {
+            ErrorKind::OutOfMemory => WordsError::NoMemory,
+            _ => WordsError::Usage,
+        }
+    }
+}
+
+/// What the words behind the program's name ask for. Want of memory alone is free.
+pub fn read_words(alloc: Global, words: &[String]) -> Result<Words, WordsError>
+    ensures found { IfOk result (λ asked. asked_by (map string_bytes words.now) ≡ Some asked) }
+    ensures usage { IsErrOf result WordsError.Usage → asked_by (map string_bytes words.now) ≡ None }
+{
+    let matches = command(alloc)?.try_get_matches_from(words)?;
+    match words_in(&matches) {
+        Some(asked) => Ok(asked),
+        None => Err(WordsError::Usage),
+    }
+}
+
+/// What the matches of the program ask for.
+fn words_in(matches: &ArgMatches<'_>) -> Option<Words>
+    ensures { result ≡ asked_of (subcommand_rows_of matches.now) }
+{
+    let (name, options) = matches.subcommand()?;
+    asked_at(name, options)
+}
+
+/// What the subcommand of this name asks for, with these options.
+fn asked_at(name: &str, options: &ArgMatches<'_>) -> Option<Words>
+    ensures { result ≡ asked_at name.now (rows_of (found_of options.now)) }
+{
+    if name != "run" {
+        return None;
+    }
+    let workers = workers_in(options)?;
+    Some(Words::Run { workers })
+}
+
+/// Who is to serve, by the options of `run`.
+#[tactic(auto, using(crate::proofs::AskedLemmas::first_values))]
+fn workers_in(options: &ArgMatches<'_>) -> Option<Workers>
+    ensures { result ≡ workers_of (first_of (codes "workers") (rows_of (found_of options.now))) }
+{
+    match options.get_str("workers") {
+        None => Some(Workers::Each),
+        Some(value) => workers_named(value),
+    }
+}
+
+fn workers_named(value: &str) -> Option<Workers>
+    ensures { result ≡ workers_named value.now }
+{
+    match value {
+        "one" => Some(Workers::One),
+        "each" => Some(Workers::Each),
+        _ => None,
+    }
+}
