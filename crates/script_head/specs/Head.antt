@@ -1,0 +1,66 @@
+-- What the first line of a script says, and why a line says nothing.
+-- JSON is read by serde_json's definition, with its depth of 127.
+use Rattle.std.specs.Prelude.{◌≡◌, ◌≢◌, ◌⊎◌, List, ℕ, true, IsUtf8, Some, Result, Err, MatchResult, is_some}
+use Rattle.serde_json.specs.Data.{Data}
+use Rattle.serde_json.specs.Find.{as_object}
+use Rattle.serde_json.specs.Read.{read}
+use Rattle.script_head.specs.declared.error.HeadError.{HeadError}
+use Rattle.script_head.specs.declared.error.HeadError.TheVariants.{Json, BadMember, NoMemory}
+use Rattle.script_head.specs.declared.head.ScriptHead.{ScriptHead}
+use Rattle.script_head.specs.declared.head.StreamHead.{StreamHead}
+use Rattle.script_head.specs.declared.head.StreamHead.TheVariants as stream
+use Rattle.script_head.specs.declared.member.Member.{Member}
+use Rattle.script_head.specs.declared.member.Member.TheVariants.{Open, Save, Lines}
+use Rattle.script_head.specs.Members.{HasVolume, HasSize, HasReplicas, HasNow, HasStreams, IsGood, in_order, IsFirstBadOf}
+
+-- how many bytes of the input a stream has
+abbrev pub byte_count : StreamHead → ℕ
+byte_count (stream.Frames count) = count
+
+-- the line is UTF-8, and has this object for its value
+pub record IsObject (line : List ℕ) (d : Data) : Type 0 where
+  pub text : IsUtf8 line
+  pub value : read line ≡ Some d
+  pub object : is_some (as_object d) ≡ true
+
+-- the object's members say this; those that no field tells are good
+pub record IsHead (d : Data) (head : ScriptHead) : Type 0 where
+  pub volume : HasVolume d head.volume
+  pub size : HasSize d head.size
+  pub replicas : HasReplicas d head.replicas
+  pub open_flag : IsGood d Open
+  pub save_flag : IsGood d Save
+  pub now : HasNow d head.now
+  pub streams : HasStreams d head.streams
+  pub lines : IsGood d Lines
+
+-- it is the object's first member, in their order, that is missing or has another value
+abbrev pub IsFirstBad : Data → Member → Type 0
+IsFirstBad = IsFirstBadOf in_order
+
+-- the line says this
+abbrev pub Says : List ℕ → ScriptHead → Type 0
+Says line head = (d : Data) × IsObject line d × IsHead d head
+
+-- the line is an object, and this is the first member that is bad
+abbrev pub HasFirstBad : List ℕ → Member → Type 0
+HasFirstBad line m = (d : Data) × IsObject line d × IsFirstBad d m
+
+-- the line is no object
+abbrev pub IsNoObject : List ℕ → Type 0
+IsNoObject line = (d : Data) → IsObject line d → ⊥
+
+-- why a line is refused; want of memory is free
+abbrev pub Refuses : List ℕ → HeadError → Type 0
+Refuses line Json = IsNoObject line
+Refuses line (BadMember m) = HasFirstBad line m
+Refuses line NoMemory = Unit {0}
+
+-- the answer is true of the line
+abbrev pub Answers : List ℕ → Result ScriptHead HeadError → Type 0
+Answers line result = MatchResult result (Says line) (Refuses line)
+
+-- but for want of memory no other answer is true of the line
+abbrev pub IsOnlyAnswer : List ℕ → Result ScriptHead HeadError → Type 0
+IsOnlyAnswer line result = (other : Result ScriptHead HeadError) → other ≢ Err NoMemory
+    → Answers line other → (result ≡ other) ⊎ (result ≡ Err NoMemory)

@@ -1,0 +1,5 @@
+pub mod Time
+pub mod Values
+pub mod Members
+pub mod Head
+pub mod Refusals

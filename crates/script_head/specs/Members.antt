@@ -1,0 +1,74 @@
+-- The members of a script's first line, each with the values that it may have. Other members say nothing.
+-- The format is this project's own.
+use Rattle.std.specs.Prelude.{◌≡◌, ◌⊎◌, ℕ, ◌≤◌, List, [], ◌∷◌, length, Bool, false, IsTrue, codes, Option, Some, None, option_map, option_and_then}
+use Rattle.serde_json.specs.Data.{Data}
+use Rattle.serde_json.specs.Find.{get, as_bool, as_str}
+use Rattle.vol_units.specs.Name.{IsPlainName}
+use Rattle.vol_units.specs.Size.{IsVolumeSize}
+use Rattle.script_head.specs.declared.head.StreamHead.{StreamHead}
+use Rattle.script_head.specs.declared.head.StreamHead.TheVariants as stream
+use Rattle.script_head.specs.declared.limits.TheConstants.{MOST_REPLICAS, MOST_STREAMS, MOST_STREAM_BYTES, MOST_LINES, MAY_OPEN, MAY_SAVE}
+use Rattle.script_head.specs.declared.member.Member.{Member}
+use Rattle.script_head.specs.declared.member.Member.TheVariants.{Volume, Size, Replicas, Open, Save, Now, Streams, Lines}
+use Rattle.script_head.specs.Time.{IsTimeText}
+use Rattle.script_head.specs.Values.{whole, at_most, item_count, list_of, member, member_or}
+
+-- `volume`: the name of the volume
+abbrev pub HasVolume : Data → List ℕ → Type 0
+HasVolume line name = (member as_str (codes "volume") line ≡ Some name) × IsPlainName name
+
+-- `size`: the size of the volume in bytes
+abbrev pub HasSize : Data → ℕ → Type 0
+HasSize line size = (member whole (codes "size") line ≡ Some size) × IsVolumeSize size
+
+-- `replicas`: how many there are
+abbrev pub HasReplicas : Data → ℕ → Type 0
+HasReplicas line count = (member whole (codes "replicas") line ≡ Some count)
+    × (1 ≤ count) × (count ≤ MOST_REPLICAS)
+
+-- `open` and `save`: false where it is missing, and true only where it may be
+abbrev pub HasFlag : Data → List ℕ → Bool → Bool → Type 0
+HasFlag line name may flag = (member_or false as_bool name line ≡ Some flag) × (IsTrue flag → IsTrue may)
+
+-- `now`: the time of the run, empty where it is missing
+abbrev pub HasNow : Data → List ℕ → Type 0
+HasNow line text = (member_or [] as_str (codes "now") line ≡ Some text) × IsTimeText text
+
+-- `frames` without `control`: a number of bytes. Nothing else is a stream yet.
+abbrev pub stream_from : Option Data → Option Data → Option StreamHead
+stream_from (Some frames) None =
+    option_map stream.Frames (option_and_then (at_most MOST_STREAM_BYTES) (whole frames))
+stream_from _ _ = None
+
+-- what an item of `streams` is
+abbrev pub stream_of : Data → Option StreamHead
+stream_of d = stream_from (get (codes "frames") d) (get (codes "control") d)
+
+-- `streams`: what each of them is
+abbrev pub HasStreams : Data → List StreamHead → Type 0
+HasStreams line streams = (member (list_of stream_of) (codes "streams") line ≡ Some streams)
+    × (1 ≤ length streams) × (length streams ≤ MOST_STREAMS)
+
+-- `lines`: how many lines have failures planned
+abbrev pub HasLines : Data → ℕ → Type 0
+HasLines line count = (member_or 0 item_count (codes "lines") line ≡ Some count) × (count ≤ MOST_LINES)
+
+-- the member has a value that it may have, or may be missing and is
+abbrev pub IsGood : Data → Member → Type 0
+IsGood line Volume = (name : List ℕ) × HasVolume line name
+IsGood line Size = (size : ℕ) × HasSize line size
+IsGood line Replicas = (count : ℕ) × HasReplicas line count
+IsGood line Open = (flag : Bool) × HasFlag line (codes "open") MAY_OPEN flag
+IsGood line Save = (flag : Bool) × HasFlag line (codes "save") MAY_SAVE flag
+IsGood line Now = (text : List ℕ) × HasNow line text
+IsGood line Streams = (streams : List StreamHead) × HasStreams line streams
+IsGood line Lines = (count : ℕ) × HasLines line count
+
+-- the order in which they are checked
+abbrev pub in_order : List Member
+in_order = Volume ∷ Size ∷ Replicas ∷ Open ∷ Save ∷ Now ∷ Streams ∷ Lines ∷ []
+
+-- of these members it is the first that is not good
+abbrev pub IsFirstBadOf : List Member → Data → Member → Type 0
+IsFirstBadOf [] line m = ⊥
+IsFirstBadOf (n ∷ ns) line m = ((n ≡ m) × (IsGood line n → ⊥)) ⊎ (IsGood line n × IsFirstBadOf ns line m)

@@ -1,0 +1,84 @@
+ghost use Rattle.std.specs.Prelude.{◌≡◌, IfOk, IfErr};
+ghost use Rattle.serde_json.specs.View.{view};
+ghost use Rattle.script_head.specs.Head.{byte_count, Says, Refuses, Answers, IsOnlyAnswer};
+ghost use Rattle.script_head.specs.Refusals.{AnswersObject};
+
+use crate::error::HeadError;
+use crate::limits::{MAY_OPEN, MAY_SAVE};
+use crate::member::Member;
+use crate::members;
+use crate::sequence::Sequence;
+use crate::time_text::TimeText;
+use serde_json::Value;
+use std::alloc::Global;
+use vol_units::{PlainName, VolumeSize};
+
+/// What the first line says of one stream.
+#[derive(Clone, Copy, Debug, PartialEq, Eq)]
+pub enum StreamHead {
+    /// It has so many bytes of frames.
+    Frames(u64),
+}
+
+impl StreamHead {
+    /// How many bytes of the input the stream has.
+    pub fn byte_count(self) -> u64
+        ensures { result ≡ byte_count self }
+    {
+        match self {
+            StreamHead::Frames(count) => count,
+        }
+    }
+}
+
+/// What the first line of a script says.
+#[derive(Debug, Drop)]
+pub struct ScriptHead {
+    pub streams: Sequence<StreamHead>,
+    pub now: TimeText,
+    pub volume: PlainName,
+    pub size: VolumeSize,
+    pub replicas: u8,
+}
+
+/// What the first line of a script says, its line feed left out.
+pub fn read_head(alloc: Global, line: &[u8]) -> Result<ScriptHead, HeadError>
+    ensures found { IfOk result (Says line.now) }
+    ensures refused { IfErr result (Refuses line.now) }
+
+    // But for want of memory no other answer is true of the line.
+    ensures only { IsOnlyAnswer line.now result }
+{
+    head_of(alloc, line)
+}
+
+fn head_of(alloc: Global, line: &[u8]) -> Result<ScriptHead, HeadError>
+    ensures { Answers line.now result }
+{
+    let value = Value::from_slice(alloc, line)?;
+    if !value.is_object() {
+        return Err(HeadError::Json);
+    }
+    head_in(alloc, &value)
+}
+
+/// What the members of the line say.
+fn head_in(alloc: Global, line: &Value) -> Result<ScriptHead, HeadError>
+    ensures { AnswersObject (view line.now) result }
+{
+    let volume = members::volume_in(line)?;
+    let size = members::size_in(line)?;
+    let replicas = members::replicas_in(line)?;
+    members::flag_in(line, "open", MAY_OPEN, Member::Open)?;
+    members::flag_in(line, "save", MAY_SAVE, Member::Save)?;
+    let now = members::now_in(alloc, line)?;
+    let streams = members::streams_in(alloc, line)?;
+    members::lines_in(line)?;
+    Ok(ScriptHead {
+        streams,
+        now,
+        volume,
+        size,
+        replicas,
+    })
+}

@@ -1,0 +1,19 @@
+//! The first line of a script: a JSON object that says what is to be run.
+#![tactic(auto)]
+
+mod error;
+mod head;
+pub mod limits;
+mod member;
+mod members;
+mod sequence;
+mod time_text;
+
+pub use error::HeadError;
+pub use head::{ScriptHead, StreamHead, read_head};
+pub use member::Member;
+pub use sequence::Sequence;
+pub use time_text::TimeText;
+
+#[cfg(test)]
+mod tests;

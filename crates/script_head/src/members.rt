@@ -1,0 +1,123 @@
+ghost use Rattle.std.specs.Prelude.{◌≡◌, Some, option_map};
+ghost use Rattle.serde_json.specs.View.{view, items_view};
+ghost use Rattle.script_head.specs.Refusals.{Reads};
+ghost use Rattle.script_head.specs.Members as spec;
+ghost use Rattle.script_head.specs.Values.{each, item_count, or_missing};
+
+use crate::error::HeadError;
+use crate::head::StreamHead;
+use crate::limits::{MOST_LINES, MOST_REPLICAS, MOST_STREAM_BYTES, MOST_STREAMS};
+use crate::member::Member;
+use crate::sequence::Sequence;
+use crate::time_text::TimeText;
+use serde_json::Value;
+use std::alloc::Global;
+use vol_units::{PlainName, VolumeSize};
+
+pub(crate) fn volume_in(line: &Value) -> Result<PlainName, HeadError>
+    ensures { Reads Member.Volume (spec.HasVolume (view line.now)) result }
+{
+    let bad = HeadError::BadMember(Member::Volume);
+    let name = line.get("volume").and_then(Value::as_str).ok_or(bad)?;
+    PlainName::read(name.as_bytes()).or(Err(bad))
+}
+
+pub(crate) fn size_in(line: &Value) -> Result<VolumeSize, HeadError>
+    ensures { Reads Member.Size (spec.HasSize (view line.now)) result }
+{
+    let bad = HeadError::BadMember(Member::Size);
+    let size = line.get("size").and_then(Value::as_u64).ok_or(bad)?;
+    VolumeSize::new(size).or(Err(bad))
+}
+
+pub(crate) fn replicas_in(line: &Value) -> Result<u8, HeadError>
+    ensures { Reads Member.Replicas (spec.HasReplicas (view line.now)) result }
+{
+    match line.get("replicas").and_then(Value::as_u64) {
+        Some(count) if 1 <= count && count <= MOST_REPLICAS => Ok(count as u8),
+        _ => Err(HeadError::BadMember(Member::Replicas)),
+    }
+}
+
+/// A member that is true or false.
+pub(crate) fn flag_in(
+    line: &Value,
+    name: &str,
+    may_be: bool,
+    member: Member,
+) -> Result<bool, HeadError>
+    ensures { Reads member (spec.HasFlag (view line.now) name.now may_be) result }
+{
+    let bad = HeadError::BadMember(member);
+    let flag = match line.get(name) {
+        None => false,
+        Some(value) => value.as_bool().ok_or(bad)?,
+    };
+    if flag && !may_be {
+        return Err(bad);
+    }
+    Ok(flag)
+}
+
+pub(crate) fn now_in(alloc: Global, line: &Value) -> Result<TimeText, HeadError>
+    ensures { Reads Member.Now (spec.HasNow (view line.now)) result }
+{
+    let text = match line.get("now") {
+        None => "",
+        Some(value) => value.as_str().ok_or(HeadError::BadMember(Member::Now))?,
+    };
+    TimeText::read(alloc, text)?.ok_or(HeadError::BadMember(Member::Now))
+}
+
+pub(crate) fn streams_in(alloc: Global, line: &Value) -> Result<Sequence<StreamHead>, HeadError>
+    ensures { Reads Member.Streams (spec.HasStreams (view line.now)) result }
+{
+    let bad = HeadError::BadMember(Member::Streams);
+    let items = line.get("streams").and_then(Value::as_array).ok_or(bad)?;
+    let streams = streams_from(alloc, items)?;
+    if streams.is_empty() || streams.len() > MOST_STREAMS {
+        return Err(bad);
+    }
+    Ok(streams)
+}
+
+fn streams_from(alloc: Global, items: &[Value]) -> Result<Sequence<StreamHead>, HeadError>
+    ensures { Reads Member.Streams
+        (λ streams. each spec.stream_of (items_view items.now) ≡ Some streams) result }
+{
+    let mut streams = Vec::new(alloc);
+    for item in items {
+        streams.push(stream_of(item)?)?;
+    }
+    Ok(Sequence::of(streams))
+}
+
+fn stream_of(item: &Value) -> Result<StreamHead, HeadError>
+    ensures { Reads Member.Streams (λ s. spec.stream_of (view item.now) ≡ Some s) result }
+{
+    match (
+        item.get("frames").and_then(Value::as_u64),
+        item.get("control"),
+    ) {
+        (Some(count), None) if count <= MOST_STREAM_BYTES => Ok(StreamHead::Frames(count)),
+        _ => Err(HeadError::BadMember(Member::Streams)),
+    }
+}
+
+pub(crate) fn lines_in(line: &Value) -> Result<usize, HeadError>
+    ensures { Reads Member.Lines (spec.HasLines (view line.now)) result }
+{
+    match line_count(line.get("lines")) {
+        Some(count) if count <= MOST_LINES => Ok(count),
+        _ => Err(HeadError::BadMember(Member::Lines)),
+    }
+}
+
+fn line_count(lines: Option<&Value>) -> Option<usize>
+    ensures { result ≡ or_missing 0 item_count (option_map (λ v. view v.now) lines.entry) }
+{
+    match lines {
+        None => Some(0),
+        Some(value) => value.as_array().map(|items| items.len()),
+    }
+}
