@@ -1,0 +1,6 @@
+pub mod FramesLemmas
+pub mod LineLemmas
+pub mod StreamLemmas
+pub mod StreamsLemmas
+pub mod OneStream
+pub mod OneAnswer

@@ -1,0 +1,180 @@
+-- One answer is true of an input, but for want of memory.
+use Rattle.std.proofs.Common.{◌≡◌, ◌≢◌, ◌⊎◌, ◌∙◌, ℕ, ◌+◌, ◌<◌, ◌≤◌, min, List, ◌∷◌, length, sum_by, Result, Ok, Err, refl, sym, ap, subst, inl, inr, arith, length-append}
+use Rattle.script_head.specs.declared.error.HeadError.{HeadError}
+use Rattle.script_head.specs.declared.error.HeadError.TheVariants as fault
+use Rattle.script_head.specs.declared.head.ScriptHead.{ScriptHead}
+use Rattle.script_head.specs.declared.head.StreamHead.{StreamHead}
+use Rattle.script_head.specs.declared.member.Member.{Member}
+use Rattle.script_head.specs.Head.{byte_count}
+use Rattle.script_head.specs.Head as first
+use Rattle.script_head.proofs.OneAnswer as first_line
+use Rattle.script_text.specs.declared.error.ScriptError.{ScriptError}
+use Rattle.script_text.specs.declared.error.ScriptError.TheVariants.{Bad, NoMemory}
+use Rattle.script_text.specs.declared.limits.TheConstants.{MOST_CALLS, MOST_INPUT}
+use Rattle.script_text.specs.declared.script.Script.{Script}
+use Rattle.script_text.specs.declared.script.Stream.{Stream}
+use Rattle.script_text.specs.declared.what.What.{What}
+use Rattle.script_text.specs.declared.what.What.TheVariants as what
+use Rattle.script_text.specs.Line.{IsCut, HasNoLine}
+use Rattle.script_text.specs.Streams.{AreNoStreams}
+use Rattle.script_text.specs.Refusals.{refusal_of, IsOtherEnd, AnswersBody}
+use Rattle.script_text.specs.Script.{IsHeaded, bytes_of, script_of, IsNoScript, Answers, IsOnlyAnswer}
+use Rattle.script_text.proofs.LineLemmas.{one_cut, no_cut}
+use Rattle.script_text.proofs.StreamsLemmas.{calls_or_frame}
+use Rattle.script_text.proofs.OneStream.{one_list, list_or_none, one_reason_of_all}
+
+-- ---- the bytes behind the first line
+
+body_refusal : (place : ℕ) (heads : List StreamHead) (body : List ℕ) (bad : ℕ) (why : What) → AnswersBody place heads body (Err (Bad bad why))
+    → (IsOtherEnd (sum_by byte_count heads) place (length body) bad × (why ≡ what.Rest))
+    ⊎ ((sum_by byte_count heads ≡ length body) × AreNoStreams MOST_CALLS place heads body bad why)
+body_refusal place heads body bad what.Rest other = inl (other, refl)
+body_refusal place heads body bad why none = inr none
+
+same_refusal : (p q : ℕ) (v w : What) → p ≡ q → v ≡ w → Bad p v ≡ Bad q w
+same_refusal p q v w x y = cc
+
+one_body : (place : ℕ) (heads : List StreamHead) (body : List ℕ) (r t : Result (List Stream) ScriptError) → r ≢ Err NoMemory → t ≢ Err NoMemory
+    → AnswersBody place heads body r → AnswersBody place heads body t → r ≡ t
+one_body place heads body (Ok ss) (Ok ts) told also (whole, (are, few)) (same, (be, m)) = ap Ok (one_list heads body ss ts are be)
+one_body place heads body (Ok ss) (Err (Bad q w)) told also (whole, (are, few)) y = absurd (not_both (body_refusal place heads body q w y))
+  where
+    not_both : (IsOtherEnd (sum_by byte_count heads) place (length body) q × (w ≡ what.Rest)) ⊎ ((sum_by byte_count heads ≡ length body) × AreNoStreams MOST_CALLS place heads body q w) → ⊥
+    not_both (inl (other, is)) = other.0 whole
+    not_both (inr (same, none)) = list_or_none heads MOST_CALLS place body ss q w are few none
+one_body place heads body (Err (Bad p v)) (Ok ts) told also x (whole, (are, few)) = absurd (not_both (body_refusal place heads body p v x))
+  where
+    not_both : (IsOtherEnd (sum_by byte_count heads) place (length body) p × (v ≡ what.Rest)) ⊎ ((sum_by byte_count heads ≡ length body) × AreNoStreams MOST_CALLS place heads body p v) → ⊥
+    not_both (inl (other, is)) = other.0 whole
+    not_both (inr (same, none)) = list_or_none heads MOST_CALLS place body ts p v are few none
+one_body place heads body (Err (Bad p v)) (Err (Bad q w)) told also x y = ap Err (alike (body_refusal place heads body p v x) (body_refusal place heads body q w y))
+  where
+    alike : (IsOtherEnd (sum_by byte_count heads) place (length body) p × (v ≡ what.Rest)) ⊎ ((sum_by byte_count heads ≡ length body) × AreNoStreams MOST_CALLS place heads body p v)
+        → (IsOtherEnd (sum_by byte_count heads) place (length body) q × (w ≡ what.Rest)) ⊎ ((sum_by byte_count heads ≡ length body) × AreNoStreams MOST_CALLS place heads body q w)
+        → Bad p v ≡ Bad q w
+    alike (inl (ends, is)) (inl (end, too)) = same_refusal p q v w (ends.1 ∙ sym end.1) (is ∙ sym too)
+    alike (inl (ends, is)) (inr (whole, none)) = absurd (ends.0 whole)
+    alike (inr (whole, none)) (inl (ends, is)) = absurd (ends.0 whole)
+    alike (inr (whole, none)) (inr (same, other)) =
+        let t = one_reason_of_all heads MOST_CALLS place body p q v w none other in same_refusal p q v w t.0 t.1
+one_body place heads body (Err NoMemory) t told also x y = absurd (told refl)
+one_body place heads body r (Err NoMemory) told also x y = absurd (also refl)
+
+-- ---- the whole input
+
+-- the script of a first line and of what its streams are, or their refusal
+with_head : ScriptHead → Result (List Stream) ScriptError → Result Script ScriptError
+with_head head (Ok streams) = Ok (script_of head streams)
+with_head head (Err e) = Err e
+
+-- what the first line is, and then the rest, gives the answer
+Follows : List ℕ → List ℕ → Result ScriptHead HeadError → Result Script ScriptError → Type 0
+Follows line body (Ok head) a = (r : Result (List Stream) ScriptError) × AnswersBody (length line + 1) head.streams body r × (r ≢ Err NoMemory) × (a ≡ with_head head r)
+Follows line body (Err e) a = a ≡ Err (refusal_of e)
+
+-- where an answer comes from
+data Comes (input : List ℕ) (a : Result Script ScriptError) : Type 0 where
+  too_long : MOST_INPUT < length input → a ≡ Err (Bad MOST_INPUT what.Input) → Comes input a
+  no_line : length input ≤ MOST_INPUT → HasNoLine input → a ≡ Err (Bad 0 what.Line) → Comes input a
+  from_line : (line body : List ℕ) (h : Result ScriptHead HeadError) → IsCut input line body → h ≢ Err fault.NoMemory → first.Answers line h → Follows line body h a → Comes input a
+
+length-cut : (input line body : List ℕ) → IsCut input line body → length input ≡ length line + 1 + length body
+length-cut input line body cut = omega (arith, ap length cut.whole, length-append line (10 ∷ body))
+
+script_memory : {A : Type 0} {p : ℕ} {v : What} → ◌≡◌ {A = Result A ScriptError} (Err (Bad p v)) (Err NoMemory) → ⊥
+script_memory e = cc
+
+ok_memory : {A : Type 0} {x : A} → ◌≡◌ {A = Result A ScriptError} (Ok x) (Err NoMemory) → ⊥
+ok_memory e = cc
+
+head_ok : {A : Type 0} {x : A} → ◌≡◌ {A = Result A HeadError} (Ok x) (Err fault.NoMemory) → ⊥
+head_ok e = cc
+
+head_json : {A : Type 0} → ◌≡◌ {A = Result A HeadError} (Err fault.Json) (Err fault.NoMemory) → ⊥
+head_json e = cc
+
+head_bad : {A : Type 0} {m : Member} → ◌≡◌ {A = Result A HeadError} (Err (fault.BadMember m)) (Err fault.NoMemory) → ⊥
+head_bad e = cc
+
+comes : (input : List ℕ) (a : Result Script ScriptError) → a ≢ Err NoMemory → Answers input a → Comes input a
+unfolding Follows with_head
+comes input (Ok script) told is =
+    from_line is.line is.body (Ok is.head) is.headed.cut head_ok is.headed.says
+    (Ok script.streams, (is.whole, (is.streams, is.calls)), ok_memory, ap Ok is.members)
+comes input (Err (Bad place what.Input)) told (long, at) = too_long long (ap (λ p. Err (Bad p what.Input)) at)
+comes input (Err (Bad place what.Line)) told (most, none, at) = no_line most none (ap (λ p. Err (Bad p what.Line)) at)
+comes input (Err (Bad place what.Json)) told (line, body, cut, none, at) = from_line line body (Err fault.Json) cut head_json none (ap (λ p. Err (Bad p what.Json)) at)
+comes input (Err (Bad place (what.Member m))) told (line, body, cut, bad, at) =
+    from_line line body (Err (fault.BadMember m)) cut head_bad bad (ap (λ p. Err (Bad p (what.Member m))) at)
+comes input (Err (Bad place what.Rest)) told (line, body, head, headed, other, at) =
+    from_line line body (Ok head) headed.cut head_ok headed.says
+    (Err (Bad place what.Rest), (other, at ∙ ap (λ n. min n (length line + 1 + sum_by byte_count head.streams)) (length-cut input line body headed.cut)), script_memory, refl)
+comes input (Err (Bad place what.Calls)) told (line, body, head, headed, whole, none) =
+    from_line line body (Ok head) headed.cut head_ok headed.says (Err (Bad place what.Calls), (whole, none), script_memory, refl)
+comes input (Err (Bad place what.Frame)) told (line, body, head, headed, whole, none) =
+    from_line line body (Ok head) headed.cut head_ok headed.says (Err (Bad place what.Frame), (whole, none), script_memory, refl)
+comes input (Err NoMemory) told free = absurd (told refl)
+
+one_follows : (line body : List ℕ) (h : Result ScriptHead HeadError) (a b : Result Script ScriptError) → Follows line body h a → Follows line body h b → a ≡ b
+unfolding Follows
+one_follows line body (Ok head) a b (r, x, told, is) (t, y, also, too) =
+    is ∙ ap (with_head head) (one_body (length line + 1) head.streams body r t told also x y) ∙ sym too
+one_follows line body (Err e) a b is too = is ∙ sym too
+
+same_head : (line : List ℕ) (h k : Result ScriptHead HeadError) → h ≢ Err fault.NoMemory → k ≢ Err fault.NoMemory → first.Answers line h → first.Answers line k → h ≡ k
+same_head line h k told also x y = by_cases (first_line.one_answer line h x k also y)
+  where
+    by_cases : (h ≡ k) ⊎ (h ≡ Err fault.NoMemory) → h ≡ k
+    by_cases (inl same) = same
+    by_cases (inr memory) = absurd (told memory)
+
+one_source : (input : List ℕ) (a b : Result Script ScriptError) → Comes input a → Comes input b → a ≡ b
+one_source input a b (too_long long is) (too_long also too) = is ∙ sym too
+one_source input a b (too_long long is) (no_line most none too) = absurd (omega arith)
+one_source input a b (too_long long is) (from_line line body h cut told says follows) = absurd (omega (arith, long, cut.most))
+one_source input a b (no_line most none is) (too_long also too) = absurd (omega arith)
+one_source input a b (no_line most none is) (no_line few nothing too) = is ∙ sym too
+one_source input a b (no_line most none is) (from_line line body h cut told says follows) = absurd (no_cut input line body none cut)
+one_source input a b (from_line line body h cut told says follows) (too_long also too) = absurd (omega (arith, also, cut.most))
+one_source input a b (from_line line body h cut told says follows) (no_line few nothing too) = absurd (no_cut input line body nothing cut)
+one_source input a b (from_line line body h cut told says follows) (from_line row rest k other also speaks after) =
+    let same = one_cut input line body row rest cut other in
+    let heads = same_head row h k told also (subst (λ l. first.Answers l h) same.0 says) speaks in
+    let along = subst (λ l. Follows l body h a) same.0 follows in
+    let behind = subst (λ l. Follows row l h a) same.1 along in
+    one_follows row rest k a b (subst (λ x. Follows row rest x a) heads behind) after
+
+pub one_truth : (input : List ℕ) (a b : Result Script ScriptError) → a ≢ Err NoMemory → b ≢ Err NoMemory → Answers input a → Answers input b → a ≡ b
+one_truth input a b told also is too = one_source input a b (comes input a told is) (comes input b also too)
+
+pub one_answer : (input : List ℕ) (a : Result Script ScriptError) → Answers input a → IsOnlyAnswer input a
+one_answer input (Ok script) is = λ b told too. inl (one_truth input _ b ok_memory told is too)
+one_answer input (Err (Bad place why)) is = λ b told too. inl (one_truth input _ b script_memory told is too)
+one_answer input (Err NoMemory) is = λ b told too. inr refl
+
+-- ---- a refusal of the bytes behind the first line, as one of the input
+
+of_calls_or_frame : (input line body : List ℕ) (head : ScriptHead) (place : ℕ) (why : What) → IsHeaded input line body head → bytes_of head ≡ length body
+    → AreNoStreams MOST_CALLS (length line + 1) head.streams body place why → (why ≡ what.Calls) ⊎ (why ≡ what.Frame) → IsNoScript input place why
+of_calls_or_frame input line body head place why headed whole none (inl calls) =
+    subst (λ w. AreNoStreams MOST_CALLS (length line + 1) head.streams body place w → IsNoScript input place w) (sym calls)
+    (λ n. (line, body, head, headed, whole, n)) none
+of_calls_or_frame input line body head place why headed whole none (inr frame) =
+    subst (λ w. AreNoStreams MOST_CALLS (length line + 1) head.streams body place w → IsNoScript input place w) (sym frame)
+    (λ n. (line, body, head, headed, whole, n)) none
+
+pub refused_behind : (input line body : List ℕ) (head : ScriptHead) (e : ScriptError) → IsCut input line body → first.Says line head
+    → AnswersBody (length line + 1) head.streams body (Err e) → Answers input (Err e)
+refused_behind input line body head NoMemory cut says free = free
+refused_behind input line body head (Bad place why) cut says no_body = by_cases (body_refusal (length line + 1) head.streams body place why no_body)
+  where
+    headed : IsHeaded input line body head
+    headed = record { cut = cut; says = says }
+
+    by_cases : (IsOtherEnd (bytes_of head) (length line + 1) (length body) place × (why ≡ what.Rest)) ⊎ ((bytes_of head ≡ length body) × AreNoStreams MOST_CALLS (length line + 1) head.streams body place why)
+        → IsNoScript input place why
+    by_cases (inl (other, rest)) =
+        subst (IsNoScript input place) (sym rest)
+        (line, body, head, headed, other.0, other.1 ∙ ap (λ n. min n (length line + 1 + bytes_of head)) (sym (length-cut input line body cut)))
+    by_cases (inr (whole, none)) =
+        of_calls_or_frame input line body head place why headed whole none (calls_or_frame head.streams MOST_CALLS (length line + 1) body place why none)

@@ -1,0 +1,37 @@
+-- Lemmas on specs/Streams.antt, for one stream.
+use Rattle.std.proofs.Common.{◌≡◌, ◌≢◌, ◌==◌, ◌∙◌, ℕ, ◌+◌, ◌-◌, ◌≤◌, Bool, false, cond, List, [], length, refl, sym, ap, inr, arith, length-append}
+use Rattle.std.proofs.lemmas.Bool.{eqb-false, ne_eqb}
+use Rattle.std.specs.List.{All}
+use Rattle.std.proofs.lemmas.List.Elements.{All-weaker}
+use Rattle.script_text.specs.declared.asked.Asked.TheVariants.{Call, End}
+use Rattle.script_text.specs.declared.frame.Frame.{Frame}
+use Rattle.script_text.specs.declared.frame.TheConstants.{CLOSE}
+use Rattle.script_text.specs.declared.what.What.TheVariants as what
+use Rattle.script_text.specs.Frames.{spelled, spellings, IsClose, IsCall, BeginsWithFrame, BeginWithCalls}
+use Rattle.script_text.specs.Asked.{asked_of, call_of}
+use Rattle.script_text.specs.Streams.{IsNoStream}
+
+-- some bytes are no empty list
+pub some_bytes : (bytes : List ℕ) (empty : Bool) → empty ≡ (length bytes == 0) → empty ≡ false → bytes ≢ []
+some_bytes bytes empty is none = λ nothing. eqb-false _ _ (sym is ∙ none) (ap length nothing)
+
+module _ (room place end : ℕ) (bytes : List ℕ) (frames : List Frame) (rest : List ℕ) (begin : BeginWithCalls bytes frames rest)
+    (few : length frames ≤ room) (to : end ≡ place + length bytes) where
+  length_front : length bytes ≡ length (spellings frames) + length rest
+  length_front = ap length begin.text ∙ length-append (spellings frames) rest
+
+  -- bytes go on behind a frame that ends the stream
+  pub bad_behind_close : (f : Frame) (more : List ℕ) → BeginsWithFrame rest f more → IsClose f → more ≢ [] → IsNoStream room place bytes (end - length more) what.Frame
+  bad_behind_close f more front closes some =
+      let len : length rest ≡ length (spelled f) + length more = ap length front.text ∙ length-append (spelled f) more in
+      (frames, rest, begin, few, inr (length (spelled f), (f, more, front, closes, some, refl), omega (arith, length_front, len)))
+
+  -- a call stands there, and there is no room for it
+  pub call_too_many : (f : Frame) (more : List ℕ) → BeginsWithFrame rest f more → (IsClose f → ⊥) → room ≤ length frames → IsNoStream room place bytes (end - length rest) what.Calls
+  call_too_many f more front calls full = (frames, rest, begin, few, (omega arith, (f, more, front, calls), omega (arith, length_front)))
+
+-- the frames of a stream ask calls
+pub All-asked : (frames : List Frame) → All IsCall frames → All (λ f. asked_of f ≡ Call (call_of f)) frames
+All-asked frames calls =
+    All-weaker IsCall (λ f. asked_of f ≡ Call (call_of f))
+    (λ f call. ap (λ (b : Bool). cond b End (Call (call_of f))) (ne_eqb f.head.kind CLOSE call.1)) frames calls

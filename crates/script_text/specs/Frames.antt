@@ -1,0 +1,43 @@
+-- The frames of a stream, as bytes.
+use Rattle.std.specs.Prelude.{◌≡◌, ℕ, ◌≤◌, List, ◌++◌, length, All}
+use Rattle.std.specs.List.{flat_map}
+use Rattle.frame_wire.specs.Spelling.{frame, IsHead}
+use Rattle.script_text.specs.declared.frame.Frame.{Frame}
+use Rattle.script_text.specs.declared.frame.TheConstants.{CLOSE}
+use Rattle.script_text.specs.declared.limits.TheConstants.{MOST_DATA}
+
+-- a frame as bytes
+abbrev pub spelled : Frame → List ℕ
+spelled f = frame f.head f.body
+
+-- frames as bytes, one after another
+abbrev pub spellings : List Frame → List ℕ
+spellings frames = flat_map spelled frames
+
+-- a whole frame, with no more data than it may have
+pub record IsWhole (f : Frame) : Type 0 where
+  pub head : IsHead f.head
+  pub body : length f.body ≡ f.head.len
+  pub most : f.head.len ≤ MOST_DATA
+
+-- it ends its stream
+abbrev pub IsClose : Frame → Type 0
+IsClose f = f.head.kind ≡ CLOSE
+
+-- a whole frame that is a call
+abbrev pub IsCall : Frame → Type 0
+IsCall f = IsWhole f × (IsClose f → ⊥)
+
+-- the bytes begin with a whole frame, and the rest stands behind it
+pub record BeginsWithFrame (bytes : List ℕ) (f : Frame) (rest : List ℕ) : Type 0 where
+  pub whole : IsWhole f
+  pub text : bytes ≡ spelled f ++ rest
+
+-- the bytes begin with no whole frame
+abbrev pub HasNoFrame : List ℕ → Type 0
+HasNoFrame bytes = (f : Frame) (rest : List ℕ) → BeginsWithFrame bytes f rest → ⊥
+
+-- the bytes begin with these calls, and the rest stands behind them
+pub record BeginWithCalls (bytes : List ℕ) (frames : List Frame) (rest : List ℕ) : Type 0 where
+  pub calls : All IsCall frames
+  pub text : bytes ≡ spellings frames ++ rest

@@ -1,0 +1,7 @@
+pub mod Words
+pub mod Frames
+pub mod Asked
+pub mod Line
+pub mod Streams
+pub mod Script
+pub mod Refusals

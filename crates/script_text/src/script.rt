@@ -1,0 +1,89 @@
+ghost use Rattle.std.specs.Prelude.{◌+◌, ◌^◌, ◌<◌, length, IfOk, IfErr};
+ghost use Rattle.script_text.specs.Refusals.{AnswersBody};
+ghost use Rattle.script_text.specs.Script.{IsScript, Refuses, Answers, IsOnlyAnswer};
+
+use crate::error::ScriptError;
+use crate::frame::Frame;
+use crate::limits::MOST_INPUT;
+use crate::line::line_length;
+use crate::streams::{other_end, read_streams};
+use crate::what::What;
+use journal_book::Bytes;
+use script_head::{Sequence, StreamHead, TimeText, read_head};
+use std::alloc::Global;
+use vol_units::{PlainName, VolumeSize};
+
+/// One stream of a script.
+#[derive(Debug, Drop)]
+pub enum Stream {
+    /// The frames that are calls, in their order.
+    Frames(Sequence<Frame>),
+}
+
+/// What is to be run.
+#[derive(Debug, Drop)]
+pub struct Script {
+    pub streams: Sequence<Stream>,
+    /// What the run writes as its time.
+    pub now: TimeText,
+    pub volume: PlainName,
+    pub size: VolumeSize,
+    pub replicas: u8,
+}
+
+/// The script that an input is. Its frames share the input's bytes.
+pub fn read_script(alloc: Global, input: &Bytes) -> Result<Script, ScriptError>
+    ensures found { IfOk result (IsScript input.now) }
+    ensures refused { IfErr result (Refuses input.now) }
+
+    // But for want of memory no other answer is true of the input.
+    ensures only { IsOnlyAnswer input.now result }
+{
+    script_in(alloc, input)
+}
+
+fn script_in(alloc: Global, input: &Bytes) -> Result<Script, ScriptError>
+    ensures { Answers input.now result }
+{
+    if input.len() > MOST_INPUT {
+        return Err(ScriptError::Bad {
+            place: MOST_INPUT as u64,
+            what: What::Input,
+        });
+    }
+    let Some(length) = line_length(input.as_slice()) else {
+        return Err(ScriptError::Bad {
+            place: 0,
+            what: What::Line,
+        });
+    };
+    let head = read_head(alloc, &input.as_slice()[..length])?;
+    let body = input.slice(length + 1..)?;
+    let streams = read_body(alloc, head.streams.as_slice(), body, length as u64 + 1)?;
+    Ok(Script {
+        streams,
+        now: head.now,
+        volume: head.volume,
+        size: head.size,
+        replicas: head.replicas,
+    })
+}
+
+/// The streams that stand behind the first line, from a place of the input to its end.
+fn read_body(
+    alloc: Global,
+    heads: &[StreamHead],
+    body: Bytes,
+    place: u64,
+) -> Result<Sequence<Stream>, ScriptError>
+    requires { place + length body < 2 ^ 64 }
+    ensures { AnswersBody place heads.now body result }
+{
+    if let Some(end) = other_end(heads, place, body.len()) {
+        return Err(ScriptError::Bad {
+            place: end,
+            what: What::Rest,
+        });
+    }
+    read_streams(alloc, heads, body, place)
+}
