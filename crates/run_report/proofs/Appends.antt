@@ -9,6 +9,10 @@ kept_more old mid new x more kept =
     let le : length old ≤ length mid = omega (arith, ap length more, length-append {A = ℕ}) in
     sym (take-take (length old) (length mid) new le) ∙ ap (take (length old)) (kept ∙ more) ∙ take-append_seam old x
 
+-- two appends are one
+pub two_appends : (o a b p q : List ℕ) → a ≡ o ++ p → b ≡ a ++ q → b ≡ o ++ (p ++ q)
+two_appends o a b p q ea eb = eb ∙ ap (λ l. l ++ q) ea ∙ append_assoc o p q
+
 -- three appends are one
 pub three_appends : (o a b c p q r : List ℕ) → a ≡ o ++ p → b ≡ a ++ q → c ≡ b ++ r → c ≡ o ++ (p ++ q ++ r)
 three_appends o a b c p q r ea eb ec = ec ∙ ap (λ l. l ++ r) (eb ∙ ap (λ l. l ++ q) ea) ∙ regroup

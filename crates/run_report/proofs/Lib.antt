@@ -1,2 +1,4 @@
 pub mod Appends
 pub mod ReportLemmas
+mod Walks
+mod HalfDigits

@@ -1,5 +1,7 @@
--- The lines that a run prints of its calls: one for an entry of the journal, one for the frame that replies to a frame.
-use Rattle.std.specs.Prelude.{ℕ, List, [], ◌∷◌, ◌++◌, length, codes}
+-- The lines that a run prints: one for an entry of the journal, one for the frame that replies to a frame, and those of a
+-- replica at the end. The form is this project's own.
+use Rattle.std.specs.Prelude.{ℕ, List, [], ◌∷◌, ◌++◌, length, codes, Bool, if◌then◌else◌, Option, Some, None}
+use Rattle.std.specs.List.{flat_map}
 use Rattle.std.specs.Fmt.{decimal, signed_decimal}
 use Rattle.frame_wire.specs.declared.head.Head.{Head}
 use Rattle.image_runs.specs.Runs.{runs_text}
@@ -10,6 +12,8 @@ use Rattle.volume_model.specs.declared.call.Reply.TheVariants as reply
 use Rattle.volume_model.specs.declared.entry.Answer.{Answer}
 use Rattle.volume_model.specs.declared.entry.Entry.{Entry}
 use Rattle.volume_model.specs.declared.entry.Entry.TheVariants as entry
+use Rattle.volume_model.specs.declared.mode.Mode.{Mode}
+use Rattle.volume_model.specs.declared.mode.Mode.TheVariants as mode
 use Rattle.volume_model.specs.Texts.{refusal_text}
 
 -- a word of a line, and the space behind it
@@ -75,3 +79,34 @@ header_words asked a = word (decimal asked.seq) ++ word (decimal (reply_kind a.r
 abbrev pub reply_line : Head → Answer → List ℕ
 reply_line asked a = codes "reply " ++ word (decimal a.stream) ++ word (decimal a.index) ++ header_words asked a
     ++ runs_text (reply_body a.reply) ++ 10 ∷ []
+
+-- a mode, in longhorn-engine's words
+abbrev pub mode_text : Mode → List ℕ
+mode_text mode.Rw = codes "RW"
+mode_text mode.Wo = codes "WO"
+mode_text mode.Err = codes "ERR"
+
+-- a replica, and the space behind it
+abbrev pub replica_word : ℕ → List ℕ
+replica_word r = word (codes "r" ++ decimal r)
+
+-- a replica's mode
+abbrev pub mode_line : ℕ → Mode → List ℕ
+mode_line r m = codes "mode " ++ replica_word r ++ mode_text m ++ 10 ∷ []
+
+-- the name of a layer below the head, and a star where the layer is marked
+abbrev pub layer_word : List ℕ × Bool → List ℕ
+layer_word layer = 32 ∷ layer.0 ++ (if layer.1 then codes "*" else [])
+
+-- of which replica a chain is, where that is said
+abbrev pub chain_owner : Option ℕ → List ℕ
+chain_owner None = []
+chain_owner (Some r) = replica_word r
+
+-- a chain: the head, and the layers below it from its parent down
+abbrev pub chain_line : Option ℕ → List (List ℕ × Bool) → List ℕ
+chain_line r layers = codes "chain " ++ chain_owner r ++ codes "head" ++ flat_map layer_word layers ++ 10 ∷ []
+
+-- the digest of a replica's head
+abbrev pub head_line : ℕ → List ℕ → List ℕ
+head_line r digest = codes "head " ++ replica_word r ++ digest ++ 10 ∷ []

@@ -1,10 +1,16 @@
--- The report of a run: a line for each entry of the journal, and then a line for each reply, by streams.
-use Rattle.std.specs.Prelude.{ℕ, suc, List, [], ◌∷◌, ◌++◌}
+-- The report of a run: a line for each entry of the journal, one for each reply, by streams, and then what the run leaves.
+use Rattle.std.specs.Prelude.{ℕ, suc, List, [], ◌∷◌, ◌++◌, Some}
 use Rattle.frame_wire.specs.declared.head.Head.{Head}
 use Rattle.volume_model.specs.declared.entry.Answer.{Answer}
 use Rattle.volume_model.specs.declared.entry.Entry.{Entry}
-use Rattle.volume_model.specs.History.{answers_of}
-use Rattle.run_report.specs.Lines.{entry_line, reply_line}
+use Rattle.volume_model.specs.declared.mode.Mode.{Mode}
+use Rattle.volume_model.specs.declared.mode.Mode.TheVariants as mode
+use Rattle.volume_model.specs.PlainState.{PlainState}
+use Rattle.volume_model.specs.Replay.{replay}
+use Rattle.volume_model.specs.Modes.{modes_after}
+use Rattle.volume_model.specs.History.{Opening, answers_of}
+use Rattle.run_report.specs.Digest.{digest_text}
+use Rattle.run_report.specs.Lines.{entry_line, reply_line, mode_line, chain_line, head_line}
 
 -- the lines of these entries, the first of which stands at `place`
 abbrev pub journal_lines : ℕ → List Entry → List ℕ
@@ -22,6 +28,27 @@ abbrev pub replies_from : ℕ → List (List Head) → List Entry → List ℕ
 replies_from stream [] journal = []
 replies_from stream (hs ∷ rest) journal = reply_lines hs (answers_of stream journal) ++ replies_from (suc stream) rest journal
 
+-- what is printed of the calls, for streams whose frames have these headers
+abbrev pub call_lines : List (List Head) → List Entry → List ℕ
+call_lines streams journal = journal_lines 0 journal ++ replies_from 0 streams journal
+
+-- the modes of the replicas, the first of which is r
+abbrev pub mode_lines : ℕ → List Mode → List ℕ
+mode_lines r [] = []
+mode_lines r (m ∷ ms) = mode_line r m ++ mode_lines (suc r) ms
+
+-- a line for each of the replicas that is read and written, the first replica being r
+abbrev pub source_lines : (ℕ → List ℕ) → ℕ → List Mode → List ℕ
+source_lines line r [] = []
+source_lines line r (mode.Rw ∷ ms) = line r ++ source_lines line (suc r) ms
+source_lines line r (m ∷ ms) = source_lines line (suc r) ms
+
+-- what a run leaves: modes, chains, and the digests of the heads. A chain is its head alone yet.
+abbrev pub end_lines : List Mode → PlainState → List ℕ
+end_lines modes state = mode_lines 0 modes ++ source_lines (λ r. chain_line (Some r) []) 0 modes
+    ++ source_lines (λ r. head_line r (digest_text state.disk)) 0 modes
+
 -- the whole report of a journal, for streams whose frames have these headers
-abbrev pub report_of : List (List Head) → List Entry → List ℕ
-report_of streams journal = journal_lines 0 journal ++ replies_from 0 streams journal
+abbrev pub report_of : List (List Head) → Opening → List Entry → List ℕ
+report_of streams opening journal =
+    call_lines streams journal ++ end_lines (modes_after opening.modes journal) (replay opening.state journal)

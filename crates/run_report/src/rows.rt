@@ -1,19 +1,32 @@
-//! Worked rows of the report, computed by the checker on a disk of four bytes.
+//! Worked rows of the report, computed by the checker: of calls on a disk of four bytes, and of what a run leaves.
 
-ghost use Rattle.std.specs.Prelude.{◌≡◌, ◌∷◌, [], codes, pos};
+ghost use Rattle.std.specs.Prelude.{◌≡◌, ◌∷◌, [], codes, pos, true, false, Some, None};
 ghost use Rattle.volume_model.specs.declared.call.Call.TheVariants as call;
 ghost use Rattle.volume_model.specs.PlainState.{state_of};
 ghost use Rattle.volume_model.specs.OneWorker.{served};
-ghost use Rattle.run_report.specs.Report.{report_of};
+ghost use Rattle.volume_model.specs.declared.mode.Mode.TheVariants as mode;
+ghost use Rattle.run_report.specs.Lines.{mode_line, chain_line};
+ghost use Rattle.run_report.specs.Report.{call_lines};
 
 /// What is printed of a write that was done, of a read, of a read past the end, and of a ping.
 pub fn the_report_reads()
-    ensures done { report_of (((record { seq = 1; kind = 1; offset = pos 1; size = 1; len = 1 })
+    ensures done { call_lines (((record { seq = 1; kind = 1; offset = pos 1; size = 1; len = 1 })
         ∷ (record { seq = 2; kind = 0; offset = pos 0; size = 4; len = 0 }) ∷ []) ∷ [])
         (served (state_of (0 ∷ 0 ∷ 0 ∷ 0 ∷ [])) (call.Write (pos 1) (97 ∷ []) ∷ call.Read (pos 0) 4 ∷ []))
         ≡ codes "0 0 0 0 write 1 1 61*1 ok\n1 1 0 1 read 0 4 ok 00*1,61*1,00*2\nreply 0 0 1 2 1 1 -\nreply 0 1 2 2 0 4 00*1,61*1,00*2\n" }
-    ensures refused { report_of (((record { seq = 9; kind = 0; offset = pos 5; size = 1; len = 0 })
+    ensures refused { call_lines (((record { seq = 9; kind = 0; offset = pos 5; size = 1; len = 0 })
         ∷ (record { seq = 8; kind = 6; offset = pos 0; size = 0; len = 0 }) ∷ []) ∷ [])
         (served (state_of (0 ∷ [])) (call.Read (pos 5) 1 ∷ call.Ping ∷ []))
         ≡ codes "0 0 0 0 read 5 1 error out of range\n1 1 0 1 ping ok\nreply 0 0 9 3 5 12 6f*1,75*1,74*1,20*1,6f*1,66*1,20*1,72*1,61*1,6e*1,67*1,65*1\nreply 0 1 8 2 0 0 -\n" }
+{}
+
+/// What is printed of a replica's mode, and of a chain.
+pub fn the_end_reads()
+    ensures failed { mode_line 0 mode.Err ≡ codes "mode r0 ERR\n" }
+    ensures rebuilt { mode_line 12 mode.Wo ≡ codes "mode r12 WO\n" }
+    ensures sound { mode_line 1 mode.Rw ≡ codes "mode r1 RW\n" }
+    ensures alone { chain_line (Some 0) [] ≡ codes "chain r0 head\n" }
+    ensures marked { chain_line (Some 0) ((codes "c", false) ∷ (codes "a", true) ∷ [])
+        ≡ codes "chain r0 head c a*\n" }
+    ensures unsaid { chain_line None [] ≡ codes "chain head\n" }
 {}

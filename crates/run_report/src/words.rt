@@ -10,6 +10,12 @@ pub fn append_number(n: u64, into: &mut Vec<u8>) -> Result<(), AllocError>
     ensures ok { OnOk result (into.new.items ≡ into.old.items ++ word (decimal n)) }
     ensures kept { take (length into.old.items) into.new.items ≡ into.old.items }
 {
+    // Most numbers have one digit.
+    if n < 10 {
+        into.push(b'0' + n as u8)?;
+        into.push(b' ')?;
+        return Ok(());
+    }
     let mut buffer = Buffer::new();
     into.extend_from_slice(buffer.format(n).as_bytes())?;
     into.push(b' ')?;

@@ -1,5 +1,4 @@
-pub mod Frames
-pub mod Words
-pub mod FirstLine
-pub mod Passing
+pub mod ScriptLemmas
+pub mod Serving
 pub mod Run
+pub mod Refusals

@@ -1,34 +1,89 @@
--- What a run leaves in its sink.
-use Rattle.std.proofs.Common.{◌≡◌, ℕ, List, [], ◌∷◌, map, Option, Result, Ok, Err, refl, sym, subst, inr, OnOk, lit<}
+-- What a run has read, and what it leaves in its sink.
+use Rattle.std.proofs.Common.{◌≡◌, ℕ, ◌≤◌, List, [], ◌∷◌, ◌++◌, length, Option, Some, None, Result, Ok, Err, refl, sym, ap, subst, ◌∙◌, inr, OnOk, lit<, arith, length-append}
 use Rattle.std.specs.Io.KnownBytes.{Consumes, IsAtEnd, Appends}
 use Rattle.std.proofs.KnownBytes.{Consumes-whole}
+use Rattle.frame_wire.specs.declared.head.Head.{Head}
+use Rattle.outer_flow.specs.Passing.{WritesFront}
+use Rattle.report_writer.specs.Written.{written_text}
+use Rattle.run_report.specs.Report.{call_lines, end_lines}
+use Rattle.script_text.specs.declared.script.Script.{Script}
+use Rattle.script_text.specs.declared.what.What.{What}
+use Rattle.script_text.specs.declared.what.What.TheVariants as what
+use Rattle.script_text.specs.Script.{IsScript, IsNoScript}
 use Rattle.volume_model.specs.declared.entry.Entry.{Entry}
+use Rattle.volume_model.specs.declared.mode.Mode.{Mode}
+use Rattle.volume_model.specs.declared.mode.Mode.TheVariants.{Rw}
+use Rattle.volume_model.specs.Modes.{HasSource}
+use Rattle.volume_model.specs.PlainState.{PlainState}
 use Rattle.volume_model.specs.History.{IsHistory}
-use Rattle.volume_model.specs.OneWorker.{served, stream_of}
+use Rattle.volume_model.specs.OneWorker.{stream_of}
 use Rattle.volume_model.proofs.OneWorkerLemmas.{served_is_history}
-use Rattle.volume_cli.specs.declared.frame.Frame.{Frame}
+use Rattle.volume_model.proofs.StepLemmas.{modes_after-same}
+use Rattle.volume_cli.specs.declared.solo.Served.{Served}
 use Rattle.volume_cli.specs.declared.stop.Stop.{Stop}
-use Rattle.volume_cli.specs.declared.stop.Stop.TheVariants.{NoScript, ReadFault, WriteFault, NoMemory}
-use Rattle.volume_cli.specs.Asked.{opening, call_of}
-use Rattle.volume_cli.specs.Script.{IsScript}
-use Rattle.volume_cli.specs.Passing.{WritesFront}
-use Rattle.volume_cli.specs.Stops.{WriteCounts, IsRun, report_text, RunLeaves, no_faults}
+use Rattle.volume_cli.specs.declared.stop.Stop.TheVariants.{BadScript, ReadFault, WriteFault, NoMemory}
+use Rattle.volume_cli.specs.Volume.{opening_of}
+use Rattle.volume_cli.specs.Serving.{IsServed}
+use Rattle.volume_cli.specs.Stops.{WriteCounts, IsRun, report_text, RunLeaves, HadNoScript, no_faults}
+use Rattle.volume_cli.proofs.ScriptLemmas.{one_replica}
 
--- a script that was read to its end, and its journal
-pub is_run : (left rest : Option (List ℕ)) (input : List ℕ) (frames : List Frame) (journal : List Entry)
-    → Consumes left rest input → IsAtEnd rest → IsScript input frames → journal ≡ served opening.state (map call_of frames) → IsRun left frames journal
-is_run left rest input frames journal given end script is = record {
-  script = (input, script, Consumes-whole left rest input (λ told. told ≡ input) given end refl);
-  history = subst (IsHistory opening no_faults (stream_of (map call_of frames ∷ []))) (sym is)
-      (served_is_history opening no_faults (map call_of frames) (0, lit< tt, refl));
+-- an input that was read is all that the source had, or too long
+abbrev IsWhole : Option (List ℕ) → List ℕ → Type 0
+IsWhole rest input = length input ≤ 268435456 → IsAtEnd rest
+
+too_long : (left rest : Option (List ℕ)) (input : List ℕ) (place : ℕ) → Consumes left rest input → IsNoScript input place what.Input
+    → HadNoScript left place what.Input
+too_long None rest input place given is = tt
+too_long (Some told) None input place given is = absurd given
+too_long (Some told) (Some more) input place given is =
+    (omega (arith, is.0, ap length given, length-append input more), is.1)
+
+-- What of the input is no script is so of all that the source had.
+pub had_no_script : (left rest : Option (List ℕ)) (input : List ℕ) (place : ℕ) (why : What) → Consumes left rest input → IsWhole rest input
+    → IsNoScript input place why → HadNoScript left place why
+had_no_script left rest input place what.Input given end is = too_long left rest input place given is
+had_no_script left rest input place what.Line given end is = Consumes-whole left rest input (λ told. IsNoScript told place what.Line) given (end is.0) is
+had_no_script left rest input place what.Json given end is =
+    Consumes-whole left rest input (λ told. IsNoScript told place what.Json) given (end is.2.most) is
+had_no_script left rest input place (what.Member m) given end is =
+    Consumes-whole left rest input (λ told. IsNoScript told place (what.Member m)) given (end is.2.most) is
+had_no_script left rest input place what.Rest given end is =
+    Consumes-whole left rest input (λ told. IsNoScript told place what.Rest) given (end is.3.cut.most) is
+had_no_script left rest input place what.Calls given end is =
+    Consumes-whole left rest input (λ told. IsNoScript told place what.Calls) given (end is.3.cut.most) is
+had_no_script left rest input place what.Frame given end is =
+    Consumes-whole left rest input (λ told. IsNoScript told place what.Frame) given (end is.3.cut.most) is
+
+has_source : (modes : List Mode) → modes ≡ Rw ∷ [] → HasSource modes
+has_source modes is = subst HasSource (sym is) (0, lit< tt, refl)
+
+-- a script that was read, and its journal
+pub is_run : (left rest : Option (List ℕ)) (input : List ℕ) (script : Script) (s : Served) → Consumes left rest input → IsWhole rest input
+    → IsScript input script → IsServed script s → IsRun left script s.journal.entries
+is_run left rest input script s given end is served = record {
+  read = (input, is, Consumes-whole left rest input (λ told. told ≡ input) given (end is.headed.cut.most) refl);
+  history = subst (λ cs. IsHistory (opening_of script) no_faults (stream_of cs) s.journal.entries) (sym served.only)
+      (subst (IsHistory (opening_of script) no_faults (stream_of (served.calls ∷ []))) (sym served.journal)
+      (served_is_history (opening_of script) no_faults served.calls (has_source _ (one_replica input script is))));
 }
 
+-- the text that is written is the report of the run
+pub written_is : (input : List ℕ) (script : Script) (s : Served) → IsScript input script → IsServed script s
+    → written_text s.heads.items s.journal.entries s.disk ≡ report_text script s.journal.entries
+written_is input script s is served =
+    let modes = modes_after-same (opening_of script).modes s.journal.entries ∙ one_replica input script is in
+    same_text _ _ s.journal.entries _ _ _ _ (sym served.heads) (sym modes) served.disk
+  where
+    same_text : (hs gs : List (List Head)) (es : List Entry) (ms ns : List Mode) (s t : PlainState) → hs ≡ gs → ms ≡ ns → s ≡ t
+        → call_lines hs es ++ end_lines ms s ≡ call_lines gs es ++ end_lines ns t
+    same_text hs gs es ms ns s t p q r = cc
+
 -- what is written of the report of a run
-pub leaves : {T : Type 0} (result : Result T Stop) (same : Type 0) (left old new : Option (List ℕ)) (frames : List Frame) (journal : List Entry) (text : List ℕ) (before now : ℕ)
-    → IsRun left frames journal → text ≡ report_text frames journal
+pub leaves : {T : Type 0} (result : Result T Stop) (same : Type 0) (left old new : Option (List ℕ)) (script : Script) (journal : List Entry) (text : List ℕ) (before now : ℕ)
+    → IsRun left script journal → text ≡ report_text script journal
     → OnOk result (Appends old new text) → WritesFront old new text → WriteCounts result before now → RunLeaves result same left old new
-leaves (Ok x) same left old new frames journal text before now run is whole front counts = (frames, journal, run, subst (Appends old new) is whole)
-leaves (Err NoScript) same left old new frames journal text before now run is whole front counts = absurd counts
-leaves (Err ReadFault) same left old new frames journal text before now run is whole front counts = absurd counts
-leaves (Err WriteFault) same left old new frames journal text before now run is whole front counts = (frames, journal, run, subst (WritesFront old new) is front)
-leaves (Err NoMemory) same left old new frames journal text before now run is whole front counts = inr (frames, journal, run, subst (WritesFront old new) is front)
+leaves (Ok x) same left old new script journal text before now run is whole front counts = (script, journal, run, subst (Appends old new) is whole)
+leaves (Err (BadScript place why)) same left old new script journal text before now run is whole front counts = absurd counts
+leaves (Err ReadFault) same left old new script journal text before now run is whole front counts = absurd counts
+leaves (Err WriteFault) same left old new script journal text before now run is whole front counts = (script, journal, run, subst (WritesFront old new) is front)
+leaves (Err NoMemory) same left old new script journal text before now run is whole front counts = inr (script, journal, run, subst (WritesFront old new) is front)

@@ -1,14 +1,19 @@
 -- What the status of the program tells.
-use Rattle.std.specs.Prelude.{◌≡◌, ℕ, ◌⊎◌, List, [], ◌∷◌, map, codes, Option, IfSome, string_bytes, String}
-use Rattle.volume_cli.specs.declared.status.What.TheVariants.{Form}
+use Rattle.std.specs.Prelude.{◌≡◌, ℕ, ◌⊎◌, List, map, Option, Some, None, string_bytes, String}
+use Rattle.program_words.specs.declared.words.Workers.{Workers}
+use Rattle.program_words.specs.declared.words.Words.TheVariants.{Run}
+use Rattle.program_words.specs.Asked.{asked_by}
 use Rattle.volume_cli.specs.declared.status.Status.{Status}
 use Rattle.volume_cli.specs.declared.status.Status.TheVariants.{Done, Usage, Script, ReadFault, WriteFault, NoMemory}
-use Rattle.volume_cli.specs.Script.{IsNoScript}
-use Rattle.volume_cli.specs.Stops.{Prints, PrintsFront}
+use Rattle.volume_cli.specs.Stops.{HadNoScript, Prints, PrintsFront}
 
--- the words are the one word `run`
-abbrev pub AreWords : {A : Type 0} → List (String A) → Type 0
-AreWords words = map string_bytes words ≡ codes "run" ∷ []
+-- the words ask for a run
+abbrev pub AskRun : {A : Type 0} → List (String A) → Type 0
+AskRun words = (workers : Workers) × (asked_by (map string_bytes words) ≡ Some (Run workers))
+
+-- the words ask for nothing that there is
+abbrev pub AskNothing : {A : Type 0} → List (String A) → Type 0
+AskNothing words = asked_by (map string_bytes words) ≡ None
 
 -- it is the answer, unless memory ran out
 abbrev pub IsAnswered : Status → Status → Type 0
@@ -18,11 +23,11 @@ IsAnswered answer status = (answer ≡ status) ⊎ (answer ≡ NoMemory)
 abbrev pub ExactlyWhere : Status → Status → Type 0 → Type 0
 ExactlyWhere answer status P = (answer ≡ status → P) × (P → IsAnswered answer status)
 
--- A script is refused at its first byte, as no form that is read, only where the words are good and it is none.
+-- A script is refused only where the words ask for a run, and the input is none, for this reason first, at this place.
 abbrev pub ScriptRefusal : {A : Type 0} → Status → List (String A) → Option (List ℕ) → Type 0
 ScriptRefusal Done words left = Unit {0}
 ScriptRefusal Usage words left = Unit {0}
-ScriptRefusal (Script place what) words left = (place ≡ 0) × (what ≡ Form) × AreWords words × IfSome left IsNoScript
+ScriptRefusal (Script place what) words left = AskRun words × HadNoScript left place what
 ScriptRefusal ReadFault words left = Unit {0}
 ScriptRefusal WriteFault words left = Unit {0}
 ScriptRefusal NoMemory words left = Unit {0}

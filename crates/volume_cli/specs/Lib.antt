@@ -1,6 +1,5 @@
-pub mod Asked
-pub mod Script
-pub mod Passing
+pub mod Volume
+pub mod Serving
 pub mod Stops
 pub mod Statuses
 pub mod Headline

@@ -1,25 +1,29 @@
--- How a run can end before its end, and what each way says of the counts of faults and of the sink.
-use Rattle.std.specs.Prelude.{◌≡◌, ℕ, ◌⊎◌, List, [], ◌∷◌, map, Option, IfSome, Result, Ok, Err, IfErr}
+-- How a run can end before its end, and what each way says of the counts of faults, of the input and of the sink.
+use Rattle.std.specs.Prelude.{◌≡◌, ℕ, ◌⊎◌, List, Option, IfSome, Result, Ok, Err}
 use Rattle.std.specs.Io.KnownBytes.{Appends}
 use Rattle.outer_traits.specs.Causes.{Rose}
+use Rattle.outer_flow.specs.Passing.{WritesFront}
 use Rattle.volume_model.specs.declared.entry.Entry.{Entry}
 use Rattle.volume_model.specs.History.{IsHistory}
 use Rattle.volume_model.specs.OneWorker.{stream_of}
 use Rattle.run_report.specs.Report.{report_of}
-use Rattle.volume_cli.specs.declared.frame.Frame.{Frame}
+use Rattle.script_text.specs.declared.error.ScriptError.{ScriptError}
+use Rattle.script_text.specs.declared.error.ScriptError.TheVariants as script_error
+use Rattle.script_text.specs.declared.script.Script.{Script}
+use Rattle.script_text.specs.declared.what.What.{What}
+use Rattle.script_text.specs.Script.{IsScript, IsNoScript}
 use Rattle.volume_cli.specs.declared.stop.Stop.{Stop}
-use Rattle.volume_cli.specs.declared.stop.Stop.TheVariants.{NoScript, ReadFault, WriteFault, NoMemory}
-use Rattle.volume_cli.specs.Asked.{opening, call_of}
-use Rattle.volume_cli.specs.Script.{IsScript}
-use Rattle.volume_cli.specs.Passing.{WritesFront}
+use Rattle.volume_cli.specs.declared.stop.Stop.TheVariants.{BadScript, ReadFault, WriteFault, NoMemory}
+use Rattle.volume_cli.specs.Volume.{opening_of, calls_in, heads_in}
 
--- only a bad script and memory stop the reading of a script
-abbrev pub OfScript : {T : Type 0} → Result T Stop → Type 0
-OfScript r = IfErr r (λ e. (e ≡ NoScript) ⊎ (e ≡ NoMemory))
+-- the way to stop that a refusal of a script is
+abbrev pub stop_of : ScriptError → Stop
+stop_of (script_error.Bad place what) = BadScript place what
+stop_of script_error.NoMemory = NoMemory
 
--- only a fault of the source and memory stop the reading of the input, and the count shows which
+-- Only a fault of the source and memory stop the reading of the input, and its count shows which.
 abbrev pub ReadStop : Stop → ℕ → ℕ → Type 0
-ReadStop NoScript before now = ⊥
+ReadStop (BadScript place what) before now = ⊥
 ReadStop ReadFault before now = Rose before now
 ReadStop WriteFault before now = ⊥
 ReadStop NoMemory before now = now ≡ before
@@ -29,9 +33,9 @@ abbrev pub ReadCounts : {T : Type 0} → Result T Stop → ℕ → ℕ → Type 
 ReadCounts (Ok x) before now = now ≡ before
 ReadCounts (Err e) before now = ReadStop e before now
 
--- only a fault of the sink and memory stop the writing, and the count shows which
+-- Only a fault of the sink and memory stop the writing, and its count shows which.
 abbrev pub WriteStop : Stop → ℕ → ℕ → Type 0
-WriteStop NoScript before now = ⊥
+WriteStop (BadScript place what) before now = ⊥
 WriteStop ReadFault before now = ⊥
 WriteStop WriteFault before now = Rose before now
 WriteStop NoMemory before now = now ≡ before
@@ -43,7 +47,7 @@ WriteCounts (Err e) before now = WriteStop e before now
 
 -- what the counts of the source (s, then t) and of the sink (k, then l) say of each way to stop
 abbrev pub StopCounts : Stop → ℕ → ℕ → ℕ → ℕ → Type 0
-StopCounts NoScript s t k l = (t ≡ s) × (l ≡ k)
+StopCounts (BadScript place what) s t k l = (t ≡ s) × (l ≡ k)
 StopCounts ReadFault s t k l = Rose s t × (l ≡ k)
 StopCounts WriteFault s t k l = (t ≡ s) × Rose k l
 StopCounts NoMemory s t k l = (t ≡ s) × (l ≡ k)
@@ -57,32 +61,38 @@ Counts (Err e) s t k l = StopCounts e s t k l
 abbrev pub no_faults : ℕ → ℕ → ℕ
 no_faults stream replica = 0
 
--- A run of the script of these frames, which is what the source had where it tells that. Its journal is one
--- legal history of the script's calls.
-pub record IsRun (left : Option (List ℕ)) (frames : List Frame) (journal : List Entry) : Type 0 where
-  pub script : (input : List ℕ) × IsScript input frames × IfSome left (λ told. told ≡ input)
-  pub history : IsHistory opening no_faults (stream_of (map call_of frames ∷ [])) journal
+-- A run of a script, which is what the source had where it tells that. Its journal is one legal history of the
+-- script's calls.
+pub record IsRun (left : Option (List ℕ)) (script : Script) (journal : List Entry) : Type 0 where
+  pub read : (input : List ℕ) × IsScript input script × IfSome left (λ told. told ≡ input)
+  pub history : IsHistory (opening_of script) no_faults (stream_of (calls_in script)) journal
 
 -- what such a run prints
-abbrev pub report_text : List Frame → List Entry → List ℕ
-report_text frames journal = report_of (map (λ (f : Frame). f.head) frames ∷ []) journal
+abbrev pub report_text : Script → List Entry → List ℕ
+report_text script journal = report_of (heads_in script) (opening_of script) journal
 
 -- The sink has got the whole report of a run.
 abbrev pub Prints : Option (List ℕ) → Option (List ℕ) → Option (List ℕ) → Type 0
-Prints left old new = (frames : List Frame) × (journal : List Entry) × IsRun left frames journal × Appends old new (report_text frames journal)
+Prints left old new = (script : Script) × (journal : List Entry) × IsRun left script journal
+    × Appends old new (report_text script journal)
 
 -- The sink has got a front of the report of a run.
 abbrev pub PrintsFront : Option (List ℕ) → Option (List ℕ) → Option (List ℕ) → Type 0
-PrintsFront left old new = (frames : List Frame) × (journal : List Entry) × IsRun left frames journal × WritesFront old new (report_text frames journal)
+PrintsFront left old new = (script : Script) × (journal : List Entry) × IsRun left script journal
+    × WritesFront old new (report_text script journal)
 
--- what each way to stop leaves of the sink, `same` being that it is as it was
+-- what the source had is no script, for this reason first, at this place
+abbrev pub HadNoScript : Option (List ℕ) → ℕ → What → Type 0
+HadNoScript left place what = IfSome left (λ told. IsNoScript told place what)
+
+-- What each way to stop says of what the source had and of what the sink has got, `same` being that it is as it was.
 abbrev pub StopLeaves : Stop → Type 0 → Option (List ℕ) → Option (List ℕ) → Option (List ℕ) → Type 0
-StopLeaves NoScript same left old new = same
+StopLeaves (BadScript place what) same left old new = same × HadNoScript left place what
 StopLeaves ReadFault same left old new = same
 StopLeaves WriteFault same left old new = PrintsFront left old new
 StopLeaves NoMemory same left old new = same ⊎ PrintsFront left old new
 
--- what a run leaves of the sink
+-- the same of how a run ended
 abbrev pub RunLeaves : {T : Type 0} → Result T Stop → Type 0 → Option (List ℕ) → Option (List ℕ) → Option (List ℕ) → Type 0
 RunLeaves (Ok x) same left old new = Prints left old new
 RunLeaves (Err e) same left old new = StopLeaves e same left old new

@@ -2,11 +2,7 @@
 //! with the replies.
 #![tactic(auto)]
 
-mod form;
-mod frame;
-mod input;
-mod output;
-mod report;
+mod edge;
 mod solo;
 mod standard;
 mod status;

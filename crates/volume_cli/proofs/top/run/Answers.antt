@@ -1,20 +1,23 @@
-use Rattle.std.proofs.Common.{◌≡◌, ◌∷◌, [], map, ap, ◌∙◌}
-use Rattle.volume_cli.specs.declared.frame.Frame.{Frame}
-use Rattle.run_report.specs.Report.{report_of}
-use Rattle.volume_cli.specs.Script.{IsScript}
-use Rattle.volume_cli.specs.Stops.{report_text}
-use Rattle.volume_cli.proofs.Run.{is_run, leaves}
+use Rattle.std.proofs.Common.{refl, subst}
+use Rattle.script_text.specs.Script.{Refuses}
+use Rattle.volume_cli.proofs.Run.{had_no_script, is_run, written_is, leaves}
+use Rattle.volume_cli.proofs.Refusals.{refused_leaves}
 use Rattle.volume_cli.proofs.top.run.Goals as goal
 
-pub returns-clause-printed : goal.returns-clause-printed
-returns-clause-printed g c =
+pub returns-in_err-script-clause-leaves : goal.returns-in_err-script-clause-leaves
+returns-in_err-script-clause-leaves g c =
     let input = c.in_ok-input.input in
-    let frames = c.in_ok-frames.frames.items in
-    let journal = c.in_ok-journal.journal.entries in
-    let script : IsScript input frames = c.in_ok-frames.ensures.found in
-    let run = is_run _ _ input frames journal c.in_ok-input.ensures.bytes (c.in_ok-input.ensures.whole script.most) script c.in_ok-journal.ensures.journal in
-    let heads : c.deref-2.result.now ≡ map (λ (f : Frame). f.head) frames =
-    c.deref-2.ensures.value ∙ c.in_ok-heads.ensures ∙ ap (map (λ (f : Frame). f.head)) c.deref.ensures.value in
-    let text : report_of (c.deref-2.result.now ∷ []) journal ≡ report_text frames journal = ap (λ hs. report_of (hs ∷ []) journal) heads in
-    leaves c.write_report.result _ _ _ _ frames journal (report_of (c.deref-2.result.now ∷ []) journal) (g.K.Sink.faults c.args.sink.now) (g.K.Sink.faults c.write_report.new.sink) run text
-    c.write_report.ensures.whole c.write_report.ensures.front c.write_report.ensures.counts
+    let fault = c.in_err-script.field-0.0 in
+    refused_leaves c.from_residual-in_err-script.result fault _ _ _ _ c.from_residual-in_err-script.ensures.1 refl
+    (λ place why is. had_no_script _ _ input place why c.in_ok-input.ensures.bytes c.in_ok-input.ensures.whole
+    (subst (Refuses input) is c.in_err-script.ensures.refused))
+
+pub returns-clause-leaves : goal.returns-clause-leaves
+returns-clause-leaves g c =
+    let input = c.in_ok-input.input in
+    let script = c.in_ok-script.script in
+    let served = c.in_ok-served.served in
+    let is = c.in_ok-script.ensures.found in
+    let run = is_run _ _ input script served c.in_ok-input.ensures.bytes c.in_ok-input.ensures.whole is c.in_ok-served.ensures in
+    leaves c.write_output.result _ _ _ _ script served.journal.entries _ (g.K.Sink.faults c.args.sink.now) (g.K.Sink.faults c.write_output.new.sink)
+    run (written_is input script served is c.in_ok-served.ensures) c.write_output.ensures.whole c.write_output.ensures.front c.write_output.ensures.counts

@@ -1,0 +1,37 @@
+use Rattle.std.proofs.Common.{◌≡◌, ◌<◌, ◌+◌, ◌++◌, length, drop, ap, subst, ◌∙◌, arith, append_assoc}
+use Rattle.std.proofs.lemmas.Option.{get_or_from_slice_get}
+use Rattle.run_report.specs.Lines.{entry_line}
+use Rattle.run_report.specs.Report.{journal_lines}
+use Rattle.run_report.proofs.ReportLemmas.{next_line}
+use Rattle.outer_flow.specs.Passing.{WritesFront}
+use Rattle.outer_flow.proofs.Passing.{Passes-trans, WritesFront-after, WritesFront-more}
+use Rattle.report_writer.proofs.report.pass_entries.Goals as goal
+
+pub loop-place-preserved : goal.loop-place-preserved
+loop-place-preserved g c =
+    let i = c.loop-place.invariant in
+    let entries = c.args.journal.now.entries in
+    let place = c.loop-place.place in
+    let e = c.entry.result.now in
+    let inside : place < length entries = omega (arith, c.len-place-end.ensures) in
+    let t = next_line i.0 (journal_lines 0 entries) place entries e inside (get_or_from_slice_get entries place e e c.entry.ensures) i.2 in (
+      i.0 ++ entry_line place e,
+      Passes-trans _ _ _ _ _ _ i.0 (entry_line place e) i.1 c.in_ok-pass_entry.ensures.passed,
+      t,
+      c.in_ok-pass_entry.ensures.cause.cause ∙ i.3,
+    )
+
+pub returns-in_err-pass_entry-clause-front : goal.returns-in_err-pass_entry-clause-front
+returns-in_err-pass_entry-clause-front g c =
+    let i = c.loop-place.invariant in
+    let entries = c.args.journal.now.entries in
+    let place = c.loop-place.place in
+    let e = c.entry.result.now in
+    let rest = journal_lines (place + 1) (drop (place + 1) entries) in
+    let inside : place < length entries = omega (arith, c.len-place-end.ensures) in
+    let t = next_line i.0 (journal_lines 0 entries) place entries e inside (get_or_from_slice_get entries place e e c.entry.ensures) i.2 in
+    let whole : (c.args.buffer.now.items ++ (i.0 ++ entry_line place e)) ++ rest ≡ c.args.buffer.now.items ++ journal_lines 0 entries =
+    append_assoc c.args.buffer.now.items (i.0 ++ entry_line place e) rest ∙ ap (λ l. c.args.buffer.now.items ++ l) t in
+    let front = WritesFront-after _ _ _ c.args.buffer.now.items _ i.0 (entry_line place e) i.1 c.in_err-pass_entry.ensures.front in
+    subst (WritesFront (g.K.Sink.contents c.args.sink.now) (g.K.Sink.contents c.pass_entry.new.sink)) whole
+    (WritesFront-more _ _ _ rest front)

@@ -1,0 +1,7 @@
+//! Writes the report of a run to a sink, in large pieces as it is made.
+#![tactic(auto)]
+
+mod end;
+mod report;
+
+pub use report::write_report;

@@ -1,0 +1,43 @@
+ghost use Rattle.std.specs.Prelude.{◌≡◌, ◌≤◌, length, IfOk, OnOk};
+ghost use Rattle.std.specs.Io.KnownBytes.{Appends, Consumes, IsAtEnd};
+ghost use Rattle.outer_flow.specs.Passing.{GivesAtMost, WritesFront};
+ghost use Rattle.report_writer.specs.Written.{written_text};
+ghost use Rattle.volume_cli.specs.Stops.{ReadCounts, WriteCounts};
+
+use crate::solo::Served;
+use crate::stop::Stop;
+use journal_book::Bytes;
+use outer_flow::read_whole;
+use outer_traits::{OuterError, Sink, Source};
+use report_writer::write_report;
+use script_text::MOST_INPUT;
+use std::alloc::Global;
+
+/// Reads the input to its end, or to one byte past the most that it may have.
+pub fn read_input<S: Source>(alloc: Global, source: &mut S) -> Result<Bytes, Stop>
+    ensures bytes { IfOk result (λ input. Consumes (S.left source.old) (S.left source.new) input) }
+    ensures whole { IfOk result (λ input. length input ≤ 268435456 → IsAtEnd (S.left source.new)) }
+    ensures counts { ReadCounts result (S.faults source.old) (S.faults source.new) }
+    ensures most { GivesAtMost (S.left source.old) (S.left source.new) 268435457 }
+{
+    match read_whole(alloc, source, MOST_INPUT) {
+        Ok(input) => Ok(input),
+        Err(OuterError::Failed) => Err(Stop::ReadFault),
+        Err(OuterError::NoMemory) => Err(Stop::NoMemory),
+    }
+}
+
+/// Writes the report of what was served. Where that fails, the sink has taken a front of it.
+pub fn write_output<K: Sink>(alloc: Global, served: &Served, sink: &mut K) -> Result<(), Stop>
+    ensures whole { OnOk result (Appends (K.contents sink.old) (K.contents sink.new)
+        (written_text served.now.heads.items served.now.journal.entries served.now.disk)) }
+    ensures front { WritesFront (K.contents sink.old) (K.contents sink.new)
+        (written_text served.now.heads.items served.now.journal.entries served.now.disk) }
+    ensures counts { WriteCounts result (K.faults sink.old) (K.faults sink.new) }
+{
+    match write_report(alloc, &served.heads, &served.journal, &served.disk, sink) {
+        Ok(()) => Ok(()),
+        Err(OuterError::Failed) => Err(Stop::WriteFault),
+        Err(OuterError::NoMemory) => Err(Stop::NoMemory),
+    }
+}
