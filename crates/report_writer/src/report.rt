@@ -1,7 +1,8 @@
-ghost use Rattle.std.specs.Prelude.{◌≡◌, ◌≢◌, ◌<◌, ◌≤◌, ◌⊎◌, ◌++◌, length, slice_get, Some, OnOk, IfSome, IfNone};
+ghost use Rattle.std.specs.Prelude.{◌≡◌, ◌≢◌, ◌<◌, ◌≤◌, ◌⊎◌, ◌++◌, length, slice_get, Some, OnOk, IfSome, IfNone, vec_len};
 ghost use Rattle.std.specs.Io.KnownBytes.{Appends};
 ghost use Rattle.outer_traits.specs.Causes.{HasOuterCause};
 ghost use Rattle.outer_flow.specs.Passing.{WritesFront, Passes};
+ghost use Rattle.outer_flow.specs.declared.output.TheConstants.{PIECE};
 ghost use Rattle.run_report.specs.Lines.{entry_line, reply_line};
 ghost use Rattle.run_report.specs.Report.{journal_lines, reply_lines};
 ghost use Rattle.volume_model.specs.History.{answers_of};
@@ -12,8 +13,8 @@ use frame_wire::Head;
 use journal_book::{Answer, Entry, Journal};
 use outer_flow::{pass_on, write_all};
 use outer_traits::{Outer, Sink};
+use replica_disk::ReplicaDisk;
 use run_report::{print_entry, print_reply};
-use sparse_disk::SparseDisk;
 use std::alloc::Global;
 
 /// Writes the report of a run of one stream, whose frames have these headers, on one replica, which is
@@ -22,7 +23,7 @@ pub fn write_report<K: Sink>(
     alloc: Global,
     heads: &[Head],
     journal: &Journal,
-    disk: &SparseDisk,
+    disk: &ReplicaDisk,
     sink: &mut K,
 ) -> Outer<()>
     ensures whole { OnOk result (Appends (K.contents sink.old) (K.contents sink.new)
@@ -90,7 +91,9 @@ fn head_for<'a>(heads: &'a [Head], next: usize, answer: &Answer) -> Option<&'a H
     }
 }
 
+/// Prints a line, and passes the buffer on where it is a large piece by then.
 fn pass_entry<K: Sink>(place: u64, entry: &Entry, sink: &mut K, buffer: &mut Vec<u8>) -> Outer<()>
+    ensures small { OnOk result (vec_len buffer.new < PIECE) }
     ensures passed { OnOk result (Passes (K.contents sink.old) (K.contents sink.new)
         buffer.old.items buffer.new.items (entry_line place entry.now)) }
     ensures front { WritesFront (K.contents sink.old) (K.contents sink.new)
@@ -107,6 +110,7 @@ fn pass_reply<K: Sink>(
     sink: &mut K,
     buffer: &mut Vec<u8>,
 ) -> Outer<()>
+    ensures small { OnOk result (vec_len buffer.new < PIECE) }
     ensures passed { OnOk result (Passes (K.contents sink.old) (K.contents sink.new)
         buffer.old.items buffer.new.items (reply_line asked.now answer.now)) }
     ensures front { WritesFront (K.contents sink.old) (K.contents sink.new)

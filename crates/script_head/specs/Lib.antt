@@ -1,4 +1,3 @@
-pub mod Time
 pub mod Values
 pub mod Members
 pub mod Head

@@ -8,9 +8,9 @@ use crate::limits::{MAY_OPEN, MAY_SAVE};
 use crate::member::Member;
 use crate::members;
 use crate::sequence::Sequence;
-use crate::time_text::TimeText;
 use serde_json::Value;
 use std::alloc::Global;
+use time_text::TimeText;
 use vol_units::{PlainName, VolumeSize};
 
 /// What the first line says of one stream.

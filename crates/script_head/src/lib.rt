@@ -7,7 +7,6 @@ pub mod limits;
 mod member;
 mod members;
 mod sequence;
-mod time_text;
 
 pub use error::HeadError;
 pub use head::{ScriptHead, StreamHead, read_head};

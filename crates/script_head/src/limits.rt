@@ -9,9 +9,6 @@ pub const MOST_STREAMS: usize = 1;
 /// The most bytes of frames that a stream has.
 pub const MOST_STREAM_BYTES: u64 = 268_435_456;
 
-/// The most bytes of a text of time.
-pub const LONGEST_TIME: usize = 40;
-
 /// Whether a run may open the replicas' folders.
 pub const MAY_OPEN: bool = false;
 

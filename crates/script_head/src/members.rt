@@ -9,9 +9,9 @@ use crate::head::StreamHead;
 use crate::limits::{MOST_LINES, MOST_REPLICAS, MOST_STREAM_BYTES, MOST_STREAMS};
 use crate::member::Member;
 use crate::sequence::Sequence;
-use crate::time_text::TimeText;
 use serde_json::Value;
 use std::alloc::Global;
+use time_text::TimeText;
 use vol_units::{PlainName, VolumeSize};
 
 pub(crate) fn volume_in(line: &Value) -> Result<PlainName, HeadError>

@@ -9,8 +9,8 @@ ghost use Rattle.volume_cli.specs.Volume.{heads_of, AreCalls};
 
 use frame_wire::Head;
 use journal_book::{Answer, Call, Entry, Journal};
+use replica_disk::ReplicaDisk;
 use script_text::{Asked, Frame, Script, Sequence, Stream, of_frame};
-use sparse_disk::SparseDisk;
 use std::alloc::{AllocError, Global};
 
 /// What the serving of one stream on one replica has made.
@@ -20,7 +20,7 @@ pub struct Served {
     pub heads: Vec<Head>,
     pub journal: Journal,
     /// What the replica reads as then.
-    pub disk: SparseDisk,
+    pub disk: ReplicaDisk,
 }
 
 /// Serves the one stream of a script on its one replica, call after call.
@@ -30,7 +30,7 @@ pub fn serve(alloc: Global, script: Script) -> Result<Served, AllocError>
 {
     let frames = only_frames(script.streams);
     let heads = heads_of(alloc, &frames)?;
-    let mut disk = SparseDisk::zeros(alloc, script.size)?;
+    let mut disk = ReplicaDisk::zeros(alloc, script.size)?;
     let journal = answer_all(alloc, frames, &mut disk)?;
     Ok(Served {
         heads,
@@ -62,7 +62,7 @@ fn heads_of(alloc: Global, frames: &[Frame]) -> Result<Vec<Head>, AllocError>
 fn answer_all(
     alloc: Global,
     frames: Vec<Frame>,
-    disk: &mut SparseDisk,
+    disk: &mut ReplicaDisk,
 ) -> Result<Journal, AllocError>
     requires { AreCalls frames.items }
     ensures journal { IfOk result (λ j. j.entries ≡ served disk.old (map call_of frames.items)) }

@@ -1,4 +1,4 @@
-ghost use Rattle.std.specs.Prelude.{◌≡◌, ◌<◌, ◌-◌, ◌^◌, ℕ, IfOk, IfSome, OnOk};
+ghost use Rattle.std.specs.Prelude.{◌≡◌, ◌<◌, ◌-◌, ◌^◌, ◌↔◌, ℕ, IfSome, OnOk};
 ghost use Rattle.std.specs.Io.KnownBytes.{IsAtEnd};
 ghost use Rattle.outer_flow.specs.Passing.{GivesAtMost};
 ghost use Rattle.script_text.specs.Script.{IsScript, IsNoScript};
@@ -27,9 +27,9 @@ pub fn longhorn<S: Source, K: Sink>(
     requires source_count { S.faults source.old < 2 ^ 64 - 1 }
     requires sink_count { K.faults sink.old < 2 ^ 64 - 1 }
 
-    // When each status comes. Want of memory alone is free.
+    // When each status comes. Want of memory alone is free, but that a fault of the source is told in any case.
     ensures usage { ExactlyWhere result Status.Usage (AskNothing words.now) }
-    ensures read_fault { ExactlyWhere result Status.ReadFault (S.faults source.old < S.faults source.new) }
+    ensures read_fault { result ≡ Status.ReadFault ↔ S.faults source.old < S.faults source.new }
     ensures write_fault { ExactlyWhere result Status.WriteFault (K.faults sink.old < K.faults sink.new) }
     ensures script_only { ScriptRefusal result words.now (S.left source.old) }
     ensures script { AskRun words.now → S.faults source.new ≡ S.faults source.old

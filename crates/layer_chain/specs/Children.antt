@@ -1,0 +1,27 @@
+-- What stands on a layer.
+use Rattle.std.specs.Prelude.{◌≡◌, ◌≢◌, ℕ, ◌<◌, List, Option, Some}
+use Rattle.layer_chain.specs.Tree.{name_of, layer_at, IsChild}
+use Rattle.layer_chain.specs.declared.layer.Layer.{Layer}
+use Rattle.layer_chain.specs.declared.children.Child.{Child}
+use Rattle.layer_chain.specs.declared.children.Child.TheVariants as child
+use Rattle.layer_chain.specs.declared.children.Children.{Children}
+use Rattle.layer_chain.specs.declared.children.Children.TheVariants as children
+
+-- the head, or one of the first layers, as many as `count`, stands on the layer at p
+abbrev pub Stands : List Layer → Option (List ℕ) → ℕ → ℕ → Child → Type 0
+Stands layers on count p child.Head = on ≡ Some (name_of (layer_at layers p))
+Stands layers on count p (child.Layer c) = (c < count) × IsChild layers c p
+
+-- nothing stands on the layer at p, or that and nothing else, or more than one
+abbrev pub Tells : List Layer → Option (List ℕ) → ℕ → ℕ → Children → Type 0
+Tells layers on count p children.None = (a : Child) → Stands layers on count p a → ⊥
+Tells layers on count p (children.One a) =
+    Stands layers on count p a × ((b : Child) → Stands layers on count p b → b ≡ a)
+Tells layers on count p children.More =
+    (a : Child) × (b : Child) × (a ≢ b) × Stands layers on count p a × Stands layers on count p b
+
+-- and one more layer, which is not yet among them
+abbrev pub with_child : Children → ℕ → Children
+with_child children.None c = children.One (child.Layer c)
+with_child (children.One a) c = children.More
+with_child children.More c = children.More

@@ -1,0 +1,4 @@
+pub mod Layers
+pub mod Tree
+pub mod Changes
+pub mod Children

@@ -1,0 +1,257 @@
+ghost use Rattle.std.specs.Prelude.{◌≡◌, ℕ, ◌+◌, ◌*◌, ◌/◌, ◌^◌, ◌<◌, ◌≤◌, List, length, None, Some, IsTrue, false, IfOk, IfSome, OnOk, OnErr, MatchOption, is_some};
+ghost use Rattle.std.specs.Option.{option_copied, option_map};
+ghost use Rattle.vol_units.specs.Bytes.{with_bytes_at};
+ghost use Rattle.sparse_image.specs.Disk.{disk_of};
+ghost use Rattle.sparse_image.specs.Image.{block_at, has_page, MakesPage, ChangesBlock};
+ghost use Rattle.layer_chain.specs.Tree.{IsBlank, IsWhole, IsNew, IsThere, IsAt, IsChild, IsParent, reads, head_reads, head_chain, layer_at, name_of, parent_of};
+ghost use Rattle.layer_chain.specs.Changes.{pushed, with_head, headed, snapped, reverted, marked_at};
+ghost use Rattle.layer_chain.specs.Children.{Tells};
+
+use crate::chain::chain_in;
+use crate::children::{Children, children_in};
+use crate::layer::{Layer, LayerMeta};
+use crate::reading::{index_in, read_in};
+use sparse_image::{BLOCK_BYTES, Block, Image, PAGE_BLOCKS};
+use std::alloc::{AllocError, Global};
+use std::marker::Model;
+use std::mem;
+use vol_units::LayerName;
+
+/// The most layers of a replica, its head among them.
+pub const MOST_LAYERS: usize = 250;
+
+/// The layers of a replica, the newest first, and its head.
+#[derive(Drop)]
+pub struct LayerTree {
+    layers: Vec<Layer>,
+    head: Image,
+    on: Option<LayerName>,
+    number: u64,
+}
+
+impl Model for LayerTree {
+    ghost use Rattle.std.specs.Prelude.{vec_capacity};
+    ghost use Rattle.layer_chain.specs.Tree.{Tree, IsRoomy};
+
+    ghost Value = { Tree };
+
+    ghost view = { λ t. record { layers = t.layers.items; head = t.head; on = t.on; number = t.number } };
+
+    ghost invariant = { λ t. IsRoomy
+        (record { layers = t.layers.items; head = t.head; on = t.on; number = t.number })
+        (vec_capacity t.layers) };
+}
+
+impl LayerTree {
+    pub fn new(alloc: Global, page_count: u32) -> Result<LayerTree, AllocError>
+        ensures { IfOk result (λ t. IsBlank t page_count) }
+    {
+        Ok(LayerTree {
+            layers: Vec::with_capacity(alloc, MOST_LAYERS)?,
+            head: Image::with_pages(alloc, page_count)?,
+            on: None,
+            number: 0,
+        })
+    }
+
+    /// The layers and the head.
+    pub fn count(&self) -> usize
+        ensures count { result ≡ length self.now.layers + 1 }
+        ensures whole { IsWhole self.now }
+    {
+        self.layers.len() + 1
+    }
+
+    pub fn index_of(&self, name: &LayerName) -> Option<usize>
+        ensures place { MatchOption result
+            (IsNew name.now self.now.layers)
+            (λ place. IsAt self.now.layers name.now place) }
+        ensures there { IfSome result (λ _. IsThere (Some name.now) self.now.layers) }
+    {
+        index_in(&self.layers, name)
+    }
+
+    pub fn meta(&self, place: usize) -> &LayerMeta
+        requires { place < length self.now.layers }
+        ensures { result.now ≡ (layer_at self.now.layers place).meta }
+    {
+        &self.layers[place].meta
+    }
+
+    pub fn image(&self, place: usize) -> &Image
+        requires { place < length self.now.layers }
+        ensures { result.now ≡ (layer_at self.now.layers place).image }
+    {
+        &self.layers[place].image
+    }
+
+    pub fn head_number(&self) -> u64
+        ensures { result ≡ self.now.number }
+    {
+        self.number
+    }
+
+    pub fn head_parent(&self) -> Option<LayerName>
+        ensures on { result ≡ self.now.on }
+        ensures there { IsThere self.now.on self.now.layers }
+    {
+        self.on
+    }
+
+    pub fn head_image(&self) -> &Image
+        ensures { result.now ≡ self.now.head }
+    {
+        &self.head
+    }
+
+    /// What the layer reads as at a block: its own, or what its parent reads as. None is zeros.
+    pub fn read_at(&self, layer: &LayerName, block: u32) -> Option<&Block>
+        ensures value { option_copied result ≡ reads self.now.layers (Some layer.now) block }
+        ensures whole { IfSome result (λ b. length b.now ≡ BLOCK_BYTES) }
+    {
+        read_in(&self.layers, layer, block)
+    }
+
+    /// What the head reads as at a block. None is zeros.
+    #[tactic(auto, using(crate::proofs::ReadLemmas::head_root))]
+    pub fn read_head(&self, block: u32) -> Option<&Block>
+        ensures value { option_copied result ≡ head_reads self.now block }
+        ensures whole { IfSome result (λ b. length b.now ≡ BLOCK_BYTES) }
+    {
+        if let Some(found) = self.head.get(block) {
+            return Some(found);
+        }
+        match &self.on {
+            Some(name) => read_in(&self.layers, name, block),
+            None => None,
+        }
+    }
+
+    /// The place of the layer on which the layer at that place stands.
+    pub fn parent_of(&self, place: usize) -> Option<usize>
+        requires { place < length self.now.layers }
+        ensures { MatchOption result
+            (parent_of (layer_at self.now.layers place) ≡ None)
+            (λ parent. IsParent self.now.layers parent place) }
+    {
+        match &self.layers[place].meta.parent {
+            Some(name) => index_in(&self.layers, name),
+            None => None,
+        }
+    }
+
+    /// The places of the layers below the head, from its parent down.
+    pub fn head_chain(&self, alloc: Global) -> Result<Vec<usize>, AllocError>
+        ensures { IfOk result (λ places. places.items ≡ head_chain self.now) }
+    {
+        chain_in(alloc, &self.layers, self.on)
+    }
+
+    /// What stands on the layer at a place. A layer that does is newer.
+    pub fn children(&self, place: usize) -> Children
+        requires { place < length self.now.layers }
+        ensures told { Tells self.now.layers self.now.on (length self.now.layers) place result }
+        ensures newer { (c : ℕ) → c < length self.now.layers
+            → IsChild self.now.layers c place → c < place }
+    {
+        children_in(&self.layers, &self.on, place)
+    }
+
+    /// One more layer, newer than the others.
+    pub fn push_layer(&mut self, layer: Layer)
+        requires room { length self.old.layers + 1 < MOST_LAYERS }
+        requires new { IsNew layer.meta.name self.old.layers }
+        requires parent { IsThere layer.meta.parent self.old.layers }
+        ensures { self.new ≡ pushed self.old layer }
+    {
+        if let Err(_) = self.layers.insert(0, layer) {
+            unreachable!()
+        }
+    }
+
+    pub fn put_head(&mut self, number: u64, on: Option<LayerName>, image: Image)
+        requires { IsThere on self.old.layers }
+        ensures { self.new ≡ headed self.old number on image }
+    {
+        self.head = image;
+        self.on = on;
+        self.number = number;
+    }
+
+    /// A snapshot: the head is the layer of that name, and a spare image the next head.
+    pub fn snap_head(&mut self, name: LayerName, user_created: bool, spare: Image)
+        requires room { length self.old.layers + 1 < MOST_LAYERS }
+        requires new { IsNew name self.old.layers }
+        requires number { self.old.number + 1 < 2 ^ 64 }
+        ensures { self.new ≡ snapped self.old name user_created spare }
+    {
+        let layer = Layer {
+            meta: LayerMeta {
+                name,
+                parent: self.on,
+                marked: false,
+                user_created,
+                created: None,
+            },
+            image: mem::replace(&mut self.head, spare),
+        };
+        self.push_layer(layer);
+        self.on = Some(name);
+        self.number += 1;
+    }
+
+    /// A revert: the head is dropped, and a spare image is the next head, on the layer of that name.
+    pub fn move_head(&mut self, name: LayerName, spare: Image)
+        requires there { IsThere (Some name) self.old.layers }
+        requires number { self.old.number + 1 < 2 ^ 64 }
+        ensures { self.new ≡ reverted self.old name spare }
+    {
+        self.put_head(self.number + 1, Some(name), spare);
+    }
+
+    /// The layer is to be removed.
+    pub fn mark_layer(&mut self, place: usize)
+        requires { place < length self.old.layers }
+        ensures { self.new ≡ marked_at self.old place }
+    {
+        self.layers[place].meta.marked = true;
+    }
+
+    /// Makes the table of a page of the head, if it is not there. No block changes.
+    pub fn ensure_page(&mut self, alloc: Global, page: u32) -> Result<(), AllocError>
+        requires { page < length self.old.head }
+        ensures ok { OnOk result (MakesPage self.old.head self.new.head page) }
+        ensures err { OnErr result (self.new ≡ self.old) }
+        ensures disk { disk_of self.new.head ≡ disk_of self.old.head }
+        ensures rest { self.new ≡ with_head self.old self.new.head }
+    {
+        self.head.ensure_page(alloc, page)
+    }
+
+    /// Puts a block into the head, and gives back the one that was there.
+    pub fn put(&mut self, block: u32, new: Box<Block>) -> Option<Box<Block>>
+        requires { IsTrue (has_page self.old.head (block / PAGE_BLOCKS)) }
+        ensures changes { ChangesBlock self.old.head self.new.head block (Some new.value) }
+        ensures old { option_map (λ b. b.value) result ≡ block_at self.old.head block }
+        ensures whole { length new.value ≡ BLOCK_BYTES }
+        ensures disk { disk_of self.new.head
+            ≡ with_bytes_at (disk_of self.old.head) (block * BLOCK_BYTES) new.value }
+        ensures rest { self.new ≡ with_head self.old self.new.head }
+    {
+        self.head.put(block, new)
+    }
+
+    /// Writes over part of a block that the head has, and is false where it has none.
+    pub fn overwrite(&mut self, block: u32, start: usize, bytes: &[u8]) -> bool
+        requires { start + length bytes.now ≤ BLOCK_BYTES }
+        ensures there { result ≡ is_some (block_at self.old.head block) }
+        ensures absent { result ≡ false → self.new ≡ self.old }
+        ensures changes { ChangesBlock self.old.head self.new.head block
+            (option_map (λ b. with_bytes_at b start bytes.now) (block_at self.old.head block)) }
+        ensures disk { IsTrue result → disk_of self.new.head
+            ≡ with_bytes_at (disk_of self.old.head) (block * BLOCK_BYTES + start) bytes.now }
+        ensures rest { self.new ≡ with_head self.old self.new.head }
+    {
+        self.head.overwrite(block, start, bytes)
+    }
+}

@@ -1,0 +1,16 @@
+//! The layers of one replica, and what each of them and the head read as.
+#![tactic(auto)]
+
+mod chain;
+mod children;
+pub mod laws;
+mod layer;
+mod layer_tree;
+mod reading;
+
+pub use children::{Child, Children};
+pub use layer::{Layer, LayerMeta};
+pub use layer_tree::{LayerTree, MOST_LAYERS};
+
+#[cfg(test)]
+mod tests;

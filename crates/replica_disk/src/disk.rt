@@ -1,0 +1,142 @@
+ghost use Rattle.std.specs.Prelude.{◌≡◌, ◌+◌, ◌*◌, ◌<◌, ◌≤◌, length, IfOk, OnOk, OnErr, true, false};
+ghost use Rattle.volume_model.specs.Disk.{zeros, bytes_at, with_bytes_at};
+ghost use Rattle.volume_model.specs.PlainState.{state_of};
+ghost use Rattle.volume_model.specs.PlainStep.{plain_step};
+
+use crate::merge::merged_blocks;
+use journal_book::{Bytes, Call, Refusal, Reply};
+use replica_node::{BLOCK_BYTES, BlockRange, ReplicaNode};
+use std::alloc::{AllocError, Global};
+use std::marker::Model;
+use vol_units::{VolumeSize, place_within};
+
+/// The most bytes that one call reads.
+const LONGEST_CALL: u32 = 1_048_576;
+
+/// The disk that the head of one replica reads as. Contracts see a plain state.
+#[derive(Drop)]
+pub struct ReplicaDisk {
+    node: ReplicaNode,
+}
+
+impl Model for ReplicaDisk {
+    ghost use Rattle.volume_model.specs.PlainState.{PlainState, state_of};
+
+    ghost Value = { PlainState };
+
+    ghost view = { λ d. state_of d.node.disk };
+}
+
+impl ReplicaDisk {
+    /// A disk of so many zeros, on a blank replica.
+    pub fn zeros(alloc: Global, size: VolumeSize) -> Result<ReplicaDisk, AllocError>
+        ensures { IfOk result (λ disk. disk ≡ state_of (zeros size)) }
+    {
+        Ok(ReplicaDisk {
+            node: ReplicaNode::blank(alloc, size)?,
+        })
+    }
+
+    /// How many blocks the disk has.
+    pub fn block_count(&self) -> u32
+        ensures { result * BLOCK_BYTES ≡ length self.now.disk }
+    {
+        self.node.block_count()
+    }
+
+    /// The bytes of a block. Nothing is copied.
+    pub fn block(&self, block: u32) -> &[u8]
+        requires { block * BLOCK_BYTES < length self.now.disk }
+        ensures value { result.now ≡ bytes_at self.now.disk (block * BLOCK_BYTES) BLOCK_BYTES }
+        ensures whole { length result.now ≡ BLOCK_BYTES }
+    {
+        self.node.block(&None, block)
+    }
+
+    /// Answers a call, and is then what the call leaves.
+    pub fn step(&mut self, alloc: Global, call: &Call) -> Result<Reply, AllocError>
+        ensures step { IfOk result (λ reply. plain_step self.old call.now ≡ (self.new, reply)) }
+        ensures err { OnErr result (self.new ≡ self.old) }
+    {
+        match call {
+            Call::Read { offset, length } => self.read(alloc, *offset, *length),
+            Call::Write { offset, bytes } => self.write(alloc, *offset, bytes.as_slice()),
+            Call::Ping => Ok(Reply::Done),
+            Call::Other(_) => Ok(Reply::Refused(Refusal::Unsupported)),
+        }
+    }
+
+    fn read(&self, alloc: Global, offset: i64, length: u32) -> Result<Reply, AllocError>
+        ensures { IfOk result (λ reply. plain_step self.now (Call.Read offset length) ≡ (self.now, reply)) }
+    {
+        if length > LONGEST_CALL {
+            return Ok(Reply::Refused(Refusal::TooLong));
+        }
+        let length = length as usize;
+        let Some(at) = place_within(offset, length, self.node.size()) else {
+            return Ok(Reply::Refused(Refusal::OutOfRange));
+        };
+        let mut bytes = vec![in alloc; 0; length]?;
+        self.node.read_bytes(None, at, &mut bytes);
+        Ok(Reply::Read(Bytes::from_vec(bytes)?))
+    }
+
+    fn write(&mut self, alloc: Global, offset: i64, bytes: &[u8]) -> Result<Reply, AllocError>
+        ensures step { IfOk result (λ reply. plain_step self.old (Call.Write offset bytes.now) ≡ (self.new, reply)) }
+        ensures err { OnErr result (self.new ≡ self.old) }
+    {
+        let Some(at) = place_within(offset, bytes.len(), self.node.size()) else {
+            return Ok(Reply::Refused(Refusal::OutOfRange));
+        };
+        self.put(alloc, at, bytes)?;
+        Ok(Reply::Done)
+    }
+
+    /// Puts bytes that lie within the disk.
+    fn put(&mut self, alloc: Global, at: usize, bytes: &[u8]) -> Result<(), AllocError>
+        requires { at + length bytes.now ≤ length self.old.disk }
+        ensures ok { OnOk result (self.new.disk ≡ with_bytes_at self.old.disk at bytes.now) }
+        ensures err { OnErr result (self.new ≡ self.old) }
+    {
+        if bytes.is_empty() || self.put_within(at, bytes) {
+            return Ok(());
+        }
+        self.put_blocks(alloc, at, bytes)
+    }
+
+    /// Puts bytes into one block where it is, and is false where they lie in two, or the head has no such block.
+    fn put_within(&mut self, at: usize, bytes: &[u8]) -> bool
+        requires some { 0 < length bytes.now }
+        requires inside { at + length bytes.now ≤ length self.old.disk }
+        ensures put { result ≡ true → self.new.disk ≡ with_bytes_at self.old.disk at bytes.now }
+        ensures absent { result ≡ false → self.new ≡ self.old }
+    {
+        // What the largest size is, and that it is whole blocks, a proof learns here.
+        let (_size, _count) = (self.node.size(), self.node.block_count());
+        let start = at % BLOCK_BYTES;
+        if start + bytes.len() > BLOCK_BYTES {
+            return false;
+        }
+        self.node.overwrite((at / BLOCK_BYTES) as u32, start, bytes)
+    }
+
+    /// Puts bytes into blocks that are made anew, and swapped with those of the head.
+    fn put_blocks(&mut self, alloc: Global, at: usize, bytes: &[u8]) -> Result<(), AllocError>
+        requires some { 0 < length bytes.now }
+        requires inside { at + length bytes.now ≤ length self.old.disk }
+        ensures ok { OnOk result (self.new.disk ≡ with_bytes_at self.old.disk at bytes.now) }
+        ensures err { OnErr result (self.new ≡ self.old) }
+    {
+        // What the largest size is, and that it is whole blocks, a proof learns here.
+        let (_size, _count) = (self.node.size(), self.node.block_count());
+        let range = BlockRange {
+            first: (at / BLOCK_BYTES) as u32,
+            end: ((at + bytes.len() - 1) / BLOCK_BYTES + 1) as u32,
+        };
+        // All memory is taken first: from here on the write cannot fail.
+        let mut blocks = merged_blocks(alloc, &self.node, range, at, bytes)?;
+        self.node.make_room(alloc, range)?;
+        self.node.write_blocks(range, &mut blocks);
+        Ok(())
+    }
+}

@@ -1,0 +1,4 @@
+pub mod NodeLemmas
+pub mod ReadLemmas
+pub mod RoomLemmas
+pub mod WriteLemmas

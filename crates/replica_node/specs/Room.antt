@@ -1,0 +1,58 @@
+-- The places that writes find made in the head of a replica.
+use Rattle.std.specs.Prelude.{◌≡◌, ℕ, ◌+◌, ◌*◌, ◌/◌, true, false, List, Option, length, slice_index_or}
+use Rattle.std.specs.List.{flat_map}
+use Rattle.vol_units.specs.Bytes.{with_bytes_at}
+use Rattle.vol_units.specs.declared.range.BlockRange.{BlockRange}
+use Rattle.vol_units.specs.Range.{HasBlock}
+use Rattle.sparse_image.specs.declared.block.TheConstants.{BLOCK_BYTES, PAGE_BLOCKS}
+use Rattle.sparse_image.specs.Disk.{bytes_of}
+use Rattle.sparse_image.specs.Image.{Tables, block_at, has_page}
+use Rattle.layer_chain.specs.Tree.{Tree}
+use Rattle.layer_chain.specs.Changes.{with_head}
+use Rattle.replica_node.specs.Node.{Node, IsNode, head_disk}
+
+-- a write of the range finds its places
+abbrev pub HasRoom : Node → BlockRange → Type 0
+HasRoom node range = (block : ℕ) → HasBlock range block → slice_index_or node.room block false ≡ true
+
+-- the same replica with other places made
+abbrev pub with_room_of : Node → Node → Node
+with_room_of node other = record node { room = other.room }
+
+-- places that were made are made
+abbrev pub KeepsRoom : Node → Node → Type 0
+KeepsRoom old new = (block : ℕ) → slice_index_or old.room block false ≡ true
+    → slice_index_or new.room block false ≡ true
+
+-- so many blocks from the first on
+abbrev pub blocks_from : ℕ → ℕ → BlockRange
+blocks_from first count = record { first = first; end = first + count }
+
+-- the bytes of blocks, one after another
+abbrev pub bytes_in : List (Option (List ℕ)) → List ℕ
+bytes_in blocks = flat_map bytes_of blocks
+
+-- the replica once these bytes are put at a block
+abbrev pub put_at : Node → ℕ → List ℕ → Node
+put_at node block bytes = record node { disk = with_bytes_at node.disk (block * BLOCK_BYTES) bytes }
+
+-- ---- the same of a tree
+
+-- each block of the range has its page
+abbrev pub HasPages : Tables → BlockRange → Type 0
+HasPages image range = (block : ℕ) → HasBlock range block → has_page image (block / PAGE_BLOCKS) ≡ true
+
+-- pages are made, and nothing else changes
+pub record MakesPages (old new : Tree) : Type 0 where
+  pub rest : new ≡ with_head old new.head
+  pub count : length new.head ≡ length old.head
+  pub blocks : (block : ℕ) → block_at new.head block ≡ block_at old.head block
+  pub kept : (page : ℕ) → has_page old.head page ≡ true → has_page new.head page ≡ true
+
+-- the blocks are put into the head from the first on, and nothing else changes
+pub record PutsBlocks (old new : Tree) (first : ℕ) (blocks : List (Option (List ℕ))) : Type 0 where
+  pub rest : new ≡ with_head old new.head
+  pub pages : (page : ℕ) → has_page new.head page ≡ has_page old.head page
+  pub node : IsNode new (length old.head * PAGE_BLOCKS)
+  pub disk : head_disk new (length old.head * PAGE_BLOCKS)
+      ≡ with_bytes_at (head_disk old (length old.head * PAGE_BLOCKS)) (first * BLOCK_BYTES) (bytes_in blocks)

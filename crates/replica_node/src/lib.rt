@@ -1,0 +1,16 @@
+//! One replica: its layers and its head, as the disks that they read as.
+#![tactic(auto)]
+
+mod blocks;
+mod node;
+mod room;
+
+pub use blocks::Blocks;
+pub use layer_chain::{LayerMeta, MOST_LAYERS};
+pub use node::ReplicaNode;
+pub use snapshot_ops::Spare;
+pub use sparse_image::{BLOCK_BYTES, Block};
+pub use vol_units::{BlockRange, LayerName, VolumeSize};
+
+#[cfg(test)]
+mod tests;

@@ -1,0 +1,214 @@
+ghost use Rattle.std.specs.Prelude.{◌≡◌, ◌+◌, ◌*◌, ◌/◌, ◌^◌, ◌<◌, ◌≤◌, length, Some, IfOk, OnOk, All, is_some, true, false};
+ghost use Rattle.vol_units.specs.Bytes.{zeros, bytes_at, with_bytes_at};
+ghost use Rattle.vol_units.specs.declared.size.TheConstants.{LARGEST_SIZE};
+ghost use Rattle.sparse_image.specs.Disk.{bytes_of};
+ghost use Rattle.replica_node.specs.Room.{HasRoom, KeepsRoom, with_room_of, put_at, bytes_in};
+ghost use Rattle.replica_node.specs.Node.{blank, snapped, reverted, marked, disk_of_layer, block_in, node_of, IsNode, IsKept, IsFree, IsSpareOf};
+
+use crate::blocks::Blocks;
+use crate::room::make_pages;
+use layer_chain::{LayerTree, MOST_LAYERS};
+use snapshot_ops::Spare;
+use sparse_image::{BLOCK_BYTES, Block};
+use std::alloc::{AllocError, Global};
+use std::marker::Model;
+use vol_units::{BlockRange, LayerName, VolumeSize};
+
+/// One replica. A contract sees what its head and each of its layers read as.
+#[derive(Drop)]
+pub struct ReplicaNode {
+    tree: LayerTree,
+    size: VolumeSize,
+}
+
+impl Model for ReplicaNode {
+    ghost use Rattle.std.specs.Prelude.{◌/◌};
+    ghost use Rattle.vol_units.specs.declared.size.TheConstants.{BLOCK_BYTES};
+    ghost use Rattle.replica_node.specs.Node.{Node, node_of, IsNode};
+
+    ghost Value = { Node };
+
+    ghost view = { λ n. node_of n.tree (n.size / BLOCK_BYTES) };
+
+    ghost invariant = { λ n. IsNode n.tree (n.size / BLOCK_BYTES) };
+}
+
+impl ReplicaNode {
+    /// The replica that a tree is, whose head has a place for each page of the volume.
+    pub fn of_tree(size: VolumeSize, tree: LayerTree) -> ReplicaNode
+        requires { IsNode tree (size / BLOCK_BYTES) }
+        ensures { result ≡ node_of tree (size / BLOCK_BYTES) }
+    {
+        ReplicaNode { tree, size }
+    }
+
+    /// A replica of zeros, with no layer below its head.
+    pub fn blank(alloc: Global, size: VolumeSize) -> Result<ReplicaNode, AllocError>
+        ensures { IfOk result (λ node. node ≡ blank size) }
+    {
+        let tree = LayerTree::new(alloc, size.page_count())?;
+        Ok(ReplicaNode::of_tree(size, tree))
+    }
+
+    /// A head for the next snapshot or revert. It takes all memory that they need.
+    pub fn spare_head(&self, alloc: Global) -> Result<Spare, AllocError>
+        ensures { IfOk result (IsSpareOf self.now) }
+    {
+        Spare::new(alloc, self.size.page_count())
+    }
+
+    /// Keeps what the head reads as under a name. It takes no memory.
+    pub fn snapshot(&mut self, name: LayerName, spare: Spare)
+        requires spare { IsSpareOf self.old spare }
+        requires layers { length self.old.layers + 1 < MOST_LAYERS }
+        requires free { IsFree self.old name }
+        requires number { self.old.number + 1 < 2 ^ 64 }
+        ensures { self.new ≡ snapped self.old name }
+    {
+        snapshot_ops::snapshot(&mut self.tree, name, spare);
+    }
+
+    /// Drops the head, and lets a new one stand on the layer of the name. It takes no memory.
+    pub fn revert(&mut self, name: LayerName, spare: Spare)
+        requires spare { IsSpareOf self.old spare }
+        requires kept { IsKept self.old (Some name) }
+        requires number { self.old.number + 1 < 2 ^ 64 }
+        ensures { self.new ≡ reverted self.old name }
+    {
+        snapshot_ops::revert(&mut self.tree, name, spare);
+    }
+
+    /// Marks the layer of the name as one that is to be removed.
+    pub fn mark(&mut self, name: LayerName)
+        requires { IsKept self.old (Some name) }
+        ensures { self.new ≡ marked self.old name }
+    {
+        // That no name comes twice, a proof learns here.
+        let _count = self.tree.count();
+        snapshot_ops::mark(&mut self.tree, &name);
+    }
+
+    /// Makes places in the head for the blocks of a range, so that writing them takes no memory.
+    pub fn make_room(&mut self, alloc: Global, range: BlockRange) -> Result<(), AllocError>
+        requires { range.end * BLOCK_BYTES ≤ length self.old.disk }
+        ensures ok { OnOk result (HasRoom self.new range) }
+        ensures same { self.new ≡ with_room_of self.old self.new }
+        ensures kept { KeepsRoom self.old self.new }
+    {
+        make_pages(&mut self.tree, alloc, range)
+    }
+
+    /// Puts blocks at a range of the head. Each is swapped with the one that was there. It takes no
+    /// memory.
+    pub fn write_blocks(&mut self, range: BlockRange, blocks: &mut Blocks)
+        requires room { HasRoom self.old range }
+        requires full { All (λ b. is_some b ≡ true) blocks.old }
+        requires count { range.first + length blocks.old ≡ range.end }
+        requires inside { range.end * BLOCK_BYTES ≤ length self.old.disk }
+        ensures put { self.new ≡ put_at self.old range.first (bytes_in blocks.old) }
+        ensures count { length blocks.new ≡ length blocks.old }
+    {
+        blocks.swap_into(&mut self.tree, range.first);
+    }
+
+    /// Writes over part of a block that the head itself has, and is false where it has none. It takes no memory.
+    pub fn overwrite(&mut self, block: u32, start: usize, bytes: &[u8]) -> bool
+        requires part { start + length bytes.now ≤ BLOCK_BYTES }
+        requires inside { block * BLOCK_BYTES < length self.old.disk }
+        ensures absent { result ≡ false → self.new ≡ self.old }
+        ensures put { result ≡ true → self.new ≡ put_at self.old block
+            (with_bytes_at (bytes_at self.old.disk (block * BLOCK_BYTES) BLOCK_BYTES) start bytes.now) }
+    {
+        self.tree.overwrite(block, start, bytes)
+    }
+
+    /// The layers and the head.
+    pub fn layer_count(&self) -> usize
+        ensures { result ≡ length self.now.layers + 1 }
+    {
+        self.tree.count()
+    }
+
+    pub fn head_number(&self) -> u64
+        ensures { result ≡ self.now.number }
+    {
+        self.tree.head_number()
+    }
+
+    pub fn has_layer(&self, name: &LayerName) -> bool
+        ensures kept { result ≡ true → IsKept self.now (Some name.now) }
+        ensures free { result ≡ false → IsFree self.now name.now }
+    {
+        self.tree.index_of(name).is_some()
+    }
+
+    /// The bytes of the volume.
+    pub fn size(&self) -> usize
+        ensures value { result ≡ length self.now.disk }
+        ensures most { result ≤ LARGEST_SIZE }
+    {
+        self.size.bytes() as usize
+    }
+
+    pub fn block_count(&self) -> u32
+        ensures { result * BLOCK_BYTES ≡ length self.now.disk }
+    {
+        self.size.block_count()
+    }
+
+    /// Reads what a layer, or the head where none is named, reads as from a place on.
+    pub fn read_bytes(&self, layer: Option<LayerName>, at: usize, into: &mut [u8])
+        requires kept { IsKept self.now layer }
+        requires inside { at + length into.old ≤ length self.now.disk }
+        ensures { into.new ≡ bytes_at (disk_of_layer self.now layer) at (length into.old) }
+    {
+        // What the largest size is, a proof learns here.
+        let _size = self.size();
+        let mut done = 0;
+        while done < into.len() {
+            let place = at + done;
+            let start = place % BLOCK_BYTES;
+            let piece = (BLOCK_BYTES - start).min(into.len() - done);
+            let block = self.block(&layer, (place / BLOCK_BYTES) as u32);
+            into[done..done + piece].copy_from_slice(&block[start..start + piece]);
+            done += piece;
+        }
+    }
+
+    /// What a layer, or the head, reads as at a block. Nothing is copied.
+    pub fn block(&self, layer: &Option<LayerName>, block: u32) -> &[u8]
+        requires kept { IsKept self.now layer.now }
+        requires inside { block * BLOCK_BYTES < length self.now.disk }
+        ensures disk { result.now
+            ≡ bytes_at (disk_of_layer self.now layer.now) (block * BLOCK_BYTES) BLOCK_BYTES }
+        ensures whole { length result.now ≡ BLOCK_BYTES }
+    {
+        // What the largest size is, a proof learns here.
+        let _size = self.size();
+        block_of(&self.tree, layer, block)
+    }
+}
+
+/// What a block that is not there reads as.
+static ZEROS: Block = [0; BLOCK_BYTES];
+
+/// What a layer of the tree, or its head, reads as at a block.
+fn block_of<'a>(tree: &'a LayerTree, layer: &Option<LayerName>, block: u32) -> &'a [u8]
+    ensures value { result.now ≡ bytes_of (block_in tree.now layer.now block) }
+{
+    let found = match layer {
+        Some(name) => tree.read_at(name, block),
+        None => tree.read_head(block),
+    };
+    match found {
+        Some(bytes) => bytes,
+        None => zero_block(),
+    }
+}
+
+#[tactic(auto, unfolding(vol_units::specs::Bytes::zeros))]
+fn zero_block() -> &'static [u8]
+    ensures { result.now ≡ zeros BLOCK_BYTES }
+{
+    &ZEROS
+}
