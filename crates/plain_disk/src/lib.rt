@@ -1,10 +1,13 @@
-//! One plain disk that answers calls as the definitions say, slowly and with nothing kept but its bytes.
+//! One plain disk that answers calls as the definitions say, slowly and with whole copies for snapshots.
 #![tactic(auto)]
 
+mod commands;
+mod copies;
 mod disk;
+mod snapshots;
 
 pub use disk::PlainDisk;
-pub use journal_book::{Bytes, Call, Refusal, Reply};
+pub use volume_model::{Bytes, Call, Command, LayerName, Mode, Refusal, Reply, Sequence, SnapName};
 
 #[cfg(test)]
 mod tests;

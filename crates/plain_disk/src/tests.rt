@@ -1,24 +1,26 @@
 use super::*;
-use std::alloc::{AllocError, Global};
+use std::alloc::Global;
 use std::test::Fail;
 
-/// What is asked of a volume of 2 MiB: a read, or a write of some bytes.
+/// What is asked of a volume of 2 MiB: a read, a write of some bytes, or a command by its text.
 #[derive(Drop)]
 enum Asked {
     Read(i64, u32),
     Write(i64, &'static [u8]),
     Other(u32),
+    Command(&'static [u8]),
 }
 
-/// What the worked rows answer: done, the bytes read, or the text of the refusal.
+/// What the worked rows answer: done, the bytes read, the count of layers, or the text of the refusal.
 #[derive(Drop)]
 enum Told {
     Done,
     Bytes(&'static [u8]),
+    Layers(u64),
     Error(&'static str),
 }
 
-fn call_of(alloc: Global, asked: &Asked) -> Result<Call, AllocError> {
+fn call_of(alloc: Global, asked: &Asked) -> Result<Call, Fail> {
     Ok(match asked {
         Asked::Read(offset, length) => Call::Read {
             offset: *offset,
@@ -29,6 +31,7 @@ fn call_of(alloc: Global, asked: &Asked) -> Result<Call, AllocError> {
             bytes: Bytes::from_vec(Vec::from_slice(alloc, bytes)?)?,
         },
         Asked::Other(kind) => Call::Other(*kind),
+        Asked::Command(text) => Call::Command(Command::read(text)?),
     })
 }
 
@@ -36,17 +39,33 @@ fn is_told(reply: &Reply, told: &Told) -> bool {
     match (reply, told) {
         (Reply::Done, Told::Done) => true,
         (Reply::Read(bytes), Told::Bytes(wanted)) => bytes.as_slice() == *wanted,
+        (Reply::Status { layers, modes }, Told::Layers(wanted)) => {
+            *layers == *wanted && modes.as_slice() == [Mode::Rw].as_slice()
+        }
         (Reply::Refused(why), Told::Error(text)) => why.text() == *text,
         _ => false,
     }
+}
+
+/// The place of the first row that a disk of zeros answers otherwise.
+fn first_wrong(alloc: Global, rows: &[(Asked, Told)]) -> Result<Option<usize>, Fail> {
+    let mut disk = PlainDisk::zeros(alloc, 2_097_152)?;
+    for (place, (asked, told)) in rows.iter().enumerate() {
+        if disk.head_number() > 1_000 {
+            return Ok(Some(place));
+        }
+        let reply = disk.step(alloc, &[Mode::Rw], &call_of(alloc, asked)?)?;
+        if !is_told(&reply, told) {
+            return Ok(Some(place));
+        }
+    }
+    Ok(None)
 }
 
 const LAST_BLOCK: [u8; 4096] = [0; 4096];
 
 #[test]
 fn answers_the_worked_rows(rt: HostRuntime) -> Result<(), Fail> {
-    let alloc = rt.alloc();
-    let mut disk = PlainDisk::zeros(alloc, 2_097_152)?;
     let rows = [
         (Asked::Write(4095, b"a"), Told::Done),
         (Asked::Read(4094, 4), Told::Bytes(b"\0a\0\0")),
@@ -59,9 +78,27 @@ fn answers_the_worked_rows(rt: HostRuntime) -> Result<(), Fail> {
         (Asked::Read(2_097_151, 1), Told::Bytes(b"\0")),
         (Asked::Other(7), Told::Error("unsupported")),
     ];
-    for (asked, told) in &rows {
-        let reply = disk.step(alloc, &call_of(alloc, asked)?)?;
-        assert!(rt; is_told(&reply, told));
-    }
+    assert_eq!(rt; first_wrong(rt.alloc(), &rows)?, None);
+    Ok(())
+}
+
+#[test]
+fn answers_the_rows_of_snapshots(rt: HostRuntime) -> Result<(), Fail> {
+    let rows = [
+        (Asked::Write(0, b"a"), Told::Done),
+        (Asked::Command(b"snapshot s"), Told::Done),
+        (Asked::Write(0, b"b"), Told::Done),
+        (Asked::Command(b"snapshot s"), Told::Error("name used")),
+        (Asked::Command(b"status"), Told::Layers(2)),
+        (Asked::Command(b"revert s"), Told::Done),
+        (Asked::Read(0, 1), Told::Bytes(b"a")),
+        (Asked::Command(b"remove s"), Told::Done),
+        (Asked::Command(b"snapshot s"), Told::Error("name used")),
+        (Asked::Command(b"revert s"), Told::Error("no such snapshot")),
+        (Asked::Command(b"remove s"), Told::Error("no such snapshot")),
+        (Asked::Command(b"status"), Told::Layers(2)),
+        (Asked::Read(0, 1), Told::Bytes(b"a")),
+    ];
+    assert_eq!(rt; first_wrong(rt.alloc(), &rows)?, None);
     Ok(())
 }

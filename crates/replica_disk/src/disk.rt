@@ -1,30 +1,34 @@
-ghost use Rattle.std.specs.Prelude.{◌≡◌, ◌+◌, ◌*◌, ◌<◌, ◌≤◌, length, IfOk, OnOk, OnErr, true, false};
-ghost use Rattle.volume_model.specs.Disk.{zeros, bytes_at, with_bytes_at};
-ghost use Rattle.volume_model.specs.PlainState.{state_of};
+ghost use Rattle.std.specs.Prelude.{◌≡◌, ◌+◌, ◌*◌, ◌^◌, ◌<◌, ◌≤◌, List, length, IfOk, OnOk, OnErr, true, false, pos};
+ghost use Rattle.volume_model.specs.Disk.{zeros, bytes_at};
+ghost use Rattle.volume_model.specs.Snapshots.{chain_of};
+ghost use Rattle.volume_model.specs.PlainState.{state_of, written};
 ghost use Rattle.volume_model.specs.PlainStep.{plain_step};
+ghost use Rattle.volume_model.specs.declared.mode.Mode.{Mode};
 
+use crate::commands;
 use crate::merge::merged_blocks;
-use journal_book::{Bytes, Call, Refusal, Reply};
 use replica_node::{BLOCK_BYTES, BlockRange, ReplicaNode};
 use std::alloc::{AllocError, Global};
 use std::marker::Model;
-use vol_units::{VolumeSize, place_within};
+use vol_units::{LayerName, VolumeSize, place_within};
+use volume_model::{Bytes, Call, Mode, Refusal, Reply};
 
 /// The most bytes that one call reads.
 const LONGEST_CALL: u32 = 1_048_576;
 
-/// The disk that the head of one replica reads as. Contracts see a plain state.
+/// The volume that one replica is. Contracts see a plain state.
 #[derive(Drop)]
 pub struct ReplicaDisk {
     node: ReplicaNode,
 }
 
 impl Model for ReplicaDisk {
-    ghost use Rattle.volume_model.specs.PlainState.{PlainState, state_of};
+    ghost use Rattle.volume_model.specs.PlainState.{PlainState};
+    ghost use Rattle.replica_disk.specs.State.{state_of_node};
 
     ghost Value = { PlainState };
 
-    ghost view = { λ d. state_of d.node.disk };
+    ghost view = { λ d. state_of_node d.node };
 }
 
 impl ReplicaDisk {
@@ -53,9 +57,24 @@ impl ReplicaDisk {
         self.node.block(&None, block)
     }
 
-    /// Answers a call, and is then what the call leaves.
-    pub fn step(&mut self, alloc: Global, call: &Call) -> Result<Reply, AllocError>
-        ensures step { IfOk result (λ reply. plain_step self.old call.now ≡ (self.new, reply)) }
+    /// The number of the head: how many snapshots and reverts there were.
+    pub fn head_number(&self) -> u64
+        ensures { result ≡ self.now.snapshots.number }
+    {
+        self.node.head_number()
+    }
+
+    /// The snapshots below the head, from its parent down, each with its mark.
+    pub fn chain(&self, alloc: Global) -> Result<Vec<(LayerName, bool)>, AllocError>
+        ensures { IfOk result (λ layers. layers.items ≡ chain_of self.now.snapshots) }
+    {
+        self.node.chain(alloc)
+    }
+
+    /// Answers a call on replicas of these modes, and is then what the call leaves.
+    pub fn step(&mut self, alloc: Global, modes: &[Mode], call: &Call) -> Result<Reply, AllocError>
+        requires number { self.old.snapshots.number + 1 < 2 ^ 64 }
+        ensures step { IfOk result (λ reply. plain_step modes.now self.old call.now ≡ (self.new, reply)) }
         ensures err { OnErr result (self.new ≡ self.old) }
     {
         match call {
@@ -63,11 +82,13 @@ impl ReplicaDisk {
             Call::Write { offset, bytes } => self.write(alloc, *offset, bytes.as_slice()),
             Call::Ping => Ok(Reply::Done),
             Call::Other(_) => Ok(Reply::Refused(Refusal::Unsupported)),
+            Call::Command(command) => commands::answer(&mut self.node, alloc, modes, command),
         }
     }
 
     fn read(&self, alloc: Global, offset: i64, length: u32) -> Result<Reply, AllocError>
-        ensures { IfOk result (λ reply. plain_step self.now (Call.Read offset length) ≡ (self.now, reply)) }
+        ensures { IfOk result (λ reply. (modes : List Mode)
+            → plain_step modes self.now (Call.Read offset length) ≡ (self.now, reply)) }
     {
         if length > LONGEST_CALL {
             return Ok(Reply::Refused(Refusal::TooLong));
@@ -82,7 +103,8 @@ impl ReplicaDisk {
     }
 
     fn write(&mut self, alloc: Global, offset: i64, bytes: &[u8]) -> Result<Reply, AllocError>
-        ensures step { IfOk result (λ reply. plain_step self.old (Call.Write offset bytes.now) ≡ (self.new, reply)) }
+        ensures step { IfOk result (λ reply. (modes : List Mode)
+            → plain_step modes self.old (Call.Write offset bytes.now) ≡ (self.new, reply)) }
         ensures err { OnErr result (self.new ≡ self.old) }
     {
         let Some(at) = place_within(offset, bytes.len(), self.node.size()) else {
@@ -95,7 +117,7 @@ impl ReplicaDisk {
     /// Puts bytes that lie within the disk.
     fn put(&mut self, alloc: Global, at: usize, bytes: &[u8]) -> Result<(), AllocError>
         requires { at + length bytes.now ≤ length self.old.disk }
-        ensures ok { OnOk result (self.new.disk ≡ with_bytes_at self.old.disk at bytes.now) }
+        ensures ok { OnOk result (self.new ≡ written self.old (pos at) bytes.now) }
         ensures err { OnErr result (self.new ≡ self.old) }
     {
         if bytes.is_empty() || self.put_within(at, bytes) {
@@ -108,7 +130,7 @@ impl ReplicaDisk {
     fn put_within(&mut self, at: usize, bytes: &[u8]) -> bool
         requires some { 0 < length bytes.now }
         requires inside { at + length bytes.now ≤ length self.old.disk }
-        ensures put { result ≡ true → self.new.disk ≡ with_bytes_at self.old.disk at bytes.now }
+        ensures put { result ≡ true → self.new ≡ written self.old (pos at) bytes.now }
         ensures absent { result ≡ false → self.new ≡ self.old }
     {
         // What the largest size is, and that it is whole blocks, a proof learns here.
@@ -124,7 +146,7 @@ impl ReplicaDisk {
     fn put_blocks(&mut self, alloc: Global, at: usize, bytes: &[u8]) -> Result<(), AllocError>
         requires some { 0 < length bytes.now }
         requires inside { at + length bytes.now ≤ length self.old.disk }
-        ensures ok { OnOk result (self.new.disk ≡ with_bytes_at self.old.disk at bytes.now) }
+        ensures ok { OnOk result (self.new ≡ written self.old (pos at) bytes.now) }
         ensures err { OnErr result (self.new ≡ self.old) }
     {
         // What the largest size is, and that it is whole blocks, a proof learns here.

@@ -1,11 +1,12 @@
-//! One replica that answers calls as one plain disk does, with memory only for the blocks that were written.
+//! One replica that answers calls as one plain volume does, with memory only for the blocks that were written.
 #![tactic(auto)]
 
+mod commands;
 mod disk;
 mod merge;
 
 pub use disk::ReplicaDisk;
-pub use journal_book::{Bytes, Call, Refusal, Reply};
+pub use volume_model::{Bytes, Call, Command, LayerName, Mode, Refusal, Reply, Sequence, SnapName};
 
 #[cfg(test)]
 mod tests;

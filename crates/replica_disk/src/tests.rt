@@ -4,23 +4,25 @@ use std::alloc::{AllocError, Global};
 use std::test::Fail;
 use vol_units::VolumeSize;
 
-/// What is asked of a volume of 2 MiB: a read, or a write of some bytes.
+/// What is asked of a volume.
 #[derive(Drop)]
 enum Asked {
     Read(i64, u32),
     Write(i64, &'static [u8]),
     Other(u32),
+    Command(&'static [u8]),
 }
 
-/// What the worked rows answer: done, the bytes read, or the text of the refusal.
+/// What the worked rows answer: done, the bytes read, how many layers there are, or the text of the refusal.
 #[derive(Drop)]
 enum Told {
     Done,
     Bytes(&'static [u8]),
+    Layers(u64),
     Error(&'static str),
 }
 
-fn call_of(alloc: Global, asked: &Asked) -> Result<Call, AllocError> {
+fn call_of(alloc: Global, asked: &Asked) -> Result<Call, Fail> {
     Ok(match asked {
         Asked::Read(offset, length) => Call::Read {
             offset: *offset,
@@ -28,6 +30,7 @@ fn call_of(alloc: Global, asked: &Asked) -> Result<Call, AllocError> {
         },
         Asked::Write(offset, bytes) => write_of(Vec::from_slice(alloc, bytes)?, *offset)?,
         Asked::Other(kind) => Call::Other(*kind),
+        Asked::Command(text) => { Call::Command(Command::read(text).ok().ok_or("no command")?) }
     })
 }
 
@@ -42,15 +45,35 @@ fn is_told(reply: &Reply, told: &Told) -> bool {
     match (reply, told) {
         (Reply::Done, Told::Done) => true,
         (Reply::Read(bytes), Told::Bytes(wanted)) => bytes.as_slice() == *wanted,
+        (Reply::Status { layers, modes }, Told::Layers(wanted)) => {
+            layers == wanted && modes.as_slice() == [Mode::Rw].as_slice()
+        }
         (Reply::Refused(why), Told::Error(text)) => why.text() == *text,
         _ => false,
     }
 }
 
+fn answer(alloc: Global, disk: &mut ReplicaDisk, call: &Call) -> Result<Reply, Fail> {
+    if disk.head_number() == u64::MAX {
+        return Err(Fail::new("no number is left"));
+    }
+    Ok(disk.step(alloc, &[Mode::Rw], call)?)
+}
+
+/// How many of the rows are answered as they say, from the first on.
+fn answered(alloc: Global, disk: &mut ReplicaDisk, rows: &[(Asked, Told)]) -> Result<usize, Fail> {
+    for (row, (asked, told)) in rows.iter().enumerate() {
+        if !is_told(&answer(alloc, disk, &call_of(alloc, asked)?)?, told) {
+            return Ok(row);
+        }
+    }
+    Ok(rows.len())
+}
+
 const LAST_BLOCK: [u8; 4096] = [0; 4096];
 
 #[test]
-fn answers_the_worked_rows(rt: HostRuntime) -> Result<(), Fail> {
+fn reads_and_writes_are_answered(rt: HostRuntime) -> Result<(), Fail> {
     let alloc = rt.alloc();
     let mut disk = ReplicaDisk::zeros(alloc, VolumeSize::new(2_097_152)?)?;
     let rows = [
@@ -65,10 +88,7 @@ fn answers_the_worked_rows(rt: HostRuntime) -> Result<(), Fail> {
         (Asked::Read(2_097_151, 1), Told::Bytes(b"\0")),
         (Asked::Other(7), Told::Error("unsupported")),
     ];
-    for (asked, told) in &rows {
-        let reply = disk.step(alloc, &call_of(alloc, asked)?)?;
-        assert!(rt; is_told(&reply, told));
-    }
+    assert_eq!(rt; answered(alloc, &mut disk, &rows)?, 10);
     Ok(())
 }
 
@@ -80,10 +100,7 @@ fn a_write_crosses_into_the_next_page(rt: HostRuntime) -> Result<(), Fail> {
         (Asked::Write(2_097_151, b"bc"), Told::Done),
         (Asked::Read(2_097_150, 4), Told::Bytes(b"\0bc\0")),
     ];
-    for (asked, told) in &rows {
-        let reply = disk.step(alloc, &call_of(alloc, asked)?)?;
-        assert!(rt; is_told(&reply, told));
-    }
+    assert_eq!(rt; answered(alloc, &mut disk, &rows)?, 2);
     let count = disk.block_count();
     assert_eq!(rt; count, 1024);
     if count > 512 {
@@ -93,15 +110,88 @@ fn a_write_crosses_into_the_next_page(rt: HostRuntime) -> Result<(), Fail> {
     Ok(())
 }
 
+#[test]
+fn commands_are_answered(rt: HostRuntime) -> Result<(), Fail> {
+    let alloc = rt.alloc();
+    let mut disk = ReplicaDisk::zeros(alloc, VolumeSize::new(2_097_152)?)?;
+    let rows = [
+        (Asked::Write(4095, b"ab"), Told::Done),
+        (Asked::Command(b"status"), Told::Layers(1)),
+        (Asked::Command(b"snapshot one"), Told::Done),
+        (Asked::Write(4096, b"c"), Told::Done),
+        (Asked::Command(b"snapshot one"), Told::Error("name used")),
+        (Asked::Command(b"snapshot two"), Told::Done),
+        (Asked::Write(4095, b"d"), Told::Done),
+        (Asked::Command(b"status"), Told::Layers(3)),
+        (Asked::Command(b"revert one"), Told::Done),
+        (Asked::Read(4095, 2), Told::Bytes(b"ab")),
+        (Asked::Command(b"revert two"), Told::Done),
+        (Asked::Read(4095, 2), Told::Bytes(b"ac")),
+        (Asked::Command(b"remove one"), Told::Done),
+        (
+            Asked::Command(b"revert one"),
+            Told::Error("no such snapshot"),
+        ),
+        (
+            Asked::Command(b"remove one"),
+            Told::Error("no such snapshot"),
+        ),
+        (
+            Asked::Command(b"remove six"),
+            Told::Error("no such snapshot"),
+        ),
+        (Asked::Command(b"snapshot one"), Told::Error("name used")),
+        (Asked::Command(b"status"), Told::Layers(3)),
+        (Asked::Read(4095, 2), Told::Bytes(b"ac")),
+    ];
+    assert_eq!(rt; answered(alloc, &mut disk, &rows)?, 19);
+    assert_eq!(rt; disk.head_number(), 4);
+    let name = |text: &[u8]| LayerName::read(text).ok().ok_or("no name");
+    let wanted = [(name(b"two")?, false), (name(b"one")?, true)];
+    assert_eq!(rt; disk.chain(alloc)?.as_slice(), wanted.as_slice());
+    Ok(())
+}
+
+#[test]
+fn a_chain_has_249_snapshots(rt: HostRuntime) -> Result<(), Fail> {
+    let alloc = rt.alloc();
+    let mut disk = ReplicaDisk::zeros(alloc, VolumeSize::new(2_097_152)?)?;
+    for number in 0..300u32 {
+        let text = format!(in alloc; "s{number}")?;
+        let name = SnapName::read(text.as_bytes()).ok().ok_or("no name")?;
+        let call = Call::Command(Command::Snapshot(name));
+        let told = if number < 249 {
+            Told::Done
+        } else {
+            Told::Error("chain full")
+        };
+        assert!(rt; is_told(&answer(alloc, &mut disk, &call)?, &told));
+    }
+    Ok(())
+}
+
 fn next(seed: u32) -> u32 {
     seed.wrapping_mul(1_664_525).wrapping_add(1_013_904_223)
 }
 
-/// A read or a write at the start, over the border of the pages or over the end of 4 MiB.
-fn made_of(alloc: Global, seed: u32) -> Result<Call, AllocError> {
+/// A command on one of eight names.
+fn command_of(seed: u32) -> Result<Command, Fail> {
+    let name = [b's', b'a' + ((seed >> 8) % 8) as u8];
+    let layer = LayerName::read(&name).ok().ok_or("no name")?;
+    Ok(match (seed >> 16) % 5 {
+        0 => Command::Remove(layer),
+        1 => Command::Revert(layer),
+        2 => Command::Status,
+        _ => Command::Snapshot(SnapName::read(&name).ok().ok_or("no name")?),
+    })
+}
+
+/// A command, or a read or a write at the start, over the border of the pages or over the end of 4 MiB.
+fn made_of(alloc: Global, seed: u32) -> Result<Call, Fail> {
     let from: i64 = match seed >> 30 {
         0 => -100,
         1 => 4_180_000,
+        2 => return Ok(Call::Command(command_of(next(seed))?)),
         _ => 2_090_000,
     };
     let offset = from + i64::from((seed >> 8) % 16_000);
@@ -109,16 +199,24 @@ fn made_of(alloc: Global, seed: u32) -> Result<Call, AllocError> {
     if next(seed) >> 31 == 0 {
         return Ok(Call::Read { offset, length });
     }
-    write_of(vec![in alloc; (seed >> 24) as u8; length as usize]?, offset)
+    Ok(write_of(vec![in alloc; (seed >> 24) as u8; length as usize]?, offset)?)
 }
 
 fn are_same(a: &Reply, b: &Reply) -> bool {
     match (a, b) {
         (Reply::Done, Reply::Done) => true,
         (Reply::Read(a), Reply::Read(b)) => a.as_slice() == b.as_slice(),
+        (Reply::Status { layers: a, .. }, Reply::Status { layers: b, .. }) => a == b,
         (Reply::Refused(a), Reply::Refused(b)) => a == b,
         _ => false,
     }
+}
+
+fn plain_answer(alloc: Global, disk: &mut PlainDisk, call: &Call) -> Result<Reply, Fail> {
+    if disk.head_number() == u64::MAX {
+        return Err(Fail::new("no number is left"));
+    }
+    Ok(disk.step(alloc, &[Mode::Rw], call)?)
 }
 
 #[test]
@@ -127,11 +225,12 @@ fn answers_as_the_plain_disk_does(rt: HostRuntime) -> Result<(), Fail> {
     let mut sparse = ReplicaDisk::zeros(alloc, VolumeSize::new(4_194_304)?)?;
     let mut plain = PlainDisk::zeros(alloc, 4_194_304)?;
     let mut seed = 1;
-    for _call in 0..60 {
+    for _call in 0..120 {
         seed = next(seed);
         let call = made_of(alloc, seed)?;
-        let reply = sparse.step(alloc, &call)?;
-        assert!(rt; are_same(&reply, &plain.step(alloc, &call)?));
+        let reply = answer(alloc, &mut sparse, &call)?;
+        assert!(rt; are_same(&reply, &plain_answer(alloc, &mut plain, &call)?));
     }
+    assert_eq!(rt; sparse.head_number(), plain.head_number());
     Ok(())
 }

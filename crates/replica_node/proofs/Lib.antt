@@ -1,3 +1,4 @@
+pub mod ChainLemmas
 pub mod NodeLemmas
 pub mod ReadLemmas
 pub mod RoomLemmas

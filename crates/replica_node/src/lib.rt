@@ -2,6 +2,7 @@
 #![tactic(auto)]
 
 mod blocks;
+mod chain;
 mod node;
 mod room;
 

@@ -3,9 +3,10 @@ ghost use Rattle.vol_units.specs.Bytes.{zeros, bytes_at, with_bytes_at};
 ghost use Rattle.vol_units.specs.declared.size.TheConstants.{LARGEST_SIZE};
 ghost use Rattle.sparse_image.specs.Disk.{bytes_of};
 ghost use Rattle.replica_node.specs.Room.{HasRoom, KeepsRoom, with_room_of, put_at, bytes_in};
-ghost use Rattle.replica_node.specs.Node.{blank, snapped, reverted, marked, disk_of_layer, block_in, node_of, IsNode, IsKept, IsFree, IsSpareOf};
+ghost use Rattle.replica_node.specs.Node.{blank, snapped, reverted, marked, disk_of_layer, block_in, is_live_in, chain_of, node_of, IsNode, IsKept, IsFree, IsSpareOf};
 
 use crate::blocks::Blocks;
+use crate::chain::chain_below;
 use crate::room::make_pages;
 use layer_chain::{LayerTree, MOST_LAYERS};
 use snapshot_ops::Spare;
@@ -124,7 +125,8 @@ impl ReplicaNode {
 
     /// The layers and the head.
     pub fn layer_count(&self) -> usize
-        ensures { result ≡ length self.now.layers + 1 }
+        ensures value { result ≡ length self.now.layers + 1 }
+        ensures most { result ≤ MOST_LAYERS }
     {
         self.tree.count()
     }
@@ -140,6 +142,25 @@ impl ReplicaNode {
         ensures free { result ≡ false → IsFree self.now name.now }
     {
         self.tree.index_of(name).is_some()
+    }
+
+    /// Whether the layer of the name is there and not marked.
+    pub fn is_live(&self, name: &LayerName) -> bool
+        ensures { result ≡ is_live_in self.now.layers name.now }
+    {
+        // That no name comes twice, a proof learns here.
+        let _count = self.tree.count();
+        match self.tree.index_of(name) {
+            Some(place) => !self.tree.meta(place).marked,
+            None => false,
+        }
+    }
+
+    /// The layers below the head, from its parent down, each with its mark.
+    pub fn chain(&self, alloc: Global) -> Result<Vec<(LayerName, bool)>, AllocError>
+        ensures { IfOk result (λ layers. layers.items ≡ chain_of self.now) }
+    {
+        chain_below(&self.tree, alloc)
     }
 
     /// The bytes of the volume.

@@ -171,3 +171,19 @@ fn each_layer_reads_as_its_whole_copy(rt: HostRuntime) -> Result<(), Fail> {
     assert_eq!(rt; (node.layer_count(), node.head_number()), (5, 7));
     Ok(())
 }
+
+#[test]
+fn tells_the_chain_with_its_marks(rt: HostRuntime) -> Result<(), Fail> {
+    let alloc = rt.alloc();
+    let mut node = ReplicaNode::blank(alloc, VolumeSize::new(2_097_152)?)?;
+    snapshot(alloc, &mut node, LayerName::sys(0))?;
+    snapshot(alloc, &mut node, LayerName::sys(1))?;
+    snapshot(alloc, &mut node, LayerName::sys(2))?;
+    mark(&mut node, LayerName::sys(0))?;
+    revert(alloc, &mut node, LayerName::sys(1))?;
+    let told = node.chain(alloc)?;
+    let wanted = [(LayerName::sys(1), false), (LayerName::sys(0), true)];
+    assert_eq!(rt; told.as_slice(), wanted.as_slice());
+    assert!(rt; node.is_live(&LayerName::sys(2)) && !node.is_live(&LayerName::sys(0)));
+    Ok(())
+}

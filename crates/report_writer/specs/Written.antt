@@ -1,4 +1,4 @@
--- What is written of a run of one stream on one replica.
+-- What is written of a run on one replica.
 use Rattle.std.specs.Prelude.{ℕ, List, [], ◌∷◌, ◌++◌}
 use Rattle.frame_wire.specs.declared.head.Head.{Head}
 use Rattle.volume_model.specs.declared.entry.Entry.{Entry}
@@ -6,6 +6,6 @@ use Rattle.volume_model.specs.declared.mode.Mode.TheVariants.{Rw}
 use Rattle.volume_model.specs.PlainState.{PlainState}
 use Rattle.run_report.specs.Report.{call_lines, end_lines}
 
--- the lines of the calls, whose frames have these headers, and then of the replica, which reads as this state
-abbrev pub written_text : List Head → List Entry → PlainState → List ℕ
-written_text heads journal state = call_lines (heads ∷ []) journal ++ end_lines (Rw ∷ []) state
+-- the lines of the calls of streams whose frames have these headers, and then of the replica, which is this state
+abbrev pub written_text : List (List Head) → List Entry → PlainState → List ℕ
+written_text heads journal state = call_lines heads journal ++ end_lines (Rw ∷ []) state

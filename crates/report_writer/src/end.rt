@@ -5,15 +5,19 @@ ghost use Rattle.run_report.specs.Report.{end_lines};
 
 use replica_disk::ReplicaDisk;
 use run_report::{Digest, print_chain, print_head, print_mode};
-use std::alloc::AllocError;
+use std::alloc::{AllocError, Global};
 use volume_model::Mode;
 
 /// Prints what a run leaves of its one replica, which is read and written, and reads as this disk.
-pub(crate) fn print_end(disk: &ReplicaDisk, into: &mut Vec<u8>) -> Result<(), AllocError>
+pub(crate) fn print_end(
+    alloc: Global,
+    disk: &ReplicaDisk,
+    into: &mut Vec<u8>,
+) -> Result<(), AllocError>
     ensures { OnOk result (into.new.items ≡ into.old.items ++ end_lines (mode.Rw ∷ []) disk.now) }
 {
     print_mode(0, Mode::Rw, into)?;
-    print_chain(Some(0), &[], into)?;
+    print_chain(Some(0), &disk.chain(alloc)?, into)?;
     print_head(0, &digest_of_head(disk), into)
 }
 

@@ -4,24 +4,25 @@ ghost use Rattle.outer_traits.specs.Causes.{HasOuterCause};
 ghost use Rattle.outer_flow.specs.Passing.{WritesFront, Passes};
 ghost use Rattle.outer_flow.specs.declared.output.TheConstants.{PIECE};
 ghost use Rattle.run_report.specs.Lines.{entry_line, reply_line};
-ghost use Rattle.run_report.specs.Report.{journal_lines, reply_lines};
+ghost use Rattle.run_report.specs.Report.{journal_lines, reply_lines, replies_from};
 ghost use Rattle.volume_model.specs.History.{answers_of};
 ghost use Rattle.report_writer.specs.Written.{written_text};
 
 use crate::end::print_end;
 use frame_wire::Head;
-use journal_book::{Answer, Entry, Journal};
+use journal_book::Journal;
 use outer_flow::{pass_on, write_all};
 use outer_traits::{Outer, Sink};
 use replica_disk::ReplicaDisk;
 use run_report::{print_entry, print_reply};
 use std::alloc::Global;
+use volume_model::{Answer, Entry, Sequence};
 
-/// Writes the report of a run of one stream, whose frames have these headers, on one replica, which is
-/// then this disk.
+/// Writes the report of a run on one replica, which is then this disk. The headers are those of each
+/// stream's frames: a control stream has none.
 pub fn write_report<K: Sink>(
     alloc: Global,
-    heads: &[Head],
+    heads: &[Sequence<Head>],
     journal: &Journal,
     disk: &ReplicaDisk,
     sink: &mut K,
@@ -34,8 +35,8 @@ pub fn write_report<K: Sink>(
 {
     let mut buffer = Vec::new(alloc);
     pass_entries(journal, sink, &mut buffer)?;
-    pass_replies(heads, journal, sink, &mut buffer)?;
-    print_end(disk, &mut buffer)?;
+    pass_streams(heads, journal, sink, &mut buffer)?;
+    print_end(alloc, disk, &mut buffer)?;
     write_all(sink, &buffer)
 }
 
@@ -53,23 +54,47 @@ fn pass_entries<K: Sink>(journal: &Journal, sink: &mut K, buffer: &mut Vec<u8>) 
     Ok(())
 }
 
-/// Prints the replies of stream 0 to frames with these headers.
+/// Prints the replies of each stream in turn, to frames with these headers.
+fn pass_streams<K: Sink>(
+    streams: &[Sequence<Head>],
+    journal: &Journal,
+    sink: &mut K,
+    buffer: &mut Vec<u8>,
+) -> Outer<()>
+    ensures passed { OnOk result (Passes (K.contents sink.old) (K.contents sink.new)
+        buffer.old.items buffer.new.items (replies_from 0 streams.now journal.now.entries)) }
+    ensures front { WritesFront (K.contents sink.old) (K.contents sink.new)
+        (buffer.old.items ++ replies_from 0 streams.now journal.now.entries) }
+    ensures cause { HasOuterCause (K.faults sink.old) (K.faults sink.new) result }
+{
+    for (stream, heads) in streams.iter().enumerate() {
+        pass_replies(stream, heads.as_slice(), journal, sink, buffer)?;
+    }
+    Ok(())
+}
+
+/// Prints the replies of a stream to frames with these headers, in one walk over the journal.
 fn pass_replies<K: Sink>(
+    stream: usize,
     heads: &[Head],
     journal: &Journal,
     sink: &mut K,
     buffer: &mut Vec<u8>,
 ) -> Outer<()>
     ensures passed { OnOk result (Passes (K.contents sink.old) (K.contents sink.new)
-        buffer.old.items buffer.new.items (reply_lines heads.now (answers_of 0 journal.now.entries))) }
+        buffer.old.items buffer.new.items (reply_lines heads.now (answers_of stream journal.now.entries))) }
     ensures front { WritesFront (K.contents sink.old) (K.contents sink.new)
-        (buffer.old.items ++ reply_lines heads.now (answers_of 0 journal.now.entries)) }
+        (buffer.old.items ++ reply_lines heads.now (answers_of stream journal.now.entries)) }
     ensures cause { HasOuterCause (K.faults sink.old) (K.faults sink.new) result }
 {
+    if heads.is_empty() {
+        // A control stream has no frames, and the journal may be long.
+        return Ok(());
+    }
     let mut next = 0;
     for place in 0..journal.len() {
         let answer = journal.entry(place).answer();
-        if let Some(asked) = head_for(heads, next, answer) {
+        if let Some(asked) = head_for(stream, heads, next, answer) {
             pass_reply(asked, answer, sink, buffer)?;
             next += 1;
         }
@@ -77,14 +102,14 @@ fn pass_replies<K: Sink>(
     Ok(())
 }
 
-/// The next header, where the answer is one of stream 0 and there is one.
-fn head_for<'a>(heads: &'a [Head], next: usize, answer: &Answer) -> Option<&'a Head>
+/// The next header, where the answer is one of the stream and there is one.
+fn head_for<'a>(stream: usize, heads: &'a [Head], next: usize, answer: &Answer) -> Option<&'a Head>
     ensures some { IfSome result (λ asked.
-        (answer.now.stream ≡ 0) × (next < length heads.now)
+        (answer.now.stream ≡ stream) × (next < length heads.now)
         × (slice_get heads.now next ≡ Some asked.now)) }
-    ensures none { IfNone result ((answer.now.stream ≢ 0) ⊎ (length heads.now ≤ next)) }
+    ensures none { IfNone result ((answer.now.stream ≢ stream) ⊎ (length heads.now ≤ next)) }
 {
-    if answer.stream == 0 {
+    if usize::from(answer.stream) == stream {
         heads.get(next)
     } else {
         None

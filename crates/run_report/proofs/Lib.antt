@@ -2,3 +2,4 @@ pub mod Appends
 pub mod ReportLemmas
 mod Walks
 mod HalfDigits
+mod ModeWords

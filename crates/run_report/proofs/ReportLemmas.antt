@@ -5,10 +5,10 @@ use Rattle.std.proofs.lemmas.Bool.{eq-eqb, ne_eqb}
 use Rattle.volume_model.specs.declared.entry.Entry.{Entry}
 use Rattle.volume_model.specs.declared.entry.Entry.TheVariants as entry
 use Rattle.volume_model.specs.declared.entry.Answer.{Answer}
-use Rattle.volume_model.specs.History.{answers_from}
+use Rattle.volume_model.specs.History.{answers_from, answers_of}
 use Rattle.frame_wire.specs.declared.head.Head.{Head}
 use Rattle.run_report.specs.Lines.{entry_line, reply_line}
-use Rattle.run_report.specs.Report.{journal_lines, reply_lines}
+use Rattle.run_report.specs.Report.{journal_lines, reply_lines, replies_from}
 
 cond_is_true : {A : Type 0} (b : Bool) (x y : A) → b ≡ true → cond b x y ≡ x
 cond_is_true b x y e = rw e refl
@@ -32,40 +32,40 @@ pub no_line : (into whole : List ℕ) (place : ℕ) (entries : List Entry) → l
 no_line into whole place entries past text =
     sym (append-nil into) ∙ ap (λ l. into ++ journal_lines place l) (sym (drop_of_length-le entries past)) ∙ text
 
--- the answers of stream 0 from an entry on
-answers-cut : (place : ℕ) (entries : List Entry) (a : Answer) → place < length entries → get_or entries place (entry.Answer a) ≡ entry.Answer a
-    → answers_from 0 place (drop place entries)
-    ≡ cond (eqb a.stream 0) ((place, a) ∷ answers_from 0 (place + 1) (drop (place + 1) entries)) (answers_from 0 (place + 1) (drop (place + 1) entries))
-answers-cut place entries a inside is =
+-- the answers of a stream from an entry on
+answers-cut : (stream place : ℕ) (entries : List Entry) (a : Answer) → place < length entries → get_or entries place (entry.Answer a) ≡ entry.Answer a
+    → answers_from stream place (drop place entries)
+    ≡ cond (eqb a.stream stream) ((place, a) ∷ answers_from stream (place + 1) (drop (place + 1) entries)) (answers_from stream (place + 1) (drop (place + 1) entries))
+answers-cut stream place entries a inside is =
     let cut : drop place entries ≡ entry.Answer a ∷ drop (suc place) entries =
     drop-cons entries place (entry.Answer a) inside ∙ ap (λ x. x ∷ drop (suc place) entries) is in
-    ap (answers_from 0 place) cut
-    ∙ ap (λ n. cond (eqb a.stream 0) ((place, a) ∷ answers_from 0 n (drop n entries)) (answers_from 0 n (drop n entries))) (sym (add-one place))
+    ap (answers_from stream place) cut
+    ∙ ap (λ n. cond (eqb a.stream stream) ((place, a) ∷ answers_from stream n (drop n entries)) (answers_from stream n (drop n entries))) (sym (add-one place))
 
 -- The entry answers the next header.
-pub next_reply : (into whole : List ℕ) (next place : ℕ) (heads : List Head) (entries : List Entry) (h : Head) (a : Answer)
-    → place < length entries → get_or entries place (entry.Answer a) ≡ entry.Answer a → next < length heads → get_or heads next h ≡ h → a.stream ≡ 0
-    → into ++ reply_lines (drop next heads) (answers_from 0 place (drop place entries)) ≡ whole
-    → (into ++ reply_line h a) ++ reply_lines (drop (next + 1) heads) (answers_from 0 (place + 1) (drop (place + 1) entries)) ≡ whole
-next_reply into whole next place heads entries h a inside is room at own text =
-    let rest = answers_from 0 (place + 1) (drop (place + 1) entries) in
+pub next_reply : (into whole : List ℕ) (stream next place : ℕ) (heads : List Head) (entries : List Entry) (h : Head) (a : Answer)
+    → place < length entries → get_or entries place (entry.Answer a) ≡ entry.Answer a → next < length heads → get_or heads next h ≡ h → a.stream ≡ stream
+    → into ++ reply_lines (drop next heads) (answers_from stream place (drop place entries)) ≡ whole
+    → (into ++ reply_line h a) ++ reply_lines (drop (next + 1) heads) (answers_from stream (place + 1) (drop (place + 1) entries)) ≡ whole
+next_reply into whole stream next place heads entries h a inside is room at own text =
+    let rest = answers_from stream (place + 1) (drop (place + 1) entries) in
     let cut : drop next heads ≡ h ∷ drop (next + 1) heads =
     drop-cons heads next h room ∙ ap (λ x. x ∷ drop (suc next) heads) at ∙ ap (λ n. h ∷ drop n heads) (sym (add-one next)) in
-    let answers : answers_from 0 place (drop place entries) ≡ (place, a) ∷ rest =
-    answers-cut place entries a inside is ∙ cond_is_true (eqb a.stream 0) _ _ (eq-eqb _ _ own) in
+    let answers : answers_from stream place (drop place entries) ≡ (place, a) ∷ rest =
+    answers-cut stream place entries a inside is ∙ cond_is_true (eqb a.stream stream) _ _ (eq-eqb _ _ own) in
     append_assoc into (reply_line h a) _ ∙ ap (λ l. into ++ l) (sym (both cut answers)) ∙ text
   where
     both : {hs gs : List Head} {ps qs : List (ℕ × Answer)} → hs ≡ gs → ps ≡ qs → reply_lines hs ps ≡ reply_lines gs qs
     both p q = cc
 
 -- The entry is of another stream, or no header is left.
-pub skip_other : (into whole : List ℕ) (next place : ℕ) (heads : List Head) (entries : List Entry) (a : Answer)
-    → place < length entries → get_or entries place (entry.Answer a) ≡ entry.Answer a → (a.stream ≡ 0 → ⊥)
-    → into ++ reply_lines (drop next heads) (answers_from 0 place (drop place entries)) ≡ whole
-    → into ++ reply_lines (drop next heads) (answers_from 0 (place + 1) (drop (place + 1) entries)) ≡ whole
-skip_other into whole next place heads entries a inside is other text =
-    let answers : answers_from 0 place (drop place entries) ≡ answers_from 0 (place + 1) (drop (place + 1) entries) =
-    answers-cut place entries a inside is ∙ cond_is_false (eqb a.stream 0) _ _ (ne_eqb _ _ other) in
+pub skip_other : (into whole : List ℕ) (stream next place : ℕ) (heads : List Head) (entries : List Entry) (a : Answer)
+    → place < length entries → get_or entries place (entry.Answer a) ≡ entry.Answer a → (a.stream ≡ stream → ⊥)
+    → into ++ reply_lines (drop next heads) (answers_from stream place (drop place entries)) ≡ whole
+    → into ++ reply_lines (drop next heads) (answers_from stream (place + 1) (drop (place + 1) entries)) ≡ whole
+skip_other into whole stream next place heads entries a inside is other text =
+    let answers : answers_from stream place (drop place entries) ≡ answers_from stream (place + 1) (drop (place + 1) entries) =
+    answers-cut stream place entries a inside is ∙ cond_is_false (eqb a.stream stream) _ _ (ne_eqb _ _ other) in
     ap (λ l. into ++ reply_lines (drop next heads) l) (sym answers) ∙ text
 
 pub skip_past : (into whole : List ℕ) (next : ℕ) (heads : List Head) (ps qs : List (ℕ × Answer)) → length heads ≤ next
@@ -75,12 +75,29 @@ skip_past into whole next heads ps qs past text =
     ap (λ l. into ++ reply_lines l qs) none ∙ sym (ap (λ l. into ++ reply_lines l ps) none) ∙ text
 
 -- no entry is left
-pub no_reply : (into whole : List ℕ) (next place : ℕ) (heads : List Head) (entries : List Entry) → length entries ≤ place
-    → into ++ reply_lines (drop next heads) (answers_from 0 place (drop place entries)) ≡ whole → into ≡ whole
-no_reply into whole next place heads entries past text =
+pub no_reply : (into whole : List ℕ) (stream next place : ℕ) (heads : List Head) (entries : List Entry) → length entries ≤ place
+    → into ++ reply_lines (drop next heads) (answers_from stream place (drop place entries)) ≡ whole → into ≡ whole
+no_reply into whole stream next place heads entries past text =
     sym (append-nil into) ∙ ap (λ l. into ++ l) (sym (no_answer (drop next heads)))
-    ∙ sym (ap (λ l. into ++ reply_lines (drop next heads) (answers_from 0 place l)) (drop_of_length-le entries past)) ∙ text
+    ∙ sym (ap (λ l. into ++ reply_lines (drop next heads) (answers_from stream place l)) (drop_of_length-le entries past)) ∙ text
   where
     no_answer : (hs : List Head) → reply_lines hs [] ≡ []
     no_answer [] = refl
     no_answer (h ∷ hs) = refl
+
+-- the replies of the next stream, and those of the streams behind it
+pub next_stream : (into whole : List ℕ) (stream : ℕ) (streams : List (List Head)) (entries : List Entry) (hs : List Head)
+    → stream < length streams → get_or streams stream hs ≡ hs
+    → into ++ replies_from stream (drop stream streams) entries ≡ whole
+    → (into ++ reply_lines hs (answers_of stream entries)) ++ replies_from (stream + 1) (drop (stream + 1) streams) entries ≡ whole
+next_stream into whole stream streams entries hs inside is text =
+    let cut : drop stream streams ≡ hs ∷ drop (suc stream) streams = drop-cons streams stream hs inside ∙ ap (λ x. x ∷ drop (suc stream) streams) is in
+    append_assoc into (reply_lines hs (answers_of stream entries)) _
+    ∙ ap (λ n. into ++ (reply_lines hs (answers_of stream entries) ++ replies_from n (drop n streams) entries)) (add-one stream)
+    ∙ ap (λ l. into ++ replies_from stream l entries) (sym cut) ∙ text
+
+-- no stream is left
+pub no_stream : (into whole : List ℕ) (stream : ℕ) (streams : List (List Head)) (entries : List Entry) → length streams ≤ stream
+    → into ++ replies_from stream (drop stream streams) entries ≡ whole → into ≡ whole
+no_stream into whole stream streams entries past text =
+    sym (append-nil into) ∙ ap (λ l. into ++ replies_from stream l entries) (sym (drop_of_length-le streams past)) ∙ text

@@ -5,6 +5,7 @@ use Rattle.std.specs.List.{flat_map}
 use Rattle.std.specs.Fmt.{decimal, signed_decimal}
 use Rattle.frame_wire.specs.declared.head.Head.{Head}
 use Rattle.image_runs.specs.Runs.{runs_text}
+use Rattle.command_text.specs.Commands.{command_text}
 use Rattle.volume_model.specs.declared.call.Call.{Call}
 use Rattle.volume_model.specs.declared.call.Call.TheVariants as call
 use Rattle.volume_model.specs.declared.call.Reply.{Reply}
@@ -20,17 +21,31 @@ use Rattle.volume_model.specs.Texts.{refusal_text}
 abbrev pub word : List ℕ → List ℕ
 word text = text ++ 32 ∷ []
 
+-- a mode, in longhorn-engine's words
+abbrev pub mode_text : Mode → List ℕ
+mode_text mode.Rw = codes "RW"
+mode_text mode.Wo = codes "WO"
+mode_text mode.Err = codes "ERR"
+
+-- modes, parted by commas
+abbrev pub modes_text : List Mode → List ℕ
+modes_text [] = []
+modes_text (m ∷ []) = mode_text m
+modes_text (m ∷ ms) = mode_text m ++ 44 ∷ modes_text ms
+
 -- what is asked
 abbrev pub call_text : Call → List ℕ
 call_text (call.Read offset n) = codes "read " ++ word (signed_decimal offset) ++ decimal n
 call_text (call.Write offset bytes) = codes "write " ++ word (signed_decimal offset) ++ word (decimal (length bytes)) ++ runs_text bytes
 call_text call.Ping = codes "ping"
 call_text (call.Other kind) = codes "other " ++ decimal kind
+call_text (call.Command c) = command_text c
 
 -- what is answered
 abbrev pub reply_text : Reply → List ℕ
 reply_text reply.Done = codes "ok"
 reply_text (reply.Read bytes) = codes "ok " ++ runs_text bytes
+reply_text (reply.Status layers modes) = codes "ok layers " ++ word (decimal layers) ++ codes "modes " ++ modes_text modes
 reply_text (reply.Refused why) = codes "error " ++ refusal_text why
 
 -- place, saw, stream and index
@@ -49,12 +64,14 @@ entry_line place (entry.Answer a) = answer_line place a
 abbrev pub reply_kind : Reply → ℕ
 reply_kind reply.Done = 2
 reply_kind (reply.Read bytes) = 2
+reply_kind (reply.Status layers modes) = 2
 reply_kind (reply.Refused why) = 3
 
 -- the data of that frame
 abbrev pub reply_body : Reply → List ℕ
 reply_body reply.Done = []
 reply_body (reply.Read bytes) = bytes
+reply_body (reply.Status layers modes) = []
 reply_body (reply.Refused why) = refusal_text why
 
 -- how many bytes a call that was done has put
@@ -63,11 +80,13 @@ put_count (call.Read offset n) = 0
 put_count (call.Write offset bytes) = length bytes
 put_count call.Ping = 0
 put_count (call.Other kind) = 0
+put_count (call.Command c) = 0
 
 -- what the size of that frame says: the bytes put by a write, and else the length of its data
 abbrev pub reply_size : Call → Reply → ℕ
 reply_size asked reply.Done = put_count asked
 reply_size asked (reply.Read bytes) = length bytes
+reply_size asked (reply.Status layers modes) = 0
 reply_size asked (reply.Refused why) = length (refusal_text why)
 
 -- the header of the frame that replies: seq and offset of the frame that asked, its own type and size
@@ -79,12 +98,6 @@ header_words asked a = word (decimal asked.seq) ++ word (decimal (reply_kind a.r
 abbrev pub reply_line : Head → Answer → List ℕ
 reply_line asked a = codes "reply " ++ word (decimal a.stream) ++ word (decimal a.index) ++ header_words asked a
     ++ runs_text (reply_body a.reply) ++ 10 ∷ []
-
--- a mode, in longhorn-engine's words
-abbrev pub mode_text : Mode → List ℕ
-mode_text mode.Rw = codes "RW"
-mode_text mode.Wo = codes "WO"
-mode_text mode.Err = codes "ERR"
 
 -- a replica, and the space behind it
 abbrev pub replica_word : ℕ → List ℕ

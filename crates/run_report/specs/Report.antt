@@ -6,6 +6,7 @@ use Rattle.volume_model.specs.declared.entry.Entry.{Entry}
 use Rattle.volume_model.specs.declared.mode.Mode.{Mode}
 use Rattle.volume_model.specs.declared.mode.Mode.TheVariants as mode
 use Rattle.volume_model.specs.PlainState.{PlainState}
+use Rattle.volume_model.specs.Snapshots.{chain_of}
 use Rattle.volume_model.specs.Replay.{replay}
 use Rattle.volume_model.specs.Modes.{modes_after}
 use Rattle.volume_model.specs.History.{Opening, answers_of}
@@ -43,9 +44,9 @@ source_lines line r [] = []
 source_lines line r (mode.Rw ∷ ms) = line r ++ source_lines line (suc r) ms
 source_lines line r (m ∷ ms) = source_lines line (suc r) ms
 
--- what a run leaves: modes, chains, and the digests of the heads. A chain is its head alone yet.
+-- what a run leaves: modes, chains, and the digests of the heads
 abbrev pub end_lines : List Mode → PlainState → List ℕ
-end_lines modes state = mode_lines 0 modes ++ source_lines (λ r. chain_line (Some r) []) 0 modes
+end_lines modes state = mode_lines 0 modes ++ source_lines (λ r. chain_line (Some r) (chain_of state.snapshots)) 0 modes
     ++ source_lines (λ r. head_line r (digest_text state.disk)) 0 modes
 
 -- the whole report of a journal, for streams whose frames have these headers

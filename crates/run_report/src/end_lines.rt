@@ -1,7 +1,7 @@
 ghost use Rattle.std.specs.Prelude.{◌≡◌, ◌++◌, ◌∷◌, [], OnOk, OnErr, take, length, flat_map};
-ghost use Rattle.run_report.specs.Lines.{mode_line, mode_text, replica_word, chain_line, chain_owner, layer_word, head_line};
+ghost use Rattle.run_report.specs.Lines.{mode_line, replica_word, chain_line, chain_owner, layer_word, head_line};
 
-use crate::words::append_number;
+use crate::words::{append_number, text_of_mode};
 use std::alloc::AllocError;
 use vol_units::LayerName;
 use volume_model::Mode;
@@ -59,7 +59,7 @@ fn append_mode(r: u8, mode: Mode, into: &mut Vec<u8>) -> Result<(), AllocError>
 {
     into.extend_from_slice(b"mode ")?;
     append_replica(r, into)?;
-    into.extend_from_slice(text_of(mode).as_bytes())?;
+    into.extend_from_slice(text_of_mode(mode).as_bytes())?;
     into.push(b'\n')?;
     Ok(())
 }
@@ -97,16 +97,6 @@ fn append_replica(r: u8, into: &mut Vec<u8>) -> Result<(), AllocError>
 {
     into.push(b'r')?;
     append_number(u64::from(r), into)
-}
-
-fn text_of(mode: Mode) -> &'static str
-    ensures { result.now ≡ mode_text mode }
-{
-    match mode {
-        Mode::Rw => "RW",
-        Mode::Wo => "WO",
-        Mode::Err => "ERR",
-    }
 }
 
 fn append_owner(r: Option<u8>, into: &mut Vec<u8>) -> Result<(), AllocError>

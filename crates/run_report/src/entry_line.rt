@@ -2,11 +2,11 @@ ghost use Rattle.std.specs.Prelude.{◌≡◌, ◌++◌, ◌∷◌, [], OnOk, On
 ghost use Rattle.std.specs.Fmt.{decimal};
 ghost use Rattle.run_report.specs.Lines.{entry_line, answer_line, place_words, call_text, reply_text, word};
 
-use crate::words::{append_number, append_offset};
+use crate::words::{append_modes, append_number, append_offset};
 use image_runs::print_runs;
 use itoa::Buffer;
-use journal_book::{Answer, Call, Entry, Reply};
 use std::alloc::AllocError;
+use volume_model::{Answer, Call, Entry, Mode, Reply};
 
 /// Appends the line of the entry at a place of the journal.
 pub fn print_entry(place: u64, entry: &Entry, into: &mut Vec<u8>) -> Result<(), AllocError>
@@ -67,6 +67,7 @@ fn append_call(call: &Call, into: &mut Vec<u8>) -> Result<(), AllocError>
             let mut buffer = Buffer::new();
             into.extend_from_slice(buffer.format(*kind).as_bytes())
         }
+        Call::Command(command) => command.append_to(into),
     }
 }
 
@@ -80,9 +81,20 @@ fn append_reply(reply: &Reply, into: &mut Vec<u8>) -> Result<(), AllocError>
             into.extend_from_slice(b"ok ")?;
             print_runs(bytes.as_slice(), into)
         }
+        Reply::Status { layers, modes } => append_status(*layers, modes.as_slice(), into),
         Reply::Refused(why) => {
             into.extend_from_slice(b"error ")?;
             into.extend_from_slice(why.text().as_bytes())
         }
     }
+}
+
+fn append_status(layers: u64, modes: &[Mode], into: &mut Vec<u8>) -> Result<(), AllocError>
+    ensures ok { OnOk result (into.new.items ≡ into.old.items ++ reply_text (Reply.Status layers modes.now)) }
+    ensures kept { take (length into.old.items) into.new.items ≡ into.old.items }
+{
+    into.extend_from_slice(b"ok layers ")?;
+    append_number(layers, into)?;
+    into.extend_from_slice(b"modes ")?;
+    append_modes(modes, into)
 }

@@ -5,8 +5,8 @@ ghost use Rattle.run_report.specs.Lines.{reply_line, header_words, reply_kind, r
 use crate::words::{append_number, append_offset};
 use frame_wire::Head;
 use image_runs::print_runs;
-use journal_book::{Answer, Call, Reply};
 use std::alloc::AllocError;
+use volume_model::{Answer, Call, Reply};
 
 /// The type of the frame that answers a call.
 const RESPONSE: u64 = 2;
@@ -55,7 +55,7 @@ fn kind_of(reply: &Reply) -> u64
     ensures { result ≡ reply_kind reply.now }
 {
     match reply {
-        Reply::Done | Reply::Read(_) => RESPONSE,
+        Reply::Done | Reply::Read(_) | Reply::Status { .. } => RESPONSE,
         Reply::Refused(_) => ERROR,
     }
 }
@@ -70,6 +70,7 @@ fn size_of(call: &Call, reply: &Reply) -> u64
             _ => 0,
         },
         Reply::Read(bytes) => bytes.len() as u64,
+        Reply::Status { .. } => 0,
         Reply::Refused(why) => why.text().len() as u64,
     }
 }
@@ -79,7 +80,7 @@ fn append_body(reply: &Reply, into: &mut Vec<u8>) -> Result<(), AllocError>
     ensures err { OnErr result (into.new.items ≡ into.old.items) }
 {
     match reply {
-        Reply::Done => print_runs(&[], into),
+        Reply::Done | Reply::Status { .. } => print_runs(&[], into),
         Reply::Read(bytes) => print_runs(bytes.as_slice(), into),
         Reply::Refused(why) => print_runs(why.text().as_bytes(), into),
     }

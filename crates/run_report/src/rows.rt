@@ -1,23 +1,47 @@
-//! Worked rows of the report, computed by the checker: of calls on a disk of four bytes, and of what a run leaves.
+//! Worked rows of the report, computed by the checker: of calls on small disks, and of what a run leaves.
 
-ghost use Rattle.std.specs.Prelude.{◌≡◌, ◌∷◌, [], codes, pos, true, false, Some, None};
+ghost use Rattle.std.specs.Prelude.{◌≡◌, ◌∷◌, [], map, codes, pos, true, false, Some, None};
+ghost use Rattle.command_text.specs.declared.command.Command.TheVariants as command;
 ghost use Rattle.volume_model.specs.declared.call.Call.TheVariants as call;
+ghost use Rattle.volume_model.specs.declared.call.Reply.TheVariants as reply;
 ghost use Rattle.volume_model.specs.PlainState.{state_of};
+ghost use Rattle.volume_model.specs.Replay.{replay};
+ghost use Rattle.volume_model.specs.Snapshots.{chain_of};
 ghost use Rattle.volume_model.specs.OneWorker.{served};
 ghost use Rattle.volume_model.specs.declared.mode.Mode.TheVariants as mode;
-ghost use Rattle.run_report.specs.Lines.{mode_line, chain_line};
+ghost use Rattle.run_report.specs.Lines.{reply_text, mode_line, chain_line};
 ghost use Rattle.run_report.specs.Report.{call_lines};
 
 /// What is printed of a write that was done, of a read, of a read past the end, and of a ping.
 pub fn the_report_reads()
     ensures done { call_lines (((record { seq = 1; kind = 1; offset = pos 1; size = 1; len = 1 })
         ∷ (record { seq = 2; kind = 0; offset = pos 0; size = 4; len = 0 }) ∷ []) ∷ [])
-        (served (state_of (0 ∷ 0 ∷ 0 ∷ 0 ∷ [])) (call.Write (pos 1) (97 ∷ []) ∷ call.Read (pos 0) 4 ∷ []))
+        (served (record { state = state_of (0 ∷ 0 ∷ 0 ∷ 0 ∷ []); modes = mode.Rw ∷ [] })
+        ((call.Write (pos 1) (97 ∷ []) ∷ call.Read (pos 0) 4 ∷ []) ∷ []))
         ≡ codes "0 0 0 0 write 1 1 61*1 ok\n1 1 0 1 read 0 4 ok 00*1,61*1,00*2\nreply 0 0 1 2 1 1 -\nreply 0 1 2 2 0 4 00*1,61*1,00*2\n" }
     ensures refused { call_lines (((record { seq = 9; kind = 0; offset = pos 5; size = 1; len = 0 })
         ∷ (record { seq = 8; kind = 6; offset = pos 0; size = 0; len = 0 }) ∷ []) ∷ [])
-        (served (state_of (0 ∷ [])) (call.Read (pos 5) 1 ∷ call.Ping ∷ []))
+        (served (record { state = state_of (0 ∷ []); modes = mode.Rw ∷ [] })
+        ((call.Read (pos 5) 1 ∷ call.Ping ∷ []) ∷ []))
         ≡ codes "0 0 0 0 read 5 1 error out of range\n1 1 0 1 ping ok\nreply 0 0 9 3 5 12 6f*1,75*1,74*1,20*1,6f*1,66*1,20*1,72*1,61*1,6e*1,67*1,65*1\nreply 0 1 8 2 0 0 -\n" }
+{}
+
+/// What is printed of a control stream between two others: its commands have no replies of their own.
+pub fn the_commands_read()
+    ensures { call_lines (((record { seq = 5; kind = 1; offset = pos 0; size = 1; len = 1 }) ∷ []) ∷ []
+        ∷ ((record { seq = 6; kind = 0; offset = pos 0; size = 1; len = 0 }) ∷ []) ∷ [])
+        (served (record { state = state_of (97 ∷ []); modes = mode.Rw ∷ mode.Err ∷ [] })
+        ((call.Write (pos 0) (98 ∷ []) ∷ [])
+        ∷ map call.Command (command.Snapshot (codes "s") ∷ command.Status ∷ command.Revert (codes "s") ∷ command.Remove (codes "t") ∷ [])
+        ∷ (call.Read (pos 0) 1 ∷ []) ∷ []))
+        ≡ codes "0 0 0 0 write 0 1 62*1 ok\n1 1 1 0 snapshot s ok\n2 2 1 1 status ok layers 2 modes RW,ERR\n3 3 1 2 revert s ok\n4 4 1 3 remove t error no such snapshot\n5 5 2 0 read 0 1 ok 62*1\nreply 0 0 5 2 0 1 -\nreply 2 0 6 2 0 1 62*1\n" }
+{}
+
+/// What a status reads as.
+pub fn a_status_reads()
+    ensures none { reply_text (reply.Status 1 []) ≡ codes "ok layers 1 modes " }
+    ensures one { reply_text (reply.Status 250 (mode.Rw ∷ [])) ≡ codes "ok layers 250 modes RW" }
+    ensures three { reply_text (reply.Status 2 (mode.Rw ∷ mode.Wo ∷ mode.Err ∷ [])) ≡ codes "ok layers 2 modes RW,WO,ERR" }
 {}
 
 /// What is printed of a replica's mode, and of a chain.
@@ -26,7 +50,10 @@ pub fn the_end_reads()
     ensures rebuilt { mode_line 12 mode.Wo ≡ codes "mode r12 WO\n" }
     ensures sound { mode_line 1 mode.Rw ≡ codes "mode r1 RW\n" }
     ensures alone { chain_line (Some 0) [] ≡ codes "chain r0 head\n" }
-    ensures marked { chain_line (Some 0) ((codes "c", false) ∷ (codes "a", true) ∷ [])
+    ensures marked { chain_line (Some 0) (chain_of (replay (state_of (97 ∷ []))
+        (served (record { state = state_of (97 ∷ []); modes = mode.Rw ∷ [] })
+        (map call.Command (command.Snapshot (codes "a") ∷ command.Snapshot (codes "b") ∷ command.Revert (codes "a")
+        ∷ command.Snapshot (codes "c") ∷ command.Remove (codes "a") ∷ []) ∷ []))).snapshots)
         ≡ codes "chain r0 head c a*\n" }
     ensures unsaid { chain_line None [] ≡ codes "chain head\n" }
 {}

@@ -1,3 +1,4 @@
-pub mod Lists
 pub mod Readers
+pub mod OneValue
+pub mod Lists
 pub mod OneAnswer

@@ -1,17 +1,55 @@
 -- A list that is read item after item.
-use Rattle.std.proofs.Common.{◌≡◌, List, ◌++◌, Option, Some, None, option_map, option_and_then, ap}
+use Rattle.std.proofs.Common.{◌≡◌, ℕ, zero, suc, ◌+◌, ◌<◌, List, [], ◌∷◌, ◌++◌, length, get_or, take, Option, Some, option_and_then, Err, refl, sym, ap, subst, arith}
+use Rattle.std.proofs.lemmas.List.{take_more}
 use Rattle.serde_json.specs.Data.{Data, Items}
 use Rattle.serde_json.specs.Find.{as_array}
-use Rattle.serde_json.specs.View.{items_view}
+use Rattle.serde_json.specs.View.{view, items_view}
 use Rattle.serde_json.specs.declared.value.Value.{Value}
-use Rattle.script_head.specs.Values.{each, list_of}
+use Rattle.script_head.specs.declared.error.HeadError.{HeadError}
+use Rattle.script_head.specs.declared.member.Member.{Member}
+use Rattle.script_head.specs.Refusals.{Reads}
+use Rattle.script_head.specs.Values.{AreItems, HasItems}
+use Rattle.script_head.proofs.OneValue.{same_value}
+use Rattle.script_head.proofs.Readers.{Reads-err}
 
--- what is read so far, and then what the others are, is what all are
-abbrev pub IsReadSoFar : {A : Type 0} → (Data → Option A) → List Value → List A → List Value → Type 0
-IsReadSoFar f all done rest = each f (items_view all) ≡ option_map (λ more. done ++ more) (each f (items_view rest))
+-- items behind items
+AreItems-append : {A : Type 0} (IsItem : Data → A → Type 0) (vs ws : List Value) (xs ys : List A)
+    → AreItems IsItem (items_view vs) xs → AreItems IsItem (items_view ws) ys → AreItems IsItem (items_view (vs ++ ws)) (xs ++ ys)
+AreItems-append IsItem [] ws [] ys none are = are
+AreItems-append IsItem [] ws (x ∷ xs) ys none are = absurd none
+AreItems-append IsItem (v ∷ vs) ws [] ys none are = absurd none
+AreItems-append IsItem (v ∷ vs) ws (x ∷ xs) ys (is, more) are = (is, AreItems-append IsItem vs ws xs ys more are)
 
--- the items of a list that a member is
-pub list_of-array : {A : Type 0} (f : Data → Option A) (found : Option Data) (ds : Items) → option_and_then as_array found ≡ Some ds
-    → option_and_then (list_of f) found ≡ each f ds
-list_of-array f None ds is = cc
-list_of-array f (Some d) ds is = ap (option_and_then (each f)) is
+-- one item more is read
+pub one_more : {A : Type 0} (IsItem : Data → A → Type 0) (vs : List Value) (i : ℕ) (v : Value) (xs : List A) (x : A) → i < length vs → v ≡ get_or vs i v
+    → AreItems IsItem (items_view (take i vs)) xs → IsItem (view v) x → AreItems IsItem (items_view (take (i + 1) vs)) (xs ++ x ∷ [])
+one_more IsItem vs i v xs x within there are is =
+    let here : IsItem (view (get_or vs i v)) x = subst (λ (w : Value). IsItem (view w) x) there is in
+    rw (take_more vs i v within) (AreItems-append IsItem (take i vs) (get_or vs i v ∷ []) xs (x ∷ []) are (here, tt))
+
+-- each of the items is something
+each_is : {A : Type 0} (IsItem : Data → A → Type 0) (vs : List Value) (i : ℕ) (v : Value) (xs : List A) → i < length vs
+    → AreItems IsItem (items_view vs) xs → (x : A) × IsItem (view (get_or vs i v)) x
+each_is IsItem [] i v xs within are = absurd (omega arith)
+each_is IsItem (w ∷ ws) i v [] within are = absurd are
+each_is IsItem (w ∷ ws) zero v (x ∷ xs) within (is, more) = (x, is)
+each_is IsItem (w ∷ ws) (suc i) v (x ∷ xs) within (is, more) = each_is IsItem ws i v xs (omega arith) more
+
+-- where one item is nothing, the items are no list
+pub one_refused : {A : Type 0} (m : Member) (IsItem : Data → A → Type 0) (vs : List Value) (i : ℕ) (v : Value) (e : HeadError) → i < length vs → v ≡ get_or vs i v
+    → Reads m (IsItem (view v)) (Err e) → Reads m (AreItems IsItem (items_view vs)) (Err e)
+one_refused m IsItem vs i v e within there =
+    Reads-err m (IsItem (view v)) (AreItems IsItem (items_view vs)) e
+    (λ xs are. let found = each_is IsItem vs i v xs within are in (found.0, subst (λ w. IsItem (view w) found.0) (sym there) found.1))
+
+-- there are as many
+pub length-AreItems : {A : Type 0} (IsItem : Data → A → Type 0) (vs : List Value) (xs : List A) → AreItems IsItem (items_view vs) xs → length xs ≡ length vs
+length-AreItems IsItem [] [] are = refl
+length-AreItems IsItem [] (x ∷ xs) are = absurd are
+length-AreItems IsItem (v ∷ vs) [] are = absurd are
+length-AreItems IsItem (v ∷ vs) (x ∷ xs) (is, more) = ap suc (length-AreItems IsItem vs xs more)
+
+-- the list that is there is that of these values
+pub items_there : {A : Type 0} (IsItem : Data → A → Type 0) (found : Option Data) (vs : List Value) (xs : List A) → option_and_then as_array found ≡ Some (items_view vs)
+    → HasItems IsItem found xs → AreItems IsItem (items_view vs) xs
+items_there IsItem found vs xs there (items, here, are) = subst (λ (ds : Items). AreItems IsItem ds xs) (same_value _ here there) are

@@ -1,5 +1,5 @@
 -- One answer is true of a line, but for want of memory.
-use Rattle.std.proofs.Common.{◌≡◌, ◌≢◌, ◌∙◌, List, [], ◌∷◌, ℕ, Option, Some, Result, Ok, Err, inl, inr, refl, sym, ap, subst}
+use Rattle.std.proofs.Common.{◌≡◌, ◌≢◌, ◌∙◌, List, [], ◌∷◌, ℕ, Result, Ok, Err, inl, inr, refl, sym, ap, subst}
 use Rattle.serde_json.specs.Data.{Data}
 use Rattle.serde_json.specs.Read.{read}
 use Rattle.script_head.specs.declared.error.HeadError.{HeadError}
@@ -10,13 +10,7 @@ use Rattle.script_head.specs.declared.member.Member.{Member}
 use Rattle.script_head.specs.Members.{IsGood, IsFirstBadOf, in_order}
 use Rattle.script_head.specs.Head.{IsObject, IsHead, IsFirstBad, Says, HasFirstBad, IsNoObject, Answers, IsOnlyAnswer}
 use Rattle.script_head.specs.Refusals.{AnswersObject}
-
--- two values of one option
-same_value : {A : Type 0} {x y : A} (found : Option A) → found ≡ Some x → found ≡ Some y → x ≡ y
-same_value found p q = values (sym p ∙ q)
-  where
-    values : {A : Type 0} {x y : A} → Some x ≡ Some y → x ≡ y
-    values e = cc
+use Rattle.script_head.proofs.OneValue.{same_value, same_streams}
 
 same_object : (line : List ℕ) (d e : Data) → IsObject line d → IsObject line e → d ≡ e
 same_object line d e p q = same_value (read line) p.value q.value
@@ -30,7 +24,7 @@ same_parts a b c d e = cc
 
 pub same_head : (d : Data) (a b : ScriptHead) → IsHead d a → IsHead d b → a ≡ b
 same_head d a b p q =
-    same_parts (same_value _ p.streams.0 q.streams.0) (same_value _ p.now.0 q.now.0) (same_value _ p.volume.0 q.volume.0)
+    same_parts (same_streams _ a.streams b.streams p.streams.0 q.streams.0) (same_value _ p.now.0 q.now.0) (same_value _ p.volume.0 q.volume.0)
     (same_value _ p.size.0 q.size.0) (same_value _ p.replicas.0 q.replicas.0)
 
 -- these members are all good

@@ -1,5 +1,5 @@
 -- Refusals that are handed on.
-use Rattle.std.proofs.Common.{Err, inl, inr, sym}
+use Rattle.std.proofs.Common.{Result, Ok, Err, inl, inr, sym}
 use Rattle.serde_json.specs.Data.{Data}
 use Rattle.script_head.specs.declared.error.HeadError.{HeadError}
 use Rattle.script_head.specs.declared.error.HeadError.TheVariants.{Json, BadMember, NoMemory}
@@ -14,6 +14,14 @@ pub Reads-err : {T U : Type 0} (m : Member) (Has : T → Type 0) (Is : U → Typ
 Reads-err m Has Is Json would refused = refused
 Reads-err m Has Is (BadMember n) would (same, none) = (same, λ u is. let t = would u is in none t.0 t.1)
 Reads-err m Has Is NoMemory would refused = tt
+
+-- what it is once it is the other
+pub Reads-along : {T : Type 0} (m : Member) (Has Is : T → Type 0) (r : Result T HeadError) → ((t : T) → Has t → Is t) → ((t : T) → Is t → Has t)
+    → Reads m Has r → Reads m Is r
+Reads-along m Has Is (Ok t) to back has = to t has
+Reads-along m Has Is (Err Json) to back refused = refused
+Reads-along m Has Is (Err (BadMember n)) to back (same, none) = (same, λ t is. none t (back t is))
+Reads-along m Has Is (Err NoMemory) to back free = free
 
 -- the last member's refusal, where the others are good
 pub refused_at_lines : (d : Data) (e : HeadError) → IsGood d Volume → IsGood d Size → IsGood d Replicas → IsGood d Open → IsGood d Save → IsGood d Now → IsGood d Streams

@@ -1,6 +1,6 @@
 -- What the first line of a script says, and why a line says nothing.
 -- JSON is read by serde_json's definition, with its depth of 127.
-use Rattle.std.specs.Prelude.{◌≡◌, ◌≢◌, ◌⊎◌, List, ℕ, true, IsUtf8, Some, Result, Err, MatchResult, is_some}
+use Rattle.std.specs.Prelude.{◌≡◌, ◌≢◌, ◌⊎◌, List, ℕ, length, true, IsUtf8, Some, Result, Err, MatchResult, is_some}
 use Rattle.serde_json.specs.Data.{Data}
 use Rattle.serde_json.specs.Find.{as_object}
 use Rattle.serde_json.specs.Read.{read}
@@ -16,6 +16,12 @@ use Rattle.script_head.specs.Members.{HasVolume, HasSize, HasReplicas, HasNow, H
 -- how many bytes of the input a stream has
 abbrev pub byte_count : StreamHead → ℕ
 byte_count (stream.Frames count) = count
+byte_count (stream.Control commands) = 0
+
+-- how many commands it has
+abbrev pub command_count : StreamHead → ℕ
+command_count (stream.Frames count) = 0
+command_count (stream.Control commands) = length commands
 
 -- the line is UTF-8, and has this object for its value
 pub record IsObject (line : List ℕ) (d : Data) : Type 0 where

@@ -1,17 +1,19 @@
 -- The members of a script's first line, each with the values that it may have. Other members say nothing.
 -- The format is this project's own.
-use Rattle.std.specs.Prelude.{◌≡◌, ◌⊎◌, ℕ, ◌≤◌, List, [], ◌∷◌, length, Bool, false, IsTrue, codes, Option, Some, None, option_map, option_and_then}
+use Rattle.std.specs.Prelude.{◌≡◌, ◌⊎◌, ℕ, ◌≤◌, List, [], ◌∷◌, length, Bool, false, IsTrue, codes, Some, None}
 use Rattle.serde_json.specs.Data.{Data}
 use Rattle.serde_json.specs.Find.{get, as_bool, as_str}
 use Rattle.vol_units.specs.Name.{IsPlainName}
 use Rattle.vol_units.specs.Size.{IsVolumeSize}
+use Rattle.command_text.specs.Commands.{IsCommand}
+use Rattle.command_text.specs.declared.command.Command.{Command}
 use Rattle.script_head.specs.declared.head.StreamHead.{StreamHead}
 use Rattle.script_head.specs.declared.head.StreamHead.TheVariants as stream
-use Rattle.script_head.specs.declared.limits.TheConstants.{MOST_REPLICAS, MOST_STREAMS, MOST_STREAM_BYTES, MOST_LINES, MAY_OPEN, MAY_SAVE}
+use Rattle.script_head.specs.declared.limits.TheConstants.{MOST_REPLICAS, MOST_STREAMS, MOST_STREAM_BYTES, MOST_COMMANDS, MOST_LINES, MAY_OPEN, MAY_SAVE}
 use Rattle.script_head.specs.declared.member.Member.{Member}
 use Rattle.script_head.specs.declared.member.Member.TheVariants.{Volume, Size, Replicas, Open, Save, Now, Streams, Lines}
 use Rattle.time_text.specs.Time.{IsTimeText}
-use Rattle.script_head.specs.Values.{whole, at_most, item_count, list_of, member, member_or}
+use Rattle.script_head.specs.Values.{whole, item_count, member, member_or, HasItems}
 
 -- `volume`: the name of the volume
 abbrev pub HasVolume : Data → List ℕ → Type 0
@@ -34,19 +36,20 @@ HasFlag line name may flag = (member_or false as_bool name line ≡ Some flag) �
 abbrev pub HasNow : Data → List ℕ → Type 0
 HasNow line text = (member_or [] as_str (codes "now") line ≡ Some text) × IsTimeText text
 
--- `frames` without `control`: a number of bytes. Nothing else is a stream yet.
-abbrev pub stream_from : Option Data → Option Data → Option StreamHead
-stream_from (Some frames) None =
-    option_map stream.Frames (option_and_then (at_most MOST_STREAM_BYTES) (whole frames))
-stream_from _ _ = None
+-- an item of `control`: the text of a command
+abbrev pub IsCommandItem : Data → Command → Type 0
+IsCommandItem d c = (text : List ℕ) × (as_str d ≡ Some text) × IsCommand text c
 
--- what an item of `streams` is
-abbrev pub stream_of : Data → Option StreamHead
-stream_of d = stream_from (get (codes "frames") d) (get (codes "control") d)
+-- An item of `streams`: a number of bytes under `frames`, or a list of commands under `control`, and one of them alone.
+abbrev pub IsStreamItem : Data → StreamHead → Type 0
+IsStreamItem d (stream.Frames count) = (member whole (codes "frames") d ≡ Some count)
+    × (count ≤ MOST_STREAM_BYTES) × (get (codes "control") d ≡ None)
+IsStreamItem d (stream.Control commands) = HasItems IsCommandItem (get (codes "control") d) commands
+    × (length commands ≤ MOST_COMMANDS) × (get (codes "frames") d ≡ None)
 
 -- `streams`: what each of them is
 abbrev pub HasStreams : Data → List StreamHead → Type 0
-HasStreams line streams = (member (list_of stream_of) (codes "streams") line ≡ Some streams)
+HasStreams line streams = HasItems IsStreamItem (get (codes "streams") line) streams
     × (1 ≤ length streams) × (length streams ≤ MOST_STREAMS)
 
 -- `lines`: how many lines have failures planned

@@ -1,5 +1,5 @@
 -- Values of JSON, as a script's members want them.
-use Rattle.std.specs.Prelude.{ℕ, nat_le, if◌then◌else◌, List, [], ◌∷◌, Option, Some, None, option_map, option_and_then}
+use Rattle.std.specs.Prelude.{◌≡◌, ℕ, List, [], ◌∷◌, Option, Some, None, option_map, option_and_then}
 use Rattle.serde_json.specs.Data.{Data, Items, no_items, item}
 use Rattle.serde_json.specs.Events.{items_len}
 use Rattle.serde_json.specs.Find.{get, as_array, as_number, as_u64}
@@ -8,22 +8,19 @@ use Rattle.serde_json.specs.Find.{get, as_array, as_number, as_u64}
 abbrev pub whole : Data → Option ℕ
 whole d = option_and_then as_u64 (as_number d)
 
--- the number, where it is not too large
-abbrev pub at_most : ℕ → ℕ → Option ℕ
-at_most most n = if nat_le n most then Some n else None
-
 -- how many items a list has
 abbrev pub item_count : Data → Option ℕ
 item_count d = option_map items_len (as_array d)
 
--- what each item is, where each is something
-abbrev pub each : {A : Type 0} → (Data → Option A) → Items → Option (List A)
-each f no_items = Some []
-each f (item d ds) = option_and_then (λ a. option_map (λ more. a ∷ more) (each f ds)) (f d)
+-- what each of the items is
+abbrev pub AreItems : {A : Type 0} → (Data → A → Type 0) → Items → List A → Type 0
+AreItems IsItem no_items [] = Unit {0}
+AreItems IsItem (item d ds) (a ∷ more) = IsItem d a × AreItems IsItem ds more
+AreItems IsItem _ _ = ⊥
 
--- a list of such items
-abbrev pub list_of : {A : Type 0} → (Data → Option A) → Data → Option (List A)
-list_of f d = option_and_then (each f) (as_array d)
+-- the value is there, and a list of such items
+abbrev pub HasItems : {A : Type 0} → (Data → A → Type 0) → Option Data → List A → Type 0
+HasItems IsItem value list = (items : Items) × (option_and_then as_array value ≡ Some items) × AreItems IsItem items list
 
 -- the value of a member that has to be there
 abbrev pub member : {A : Type 0} → (Data → Option A) → List ℕ → Data → Option A

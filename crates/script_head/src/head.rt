@@ -1,32 +1,46 @@
 ghost use Rattle.std.specs.Prelude.{◌≡◌, IfOk, IfErr};
 ghost use Rattle.serde_json.specs.View.{view};
-ghost use Rattle.script_head.specs.Head.{byte_count, Says, Refuses, Answers, IsOnlyAnswer};
+ghost use Rattle.script_head.specs.Head.{byte_count, command_count, Says, Refuses, Answers, IsOnlyAnswer};
 ghost use Rattle.script_head.specs.Refusals.{AnswersObject};
 
 use crate::error::HeadError;
 use crate::limits::{MAY_OPEN, MAY_SAVE};
 use crate::member::Member;
 use crate::members;
-use crate::sequence::Sequence;
+use command_text::Command;
 use serde_json::Value;
 use std::alloc::Global;
 use time_text::TimeText;
 use vol_units::{PlainName, VolumeSize};
+use volume_model::Sequence;
 
 /// What the first line says of one stream.
-#[derive(Clone, Copy, Debug, PartialEq, Eq)]
+#[derive(Debug, Drop)]
 pub enum StreamHead {
     /// It has so many bytes of frames.
     Frames(u64),
+    /// It has these commands, and no bytes of the input.
+    Control(Sequence<Command>),
 }
 
 impl StreamHead {
     /// How many bytes of the input the stream has.
-    pub fn byte_count(self) -> u64
-        ensures { result ≡ byte_count self }
+    pub fn byte_count(&self) -> u64
+        ensures { result ≡ byte_count self.now }
     {
         match self {
-            StreamHead::Frames(count) => count,
+            StreamHead::Frames(count) => *count,
+            StreamHead::Control(_) => 0,
+        }
+    }
+
+    /// How many commands the stream has.
+    pub fn command_count(&self) -> u64
+        ensures { result ≡ command_count self.now }
+    {
+        match self {
+            StreamHead::Frames(_) => 0,
+            StreamHead::Control(commands) => commands.len() as u64,
         }
     }
 }

@@ -6,13 +6,14 @@ mod head;
 pub mod limits;
 mod member;
 mod members;
-mod sequence;
+mod streams;
 
+pub use command_text::Command;
 pub use error::HeadError;
 pub use head::{ScriptHead, StreamHead, read_head};
 pub use member::Member;
-pub use sequence::Sequence;
 pub use time_text::TimeText;
+pub use volume_model::Sequence;
 
 #[cfg(test)]
 mod tests;

@@ -4,7 +4,10 @@
 pub const MOST_REPLICAS: u64 = 1;
 
 /// The most streams.
-pub const MOST_STREAMS: usize = 1;
+pub const MOST_STREAMS: usize = 16;
+
+/// The most commands of a stream.
+pub const MOST_COMMANDS: usize = 65_536;
 
 /// The most bytes of frames that a stream has.
 pub const MOST_STREAM_BYTES: u64 = 268_435_456;

@@ -1,18 +1,19 @@
 ghost use Rattle.std.specs.Prelude.{◌≡◌, Some, option_map};
-ghost use Rattle.serde_json.specs.View.{view, items_view};
+ghost use Rattle.serde_json.specs.View.{view};
 ghost use Rattle.script_head.specs.Refusals.{Reads};
 ghost use Rattle.script_head.specs.Members as spec;
-ghost use Rattle.script_head.specs.Values.{each, item_count, or_missing};
+ghost use Rattle.script_head.specs.Values.{item_count, or_missing};
 
 use crate::error::HeadError;
 use crate::head::StreamHead;
-use crate::limits::{MOST_LINES, MOST_REPLICAS, MOST_STREAM_BYTES, MOST_STREAMS};
+use crate::limits::{MOST_LINES, MOST_REPLICAS, MOST_STREAMS};
 use crate::member::Member;
-use crate::sequence::Sequence;
+use crate::streams::streams_from;
 use serde_json::Value;
 use std::alloc::Global;
 use time_text::TimeText;
 use vol_units::{PlainName, VolumeSize};
+use volume_model::Sequence;
 
 pub(crate) fn volume_in(line: &Value) -> Result<PlainName, HeadError>
     ensures { Reads Member.Volume (spec.HasVolume (view line.now)) result }
@@ -74,34 +75,10 @@ pub(crate) fn streams_in(alloc: Global, line: &Value) -> Result<Sequence<StreamH
 {
     let bad = HeadError::BadMember(Member::Streams);
     let items = line.get("streams").and_then(Value::as_array).ok_or(bad)?;
-    let streams = streams_from(alloc, items)?;
-    if streams.is_empty() || streams.len() > MOST_STREAMS {
+    if items.is_empty() || items.len() > MOST_STREAMS {
         return Err(bad);
     }
-    Ok(streams)
-}
-
-fn streams_from(alloc: Global, items: &[Value]) -> Result<Sequence<StreamHead>, HeadError>
-    ensures { Reads Member.Streams
-        (λ streams. each spec.stream_of (items_view items.now) ≡ Some streams) result }
-{
-    let mut streams = Vec::new(alloc);
-    for item in items {
-        streams.push(stream_of(item)?)?;
-    }
-    Ok(Sequence::of(streams))
-}
-
-fn stream_of(item: &Value) -> Result<StreamHead, HeadError>
-    ensures { Reads Member.Streams (λ s. spec.stream_of (view item.now) ≡ Some s) result }
-{
-    match (
-        item.get("frames").and_then(Value::as_u64),
-        item.get("control"),
-    ) {
-        (Some(count), None) if count <= MOST_STREAM_BYTES => Ok(StreamHead::Frames(count)),
-        _ => Err(HeadError::BadMember(Member::Streams)),
-    }
+    streams_from(alloc, items)
 }
 
 pub(crate) fn lines_in(line: &Value) -> Result<usize, HeadError>

@@ -5,7 +5,7 @@ use Rattle.std.proofs.lemmas.List.Elements.{All-nil, All-head, All-tail, All-pus
 use Rattle.std.proofs.lemmas.List.Concat.{flat_map-append}
 use Rattle.frame_wire.specs.declared.head.Head.{Head}
 use Rattle.frame_wire.proofs.OneSpelling.{one_spelling}
-use Rattle.script_text.specs.declared.frame.Frame.{Frame}
+use Rattle.frame_stream.specs.declared.frame.Frame.{Frame}
 use Rattle.script_text.specs.Frames.{spelled, spellings, IsClose, IsCall, BeginsWithFrame, BeginWithCalls}
 
 -- no bytes begin with no frame

@@ -1,11 +1,11 @@
 -- One answer is true of an input, but for want of memory.
-use Rattle.std.proofs.Common.{◌≡◌, ◌≢◌, ◌⊎◌, ◌∙◌, ℕ, ◌+◌, ◌<◌, ◌≤◌, min, List, ◌∷◌, length, sum_by, Result, Ok, Err, refl, sym, ap, subst, inl, inr, arith, length-append}
+use Rattle.std.proofs.Common.{◌≡◌, ◌≢◌, ◌⊎◌, ◌∙◌, ℕ, ◌+◌, ◌-◌, ◌<◌, ◌≤◌, min, List, ◌∷◌, length, sum_by, Result, Ok, Err, refl, sym, ap, subst, inl, inr, arith, length-append}
 use Rattle.script_head.specs.declared.error.HeadError.{HeadError}
 use Rattle.script_head.specs.declared.error.HeadError.TheVariants as fault
 use Rattle.script_head.specs.declared.head.ScriptHead.{ScriptHead}
 use Rattle.script_head.specs.declared.head.StreamHead.{StreamHead}
 use Rattle.script_head.specs.declared.member.Member.{Member}
-use Rattle.script_head.specs.Head.{byte_count}
+use Rattle.script_head.specs.Head.{byte_count, command_count}
 use Rattle.script_head.specs.Head as first
 use Rattle.script_head.proofs.OneAnswer as first_line
 use Rattle.script_text.specs.declared.error.ScriptError.{ScriptError}
@@ -16,47 +16,60 @@ use Rattle.script_text.specs.declared.script.Stream.{Stream}
 use Rattle.script_text.specs.declared.what.What.{What}
 use Rattle.script_text.specs.declared.what.What.TheVariants as what
 use Rattle.script_text.specs.Line.{IsCut, HasNoLine}
-use Rattle.script_text.specs.Streams.{AreNoStreams}
-use Rattle.script_text.specs.Refusals.{refusal_of, IsOtherEnd, AnswersBody}
-use Rattle.script_text.specs.Script.{IsHeaded, bytes_of, script_of, IsNoScript, Answers, IsOnlyAnswer}
+use Rattle.script_text.specs.Streams.{call_count, AreStreams, AreNoStreams}
+use Rattle.script_text.specs.Refusals.{refusal_of, IsOtherEnd, AreBad, AnswersBody}
+use Rattle.script_text.specs.Script.{IsHeaded, bytes_of, commands_of, script_of, HasBadStream, IsNoScript, Answers, IsOnlyAnswer}
 use Rattle.script_text.proofs.LineLemmas.{one_cut, no_cut}
-use Rattle.script_text.proofs.StreamsLemmas.{calls_or_frame}
+use Rattle.script_text.proofs.StreamsLemmas.{calls_of_all, calls_or_frame}
 use Rattle.script_text.proofs.OneStream.{one_list, list_or_none, one_reason_of_all}
 
 -- ---- the bytes behind the first line
 
 body_refusal : (place : ℕ) (heads : List StreamHead) (body : List ℕ) (bad : ℕ) (why : What) → AnswersBody place heads body (Err (Bad bad why))
     → (IsOtherEnd (sum_by byte_count heads) place (length body) bad × (why ≡ what.Rest))
-    ⊎ ((sum_by byte_count heads ≡ length body) × AreNoStreams MOST_CALLS place heads body bad why)
+    ⊎ ((sum_by byte_count heads ≡ length body) × AreBad place heads body bad why)
 body_refusal place heads body bad what.Rest other = inl (other, refl)
 body_refusal place heads body bad why none = inr none
+
+-- streams are not bad, and not for two reasons
+streams_or_bad : (place : ℕ) (heads : List StreamHead) (body : List ℕ) (ss : List Stream) (bad : ℕ) (why : What) → AreStreams heads body ss → sum_by call_count ss ≤ MOST_CALLS
+    → AreBad place heads body bad why → ⊥
+streams_or_bad place heads body ss bad why are few (inl (many, at, is)) = absurd (omega (arith, calls_of_all heads body ss are))
+streams_or_bad place heads body ss bad why are few (inr (most, none)) =
+    list_or_none heads (MOST_CALLS - sum_by command_count heads) place body ss bad why are (omega (arith, calls_of_all heads body ss are)) none
+
+one_badness : (place : ℕ) (heads : List StreamHead) (body : List ℕ) (p q : ℕ) (v w : What) → AreBad place heads body p v → AreBad place heads body q w → (p ≡ q) × (v ≡ w)
+one_badness place heads body p q v w (inl (many, at, is)) (inl (more, to, too)) = (at ∙ sym to, is ∙ sym too)
+one_badness place heads body p q v w (inl (many, at, is)) (inr (most, none)) = absurd (omega arith)
+one_badness place heads body p q v w (inr (most, none)) (inl (many, at, is)) = absurd (omega arith)
+one_badness place heads body p q v w (inr (most, none)) (inr (few, other)) = one_reason_of_all heads (MOST_CALLS - sum_by command_count heads) place body p q v w none other
 
 same_refusal : (p q : ℕ) (v w : What) → p ≡ q → v ≡ w → Bad p v ≡ Bad q w
 same_refusal p q v w x y = cc
 
 one_body : (place : ℕ) (heads : List StreamHead) (body : List ℕ) (r t : Result (List Stream) ScriptError) → r ≢ Err NoMemory → t ≢ Err NoMemory
     → AnswersBody place heads body r → AnswersBody place heads body t → r ≡ t
-one_body place heads body (Ok ss) (Ok ts) told also (whole, (are, few)) (same, (be, m)) = ap Ok (one_list heads body ss ts are be)
-one_body place heads body (Ok ss) (Err (Bad q w)) told also (whole, (are, few)) y = absurd (not_both (body_refusal place heads body q w y))
+one_body place heads body (Ok ss) (Ok ts) told also (whole, are, few) (same, be, m) = ap Ok (one_list heads body ss ts are be)
+one_body place heads body (Ok ss) (Err (Bad q w)) told also (whole, are, few) y = absurd (not_both (body_refusal place heads body q w y))
   where
-    not_both : (IsOtherEnd (sum_by byte_count heads) place (length body) q × (w ≡ what.Rest)) ⊎ ((sum_by byte_count heads ≡ length body) × AreNoStreams MOST_CALLS place heads body q w) → ⊥
+    not_both : (IsOtherEnd (sum_by byte_count heads) place (length body) q × (w ≡ what.Rest)) ⊎ ((sum_by byte_count heads ≡ length body) × AreBad place heads body q w) → ⊥
     not_both (inl (other, is)) = other.0 whole
-    not_both (inr (same, none)) = list_or_none heads MOST_CALLS place body ss q w are few none
-one_body place heads body (Err (Bad p v)) (Ok ts) told also x (whole, (are, few)) = absurd (not_both (body_refusal place heads body p v x))
+    not_both (inr (same, none)) = streams_or_bad place heads body ss q w are few none
+one_body place heads body (Err (Bad p v)) (Ok ts) told also x (whole, are, few) = absurd (not_both (body_refusal place heads body p v x))
   where
-    not_both : (IsOtherEnd (sum_by byte_count heads) place (length body) p × (v ≡ what.Rest)) ⊎ ((sum_by byte_count heads ≡ length body) × AreNoStreams MOST_CALLS place heads body p v) → ⊥
+    not_both : (IsOtherEnd (sum_by byte_count heads) place (length body) p × (v ≡ what.Rest)) ⊎ ((sum_by byte_count heads ≡ length body) × AreBad place heads body p v) → ⊥
     not_both (inl (other, is)) = other.0 whole
-    not_both (inr (same, none)) = list_or_none heads MOST_CALLS place body ts p v are few none
+    not_both (inr (same, none)) = streams_or_bad place heads body ts p v are few none
 one_body place heads body (Err (Bad p v)) (Err (Bad q w)) told also x y = ap Err (alike (body_refusal place heads body p v x) (body_refusal place heads body q w y))
   where
-    alike : (IsOtherEnd (sum_by byte_count heads) place (length body) p × (v ≡ what.Rest)) ⊎ ((sum_by byte_count heads ≡ length body) × AreNoStreams MOST_CALLS place heads body p v)
-        → (IsOtherEnd (sum_by byte_count heads) place (length body) q × (w ≡ what.Rest)) ⊎ ((sum_by byte_count heads ≡ length body) × AreNoStreams MOST_CALLS place heads body q w)
+    alike : (IsOtherEnd (sum_by byte_count heads) place (length body) p × (v ≡ what.Rest)) ⊎ ((sum_by byte_count heads ≡ length body) × AreBad place heads body p v)
+        → (IsOtherEnd (sum_by byte_count heads) place (length body) q × (w ≡ what.Rest)) ⊎ ((sum_by byte_count heads ≡ length body) × AreBad place heads body q w)
         → Bad p v ≡ Bad q w
     alike (inl (ends, is)) (inl (end, too)) = same_refusal p q v w (ends.1 ∙ sym end.1) (is ∙ sym too)
     alike (inl (ends, is)) (inr (whole, none)) = absurd (ends.0 whole)
     alike (inr (whole, none)) (inl (ends, is)) = absurd (ends.0 whole)
     alike (inr (whole, none)) (inr (same, other)) =
-        let t = one_reason_of_all heads MOST_CALLS place body p q v w none other in same_refusal p q v w t.0 t.1
+        let t = one_badness place heads body p q v w none other in same_refusal p q v w t.0 t.1
 one_body place heads body (Err NoMemory) t told also x y = absurd (told refl)
 one_body place heads body r (Err NoMemory) told also x y = absurd (also refl)
 
@@ -100,7 +113,7 @@ comes : (input : List ℕ) (a : Result Script ScriptError) → a ≢ Err NoMemor
 unfolding Follows with_head
 comes input (Ok script) told is =
     from_line is.line is.body (Ok is.head) is.headed.cut head_ok is.headed.says
-    (Ok script.streams, (is.whole, (is.streams, is.calls)), ok_memory, ap Ok is.members)
+    (Ok script.streams, (is.whole, is.streams, is.calls), ok_memory, ap Ok is.members)
 comes input (Err (Bad place what.Input)) told (long, at) = too_long long (ap (λ p. Err (Bad p what.Input)) at)
 comes input (Err (Bad place what.Line)) told (most, none, at) = no_line most none (ap (λ p. Err (Bad p what.Line)) at)
 comes input (Err (Bad place what.Json)) told (line, body, cut, none, at) = from_line line body (Err fault.Json) cut head_json none (ap (λ p. Err (Bad p what.Json)) at)
@@ -109,10 +122,12 @@ comes input (Err (Bad place (what.Member m))) told (line, body, cut, bad, at) =
 comes input (Err (Bad place what.Rest)) told (line, body, head, headed, other, at) =
     from_line line body (Ok head) headed.cut head_ok headed.says
     (Err (Bad place what.Rest), (other, at ∙ ap (λ n. min n (length line + 1 + sum_by byte_count head.streams)) (length-cut input line body headed.cut)), script_memory, refl)
-comes input (Err (Bad place what.Calls)) told (line, body, head, headed, whole, none) =
-    from_line line body (Ok head) headed.cut head_ok headed.says (Err (Bad place what.Calls), (whole, none), script_memory, refl)
-comes input (Err (Bad place what.Frame)) told (line, body, head, headed, whole, none) =
-    from_line line body (Ok head) headed.cut head_ok headed.says (Err (Bad place what.Frame), (whole, none), script_memory, refl)
+comes input (Err (Bad place what.Calls)) told (inl ((line, body, head, headed, whole, many), at)) =
+    from_line line body (Ok head) headed.cut head_ok headed.says (Err (Bad place what.Calls), (whole, inl (many, at, refl)), script_memory, refl)
+comes input (Err (Bad place what.Calls)) told (inr (line, body, head, headed, whole, few, none)) =
+    from_line line body (Ok head) headed.cut head_ok headed.says (Err (Bad place what.Calls), (whole, inr (few, none)), script_memory, refl)
+comes input (Err (Bad place what.Frame)) told (line, body, head, headed, whole, few, none) =
+    from_line line body (Ok head) headed.cut head_ok headed.says (Err (Bad place what.Frame), (whole, inr (few, none)), script_memory, refl)
 comes input (Err NoMemory) told free = absurd (told refl)
 
 one_follows : (line body : List ℕ) (h : Result ScriptHead HeadError) (a b : Result Script ScriptError) → Follows line body h a → Follows line body h b → a ≡ b
@@ -154,14 +169,21 @@ one_answer input (Err NoMemory) is = λ b told too. inr refl
 
 -- ---- a refusal of the bytes behind the first line, as one of the input
 
-of_calls_or_frame : (input line body : List ℕ) (head : ScriptHead) (place : ℕ) (why : What) → IsHeaded input line body head → bytes_of head ≡ length body
-    → AreNoStreams MOST_CALLS (length line + 1) head.streams body place why → (why ≡ what.Calls) ⊎ (why ≡ what.Frame) → IsNoScript input place why
-of_calls_or_frame input line body head place why headed whole none (inl calls) =
-    subst (λ w. AreNoStreams MOST_CALLS (length line + 1) head.streams body place w → IsNoScript input place w) (sym calls)
-    (λ n. (line, body, head, headed, whole, n)) none
-of_calls_or_frame input line body head place why headed whole none (inr frame) =
-    subst (λ w. AreNoStreams MOST_CALLS (length line + 1) head.streams body place w → IsNoScript input place w) (sym frame)
-    (λ n. (line, body, head, headed, whole, n)) none
+bad_streams : (input line body : List ℕ) (head : ScriptHead) (place : ℕ) (why : What) → IsHeaded input line body head → bytes_of head ≡ length body
+    → commands_of head ≤ MOST_CALLS → AreNoStreams (MOST_CALLS - commands_of head) (length line + 1) head.streams body place why
+    → (why ≡ what.Calls) ⊎ (why ≡ what.Frame) → IsNoScript input place why
+bad_streams input line body head place why headed whole few none (inl calls) =
+    subst (IsNoScript input place) (sym calls) (inr (subst (HasBadStream input place) calls (line, body, head, headed, whole, few, none)))
+bad_streams input line body head place why headed whole few none (inr frame) =
+    subst (IsNoScript input place) (sym frame) (subst (HasBadStream input place) frame (line, body, head, headed, whole, few, none))
+
+bad_body : (input line body : List ℕ) (head : ScriptHead) (place : ℕ) (why : What) → IsHeaded input line body head → bytes_of head ≡ length body
+    → AreBad (length line + 1) head.streams body place why → IsNoScript input place why
+bad_body input line body head place why headed whole (inl (many, at, calls)) =
+    subst (IsNoScript input place) (sym calls) (inl ((line, body, head, headed, whole, many), at))
+bad_body input line body head place why headed whole (inr (few, none)) =
+    bad_streams input line body head place why headed whole few none
+    (calls_or_frame head.streams (MOST_CALLS - commands_of head) (length line + 1) body place why none)
 
 pub refused_behind : (input line body : List ℕ) (head : ScriptHead) (e : ScriptError) → IsCut input line body → first.Says line head
     → AnswersBody (length line + 1) head.streams body (Err e) → Answers input (Err e)
@@ -171,10 +193,9 @@ refused_behind input line body head (Bad place why) cut says no_body = by_cases 
     headed : IsHeaded input line body head
     headed = record { cut = cut; says = says }
 
-    by_cases : (IsOtherEnd (bytes_of head) (length line + 1) (length body) place × (why ≡ what.Rest)) ⊎ ((bytes_of head ≡ length body) × AreNoStreams MOST_CALLS (length line + 1) head.streams body place why)
+    by_cases : (IsOtherEnd (bytes_of head) (length line + 1) (length body) place × (why ≡ what.Rest)) ⊎ ((bytes_of head ≡ length body) × AreBad (length line + 1) head.streams body place why)
         → IsNoScript input place why
     by_cases (inl (other, rest)) =
         subst (IsNoScript input place) (sym rest)
         (line, body, head, headed, other.0, other.1 ∙ ap (λ n. min n (length line + 1 + bytes_of head)) (sym (length-cut input line body cut)))
-    by_cases (inr (whole, none)) =
-        of_calls_or_frame input line body head place why headed whole none (calls_or_frame head.streams MOST_CALLS (length line + 1) body place why none)
+    by_cases (inr (whole, none)) = bad_body input line body head place why headed whole none

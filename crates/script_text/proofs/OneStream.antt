@@ -2,14 +2,15 @@
 use Rattle.std.proofs.Common.{◌≡◌, ◌∙◌, ℕ, ◌+◌, ◌-◌, ◌≤◌, List, [], ◌∷◌, length, take, drop, sum_by, refl, sym, ap, subst, inl, inr, arith}
 use Rattle.std.proofs.lemmas.List.Sums.{sum_by-cons}
 use Rattle.script_head.specs.declared.head.StreamHead.{StreamHead}
+use Rattle.script_head.specs.declared.head.StreamHead.TheVariants as head
 use Rattle.script_head.specs.Head.{byte_count}
-use Rattle.script_text.specs.declared.frame.Frame.{Frame}
+use Rattle.frame_stream.specs.declared.frame.Frame.{Frame}
 use Rattle.script_text.specs.declared.script.Stream.{Stream}
-use Rattle.script_text.specs.declared.script.Stream.TheVariants.{Frames}
+use Rattle.script_text.specs.declared.script.Stream.TheVariants as stream
 use Rattle.script_text.specs.declared.what.What.{What}
 use Rattle.script_text.specs.declared.what.What.TheVariants as what
 use Rattle.script_text.specs.Frames.{spelled, spellings}
-use Rattle.script_text.specs.Streams.{IsEnd, IsStream, IsBadAt, IsNoStream, call_count, IsStreamOf, AreStreams, AreNoStreams}
+use Rattle.script_text.specs.Streams.{IsEnd, IsStream, IsBadAt, IsNoStream, frame_count, IsStreamOf, IsNoStreamOf, AreStreams, AreNoStreams}
 use Rattle.script_text.proofs.FramesLemmas.{no_frame_in_none, one_front, no_close_and_call, AreAll, one_run}
 
 -- ---- what stands behind the calls
@@ -72,11 +73,22 @@ one_reason room place bytes p q v w (fs, r, x, few, stands) (gs, s, y, m, other)
     let along = subst (λ l. IsBadAt (room - length fs) (place + length (spellings fs)) l p v) same.1 stands in
     one_bad _ _ s p q v w (subst (λ l. IsBadAt (room - length l) (place + length (spellings l)) s p v) same.0 along) other
 
-one_stream_of : (bytes : List ℕ) (s t : Stream) → IsStreamOf bytes s → IsStreamOf bytes t → s ≡ t
-one_stream_of bytes (Frames fs) (Frames gs) x y = ap Frames (one_stream bytes fs gs x y)
+one_stream_of : (h : StreamHead) (bytes : List ℕ) (s t : Stream) → IsStreamOf h bytes s → IsStreamOf h bytes t → s ≡ t
+one_stream_of (head.Frames count) bytes (stream.Frames fs) (stream.Frames gs) x y = ap stream.Frames (one_stream bytes fs gs x y)
+one_stream_of (head.Frames count) bytes (stream.Frames fs) (stream.Control ds) x y = absurd y
+one_stream_of (head.Frames count) bytes (stream.Control cs) t x y = absurd x
+one_stream_of (head.Control commands) bytes (stream.Control cs) (stream.Control ds) x y = ap stream.Control (x ∙ sym y)
+one_stream_of (head.Control commands) bytes (stream.Control cs) (stream.Frames gs) x y = absurd y
+one_stream_of (head.Control commands) bytes (stream.Frames fs) t x y = absurd x
 
-stream_of_or_none : (room place : ℕ) (bytes : List ℕ) (s : Stream) (bad : ℕ) (why : What) → IsStreamOf bytes s → call_count s ≤ room → IsNoStream room place bytes bad why → ⊥
-stream_of_or_none room place bytes (Frames frames) bad why = stream_or_none room place bytes frames bad why
+stream_of_or_none : (h : StreamHead) (room place : ℕ) (bytes : List ℕ) (s : Stream) (bad : ℕ) (why : What) → IsStreamOf h bytes s → frame_count s ≤ room → IsNoStreamOf h room place bytes bad why → ⊥
+stream_of_or_none (head.Frames count) room place bytes (stream.Frames frames) bad why is few none = stream_or_none room place bytes frames bad why is few none
+stream_of_or_none (head.Frames count) room place bytes (stream.Control commands) bad why is few none = is
+stream_of_or_none (head.Control commands) room place bytes s bad why is few none = none
+
+one_reason_of : (h : StreamHead) (room place : ℕ) (bytes : List ℕ) (p q : ℕ) (v w : What) → IsNoStreamOf h room place bytes p v → IsNoStreamOf h room place bytes q w → (p ≡ q) × (v ≡ w)
+one_reason_of (head.Frames count) room place bytes p q v w x y = one_reason room place bytes p q v w x y
+one_reason_of (head.Control commands) room place bytes p q v w x y = absurd x
 
 -- ---- all streams
 
@@ -87,28 +99,28 @@ one_list [] bytes (s ∷ ss) ts x y = absurd x
 one_list (h ∷ hs) bytes [] ts x y = absurd x
 one_list (h ∷ hs) bytes (s ∷ ss) [] x y = absurd y
 one_list (h ∷ hs) bytes (s ∷ ss) (t ∷ ts) (is, are) (too, also) =
-    both (one_stream_of (take (byte_count h) bytes) s t is too) (one_list hs (drop (byte_count h) bytes) ss ts are also)
+    both (one_stream_of h (take (byte_count h) bytes) s t is too) (one_list hs (drop (byte_count h) bytes) ss ts are also)
   where
     both : s ≡ t → ss ≡ ts → s ∷ ss ≡ t ∷ ts
     both p q = cc
 
-pub list_or_none : (heads : List StreamHead) (room place : ℕ) (bytes : List ℕ) (ss : List Stream) (bad : ℕ) (why : What) → AreStreams heads bytes ss → sum_by call_count ss ≤ room
+pub list_or_none : (heads : List StreamHead) (room place : ℕ) (bytes : List ℕ) (ss : List Stream) (bad : ℕ) (why : What) → AreStreams heads bytes ss → sum_by frame_count ss ≤ room
     → AreNoStreams room place heads bytes bad why → ⊥
 list_or_none [] room place bytes ss bad why are few none = none
 list_or_none (h ∷ hs) room place bytes [] bad why are few none = are
 list_or_none (h ∷ hs) room place bytes (s ∷ ss) bad why (is, are) few (inl none) =
-    stream_of_or_none room place (take (byte_count h) bytes) s bad why is (omega (arith, sum_by-cons call_count s ss)) none
+    stream_of_or_none h room place (take (byte_count h) bytes) s bad why is (omega (arith, sum_by-cons frame_count s ss)) none
 list_or_none (h ∷ hs) room place bytes (s ∷ ss) bad why (is, are) few (inr (t, too, m, none)) =
-    let same = ap call_count (one_stream_of (take (byte_count h) bytes) s t is too) in
-    list_or_none hs (room - call_count t) (place + byte_count h) (drop (byte_count h) bytes) ss bad why are (omega (arith, same, sum_by-cons call_count s ss)) none
+    let same = ap frame_count (one_stream_of h (take (byte_count h) bytes) s t is too) in
+    list_or_none hs (room - frame_count t) (place + byte_count h) (drop (byte_count h) bytes) ss bad why are (omega (arith, same, sum_by-cons frame_count s ss)) none
 
 pub one_reason_of_all : (heads : List StreamHead) (room place : ℕ) (bytes : List ℕ) (p q : ℕ) (v w : What) → AreNoStreams room place heads bytes p v → AreNoStreams room place heads bytes q w
     → (p ≡ q) × (v ≡ w)
 one_reason_of_all [] room place bytes p q v w x y = absurd x
-one_reason_of_all (h ∷ hs) room place bytes p q v w (inl x) (inl y) = one_reason room place (take (byte_count h) bytes) p q v w x y
-one_reason_of_all (h ∷ hs) room place bytes p q v w (inl x) (inr (t, is, few, y)) = absurd (stream_of_or_none room place (take (byte_count h) bytes) t p v is few x)
-one_reason_of_all (h ∷ hs) room place bytes p q v w (inr (s, is, few, x)) (inl y) = absurd (stream_of_or_none room place (take (byte_count h) bytes) s q w is few y)
+one_reason_of_all (h ∷ hs) room place bytes p q v w (inl x) (inl y) = one_reason_of h room place (take (byte_count h) bytes) p q v w x y
+one_reason_of_all (h ∷ hs) room place bytes p q v w (inl x) (inr (t, is, few, y)) = absurd (stream_of_or_none h room place (take (byte_count h) bytes) t p v is few x)
+one_reason_of_all (h ∷ hs) room place bytes p q v w (inr (s, is, few, x)) (inl y) = absurd (stream_of_or_none h room place (take (byte_count h) bytes) s q w is few y)
 one_reason_of_all (h ∷ hs) room place bytes p q v w (inr (s, is, few, x)) (inr (t, too, m, y)) =
-    let same = ap call_count (one_stream_of (take (byte_count h) bytes) s t is too) in
+    let same = ap frame_count (one_stream_of h (take (byte_count h) bytes) s t is too) in
     let along = subst (λ n. AreNoStreams (room - n) (place + byte_count h) hs (drop (byte_count h) bytes) p v) same x in
-    one_reason_of_all hs (room - call_count t) (place + byte_count h) (drop (byte_count h) bytes) p q v w along y
+    one_reason_of_all hs (room - frame_count t) (place + byte_count h) (drop (byte_count h) bytes) p q v w along y

@@ -3,12 +3,12 @@ use Rattle.std.proofs.Common.{◌≡◌, ◌≢◌, ◌==◌, ◌∙◌, ℕ, �
 use Rattle.std.proofs.lemmas.Bool.{eqb-false, ne_eqb}
 use Rattle.std.specs.List.{All}
 use Rattle.std.proofs.lemmas.List.Elements.{All-weaker}
-use Rattle.script_text.specs.declared.asked.Asked.TheVariants.{Call, End}
-use Rattle.script_text.specs.declared.frame.Frame.{Frame}
-use Rattle.script_text.specs.declared.frame.TheConstants.{CLOSE}
+use Rattle.frame_stream.specs.declared.asked.Asked.TheVariants.{Call, End}
+use Rattle.frame_stream.specs.declared.frame.Frame.{Frame}
+use Rattle.frame_stream.specs.declared.frame.TheConstants.{CLOSE}
 use Rattle.script_text.specs.declared.what.What.TheVariants as what
 use Rattle.script_text.specs.Frames.{spelled, spellings, IsClose, IsCall, BeginsWithFrame, BeginWithCalls}
-use Rattle.script_text.specs.Asked.{asked_of, call_of}
+use Rattle.frame_stream.specs.Asked.{asked_of, call_of}
 use Rattle.script_text.specs.Streams.{IsNoStream}
 
 -- some bytes are no empty list

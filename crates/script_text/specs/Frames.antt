@@ -2,8 +2,8 @@
 use Rattle.std.specs.Prelude.{◌≡◌, ℕ, ◌≤◌, List, ◌++◌, length, All}
 use Rattle.std.specs.List.{flat_map}
 use Rattle.frame_wire.specs.Spelling.{frame, IsHead}
-use Rattle.script_text.specs.declared.frame.Frame.{Frame}
-use Rattle.script_text.specs.declared.frame.TheConstants.{CLOSE}
+use Rattle.frame_stream.specs.declared.frame.Frame.{Frame}
+use Rattle.frame_stream.specs.declared.frame.TheConstants.{CLOSE}
 use Rattle.script_text.specs.declared.limits.TheConstants.{MOST_DATA}
 
 -- a frame as bytes

@@ -1,6 +1,5 @@
 pub mod Words
 pub mod Frames
-pub mod Asked
 pub mod Line
 pub mod Streams
 pub mod Script

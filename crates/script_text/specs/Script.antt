@@ -1,7 +1,7 @@
 -- The script that an input is, and why an input is none. The format is this project's own.
-use Rattle.std.specs.Prelude.{◌≡◌, ◌≢◌, ◌⊎◌, ℕ, ◌+◌, ◌<◌, ◌≤◌, min, List, length, sum_by, Result, Err, MatchResult}
+use Rattle.std.specs.Prelude.{◌≡◌, ◌≢◌, ◌⊎◌, ℕ, ◌+◌, ◌-◌, ◌<◌, ◌≤◌, min, List, length, sum_by, Result, Err, MatchResult}
 use Rattle.script_head.specs.declared.head.ScriptHead.{ScriptHead}
-use Rattle.script_head.specs.Head.{byte_count, Says, HasFirstBad, IsNoObject}
+use Rattle.script_head.specs.Head.{byte_count, command_count, Says, HasFirstBad, IsNoObject}
 use Rattle.script_text.specs.declared.error.ScriptError.{ScriptError}
 use Rattle.script_text.specs.declared.error.ScriptError.TheVariants.{Bad, NoMemory}
 use Rattle.script_text.specs.declared.limits.TheConstants.{MOST_CALLS, MOST_INPUT}
@@ -20,6 +20,10 @@ pub record IsHeaded (input line body : List ℕ) (head : ScriptHead) : Type 0 wh
 -- how many bytes the streams have together
 abbrev pub bytes_of : ScriptHead → ℕ
 bytes_of head = sum_by byte_count head.streams
+
+-- how many commands they have together
+abbrev pub commands_of : ScriptHead → ℕ
+commands_of head = sum_by command_count head.streams
 
 -- the script of a first line and of streams
 abbrev pub script_of : ScriptHead → List Stream → Script
@@ -52,7 +56,13 @@ HasOtherEnd input place = (line : List ℕ) × (body : List ℕ) × (head : Scri
 abbrev pub HasBadStream : List ℕ → ℕ → What → Type 0
 HasBadStream input place why = (line : List ℕ) × (body : List ℕ) × (head : ScriptHead)
     × IsHeaded input line body head × (bytes_of head ≡ length body)
-    × AreNoStreams MOST_CALLS (length line + 1) head.streams body place why
+    × (commands_of head ≤ MOST_CALLS)
+    × AreNoStreams (MOST_CALLS - commands_of head) (length line + 1) head.streams body place why
+
+-- the streams have all bytes behind the first line, and there are more commands than there may be calls
+abbrev pub HasTooManyCommands : List ℕ → Type 0
+HasTooManyCommands input = (line : List ℕ) × (body : List ℕ) × (head : ScriptHead)
+    × IsHeaded input line body head × (bytes_of head ≡ length body) × (MOST_CALLS < commands_of head)
 
 -- the input is no script: what is wrong with it first, and where
 abbrev pub IsNoScript : List ℕ → ℕ → What → Type 0
@@ -63,7 +73,8 @@ IsNoScript input place what.Json =
 IsNoScript input place (what.Member m) =
     (line : List ℕ) × (body : List ℕ) × IsCut input line body × HasFirstBad line m × (place ≡ 0)
 IsNoScript input place what.Rest = HasOtherEnd input place
-IsNoScript input place what.Calls = HasBadStream input place what.Calls
+IsNoScript input place what.Calls =
+    (HasTooManyCommands input × (place ≡ 0)) ⊎ HasBadStream input place what.Calls
 IsNoScript input place what.Frame = HasBadStream input place what.Frame
 
 -- why an input is refused; want of memory is free

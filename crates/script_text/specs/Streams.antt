@@ -1,8 +1,9 @@
--- Streams as bytes, and where bytes are no streams. `room` is how many calls there may be.
+-- Streams as bytes, and where bytes are no streams. `room` is how many frames there may be that are calls.
 use Rattle.std.specs.Prelude.{◌≡◌, ◌≢◌, ◌⊎◌, ℕ, ◌+◌, ◌-◌, ◌≤◌, List, [], ◌∷◌, length, take, drop}
 use Rattle.script_head.specs.declared.head.StreamHead.{StreamHead}
+use Rattle.script_head.specs.declared.head.StreamHead.TheVariants as head
 use Rattle.script_head.specs.Head.{byte_count}
-use Rattle.script_text.specs.declared.frame.Frame.{Frame}
+use Rattle.frame_stream.specs.declared.frame.Frame.{Frame}
 use Rattle.script_text.specs.declared.script.Stream.{Stream}
 use Rattle.script_text.specs.declared.script.Stream.TheVariants as stream
 use Rattle.script_text.specs.declared.what.What.{What}
@@ -47,21 +48,34 @@ IsNoStream room place bytes bad why = (frames : List Frame) × (rest : List ℕ)
 -- how many calls a stream is
 abbrev pub call_count : Stream → ℕ
 call_count (stream.Frames frames) = length frames
+call_count (stream.Control commands) = length commands
 
--- the bytes are this stream
-abbrev pub IsStreamOf : List ℕ → Stream → Type 0
-IsStreamOf bytes (stream.Frames frames) = IsStream bytes frames
+-- how many of them are frames
+abbrev pub frame_count : Stream → ℕ
+frame_count (stream.Frames frames) = length frames
+frame_count (stream.Control commands) = 0
 
--- the bytes are these streams, one after another, each of its length
+-- the stream that its head and its bytes are: the commands of a control stream stand in the head
+abbrev pub IsStreamOf : StreamHead → List ℕ → Stream → Type 0
+IsStreamOf (head.Frames count) bytes (stream.Frames frames) = IsStream bytes frames
+IsStreamOf (head.Control commands) bytes (stream.Control others) = others ≡ commands
+IsStreamOf _ bytes _ = ⊥
+
+-- these bytes, of a stream with this head, are no stream: a control stream has no bytes
+abbrev pub IsNoStreamOf : StreamHead → ℕ → ℕ → List ℕ → ℕ → What → Type 0
+IsNoStreamOf (head.Frames count) room place bytes bad why = IsNoStream room place bytes bad why
+IsNoStreamOf (head.Control commands) room place bytes bad why = ⊥
+
+-- the heads and the bytes are these streams, one after another, each of its length
 abbrev pub AreStreams : List StreamHead → List ℕ → List Stream → Type 0
 AreStreams [] bytes [] = Unit {0}
-AreStreams (h ∷ hs) bytes (s ∷ ss) = IsStreamOf (take (byte_count h) bytes) s
+AreStreams (h ∷ hs) bytes (s ∷ ss) = IsStreamOf h (take (byte_count h) bytes) s
     × AreStreams hs (drop (byte_count h) bytes) ss
 AreStreams _ bytes _ = ⊥
 
--- the first that is no stream of its length: what is bad in it, and where
+-- the first that is no stream of its length: what is bad in it, and where. There may be `room` frames more that are calls.
 abbrev pub AreNoStreams : ℕ → ℕ → List StreamHead → List ℕ → ℕ → What → Type 0
 AreNoStreams room place [] bytes bad why = ⊥
-AreNoStreams room place (h ∷ hs) bytes bad why = IsNoStream room place (take (byte_count h) bytes) bad why
-    ⊎ ((s : Stream) × IsStreamOf (take (byte_count h) bytes) s × (call_count s ≤ room)
-    × AreNoStreams (room - call_count s) (place + byte_count h) hs (drop (byte_count h) bytes) bad why)
+AreNoStreams room place (h ∷ hs) bytes bad why = IsNoStreamOf h room place (take (byte_count h) bytes) bad why
+    ⊎ ((s : Stream) × IsStreamOf h (take (byte_count h) bytes) s × (frame_count s ≤ room)
+    × AreNoStreams (room - frame_count s) (place + byte_count h) hs (drop (byte_count h) bytes) bad why)

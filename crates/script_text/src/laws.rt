@@ -1,13 +1,13 @@
 //! What follows from the definitions alone. Each law is a contract.
 
 ghost use Rattle.std.specs.Prelude.{◌≡◌, ◌≢◌, List, ℕ, All, Err, Result};
-ghost use Rattle.script_text.specs.Asked.{asked_of, call_of};
+ghost use Rattle.frame_stream.specs.Asked.{asked_of, call_of};
 ghost use Rattle.script_text.specs.Script.{Answers};
 ghost use Rattle.script_text.specs.Streams.{IsStream};
-ghost use Rattle.script_text.specs.declared.asked.Asked.TheVariants as asked;
+ghost use Rattle.frame_stream.specs.declared.asked.Asked.TheVariants as asked;
 ghost use Rattle.script_text.specs.declared.error.ScriptError.{ScriptError};
 ghost use Rattle.script_text.specs.declared.error.ScriptError.TheVariants.{NoMemory};
-ghost use Rattle.script_text.specs.declared.frame.Frame.{Frame};
+ghost use Rattle.frame_stream.specs.declared.frame.Frame.{Frame};
 ghost use Rattle.script_text.specs.declared.script.Script.{Script};
 
 /// An input is one script, or is none for one reason at one place, and never both.

@@ -1,9 +1,7 @@
 //! A script: the one input of a run, read whole, or refused at the place of its first fault.
 #![tactic(auto)]
 
-mod asked;
 mod error;
-mod frame;
 pub mod laws;
 mod limits;
 mod line;
@@ -12,14 +10,11 @@ mod stream;
 mod streams;
 mod what;
 
-pub use asked::{Asked, of_frame};
 pub use error::ScriptError;
-pub use frame::Frame;
-pub use frame_wire::Head;
-pub use journal_book::{Bytes, Call};
+pub use frame_stream::{Asked, Bytes, Call, Frame, Head, of_frame};
 pub use limits::{MOST_CALLS, MOST_DATA, MOST_INPUT};
 pub use script::{Script, Stream, read_script};
-pub use script_head::{Member, Sequence, TimeText};
+pub use script_head::{Command, Member, Sequence, TimeText};
 pub use vol_units::{PlainName, VolumeSize};
 pub use what::What;
 

@@ -1,15 +1,15 @@
-ghost use Rattle.std.specs.Prelude.{◌+◌, ◌^◌, ◌<◌, length, IfOk, IfErr};
+ghost use Rattle.std.specs.Prelude.{◌≡◌, ◌+◌, ◌^◌, ◌<◌, length, IfOk, IfErr};
 ghost use Rattle.script_text.specs.Refusals.{AnswersBody};
 ghost use Rattle.script_text.specs.Script.{IsScript, Refuses, Answers, IsOnlyAnswer};
+ghost use Rattle.script_text.specs.Streams.{frame_count};
 
 use crate::error::ScriptError;
-use crate::frame::Frame;
 use crate::limits::MOST_INPUT;
 use crate::line::line_length;
-use crate::streams::{other_end, read_streams};
+use crate::streams::{other_end, read_streams, room_beside};
 use crate::what::What;
-use journal_book::Bytes;
-use script_head::{Sequence, StreamHead, TimeText, read_head};
+use frame_stream::{Bytes, Frame};
+use script_head::{Command, ScriptHead, Sequence, StreamHead, TimeText, read_head};
 use std::alloc::Global;
 use vol_units::{PlainName, VolumeSize};
 
@@ -18,6 +18,20 @@ use vol_units::{PlainName, VolumeSize};
 pub enum Stream {
     /// The frames that are calls, in their order.
     Frames(Sequence<Frame>),
+    /// The commands, in their order.
+    Control(Sequence<Command>),
+}
+
+impl Stream {
+    /// How many of its calls are frames.
+    pub(crate) fn frame_count(&self) -> usize
+        ensures { result ≡ frame_count self.now }
+    {
+        match self {
+            Stream::Frames(frames) => frames.len(),
+            Stream::Control(_) => 0,
+        }
+    }
 }
 
 /// What is to be run.
@@ -57,33 +71,45 @@ fn script_in(alloc: Global, input: &Bytes) -> Result<Script, ScriptError>
             what: What::Line,
         });
     };
-    let head = read_head(alloc, &input.as_slice()[..length])?;
+    let ScriptHead {
+        streams: heads,
+        now,
+        volume,
+        size,
+        replicas,
+    } = read_head(alloc, &input.as_slice()[..length])?;
     let body = input.slice(length + 1..)?;
-    let streams = read_body(alloc, head.streams.as_slice(), body, length as u64 + 1)?;
+    let streams = read_body(alloc, heads, body, length as u64 + 1)?;
     Ok(Script {
         streams,
-        now: head.now,
-        volume: head.volume,
-        size: head.size,
-        replicas: head.replicas,
+        now,
+        volume,
+        size,
+        replicas,
     })
 }
 
 /// The streams that stand behind the first line, from a place of the input to its end.
 fn read_body(
     alloc: Global,
-    heads: &[StreamHead],
+    heads: Sequence<StreamHead>,
     body: Bytes,
     place: u64,
 ) -> Result<Sequence<Stream>, ScriptError>
     requires { place + length body < 2 ^ 64 }
-    ensures { AnswersBody place heads.now body result }
+    ensures { AnswersBody place heads body result }
 {
-    if let Some(end) = other_end(heads, place, body.len()) {
+    if let Some(end) = other_end(heads.as_slice(), place, body.len()) {
         return Err(ScriptError::Bad {
             place: end,
             what: What::Rest,
         });
     }
-    read_streams(alloc, heads, body, place)
+    let Some(room) = room_beside(heads.as_slice()) else {
+        return Err(ScriptError::Bad {
+            place: 0,
+            what: What::Calls,
+        });
+    };
+    read_streams(alloc, heads, body, room, place)
 }

@@ -3,11 +3,10 @@ ghost use Rattle.script_text.specs.Frames.{BeginsWithFrame, HasNoFrame};
 ghost use Rattle.script_text.specs.Refusals.{AnswersStream};
 
 use crate::error::ScriptError;
-use crate::frame::{CLOSE, Frame};
 use crate::limits::MOST_DATA;
 use crate::what::What;
+use frame_stream::{Bytes, CLOSE, Frame};
 use frame_wire::{Decoded, HEADER_LENGTH, decode};
-use journal_book::Bytes;
 use script_head::Sequence;
 use std::alloc::{AllocError, Global};
 

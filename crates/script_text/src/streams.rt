@@ -1,14 +1,14 @@
-ghost use Rattle.std.specs.Prelude.{◌≡◌, ◌+◌, ◌^◌, ◌<◌, ◌≤◌, length, sum_by, IfSome, IfNone};
+ghost use Rattle.std.specs.Prelude.{◌≡◌, ◌+◌, ◌-◌, ◌^◌, ◌<◌, ◌≤◌, length, sum_by, IfSome, IfNone};
 ghost use Rattle.std.specs.Option.{SomeIff};
-ghost use Rattle.script_head.specs.Head.{byte_count};
-ghost use Rattle.script_text.specs.Refusals.{IsOtherEnd, AnswersStreams};
+ghost use Rattle.script_head.specs.Head.{byte_count, command_count};
+ghost use Rattle.script_text.specs.Refusals.{IsOtherEnd, AnswersStreamOf, AnswersStreams};
 ghost use Rattle.script_text.specs.declared.limits.TheConstants.{MOST_CALLS};
 
 use crate::error::ScriptError;
 use crate::limits::MOST_CALLS;
 use crate::script::Stream;
 use crate::stream::read_stream;
-use journal_book::Bytes;
+use frame_stream::Bytes;
 use script_head::{Sequence, StreamHead};
 use std::alloc::Global;
 
@@ -41,27 +41,62 @@ pub(crate) fn other_end(heads: &[StreamHead], place: u64, len: usize) -> Option<
     }
 }
 
-/// The streams whose bytes stand one after another, from a place of the input on.
+/// How many frames may be calls beside the commands, if these are not too many.
+pub(crate) fn room_beside(heads: &[StreamHead]) -> Option<usize>
+    ensures { SomeIff result (sum_by command_count heads.now ≤ MOST_CALLS)
+        (MOST_CALLS - sum_by command_count heads.now) }
+{
+    let mut left = MOST_CALLS as u64;
+    for head in heads {
+        let count = head.command_count();
+        if count > left {
+            return None;
+        }
+        left -= count;
+    }
+    Some(left as usize)
+}
+
+/// The streams whose bytes stand one after another, from a place of the input on. There may be so
+/// many calls that are frames.
 pub(crate) fn read_streams(
     alloc: Global,
-    heads: &[StreamHead],
+    heads: Sequence<StreamHead>,
     bytes: Bytes,
+    room: usize,
     place: u64,
 ) -> Result<Sequence<Stream>, ScriptError>
-    requires whole { sum_by byte_count heads.now ≡ length bytes }
+    requires whole { sum_by byte_count heads ≡ length bytes }
     requires place { place + length bytes < 2 ^ 64 }
-    ensures { AnswersStreams MOST_CALLS place heads.now bytes result }
+    ensures { AnswersStreams room place heads bytes result }
 {
     let end = place + bytes.len() as u64;
     let mut streams = Vec::new(alloc);
     let mut rest = bytes;
-    let mut room = MOST_CALLS;
-    for head in heads {
+    let mut left = room;
+    for head in heads.into_vec() {
         let at = end - rest.len() as u64;
-        let stream = rest.split_to(head.byte_count() as usize)?;
-        let frames = read_stream(alloc, stream, room, at)?;
-        room -= frames.len();
-        streams.push(Stream::Frames(frames))?;
+        let bytes = rest.split_to(head.byte_count() as usize)?;
+        let stream = read_one(alloc, head, bytes, left, at)?;
+        left -= stream.frame_count();
+        streams.push(stream)?;
     }
     Ok(Sequence::of(streams))
+}
+
+/// The stream of a head and of its bytes, which begin at a place of the input.
+fn read_one(
+    alloc: Global,
+    head: StreamHead,
+    bytes: Bytes,
+    room: usize,
+    place: u64,
+) -> Result<Stream, ScriptError>
+    requires { place + length bytes < 2 ^ 64 }
+    ensures { AnswersStreamOf head room place bytes result }
+{
+    match head {
+        StreamHead::Frames(_) => Ok(Stream::Frames(read_stream(alloc, bytes, room, place)?)),
+        StreamHead::Control(commands) => Ok(Stream::Control(commands)),
+    }
 }

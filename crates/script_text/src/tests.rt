@@ -1,8 +1,9 @@
 use super::*;
 use std::alloc::{AllocError, Global};
 use std::test::Fail;
+use vol_units::SnapName;
 
-const LINE: &[u8] = b"{\"volume\":\"v\",\"size\":2097152,\"replicas\":1,\"streams\":[{\"frames\":";
+const MEMBERS: &[u8] = b"{\"volume\":\"v\",\"size\":2097152,\"replicas\":1,\"streams\":[";
 
 /// A read of 4,096 bytes at 0.
 const READ: &[u8] = &[
@@ -27,15 +28,46 @@ const LONG: &[u8] = &[
     0x01, 0x1b, 5, 0, 0, 0, 1, 0, 0, 0, 0, 0, 0, 0, 0, 0, 0, 0, 0, 0, 0, 0, 0x01, 0, 0x10, 0,
 ];
 
-/// A first line that says so many bytes of frames, and then these pieces.
-fn script(alloc: Global, count: usize, pieces: &[&[u8]]) -> Result<Vec<u8>, AllocError> {
-    let mut input = Vec::from_slice(alloc, LINE)?;
-    input.extend_from_slice(count.to_string(alloc)?.as_bytes())?;
-    input.extend_from_slice(b"}]}\n")?;
+/// A first line with these streams, and then these pieces.
+fn script_of(alloc: Global, streams: &[u8], pieces: &[&[u8]]) -> Result<Vec<u8>, AllocError> {
+    let mut input = Vec::from_slice(alloc, MEMBERS)?;
+    input.extend_from_slice(streams)?;
+    input.extend_from_slice(b"]}\n")?;
     for piece in pieces {
         input.extend_from_slice(piece)?;
     }
     Ok(input)
+}
+
+/// A first line that says so many bytes of frames, and then these pieces.
+fn script(alloc: Global, count: usize, pieces: &[&[u8]]) -> Result<Vec<u8>, AllocError> {
+    let mut streams = Vec::from_slice(alloc, b"{\"frames\":")?;
+    streams.extend_from_slice(count.to_string(alloc)?.as_bytes())?;
+    streams.extend_from_slice(b"}")?;
+    script_of(alloc, &streams, pieces)
+}
+
+/// A control stream that asks so often for the status, between other streams.
+fn statuses(
+    alloc: Global,
+    before: &[u8],
+    count: usize,
+    behind: &[u8],
+) -> Result<Vec<u8>, AllocError> {
+    let mut streams = Vec::from_slice(alloc, before)?;
+    streams.extend_from_slice(b"{\"control\":[\"status\"")?;
+    for _ in 1..count {
+        streams.extend_from_slice(b",\"status\"")?;
+    }
+    streams.extend_from_slice(b"]}")?;
+    streams.extend_from_slice(behind)?;
+    Ok(streams)
+}
+
+/// Two of them behind one byte of frames.
+fn two_of_statuses(alloc: Global, count: usize) -> Result<Vec<u8>, AllocError> {
+    let front = statuses(alloc, b"{\"frames\":1},", count, b",")?;
+    statuses(alloc, &front, count, b"")
 }
 
 /// The same with so many pings before the piece.
@@ -72,7 +104,7 @@ fn an_input_is_refused_at_its_first_fault(rt: HostRuntime) -> Result<(), Fail> {
     let alloc = rt.alloc();
     let rows = [
         (Vec::new(alloc), bad(0, What::Line)),
-        (Vec::from_slice(alloc, LINE)?, bad(0, What::Line)),
+        (Vec::from_slice(alloc, MEMBERS)?, bad(0, What::Line)),
         (Vec::from_slice(alloc, b"\n{}\n")?, bad(0, What::Json)),
         (
             Vec::from_slice(alloc, b"{}\n")?,
@@ -124,6 +156,44 @@ fn the_limits_are_the_last_that_pass(rt: HostRuntime) -> Result<(), Fail> {
 }
 
 #[test]
+fn commands_are_counted_before_frames(rt: HostRuntime) -> Result<(), Fail> {
+    let alloc = rt.alloc();
+    let two = two_of_statuses(alloc, 40_000)?;
+    let rows = [
+        (script_of(alloc, &two, &[b"x"])?, bad(0, What::Calls)),
+        (script_of(alloc, &two, &[])?, bad(720_096, What::Rest)),
+    ];
+    for (input, wanted) in rows {
+        assert_eq!(rt; refusal(alloc, input)?, wanted);
+    }
+    Ok(())
+}
+
+#[test]
+fn frames_have_the_room_that_commands_leave(rt: HostRuntime) -> Result<(), Fail> {
+    let alloc = rt.alloc();
+    let all = statuses(alloc, b"{\"frames\":26},", 65_536, b"")?;
+    let less = statuses(alloc, b"{\"frames\":26},", 65_535, b",{\"frames\":26}")?;
+    let rows = [
+        (script_of(alloc, &all, &[CLOSE])?, None),
+        (script_of(alloc, &all, &[PING])?, bad(589_907, What::Calls)),
+        (script_of(alloc, &less, &[PING, CLOSE])?, None),
+        (
+            script_of(alloc, &less, &[PING, PING])?,
+            bad(589_938, What::Calls),
+        ),
+        (
+            script_of(alloc, &less, &[PING, LONG])?,
+            bad(589_938, What::Frame),
+        ),
+    ];
+    for (input, wanted) in rows {
+        assert_eq!(rt; refusal(alloc, input)?, wanted);
+    }
+    Ok(())
+}
+
+#[test]
 fn a_script_is_read(rt: HostRuntime) -> Result<(), Fail> {
     let alloc = rt.alloc();
     let input = Bytes::from_vec(script(alloc, 105, &[READ, WRITE, PING, CLOSE])?)?;
@@ -131,7 +201,9 @@ fn a_script_is_read(rt: HostRuntime) -> Result<(), Fail> {
     assert_eq!(rt; (script.volume.as_str(), script.now.as_str()), ("v", ""));
     assert_eq!(rt; (script.size.bytes(), script.replicas), (2_097_152, 1));
     for stream in script.streams.into_vec() {
-        let Stream::Frames(frames) = stream;
+        let Stream::Frames(frames) = stream else {
+            return Err(Fail::from("no stream of frames"));
+        };
         assert_eq!(rt; frames.len(), 3);
         for frame in frames.into_vec() {
             let seq = frame.head.seq;
@@ -143,9 +215,44 @@ fn a_script_is_read(rt: HostRuntime) -> Result<(), Fail> {
                     assert_eq!(rt; (seq, offset, bytes.as_slice()), (2, 4095, b"a".as_slice()));
                 }
                 Asked::Call(Call::Ping) => assert_eq!(rt; seq, 3),
-                Asked::Call(Call::Other(_)) | Asked::End => assert!(rt; false),
+                Asked::Call(Call::Other(_) | Call::Command(_)) | Asked::End => {
+                    assert!(rt; false);
+                }
             }
         }
+    }
+    Ok(())
+}
+
+/// How many frames and how many commands a stream has.
+fn counts(stream: &Stream) -> (usize, usize) {
+    match stream {
+        Stream::Frames(frames) => (frames.len(), 0),
+        Stream::Control(commands) => (0, commands.len()),
+    }
+}
+
+/// A control stream, two frames, no command, and a Close.
+const MIXED: &[u8] =
+    b"{\"control\":[\"status\",\"snapshot a\"]},{\"frames\":52},{\"control\":[]},{\"frames\":26}";
+
+#[test]
+fn commands_and_frames_keep_their_order(rt: HostRuntime) -> Result<(), Fail> {
+    let alloc = rt.alloc();
+    let input = Bytes::from_vec(script_of(alloc, MIXED, &[PING, READ, CLOSE])?)?;
+    let script = read_script(alloc, &input).ok().ok_or("refused")?;
+    let wanted = [(0, 2), (2, 0), (0, 0), (0, 0)];
+    assert_eq!(rt; script.streams.len(), 4);
+    for (stream, wanted) in script.streams.as_slice().iter().zip(wanted.iter()) {
+        assert_eq!(rt; counts(stream), *wanted);
+    }
+    let name = SnapName::read(b"a").ok().ok_or("no name")?;
+    match script.streams.as_slice() {
+        [Stream::Control(commands), ..] => {
+            let wanted = [Command::Status, Command::Snapshot(name)];
+            assert_eq!(rt; commands.as_slice(), wanted.as_slice());
+        }
+        _ => assert!(rt; false),
     }
     Ok(())
 }

@@ -1,4 +1,2 @@
-pub mod ScriptLemmas
-pub mod Serving
 pub mod Run
 pub mod Refusals

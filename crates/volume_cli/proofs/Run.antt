@@ -1,5 +1,5 @@
 -- What a run has read, and what it leaves in its sink.
-use Rattle.std.proofs.Common.{◌≡◌, ℕ, ◌≤◌, List, [], ◌∷◌, ◌++◌, length, Option, Some, None, Result, Ok, Err, refl, sym, ap, subst, ◌∙◌, inr, OnOk, lit<, arith, length-append}
+use Rattle.std.proofs.Common.{◌≡◌, ℕ, ◌≤◌, List, [], ◌∷◌, ◌++◌, length, Option, Some, None, Result, Ok, Err, refl, sym, ap, subst, ◌∙◌, inl, inr, OnOk, lit<, arith, length-append}
 use Rattle.std.specs.Io.KnownBytes.{Consumes, IsAtEnd, Appends}
 use Rattle.std.proofs.KnownBytes.{Consumes-whole}
 use Rattle.frame_wire.specs.declared.head.Head.{Head}
@@ -19,13 +19,13 @@ use Rattle.volume_model.specs.History.{IsHistory}
 use Rattle.volume_model.specs.OneWorker.{stream_of}
 use Rattle.volume_model.proofs.OneWorkerLemmas.{served_is_history}
 use Rattle.volume_model.proofs.StepLemmas.{modes_after-same}
-use Rattle.volume_cli.specs.declared.solo.Served.{Served}
+use Rattle.solo_worker.specs.declared.solo.Served.{Served}
 use Rattle.volume_cli.specs.declared.stop.Stop.{Stop}
 use Rattle.volume_cli.specs.declared.stop.Stop.TheVariants.{BadScript, ReadFault, WriteFault, NoMemory}
-use Rattle.volume_cli.specs.Volume.{opening_of}
-use Rattle.volume_cli.specs.Serving.{IsServed}
-use Rattle.volume_cli.specs.Stops.{WriteCounts, IsRun, report_text, RunLeaves, HadNoScript, no_faults}
-use Rattle.volume_cli.proofs.ScriptLemmas.{one_replica}
+use Rattle.solo_worker.specs.Volume.{opening_of, calls_in}
+use Rattle.solo_worker.specs.Serving.{IsServed}
+use Rattle.volume_cli.specs.Stops.{WriteCounts, Counts, IsRun, report_text, RunLeaves, HadNoScript, no_faults}
+use Rattle.solo_worker.proofs.ScriptLemmas.{one_replica}
 
 -- an input that was read is all that the source had, or too long
 abbrev IsWhole : Option (List ℕ) → List ℕ → Type 0
@@ -49,8 +49,10 @@ had_no_script left rest input place (what.Member m) given end is =
     Consumes-whole left rest input (λ told. IsNoScript told place (what.Member m)) given (end is.2.most) is
 had_no_script left rest input place what.Rest given end is =
     Consumes-whole left rest input (λ told. IsNoScript told place what.Rest) given (end is.3.cut.most) is
-had_no_script left rest input place what.Calls given end is =
-    Consumes-whole left rest input (λ told. IsNoScript told place what.Calls) given (end is.3.cut.most) is
+had_no_script left rest input place what.Calls given end (inl many) =
+    Consumes-whole left rest input (λ told. IsNoScript told place what.Calls) given (end many.0.3.cut.most) (inl many)
+had_no_script left rest input place what.Calls given end (inr is) =
+    Consumes-whole left rest input (λ told. IsNoScript told place what.Calls) given (end is.3.cut.most) (inr is)
 had_no_script left rest input place what.Frame given end is =
     Consumes-whole left rest input (λ told. IsNoScript told place what.Frame) given (end is.3.cut.most) is
 
@@ -62,9 +64,9 @@ pub is_run : (left rest : Option (List ℕ)) (input : List ℕ) (script : Script
     → IsScript input script → IsServed script s → IsRun left script s.journal.entries
 is_run left rest input script s given end is served = record {
   read = (input, is, Consumes-whole left rest input (λ told. told ≡ input) given (end is.headed.cut.most) refl);
-  history = subst (λ cs. IsHistory (opening_of script) no_faults (stream_of cs) s.journal.entries) (sym served.only)
-      (subst (IsHistory (opening_of script) no_faults (stream_of (served.calls ∷ []))) (sym served.journal)
-      (served_is_history (opening_of script) no_faults served.calls (has_source _ (one_replica input script is))));
+  history = subst (IsHistory (opening_of script) no_faults (stream_of (calls_in script))) (sym served.journal)
+      (served_is_history (opening_of script) no_faults (calls_in script) (has_source _ (one_replica input script is)));
+  turns = served.journal;
 }
 
 -- the text that is written is the report of the run
@@ -72,7 +74,7 @@ pub written_is : (input : List ℕ) (script : Script) (s : Served) → IsScript 
     → written_text s.heads.items s.journal.entries s.disk ≡ report_text script s.journal.entries
 written_is input script s is served =
     let modes = modes_after-same (opening_of script).modes s.journal.entries ∙ one_replica input script is in
-    same_text _ _ s.journal.entries _ _ _ _ (sym served.heads) (sym modes) served.disk
+    same_text _ _ s.journal.entries _ _ _ _ served.heads (sym modes) served.disk
   where
     same_text : (hs gs : List (List Head)) (es : List Entry) (ms ns : List Mode) (s t : PlainState) → hs ≡ gs → ms ≡ ns → s ≡ t
         → call_lines hs es ++ end_lines ms s ≡ call_lines gs es ++ end_lines ns t
@@ -87,3 +89,11 @@ leaves (Err (BadScript place why)) same left old new script journal text before 
 leaves (Err ReadFault) same left old new script journal text before now run is whole front counts = absurd counts
 leaves (Err WriteFault) same left old new script journal text before now run is whole front counts = (script, journal, run, subst (WritesFront old new) is front)
 leaves (Err NoMemory) same left old new script journal text before now run is whole front counts = inr (script, journal, run, subst (WritesFront old new) is front)
+
+-- what the counts say of a run that has read its input, and then wrote
+pub run_counts : {T : Type 0} (result : Result T Stop) (s t k l : ℕ) → t ≡ s → WriteCounts result k l → Counts result s t k l
+run_counts (Ok x) s t k l read wrote = (read, wrote)
+run_counts (Err (BadScript place why)) s t k l read wrote = absurd wrote
+run_counts (Err ReadFault) s t k l read wrote = absurd wrote
+run_counts (Err WriteFault) s t k l read wrote = (read, wrote)
+run_counts (Err NoMemory) s t k l read wrote = (read, wrote)

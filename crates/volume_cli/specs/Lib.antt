@@ -1,5 +1,3 @@
-pub mod Volume
-pub mod Serving
 pub mod Stops
 pub mod Statuses
 pub mod Headline

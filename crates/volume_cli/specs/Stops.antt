@@ -5,7 +5,7 @@ use Rattle.outer_traits.specs.Causes.{Rose}
 use Rattle.outer_flow.specs.Passing.{WritesFront}
 use Rattle.volume_model.specs.declared.entry.Entry.{Entry}
 use Rattle.volume_model.specs.History.{IsHistory}
-use Rattle.volume_model.specs.OneWorker.{stream_of}
+use Rattle.volume_model.specs.OneWorker.{stream_of, served}
 use Rattle.run_report.specs.Report.{report_of}
 use Rattle.script_text.specs.declared.error.ScriptError.{ScriptError}
 use Rattle.script_text.specs.declared.error.ScriptError.TheVariants as script_error
@@ -14,7 +14,7 @@ use Rattle.script_text.specs.declared.what.What.{What}
 use Rattle.script_text.specs.Script.{IsScript, IsNoScript}
 use Rattle.volume_cli.specs.declared.stop.Stop.{Stop}
 use Rattle.volume_cli.specs.declared.stop.Stop.TheVariants.{BadScript, ReadFault, WriteFault, NoMemory}
-use Rattle.volume_cli.specs.Volume.{opening_of, calls_in, heads_in}
+use Rattle.solo_worker.specs.Volume.{opening_of, calls_in, heads_in}
 
 -- the way to stop that a refusal of a script is
 abbrev pub stop_of : ScriptError → Stop
@@ -62,10 +62,11 @@ abbrev pub no_faults : ℕ → ℕ → ℕ
 no_faults stream replica = 0
 
 -- A run of a script, which is what the source had where it tells that. Its journal is one legal history of the
--- script's calls.
+-- script's calls: one stream after another, in the order of their numbers, until there are threads.
 pub record IsRun (left : Option (List ℕ)) (script : Script) (journal : List Entry) : Type 0 where
   pub read : (input : List ℕ) × IsScript input script × IfSome left (λ told. told ≡ input)
   pub history : IsHistory (opening_of script) no_faults (stream_of (calls_in script)) journal
+  pub turns : journal ≡ served (opening_of script) (calls_in script)
 
 -- what such a run prints
 abbrev pub report_text : Script → List Entry → List ℕ

@@ -4,13 +4,13 @@ ghost use Rattle.outer_flow.specs.Passing.{GivesAtMost, WritesFront};
 ghost use Rattle.report_writer.specs.Written.{written_text};
 ghost use Rattle.volume_cli.specs.Stops.{ReadCounts, WriteCounts};
 
-use crate::solo::Served;
 use crate::stop::Stop;
 use journal_book::Bytes;
 use outer_flow::read_whole;
 use outer_traits::{OuterError, Sink, Source};
 use report_writer::write_report;
 use script_text::MOST_INPUT;
+use solo_worker::Served;
 use std::alloc::Global;
 
 /// Reads the input to its end, or to one byte past the most that it may have.

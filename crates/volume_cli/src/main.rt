@@ -3,7 +3,6 @@
 #![tactic(auto)]
 
 mod edge;
-mod solo;
 mod standard;
 mod status;
 mod stop;
@@ -11,7 +10,7 @@ mod stop;
 mod tests;
 mod top;
 
-use standard::{StdSink, StdSource};
+use outer_real::{StdSink, StdSource};
 use std::io;
 use std::process::ExitCode;
 

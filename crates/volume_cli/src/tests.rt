@@ -1,21 +1,26 @@
 use crate::status::Status;
 use crate::top::longhorn;
 use frame_wire::{Head, encode_header};
-use journal_book::{Answer, Bytes, Call, Entry, Reply};
+use journal_book::{Answer, Bytes, Call, Command, Entry, Reply};
 use outer_memory::{FaultPlan, LimitedSink, MemorySink, MemorySource, NoFaultSink, NoFaultSource};
 use plain_disk::PlainDisk;
 use run_report::{Digest, print_chain, print_entry, print_head, print_mode, print_reply};
-use script_text::What;
+use script_text::{Member, What};
 use std::alloc::{AllocError, Global};
 use std::process::Abort;
 use std::test::Fail;
+use vol_units::LayerName;
 use volume_model::Mode;
 
-const LINE: &str = "{\"volume\":\"v\",\"size\":2097152,\"replicas\":1,\"streams\":[{\"frames\":";
+const LINE: &str = "{\"volume\":\"v\",\"size\":2097152,\"replicas\":1,\"streams\":[";
 
 /// The last lines of a volume of zeros.
 const ZEROS: &str =
     "mode r0 RW\nchain r0 head\nhead r0 731859029215873fdac1c9f2f8bd25a334abf0f3a9e1b057cf2cacc2826d86b0\n";
+
+/// The last of them.
+const HEAD_OF_ZEROS: &str =
+    "head r0 731859029215873fdac1c9f2f8bd25a334abf0f3a9e1b057cf2cacc2826d86b0\n";
 
 /// The header of a frame of a type: its seq, its offset, its size, and how many bytes of data it has.
 fn head(kind: u32, seq: u32, offset: i64, size: u32, len: u32) -> Head {
@@ -36,19 +41,81 @@ fn write(seq: u32, offset: i64, len: u32) -> Head {
     head(1, seq, offset, len, len)
 }
 
-/// A script of frames with these headers, whose data is the one byte again and again, and then some bytes more.
-fn script(alloc: Global, heads: &[Head], byte: u8, more: &[u8]) -> Result<Vec<u8>, AllocError> {
-    let mut frames = Vec::new(alloc);
-    for asked in heads {
-        frames.extend_from_slice(&encode_header(asked))?;
-        frames.resize(frames.len() + asked.len as usize, byte)?;
+/// A script, as it is written stream by stream.
+#[derive(Drop)]
+struct Draft {
+    line: Vec<u8>,
+    body: Vec<u8>,
+}
+
+impl Draft {
+    fn new(alloc: Global) -> Result<Draft, AllocError> {
+        Ok(Draft {
+            line: Vec::from_slice(alloc, LINE.as_bytes())?,
+            body: Vec::new(alloc),
+        })
     }
-    frames.extend_from_slice(more)?;
-    let mut input = Vec::from_slice(alloc, LINE.as_bytes())?;
-    input.extend_from_slice(frames.len().to_string(alloc)?.as_bytes())?;
-    input.extend_from_slice(b"}]}\n")?;
-    input.extend_from_slice(&frames)?;
-    Ok(input)
+
+    /// A comma, where a stream stands before.
+    fn part(&mut self) -> Result<(), AllocError> {
+        if self.line.ends_with(b"}") {
+            self.line.push(b',')?;
+        }
+        Ok(())
+    }
+
+    /// A stream of frames with these headers, whose data is the one byte again and again, and then some bytes more.
+    fn frames(
+        &mut self,
+        alloc: Global,
+        heads: &[Head],
+        byte: u8,
+        more: &[u8],
+    ) -> Result<(), AllocError> {
+        let start = self.body.len();
+        for asked in heads {
+            self.body.extend_from_slice(&encode_header(asked))?;
+            self.body
+                .resize(self.body.len() + asked.len as usize, byte)?;
+        }
+        self.body.extend_from_slice(more)?;
+        let count = self.body.len().saturating_sub(start);
+        self.part()?;
+        self.line.extend_from_slice(b"{\"frames\":")?;
+        self.line
+            .extend_from_slice(count.to_string(alloc)?.as_bytes())?;
+        self.line.push(b'}')?;
+        Ok(())
+    }
+
+    /// A stream of commands.
+    fn control(&mut self, texts: &[&str]) -> Result<(), AllocError> {
+        self.part()?;
+        self.line.extend_from_slice(b"{\"control\":[")?;
+        for (i, text) in texts.iter().enumerate() {
+            if i > 0 {
+                self.line.push(b',')?;
+            }
+            self.line.push(b'"')?;
+            self.line.extend_from_slice(text.as_bytes())?;
+            self.line.push(b'"')?;
+        }
+        self.line.extend_from_slice(b"]}")
+    }
+
+    fn input(self) -> Result<Vec<u8>, AllocError> {
+        let Draft { mut line, body } = self;
+        line.extend_from_slice(b"]}\n")?;
+        line.extend_from_slice(&body)?;
+        Ok(line)
+    }
+}
+
+/// A script of one stream of frames.
+fn script(alloc: Global, heads: &[Head], byte: u8, more: &[u8]) -> Result<Vec<u8>, AllocError> {
+    let mut draft = Draft::new(alloc)?;
+    draft.frames(alloc, heads, byte, more)?;
+    draft.input()
 }
 
 fn words(alloc: Global, all: &[&str]) -> Result<Vec<String>, AllocError> {
@@ -247,6 +314,26 @@ fn made_of(seq: u32, seed: u32) -> Head {
     }
 }
 
+/// Texts of commands over few names, so that refusals are common.
+const TEXTS: [&str; 16] = [
+    "snapshot a",
+    "snapshot b",
+    "snapshot c",
+    "snapshot d",
+    "snapshot e",
+    "revert a",
+    "revert b",
+    "revert c",
+    "revert d",
+    "revert sys-0",
+    "remove a",
+    "remove b",
+    "remove c",
+    "remove d",
+    "status",
+    "status",
+];
+
 /// What the frame asks, as the definitions say.
 fn call_of(alloc: Global, asked: &Head, byte: u8) -> Result<Call, AllocError> {
     Ok(match asked.kind {
@@ -263,45 +350,120 @@ fn call_of(alloc: Global, asked: &Head, byte: u8) -> Result<Call, AllocError> {
     })
 }
 
-/// The digest of a plain disk of 2 MiB, by two reads.
-fn digest_of(alloc: Global, disk: &mut PlainDisk) -> Result<[u8; 64], AllocError> {
-    let mut digest = Digest::new();
-    for offset in [0, 1_048_576] {
-        let call = Call::Read {
-            offset,
-            length: 1_048_576,
-        };
-        if let Reply::Read(bytes) = disk.step(alloc, &call)? {
-            digest.add(bytes.as_slice());
-        }
-    }
-    Ok(digest.text())
+/// A snapshot that was taken, on which it stands, and whether it is to be removed.
+#[derive(Drop)]
+struct Taken {
+    name: LayerName,
+    parent: Option<LayerName>,
+    marked: bool,
 }
 
-/// The report of these frames, as one plain disk answers them.
-fn slow_report(alloc: Global, heads: &[Head], byte: u8) -> Result<Vec<u8>, AllocError> {
-    let mut disk = PlainDisk::zeros(alloc, 2_097_152)?;
-    let mut report = Vec::new(alloc);
-    let mut replies = Vec::new(alloc);
-    for (i, asked) in heads.iter().enumerate() {
-        let place = i as u64;
-        let call = call_of(alloc, asked, byte)?;
-        let reply = disk.step(alloc, &call)?;
+/// A plain disk that answers calls slowly, and prints what a run prints.
+#[derive(Drop)]
+struct Slow {
+    disk: PlainDisk,
+    /// The newest first.
+    taken: Vec<Taken>,
+    on: Option<LayerName>,
+    lines: Vec<u8>,
+    replies: Vec<u8>,
+    place: u64,
+}
+
+impl Slow {
+    fn new(alloc: Global) -> Result<Slow, AllocError> {
+        Ok(Slow {
+            disk: PlainDisk::zeros(alloc, 2_097_152)?,
+            taken: Vec::new(alloc),
+            on: None,
+            lines: Vec::new(alloc),
+            replies: Vec::new(alloc),
+            place: 0,
+        })
+    }
+
+    /// Answers a call of a stream, and of which frame, where one asks it.
+    fn answer(
+        &mut self,
+        alloc: Global,
+        stream: u8,
+        index: u64,
+        call: Call,
+        asked: Option<&Head>,
+    ) -> Result<(), AllocError> {
+        if self.disk.head_number() > 1_000_000 {
+            return Ok(());
+        }
+        let reply = self.disk.step(alloc, &[Mode::Rw], &call)?;
+        if let (Call::Command(command), Reply::Done) = (&call, &reply) {
+            self.follow(*command)?;
+        }
         let answer = Answer {
             call,
             reply,
-            index: place,
-            saw: place,
-            stream: 0,
+            index,
+            saw: self.place,
+            stream,
         };
-        print_reply(asked, &answer, &mut replies)?;
-        print_entry(place, &Entry::Answer(answer), &mut report)?;
+        if let Some(asked) = asked {
+            print_reply(asked, &answer, &mut self.replies)?;
+        }
+        print_entry(self.place, &Entry::Answer(answer), &mut self.lines)?;
+        self.place = self.place.saturating_add(1);
+        Ok(())
     }
-    report.extend_from_slice(&replies)?;
-    print_mode(0, Mode::Rw, &mut report)?;
-    print_chain(Some(0), &[], &mut report)?;
-    print_head(0, &digest_of(alloc, &mut disk)?, &mut report)?;
-    Ok(report)
+
+    /// What a command that was done makes of the chain.
+    fn follow(&mut self, command: Command) -> Result<(), AllocError> {
+        match command {
+            Command::Snapshot(name) => {
+                let name = LayerName::from(name);
+                let parent = self.on;
+                let marked = false;
+                self.taken.insert(
+                    0,
+                    Taken {
+                        name,
+                        parent,
+                        marked,
+                    },
+                )?;
+                self.on = Some(name);
+            }
+            Command::Remove(name) => {
+                for taken in &mut self.taken {
+                    taken.marked = taken.marked || taken.name == name;
+                }
+            }
+            Command::Revert(name) => self.on = Some(name),
+            Command::Status => (),
+        }
+        Ok(())
+    }
+
+    fn chain(&self, alloc: Global) -> Result<Vec<(LayerName, bool)>, AllocError> {
+        let mut chain = Vec::new(alloc);
+        let mut on = self.on;
+        for taken in &self.taken {
+            if on == Some(taken.name) {
+                chain.push((taken.name, taken.marked))?;
+                on = taken.parent;
+            }
+        }
+        Ok(chain)
+    }
+
+    /// What is printed of it all.
+    fn report(mut self, alloc: Global) -> Result<Vec<u8>, AllocError> {
+        let mut digest = Digest::new();
+        digest.add(self.disk.bytes());
+        let chain = self.chain(alloc)?;
+        self.lines.extend_from_slice(&self.replies)?;
+        print_mode(0, Mode::Rw, &mut self.lines)?;
+        print_chain(Some(0), &chain, &mut self.lines)?;
+        print_head(0, &digest.text(), &mut self.lines)?;
+        Ok(self.lines)
+    }
 }
 
 #[test]
@@ -309,18 +471,168 @@ fn prints_what_a_slow_executor_prints(rt: HostRuntime) -> Result<(), Fail> {
     let alloc = rt.alloc();
     let words = words(alloc, &["run", "--workers", "each"])?;
     let mut seed = 1;
-    for byte in 1..6 {
-        let mut heads = Vec::new(alloc);
-        for seq in 0..80 {
+    for streams in [1u8, 2, 5, 16] {
+        let mut draft = Draft::new(alloc)?;
+        let mut slow = Slow::new(alloc)?;
+        for stream in 0..streams {
             seed = next(seed);
-            heads.push(made_of(seq, seed))?;
+            if seed >> 31 == 0 {
+                let mut texts = Vec::new(alloc);
+                for index in 0..12 {
+                    seed = next(seed);
+                    let text = TEXTS[(seed >> 28) as usize];
+                    let Ok(command) = Command::read(text.as_bytes()) else {
+                        return Err(Fail::new("no command"));
+                    };
+                    texts.push(text)?;
+                    slow.answer(alloc, stream, index, Call::Command(command), None)?;
+                }
+                draft.control(&texts)?;
+            } else {
+                let mut heads = Vec::new(alloc);
+                for seq in 0..12 {
+                    seed = next(seed);
+                    let asked = made_of(seq, seed);
+                    let call = call_of(alloc, &asked, stream)?;
+                    heads.push(asked)?;
+                    slow.answer(alloc, stream, u64::from(seq), call, Some(&asked))?;
+                }
+                draft.frames(alloc, &heads, stream, b"")?;
+            }
         }
-        let mut source = NoFaultSource::new(script(alloc, &heads, byte, b"")?, 5000);
+        let mut source = NoFaultSource::new(draft.input()?, 5000);
         let mut sink = NoFaultSink::new(alloc, 5000);
         let status = longhorn(alloc, &words, &mut source, &mut sink);
         assert_eq!(rt; status, Status::Done);
-        let wanted = slow_report(alloc, &heads, byte)?;
+        let wanted = slow.report(alloc)?;
         assert_eq!(rt; sink.bytes(), wanted.as_slice());
+    }
+    Ok(())
+}
+
+/// Runs a stream of commands, and compares the journal's lines and the chain.
+fn answers(
+    rt: &(impl AllocGlobal + Abort),
+    texts: &[&str],
+    lines: &[&str],
+) -> Result<(), AllocError> {
+    let mut draft = Draft::new(rt.alloc())?;
+    draft.control(texts)?;
+    runs(rt, &["run"], draft.input()?, Status::Done, "", lines)
+}
+
+#[test]
+fn commands_are_answered_as_the_worked_rows_say(rt: HostRuntime) -> Result<(), Fail> {
+    let alloc = rt.alloc();
+    let mut draft = Draft::new(alloc)?;
+    draft.frames(alloc, &[write(1, 0, 1)], b'a', b"")?;
+    draft.control(&["snapshot s"])?;
+    draft.frames(alloc, &[write(1, 0, 1)], b'b', b"")?;
+    draft.control(&["revert s"])?;
+    draft.frames(alloc, &[read(1, 0, 1)], 0, b"")?;
+    let lines = [
+        "0 0 0 0 write 0 1 61*1 ok\n",
+        "1 1 1 0 snapshot s ok\n",
+        "2 2 2 0 write 0 1 62*1 ok\n",
+        "3 3 3 0 revert s ok\n",
+        "4 4 4 0 read 0 1 ok 61*1\n",
+        "reply 0 0 1 2 0 1 -\n",
+        "reply 2 0 1 2 0 1 -\n",
+        "reply 4 0 1 2 0 1 61*1\n",
+        "mode r0 RW\nchain r0 head s\n",
+        "head r0 69bc26647981c5985e96d27105bad947555b0e119827f3a5a01abd09b025e08c\n",
+    ];
+    runs(&rt, &["run"], draft.input()?, Status::Done, "", &lines)?;
+    answers(
+        &rt,
+        &[
+            "snapshot s",
+            "snapshot s",
+            "remove s",
+            "snapshot s",
+            "revert s",
+        ],
+        &[
+            "0 0 0 0 snapshot s ok\n",
+            "1 1 0 1 snapshot s error name used\n",
+            "2 2 0 2 remove s ok\n",
+            "3 3 0 3 snapshot s error name used\n",
+            "4 4 0 4 revert s error no such snapshot\n",
+            "mode r0 RW\nchain r0 head s*\n",
+            HEAD_OF_ZEROS,
+        ],
+    )?;
+    Ok(())
+}
+
+#[test]
+fn a_chain_has_two_hundred_and_fifty_layers(rt: HostRuntime) -> Result<(), Fail> {
+    let alloc = rt.alloc();
+    let mut texts = Vec::new(alloc);
+    let mut lines = Vec::new(alloc);
+    let mut chain = Vec::new(alloc);
+    for k in 0..250 {
+        let number = k.to_string(alloc)?;
+        texts.push(format!(in alloc; "snapshot n{number}")?)?;
+        let answer = if k < 249 { "ok" } else { "error chain full" };
+        lines.push(format!(in alloc;
+            "{number} {number} 0 {number} snapshot n{number} {answer}\n"
+        )?)?;
+    }
+    texts.push(String::from_str(alloc, "status")?)?;
+    lines.push(String::from_str(alloc, "250 250 0 250 status ok layers 250 modes RW\n")?)?;
+    lines.push(String::from_str(alloc, "mode r0 RW\nchain r0 head")?)?;
+    for k in 0..249u32 {
+        let number = 248u32.saturating_sub(k);
+        chain.push(format!(in alloc; " n{number}")?)?;
+    }
+    let mut wanted = Vec::new(alloc);
+    for line in lines.iter().chain(chain.iter()) {
+        wanted.push(line.as_str())?;
+    }
+    wanted.push("\n")?;
+    wanted.push(HEAD_OF_ZEROS)?;
+    let mut all = Vec::new(alloc);
+    for text in &texts {
+        all.push(text.as_str())?;
+    }
+    answers(&rt, &all, &wanted)?;
+    Ok(())
+}
+
+#[test]
+fn a_text_that_is_no_command_is_a_bad_member(rt: HostRuntime) -> Result<(), Fail> {
+    let status = Status::Script {
+        place: 0,
+        what: What::Member(Member::Streams),
+    };
+    for text in [
+        "",
+        "status ",
+        " status",
+        "purge",
+        "snapshot",
+        "snapshot ",
+        "snapshot  a",
+        "snapshot a b",
+        "snapshot sys-1",
+        "snapshot a/b",
+        "remove",
+        "remove sys-01",
+        "remove sys-12345678901",
+        "revert sys-",
+        "Revert a",
+    ] {
+        let mut draft = Draft::new(rt.alloc())?;
+        draft.control(&["status", text])?;
+        runs(
+            &rt,
+            &["run"],
+            draft.input()?,
+            status,
+            "script 0 member streams",
+            &[],
+        )?;
     }
     Ok(())
 }

@@ -8,15 +8,15 @@ ghost use Rattle.volume_cli.specs.Headline.{AskRun, AskNothing, ExactlyWhere, Sc
 ghost use Rattle.volume_cli.specs.Stops.{Counts, RunLeaves};
 
 use crate::edge::{read_input, write_output};
-use crate::solo::serve;
 use crate::status::Status;
 use crate::stop::Stop;
 use outer_traits::{Sink, Source};
 use program_words::{Words, WordsError, read_words};
 use script_text::read_script;
+use solo_worker::serve;
 use std::alloc::Global;
 
-/// Does what the words of the command line ask: `run` reads a script from the source, serves its stream
+/// Does what the words of the command line ask: `run` reads a script from the source, serves its streams
 /// on a volume of zeros, and writes the journal, the replies and the volume's last lines to the sink.
 pub fn longhorn<S: Source, K: Sink>(
     alloc: Global,

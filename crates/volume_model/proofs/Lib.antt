@@ -1,3 +1,5 @@
 pub mod StepLemmas
+pub mod ServedLemmas
 pub mod OneWorkerLemmas
+pub mod NamesLemmas
 pub mod OnlyServed

@@ -1,57 +1,219 @@
--- The journal of one stream alone is a legal history.
-use Rattle.std.proofs.Common.{◌≡◌, ℕ, zero, suc, List, [], ◌∷◌, ◌++◌, map, refl, sym, ap, subst, ◌∙◌, arith}
-use Rattle.std.proofs.Math.Dec.{eqb-zero-suc}
+-- The journal of streams that one worker answers, one stream after another, is a legal history.
+use Rattle.std.proofs.Common.{◌≡◌, ℕ, zero, suc, ◌+◌, ◌<◌, ◌≤◌, eqb, Bool, true, false, cond, List, [], ◌∷◌, ◌++◌, length, map, refl, sym, ap, subst, ◌∙◌, arith}
+use Rattle.std.proofs.lemmas.Bool.{eq-eqb, ne_eqb}
+use Rattle.std.proofs.lemmas.List.{append-nil, append_assoc}
 use Rattle.volume_model.specs.declared.call.Call.{Call}
+use Rattle.volume_model.specs.declared.entry.Answer.{Answer}
 use Rattle.volume_model.specs.declared.entry.Entry.{Entry}
+use Rattle.volume_model.specs.declared.entry.Entry.TheVariants as entry
+use Rattle.volume_model.specs.declared.mode.Mode.{Mode}
 use Rattle.volume_model.specs.PlainState.{PlainState}
 use Rattle.volume_model.specs.PlainStep.{plain_step}
 use Rattle.volume_model.specs.Replay.{after_entry, replay}
 use Rattle.volume_model.specs.Modes.{HasSource}
 use Rattle.volume_model.specs.Faults.{RisesTo, FaultsShown}
-use Rattle.volume_model.specs.History.{Opening, LegalAfter, answers_from, calls_of, InOrderFrom, SeenInOrder, IsHistory}
-use Rattle.volume_model.specs.OneWorker.{answer_at, served_from, served, stream_of}
-use Rattle.volume_model.proofs.StepLemmas.{replay-push, after_entry-answer_at, modes_after-same, fault_counts-none}
+use Rattle.volume_model.specs.History.{Opening, LegalAfter, answers_from, InOrderFrom, IsHistory}
+use Rattle.volume_model.specs.OneWorker.{answer_at, served_from, after_calls, served_streams, served, stream_of}
+use Rattle.volume_model.proofs.StepLemmas.{replay-push, replay-append, after_entry-answer_at, modes_after-same, fault_counts-none}
+use Rattle.volume_model.proofs.ServedLemmas.{length-served_from, replay-served_from}
 
-served_legal : (opening : Opening) (before : List Entry) (state : PlainState) (k : ℕ) (cs : List Call) → HasSource opening.modes
-    → replay opening.state before ≡ state → LegalAfter opening before (served_from state k cs)
-served_legal opening before state k [] source e = tt
-served_legal opening before state k (c ∷ cs) source e =
-    let next = replay-push opening.state before (answer_at state k c) ∙ ap (λ s. after_entry s (answer_at state k c)) e ∙ after_entry-answer_at state k c in (
-      record {
-        reply = ap (λ s. (plain_step s c).1) (sym e);
-        source = λ change done. subst HasSource (sym (modes_after-same opening.modes before)) source;
-      },
-      served_legal opening (before ++ answer_at state k c ∷ []) _ (suc k) cs source next,
+-- ---- each entry may stand where it does
+
+-- entries that are legal behind entries that are
+pub LegalAfter-append :
+    (opening : Opening) (before xs ys : List Entry)
+    → LegalAfter opening before xs → LegalAfter opening (before ++ xs) ys → LegalAfter opening before (xs ++ ys)
+LegalAfter-append opening before [] ys h k = subst (λ l. LegalAfter opening l ys) (append-nil before) k
+LegalAfter-append opening before (entry.Answer a ∷ xs) ys h k = (
+  h.0,
+  LegalAfter-append opening (before ++ entry.Answer a ∷ []) xs ys h.1 (subst (λ l. LegalAfter opening l ys) (sym (append_assoc before (entry.Answer a ∷ []) xs)) k),
+)
+
+-- the calls of one stream behind any journal
+pub served_from_legal :
+    (opening : Opening) (before : List Entry) (state : PlainState) (stream place index : ℕ) (cs : List Call)
+    → HasSource opening.modes → replay opening.state before ≡ state
+    → LegalAfter opening before (served_from opening.modes state stream place index cs)
+served_from_legal opening before state stream place index [] source at = tt
+served_from_legal opening before state stream place index (c ∷ cs) source at =
+    let e = answer_at opening.modes state stream place index c in
+    let next = replay-push opening.state before e ∙ ap (λ s. after_entry s e) at ∙ after_entry-answer_at opening.modes state stream place index c in
+    let same = modes_after-same opening.modes before in (
+      record { reply = answered state _ opening.modes _ (sym at) (sym same); source = λ change done. subst HasSource (sym same) source },
+      served_from_legal opening (before ++ e ∷ []) _ stream (suc place) (suc index) cs source next,
     )
+  where
+    answered : (s t : PlainState) (ms ns : List Mode) → s ≡ t → ms ≡ ns → (plain_step ms s c).1 ≡ (plain_step ns t c).1
+    answered s t ms ns e f = cc
 
-served_in_order : (state : PlainState) (k : ℕ) (cs : List Call) → InOrderFrom k k (answers_from 0 k (served_from state k cs))
-served_in_order state k [] = tt
-served_in_order state k (c ∷ cs) = (refl, omega arith, omega arith, served_in_order (plain_step state c).0 (suc k) cs)
+-- the calls of streams behind any journal
+pub served_streams_legal :
+    (opening : Opening) (before : List Entry) (state : PlainState) (stream place : ℕ) (css : List (List Call))
+    → HasSource opening.modes → replay opening.state before ≡ state
+    → LegalAfter opening before (served_streams opening.modes state stream place css)
+served_streams_legal opening before state stream place [] source at = tt
+served_streams_legal opening before state stream place (cs ∷ css) source at =
+    let own = served_from opening.modes state stream place 0 cs in
+    let next = replay-append opening.state before own ∙ ap (λ s. replay s own) at ∙ replay-served_from opening.modes state stream place 0 cs in
+    LegalAfter-append opening before own _ (served_from_legal opening before state stream place 0 cs source at)
+    (served_streams_legal opening (before ++ own) _ (suc stream) (place + length cs) css source next)
 
-served_calls : (state : PlainState) (k : ℕ) (cs : List Call) → map (λ p. p.1.call) (answers_from 0 k (served_from state k cs)) ≡ cs
-served_calls state k [] = refl
-served_calls state k (c ∷ cs) = ap (λ l. c ∷ l) (served_calls (plain_step state c).0 (suc k) cs)
+-- ---- the answers of each stream
 
-served_no_other : (stream : ℕ) (state : PlainState) (k : ℕ) (cs : List Call) → answers_from (suc stream) k (served_from state k cs) ≡ []
-served_no_other stream state k [] = refl
-served_no_other stream state k (c ∷ cs) = rw eqb-zero-suc (served_no_other stream (plain_step state c).0 (suc k) cs)
+-- those of a journal behind a journal
+pub answers_from-append :
+    (stream place : ℕ) (xs ys : List Entry)
+    → answers_from stream place (xs ++ ys) ≡ answers_from stream place xs ++ answers_from stream (place + length xs) ys
+answers_from-append stream place [] ys = ap (λ n. answers_from stream n ys) (omega arith)
+answers_from-append stream place (entry.Answer a ∷ xs) ys =
+    ap (λ l. cond (eqb a.stream stream) ((place, a) ∷ l) l) (
+    answers_from-append stream (suc place) xs ys
+    ∙ ap (λ n. answers_from stream (suc place) xs ++ answers_from stream n ys) (further place (length xs)))
+    ∙ choice (eqb a.stream stream) (place, a) (answers_from stream (suc place) xs) (answers_from stream (place + length (entry.Answer a ∷ xs)) ys)
+  where
+    further : (p n : ℕ) → suc p + n ≡ p + suc n
+    further p n = omega arith
 
-in_order : (state : PlainState) (cs : List Call) → SeenInOrder (served state cs)
-in_order state cs zero = served_in_order state 0 cs
-in_order state cs (suc stream) = rw served_no_other tt
+    choice : (b : Bool) (p : ℕ × Answer) (l m : List (ℕ × Answer)) → cond b (p ∷ (l ++ m)) (l ++ m) ≡ cond b (p ∷ l) l ++ m
+    choice true p l m = refl
+    choice false p l m = refl
 
-each_once : (state : PlainState) (cs : List Call) (stream : ℕ) → calls_of stream (served state cs) ≡ stream_of (cs ∷ []) stream
-each_once state cs zero = served_calls state 0 cs
-each_once state cs (suc stream) = ap (map (λ p. p.1.call)) (served_no_other stream state 0 cs)
+-- a call's answer stands under its stream
+own_answer :
+    (modes : List Mode) (state : PlainState) (stream place index n : ℕ) (c : Call) (es : List Entry)
+    → answers_from stream n (answer_at modes state stream place index c ∷ es)
+    ≡ (n, record { call = c; reply = (plain_step modes state c).1; index = index; saw = place; stream = stream }) ∷ answers_from stream (suc n) es
+own_answer modes state stream place index n c es = rw (eq-eqb stream stream refl) refl
 
+-- and under no other
+other_answer :
+    (modes : List Mode) (state : PlainState) (stream other place index n : ℕ) (c : Call) (es : List Entry) → (stream ≡ other → ⊥)
+    → answers_from other n (answer_at modes state stream place index c ∷ es) ≡ answers_from other (suc n) es
+other_answer modes state stream other place index n c es apart = rw (ne_eqb stream other apart) refl
+
+-- the answers of a stream's calls are in order
+pub served_in_order :
+    (modes : List Mode) (state : PlainState) (stream place index least : ℕ) (cs : List Call) → least ≤ place
+    → InOrderFrom index least (answers_from stream place (served_from modes state stream place index cs))
+served_in_order modes state stream place index least [] low = tt
+served_in_order modes state stream place index least (c ∷ cs) low =
+    let next = (plain_step modes state c).0 in
+    subst (InOrderFrom index least) (sym (own_answer modes state stream place index place c (served_from modes next stream (suc place) (suc index) cs)))
+    (refl, low, omega arith, served_in_order modes next stream (suc place) (suc index) (suc place) cs (omega arith))
+
+-- and those calls are in it, each once
+pub served_calls :
+    (modes : List Mode) (state : PlainState) (stream place index : ℕ) (cs : List Call)
+    → map (λ p. p.1.call) (answers_from stream place (served_from modes state stream place index cs)) ≡ cs
+served_calls modes state stream place index [] = refl
+served_calls modes state stream place index (c ∷ cs) =
+    let next = (plain_step modes state c).0 in
+    ap (map (λ p. p.1.call)) (own_answer modes state stream place index place c (served_from modes next stream (suc place) (suc index) cs))
+    ∙ ap (λ l. c ∷ l) (served_calls modes next stream (suc place) (suc index) cs)
+
+-- no other stream has answers among them
+pub served_no_other :
+    (modes : List Mode) (state : PlainState) (stream other n place index : ℕ) (cs : List Call) → (stream ≡ other → ⊥)
+    → answers_from other n (served_from modes state stream place index cs) ≡ []
+served_no_other modes state stream other n place index [] apart = refl
+served_no_other modes state stream other n place index (c ∷ cs) apart =
+    let next = (plain_step modes state c).0 in
+    other_answer modes state stream other place index n c (served_from modes next stream (suc place) (suc index) cs) apart
+    ∙ served_no_other modes next stream other (suc n) (suc place) (suc index) cs apart
+
+-- nor has a stream of a lower number, among those of streams
+pub none_below :
+    (modes : List Mode) (state : PlainState) (stream other n place : ℕ) (css : List (List Call)) → other < stream
+    → answers_from other n (served_streams modes state stream place css) ≡ []
+none_below modes state stream other n place [] low = refl
+none_below modes state stream other n place (cs ∷ css) low =
+    let next = after_calls modes state cs in
+    answers_from-append other n (served_from modes state stream place 0 cs) (served_streams modes next (suc stream) (place + length cs) css)
+    ∙ joined (served_no_other modes state stream other n place 0 cs (λ e. apart stream other low e))
+    (none_below modes next (suc stream) other _ (place + length cs) css (omega arith))
+  where
+    apart : (s o : ℕ) → o < s → s ≡ o → ⊥
+    apart s o low e = omega arith
+
+    joined : {xs ys : List (ℕ × Answer)} → xs ≡ [] → ys ≡ [] → xs ++ ys ≡ []
+    joined e f = cc
+
+-- the answers of a stream among those of streams are those of its calls, from some state and place on
+pub record AnswersOf (modes : List Mode) (stream : ℕ) (calls : List Call) (answers : List (ℕ × Answer)) : Type 0 where
+  pub state : PlainState
+  pub place : ℕ
+  pub are : answers ≡ answers_from stream place (served_from modes state stream place 0 calls)
+
+-- a journal whose front has none of them
+AnswersOf-behind :
+    (modes : List Mode) (stream stream' place place' : ℕ) (calls : List Call) (front rest : List Entry)
+    → stream ≡ stream' → place + length front ≡ place' → answers_from stream place front ≡ []
+    → AnswersOf modes stream' calls (answers_from stream' place' rest)
+    → AnswersOf modes stream calls (answers_from stream place (front ++ rest))
+AnswersOf-behind modes stream stream' place place' calls front rest same at none found = record {
+  state = found.state;
+  place = found.place;
+  are = answers_from-append stream place front rest ∙ ap (λ l. l ++ answers_from stream (place + length front) rest) none ∙ moved stream stream' _ place' same at
+      ∙ found.are ∙ ap (λ s. answers_from s found.place (served_from modes found.state s found.place 0 calls)) (sym same);
+}
+  where
+    moved : (s s' p p' : ℕ) → s ≡ s' → p ≡ p' → answers_from s p rest ≡ answers_from s' p' rest
+    moved s s' p p' e f = cc
+
+pub its_answers :
+    (modes : List Mode) (state : PlainState) (stream k place : ℕ) (css : List (List Call))
+    → AnswersOf modes (stream + k) (stream_of css k) (answers_from (stream + k) place (served_streams modes state stream place css))
+its_answers modes state stream k place [] = record { state = state; place = place; are = refl }
+its_answers modes state stream zero place (cs ∷ css) =
+    let own = served_from modes state stream place 0 cs in
+    let rest = served_streams modes (after_calls modes state cs) (suc stream) (place + length cs) css in
+    record {
+      state = state;
+      place = place;
+      are = answers_from-append (stream + 0) place own rest
+          ∙ ap (λ l. answers_from (stream + 0) place own ++ l) (none_below modes (after_calls modes state cs) (suc stream) (stream + 0) _ (place + length cs) css (omega arith))
+          ∙ append-nil _ ∙ ap (λ s. answers_from (stream + 0) place (served_from modes state s place 0 cs)) (omega arith);
+    }
+its_answers modes state stream (suc k) place (cs ∷ css) =
+    let own = served_from modes state stream place 0 cs in
+    AnswersOf-behind modes (stream + suc k) (suc stream + k) place (place + length cs) (stream_of css k) own _ (omega arith)
+    (ap (λ n. place + n) (length-served_from modes state stream place 0 cs)) (served_no_other modes state stream (stream + suc k) place place 0 cs (apart stream k))
+    (its_answers modes (after_calls modes state cs) (suc stream) k (place + length cs) css)
+  where
+    apart : (n k : ℕ) → n ≡ n + suc k → ⊥
+    apart n k e = omega arith
+
+-- so they are in order
+pub AnswersOf-in_order :
+    (modes : List Mode) (stream : ℕ) (calls : List Call) (answers : List (ℕ × Answer)) → AnswersOf modes stream calls answers → InOrderFrom 0 0 answers
+AnswersOf-in_order modes stream calls answers found =
+    subst (InOrderFrom 0 0) (sym found.are) (served_in_order modes found.state stream found.place 0 0 calls (omega arith))
+
+-- and each call is answered once
+pub AnswersOf-calls :
+    (modes : List Mode) (stream : ℕ) (calls : List Call) (answers : List (ℕ × Answer)) → AnswersOf modes stream calls answers
+    → map (λ p. p.1.call) answers ≡ calls
+AnswersOf-calls modes stream calls answers found =
+    ap (map (λ p. p.1.call)) found.are ∙ served_calls modes found.state stream found.place 0 calls
+
+-- ---- the law
+
+-- no fault is shown, so each line may have counted any
 pub none_shown : (counted : ℕ → ℕ → ℕ) (journal : List Entry) → FaultsShown counted journal
 none_shown counted journal = λ stream replica. subst (RisesTo (counted stream replica) 0) (sym (fault_counts-none stream replica journal)) tt
 
-pub served_is_history : (opening : Opening) (counted : ℕ → ℕ → ℕ) (calls : List Call) → HasSource opening.modes
-    → IsHistory opening counted (stream_of (calls ∷ [])) (served opening.state calls)
-served_is_history opening counted calls source = record {
-  legal = served_legal opening [] opening.state 0 calls source refl;
-  order = in_order opening.state calls;
-  each_once = each_once opening.state calls;
-  faults = none_shown counted (served opening.state calls);
+pub served_is_history :
+    (opening : Opening) (counted : ℕ → ℕ → ℕ) (streams : List (List Call)) → HasSource opening.modes
+    → IsHistory opening counted (stream_of streams) (served opening streams)
+served_is_history opening counted streams source = record {
+  legal = served_streams_legal opening [] opening.state 0 0 streams source refl;
+  order = λ stream. AnswersOf-in_order opening.modes stream (stream_of streams stream) _ (its stream);
+  each_once = λ stream. AnswersOf-calls opening.modes stream (stream_of streams stream) _ (its stream);
+  faults = none_shown counted (served opening streams);
 }
+  where
+    its : (stream : ℕ) → AnswersOf opening.modes stream (stream_of streams stream) (answers_from stream 0 (served opening streams))
+    its stream = subst (λ s. AnswersOf opening.modes s (stream_of streams stream) (answers_from s 0 (served opening streams))) (from_none stream) (its_answers opening.modes opening.state 0 stream 0 streams)
+      where
+        from_none : (s : ℕ) → 0 + s ≡ s
+        from_none s = omega arith

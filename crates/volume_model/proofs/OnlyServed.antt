@@ -2,17 +2,19 @@
 use Rattle.std.proofs.Common.{◌≡◌, ℕ, zero, suc, eqb, inl, inr, subst, Bool, true, false, cond, List, [], ◌∷◌, ◌++◌, map, refl, sym, ap, ◌∙◌, arith}
 use Rattle.std.proofs.lemmas.Bool.{eq-eqb, ne_eqb}
 use Rattle.std.proofs.lemmas.Bool.Decides.{eqb_tells}
+use Rattle.std.proofs.lemmas.List.{append-nil}
 use Rattle.volume_model.specs.declared.call.Call.{Call}
 use Rattle.volume_model.specs.declared.call.Reply.{Reply}
 use Rattle.volume_model.specs.declared.entry.Answer.{Answer}
 use Rattle.volume_model.specs.declared.entry.Entry.{Entry}
 use Rattle.volume_model.specs.declared.entry.Entry.TheVariants as entry
+use Rattle.volume_model.specs.declared.mode.Mode.{Mode}
 use Rattle.volume_model.specs.PlainState.{PlainState}
 use Rattle.volume_model.specs.PlainStep.{plain_step}
 use Rattle.volume_model.specs.Replay.{after_entry, replay}
 use Rattle.volume_model.specs.History.{Opening, LegalAfter, answers_from, InOrderFrom, IsHistory}
 use Rattle.volume_model.specs.OneWorker.{answer_at, served_from, served, stream_of}
-use Rattle.volume_model.proofs.StepLemmas.{replay-push, after_entry-answer_at}
+use Rattle.volume_model.proofs.StepLemmas.{replay-push, after_entry-answer_at, modes_after-same}
 
 abbrev answer_of : ℕ → ℕ → ℕ → Call → Reply → Answer
 answer_of s i n c r = record { call = c; reply = r; index = i; saw = n; stream = s }
@@ -23,9 +25,10 @@ record Follows (calls : List Call) (journal : List Entry) (k : ℕ) : Type 0 whe
   own : map (λ p. p.1.call) (answers_from 0 k journal) ≡ calls
   other : (stream : ℕ) → answers_from (suc stream) k journal ≡ []
 
-same_answer : (state : PlainState) (k : ℕ) (c : Call) (a : Answer) → a.stream ≡ 0 → a.index ≡ k → a.saw ≡ k → a.call ≡ c → a.reply ≡ (plain_step state c).1
-    → entry.Answer a ≡ answer_at state k c
-same_answer state k c a own index saw call reply = ap entry.Answer (parts a.stream 0 a.index k a.saw k a.call c a.reply _ own index saw call reply)
+same_answer : (modes : List Mode) (state : PlainState) (k : ℕ) (c : Call) (a : Answer) → a.stream ≡ 0 → a.index ≡ k → a.saw ≡ k → a.call ≡ c
+    → a.reply ≡ (plain_step modes state c).1
+    → entry.Answer a ≡ answer_at modes state 0 k k c
+same_answer modes state k c a own index saw call reply = ap entry.Answer (parts a.stream 0 a.index k a.saw k a.call c a.reply _ own index saw call reply)
   where
     parts : (s t i j m n : ℕ) (c d : Call) (r q : Reply) → s ≡ t → i ≡ j → m ≡ n → c ≡ d → r ≡ q
         → answer_of s i m c r ≡ answer_of t j n d q
@@ -34,8 +37,8 @@ same_answer state k c a own index saw call reply = ap entry.Answer (parts a.stre
 -- the first entry, where the entries behind it are known
 first_entry : (opening : Opening) (before : List Entry) (state : PlainState) (k : ℕ) (cs : List Call) (a : Answer) (es : List Entry)
     → replay opening.state before ≡ state → LegalAfter opening before (entry.Answer a ∷ es) → Follows cs (entry.Answer a ∷ es) k
-    → ((more : List Entry) (s : PlainState) (rest : List Call) → replay opening.state more ≡ s → LegalAfter opening more es → Follows rest es (suc k) → es ≡ served_from s (suc k) rest)
-    → entry.Answer a ∷ es ≡ served_from state k cs
+    → ((more : List Entry) (s : PlainState) (rest : List Call) → replay opening.state more ≡ s → LegalAfter opening more es → Follows rest es (suc k) → es ≡ served_from opening.modes s 0 (suc k) (suc k) rest)
+    → entry.Answer a ∷ es ≡ served_from opening.modes state 0 k k cs
 first_entry opening before state k cs a es at legal follows later' =
     elim (eqb_tells a.stream 0) [ inl own ↦ mine own.0 own.1 | inr other ↦ absurd (not_mine a.stream other.1 refl) ]
   where
@@ -50,7 +53,7 @@ first_entry opening before state k cs a es at legal follows later' =
     not_mine (suc s) other is =
         not_nil (k, a) _ (sym (cond_is (eqb a.stream (suc s)) true ((k, a) ∷ answers_from (suc s) (suc k) es) (answers_from (suc s) (suc k) es) (eq-eqb _ _ is)) ∙ follows.other s)
 
-    mine : eqb a.stream 0 ≡ true → a.stream ≡ 0 → entry.Answer a ∷ es ≡ served_from state k cs
+    mine : eqb a.stream 0 ≡ true → a.stream ≡ 0 → entry.Answer a ∷ es ≡ served_from opening.modes state 0 k k cs
     mine test own =
         let answers : answers_from 0 k (entry.Answer a ∷ es) ≡ (k, a) ∷ answers_from 0 (suc k) es =
         cond_is (eqb a.stream 0) true ((k, a) ∷ answers_from 0 (suc k) es) (answers_from 0 (suc k) es) test in
@@ -59,15 +62,16 @@ first_entry opening before state k cs a es at legal follows later' =
         go cs own order calls
       where
         go : (cs : List Call) → a.stream ≡ 0 → InOrderFrom k k ((k, a) ∷ answers_from 0 (suc k) es) → a.call ∷ map (λ p. p.1.call) (answers_from 0 (suc k) es) ≡ cs
-            → entry.Answer a ∷ es ≡ served_from state k cs
+            → entry.Answer a ∷ es ≡ served_from opening.modes state 0 k k cs
         go [] own order calls = absurd (not_nil _ _ calls)
         go (c ∷ rest) own order calls =
             let call : a.call ≡ c = heads calls in
-            let first : entry.Answer a ≡ answer_at state k c =
-            same_answer state k c a own order.0 (omega (arith, order.1, order.2)) call (legal.0.reply ∙ both at call) in
-            let next : replay opening.state (before ++ entry.Answer a ∷ []) ≡ (plain_step state c).0 =
-            replay-push opening.state before (entry.Answer a) ∙ ap (λ s. after_entry s (entry.Answer a)) at ∙ ap (after_entry state) first ∙ after_entry-answer_at state k c in
-            let later = later' (before ++ entry.Answer a ∷ []) (plain_step state c).0 rest next legal.1 (record {
+            let first : entry.Answer a ≡ answer_at opening.modes state 0 k k c =
+            same_answer opening.modes state k c a own order.0 (omega (arith, order.1, order.2)) call
+            (legal.0.reply ∙ same_reply (modes_after-same opening.modes before) at call) in
+            let next : replay opening.state (before ++ entry.Answer a ∷ []) ≡ (plain_step opening.modes state c).0 =
+            replay-push opening.state before (entry.Answer a) ∙ ap (λ s. after_entry s (entry.Answer a)) at ∙ ap (after_entry state) first ∙ after_entry-answer_at opening.modes state 0 k k c in
+            let later = later' (before ++ entry.Answer a ∷ []) (plain_step opening.modes state c).0 rest next legal.1 (record {
               order = order.3;
               own = tails calls;
               other = λ stream. sym (skip stream) ∙ follows.other stream;
@@ -80,8 +84,8 @@ first_entry opening before state k cs a es at legal follows later' =
             tails : {x y : Call} {xs ys : List Call} → x ∷ xs ≡ y ∷ ys → xs ≡ ys
             tails e = cc
 
-            both : {s t : PlainState} {x y : Call} → s ≡ t → x ≡ y → (plain_step s x).1 ≡ (plain_step t y).1
-            both e f = cc
+            same_reply : {ms ns : List Mode} {s t : PlainState} {x y : Call} → ms ≡ ns → s ≡ t → x ≡ y → (plain_step ms s x).1 ≡ (plain_step ns t y).1
+            same_reply d e f = cc
 
             joined : {x y : Entry} {xs ys : List Entry} → x ≡ y → xs ≡ ys → x ∷ xs ≡ y ∷ ys
             joined e f = cc
@@ -94,8 +98,8 @@ first_entry opening before state k cs a es at legal follows later' =
                 (ne_eqb _ _ (λ e. zero_not_suc stream (sym own ∙ e)))
 
 unique : (opening : Opening) (before : List Entry) (state : PlainState) (k : ℕ) (cs : List Call) (journal : List Entry)
-    → replay opening.state before ≡ state → LegalAfter opening before journal → Follows cs journal k → journal ≡ served_from state k cs
-unique opening before state k cs [] at legal follows = ap (served_from state k) follows.own
+    → replay opening.state before ≡ state → LegalAfter opening before journal → Follows cs journal k → journal ≡ served_from opening.modes state 0 k k cs
+unique opening before state k cs [] at legal follows = ap (served_from opening.modes state 0 k k) follows.own
 unique opening before state k cs (entry.Answer a ∷ es) at legal follows =
     first_entry opening before state k cs a es at legal follows (λ more s rest e l f. unique opening more s (suc k) rest es e l f)
 
@@ -107,9 +111,9 @@ nil_from_map (p ∷ ps) e = absurd (not_nil e)
     not_nil e = cc
 
 pub only_served : (opening : Opening) (counted : ℕ → ℕ → ℕ) (calls : List Call) (journal : List Entry)
-    → IsHistory opening counted (stream_of (calls ∷ [])) journal → journal ≡ served opening.state calls
+    → IsHistory opening counted (stream_of (calls ∷ [])) journal → journal ≡ served opening (calls ∷ [])
 only_served opening counted calls journal history = unique opening [] opening.state 0 calls journal refl history.legal (record {
   order = history.order 0;
   own = history.each_once 0;
   other = λ stream. nil_from_map _ (history.each_once (suc stream));
-})
+}) ∙ sym (append-nil (served_from opening.modes opening.state 0 0 0 calls))

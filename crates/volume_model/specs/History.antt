@@ -18,7 +18,7 @@ pub record Opening : Type 0 where
 
 -- a call is answered as the plain disk answers there, and a change was done only with a replica to read and write
 pub record IsAnswered (state : PlainState) (modes : List Mode) (a : Answer) : Type 0 where
-  pub reply : a.reply ≡ (plain_step state a.call).1
+  pub reply : a.reply ≡ (plain_step modes state a.call).1
   pub source : is_change a.call ≡ true → is_refusal a.reply ≡ false → HasSource modes
 
 -- an entry may stand between the entries before it and those after

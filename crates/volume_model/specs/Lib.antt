@@ -1,5 +1,6 @@
 pub mod Texts
 pub mod Disk
+pub mod Snapshots
 pub mod PlainState
 pub mod PlainStep
 pub mod Replay
@@ -7,3 +8,4 @@ pub mod Modes
 pub mod Faults
 pub mod History
 pub mod OneWorker
+pub mod Names

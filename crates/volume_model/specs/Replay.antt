@@ -11,6 +11,7 @@ use Rattle.volume_model.specs.PlainStep.{after_call}
 abbrev pub is_refusal : Reply → Bool
 is_refusal reply.Done = false
 is_refusal (reply.Read bytes) = false
+is_refusal (reply.Status layers modes) = false
 is_refusal (reply.Refused why) = true
 
 -- the state after one entry: a refused call changes nothing

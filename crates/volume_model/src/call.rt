@@ -1,7 +1,10 @@
 ghost use Rattle.std.specs.Prelude.{◌≡◌};
 ghost use Rattle.volume_model.specs.Texts.{refusal_text};
 
+use crate::mode::Mode;
+use crate::sequence::Sequence;
 use bytes::Bytes;
+use command_text::Command;
 
 /// What a client asks of the volume. Offsets and lengths are in bytes.
 #[derive(Debug, Drop)]
@@ -14,6 +17,8 @@ pub enum Call {
     Ping,
     /// A frame of a type that is no call, with that type.
     Other(u32),
+    /// A command of a control stream.
+    Command(Command),
 }
 
 /// Why a call is refused.
@@ -25,6 +30,12 @@ pub enum Refusal {
     OutOfRange,
     /// The volume knows no such call.
     Unsupported,
+    /// A snapshot was taken under the name before.
+    NameUsed,
+    /// There are as many layers as there may be.
+    ChainFull,
+    /// No snapshot of the name can be used.
+    NoSuchSnapshot,
 }
 
 impl Refusal {
@@ -36,6 +47,9 @@ impl Refusal {
             Refusal::TooLong => "too long",
             Refusal::OutOfRange => "out of range",
             Refusal::Unsupported => "unsupported",
+            Refusal::NameUsed => "name used",
+            Refusal::ChainFull => "chain full",
+            Refusal::NoSuchSnapshot => "no such snapshot",
         }
     }
 }
@@ -47,6 +61,8 @@ pub enum Reply {
     Done,
     /// The bytes that were read.
     Read(Bytes),
+    /// How many layers there are, the head counted, and the mode of each replica.
+    Status { layers: u64, modes: Sequence<Mode> },
     /// The call was refused, and changed nothing.
     Refused(Refusal),
 }

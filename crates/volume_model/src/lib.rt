@@ -6,12 +6,18 @@ mod call;
 mod entry;
 pub mod laws;
 mod mode;
+mod names;
 pub mod rows;
+mod sequence;
 
 pub use bytes::Bytes;
 pub use call::{Call, Refusal, Reply};
+pub use command_text::{BadCommand, Command};
 pub use entry::{Answer, Entry};
 pub use mode::Mode;
+pub use names::UsedName;
+pub use sequence::Sequence;
+pub use vol_units::{LayerName, SnapName};
 
 #[cfg(test)]
 mod tests;

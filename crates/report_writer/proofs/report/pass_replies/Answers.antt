@@ -17,7 +17,7 @@ loop-place-preserved g c =
     let s = c.loop-place in
     let i = s.invariant in
     let a = c.answer-answer.result.now in
-    let whole = reply_lines heads (answers_from 0 0 entries) in
+    let whole = reply_lines heads (answers_from c.args.stream 0 entries) in
     let inside : s.place < length entries = omega (arith, c.len-place-end.ensures) in
     let is : get_or entries s.place (entry.Answer a) ≡ entry.Answer a =
     get_or_from_slice_get entries s.place c.entry.result.now (entry.Answer a) c.entry.ensures ∙ c.answer-answer.ensures in
@@ -25,7 +25,7 @@ loop-place-preserved g c =
       | in-Some+in_ok-pass_reply w ↦
           let h = w.in-Some.asked.now in
           let found = w.in-Some.ensures.some in
-          let t = next_reply i.0 whole s.next s.place heads entries h a inside is found.1 (get_or_from_slice_get heads s.next h h found.2) found.0 i.2 in
+          let t = next_reply i.0 whole c.args.stream s.next s.place heads entries h a inside is found.1 (get_or_from_slice_get heads s.next h h found.2) found.0 i.2 in
           rw (w.sink-is, w.buffer-is, w.next-is) (
             i.0 ++ reply_line h a,
             Passes-trans _ _ _ _ _ _ i.0 (reply_line h a) i.1 w.in_ok-pass_reply.ensures.passed,
@@ -33,8 +33,8 @@ loop-place-preserved g c =
             w.in_ok-pass_reply.ensures.cause.cause ∙ i.3,
           )
       | in_default w ↦
-          let t : i.0 ++ reply_lines (drop s.next heads) (answers_from 0 (s.place + 1) (drop (s.place + 1) entries)) ≡ whole = elim w.in_default.ensures.none [
-            | inl other ↦ skip_other i.0 whole s.next s.place heads entries a inside is other i.2
+          let t : i.0 ++ reply_lines (drop s.next heads) (answers_from c.args.stream (s.place + 1) (drop (s.place + 1) entries)) ≡ whole = elim w.in_default.ensures.none [
+            | inl other ↦ skip_other i.0 whole c.args.stream s.next s.place heads entries a inside is other i.2
             | inr past ↦ skip_past i.0 whole s.next heads _ _ past i.2
           ] in
           rw (w.sink-is, w.buffer-is, w.next-is) (i.0, i.1, t, i.3)
@@ -50,12 +50,12 @@ returns-in_err-pass_reply-clause-front g c =
     let a = c.answer-answer.result.now in
     let h = c.in-Some.asked.now in
     let found = c.in-Some.ensures.some in
-    let whole = reply_lines heads (answers_from 0 0 entries) in
-    let rest = reply_lines (drop (s.next + 1) heads) (answers_from 0 (s.place + 1) (drop (s.place + 1) entries)) in
+    let whole = reply_lines heads (answers_from c.args.stream 0 entries) in
+    let rest = reply_lines (drop (s.next + 1) heads) (answers_from c.args.stream (s.place + 1) (drop (s.place + 1) entries)) in
     let inside : s.place < length entries = omega (arith, c.len-place-end.ensures) in
     let is : get_or entries s.place (entry.Answer a) ≡ entry.Answer a =
     get_or_from_slice_get entries s.place c.entry.result.now (entry.Answer a) c.entry.ensures ∙ c.answer-answer.ensures in
-    let t = next_reply i.0 whole s.next s.place heads entries h a inside is found.1 (get_or_from_slice_get heads s.next h h found.2) found.0 i.2 in
+    let t = next_reply i.0 whole c.args.stream s.next s.place heads entries h a inside is found.1 (get_or_from_slice_get heads s.next h h found.2) found.0 i.2 in
     let front = WritesFront-after _ _ _ had _ i.0 (reply_line h a) i.1 c.in_err-pass_reply.ensures.front in
     subst (WritesFront _ _) (append_assoc had (i.0 ++ reply_line h a) rest ∙ ap (λ l. had ++ l) t) (WritesFront-more _ _ _ rest front)
 
@@ -65,10 +65,10 @@ returns-clause-passed g c =
     let entries = c.args.journal.now.entries in
     let heads = c.args.heads.now in
     let past : length entries ≤ c.loop-place.place = omega (arith, c.len-place-end.ensures) in
-    let all = no_reply i.0 (reply_lines heads (answers_from 0 0 entries)) c.loop-place.next c.loop-place.place heads entries past i.2 in
+    let all = no_reply i.0 (reply_lines heads (answers_from c.args.stream 0 entries)) c.args.stream c.loop-place.next c.loop-place.place heads entries past i.2 in
     subst (Passes _ _ c.args.buffer.now.items c.loop-place.buffer.items) all i.1
 
 pub returns-clause-front : goal.returns-clause-front
 returns-clause-front g c =
-    let text = reply_lines c.args.heads.now (answers_from 0 0 c.args.journal.now.entries) in
+    let text = reply_lines c.args.heads.now (answers_from c.args.stream 0 c.args.journal.now.entries) in
     WritesFront-passed _ _ c.args.buffer.now.items c.loop-place.buffer.items text (returns-clause-passed g c)

@@ -16,14 +16,13 @@ returns-in_err-streams c =
     let n = c.in-Some.length in
     let line = take n input in
     let body = drop (n + 1) input in
-    let head = c.in_ok-head.head in
+    let head = c.in_ok-heads.field-0 in
     let e = c.in_err-streams.field-0.0 in
     let cut : IsCut input line body = subst (λ l. IsCut l (take n l) (drop (n + 1) l)) c.as_slice.ensures c.in-Some.ensures.cut in
-    let says : Says line head = subst (λ l. Says (take n l) head) c.as_slice-2.ensures c.in_ok-head.ensures.found in
+    let says : Says line head = subst (λ l. Says (take n l) head) c.as_slice-2.ensures c.in_ok-heads.ensures.found in
     let rest : c.in_ok-body.body ≡ body = c.in_ok-body.ensures.ok ∙ take_rest input (n + 1) in
     let long : n ≤ length input = omega (arith, c.in-Some.ensures.within, ap length c.as_slice.ensures) in
-    let of_line : AnswersBody (length line + 1) c.as_slice-3.result.now c.in_ok-body.body (Err e) =
-    subst (λ k. AnswersBody (k + 1) c.as_slice-3.result.now c.in_ok-body.body (Err e)) (sym (length-take-le n input long)) c.in_err-streams.ensures in
-    let of_head = subst (λ l. AnswersBody (length line + 1) l c.in_ok-body.body (Err e)) c.as_slice-3.ensures of_line in
+    let of_line : AnswersBody (length line + 1) head.streams c.in_ok-body.body (Err e) =
+    subst (λ k. AnswersBody (k + 1) head.streams c.in_ok-body.body (Err e)) (sym (length-take-le n input long)) c.in_err-streams.ensures in
     let p = err_from_is_err_and c.from_residual-in_err-streams.result c.from_residual-in_err-streams.ensures.1 in
-    rw (p.1, p.2) (refused_behind input line body head e cut says (subst (λ l. AnswersBody (length line + 1) head.streams l (Err e)) rest of_head))
+    rw (p.1, p.2) (refused_behind input line body head e cut says (subst (λ l. AnswersBody (length line + 1) head.streams l (Err e)) rest of_line))

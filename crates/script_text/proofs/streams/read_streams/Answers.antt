@@ -1,32 +1,28 @@
-use Rattle.std.proofs.Common.{◌≡◌, ◌+◌, ◌-◌, length, arith}
-use Rattle.std.proofs.lemmas.Result.{err_from_is_err_and}
-use Rattle.script_head.specs.declared.head.StreamHead.TheVariants.{Frames}
-use Rattle.script_text.specs.declared.limits.TheConstants.{MOST_CALLS}
-use Rattle.script_text.proofs.StreamsLemmas.{next_read, next_refused, all_read}
+use Rattle.std.proofs.Common.{◌≡◌, ◌∷◌, ◌∙◌, ap, arith, length, sym}
+use Rattle.std.specs.Vec.Iter.{into_iter_items}
+use Rattle.script_text.proofs.StreamsLemmas.{next_read, all_read}
 use Rattle.script_text.proofs.streams.read_streams.Goals as goal
-
-pub returns-in_err-frames : goal.returns-in_err-frames
-returns-in_err-frames c =
-    let so_far = c.loop-head.invariant in
-    let at : c.args.place + c.len.result - c.len-in-loop-head.result ≡ c.args.place + length c.args.bytes - length c.loop-head.rest = omega arith in
-    let p = err_from_is_err_and c.from_residual-in_err-frames.result c.from_residual-in_err-frames.ensures.1 in
-    rw (p.1, p.2)
-    (next_refused MOST_CALLS c.args.place c.args.heads.now c.args.bytes c.loop-head.streams.items c.loop-head.room c.loop-head.rest c.loop-head.head-index (Frames 0) c.byte_count.result
-    c.loop-head-test.true c.byte_count.ensures so_far.0 _ c.in_ok-stream.stream _ at c.in_ok-stream.ensures.front c.in_err-frames.ensures)
 
 pub loop-head-preserved : goal.loop-head-preserved
 loop-head-preserved c =
     let so_far = c.loop-head.invariant in
-    let frames = c.in_ok-frames.frames in
-    let found = c.in_ok-frames.ensures in (
-      rw (c.in_ok-push.ensures.items, c.len-room.ensures, c.in_ok-stream.ensures.rest)
-          (next_read MOST_CALLS c.args.place c.args.heads.now c.args.bytes c.loop-head.streams.items c.loop-head.room c.loop-head.rest c.loop-head.head-index (Frames 0) c.byte_count.result
-          c.loop-head-test.true c.byte_count.ensures so_far.0 c.in_ok-stream.stream frames c.in_ok-stream.ensures.front found.0 found.1),
-      so_far.1,
-    )
+    let stream = c.in_ok-stream.stream in
+    let found = c.in_ok-stream.ensures in
+    let others = into_iter_items c.loop-head.head-iterator in
+    let behind = into_iter_items c.next.new.self in
+    let cut : others ≡ c.in-Some.head ∷ behind = c.in-Some.ensures.steps.0 in
+    record {
+      read = rw (c.in_ok-push.ensures.items, c.frame_count-left.ensures, c.in_ok-bytes.ensures.rest)
+          (next_read c.args.room c.args.place c.args.heads c.args.bytes c.loop-head.streams.items c.loop-head.left c.loop-head.rest others c.in-Some.head behind c.byte_count.result
+          cut c.byte_count.ensures so_far.read c.in_ok-bytes.bytes stream c.in_ok-bytes.ensures.front found.0 found.1);
+      count = omega (arith, ap length cut, c.in-Some.ensures.steps.1, so_far.count);
+      end = so_far.end;
+    }
 
 pub returns : goal.returns
 returns c =
     let so_far = c.loop-head.invariant in
+    let others = into_iter_items c.loop-head.head-iterator in
+    let none : length others ≡ 0 = sym so_far.count ∙ c.in-None.ensures.steps.0 in
     rw c.of.ensures
-    (all_read MOST_CALLS c.args.place c.args.heads.now c.args.bytes c.loop-head.streams.items c.loop-head.room c.loop-head.rest c.loop-head.head-index (omega arith) so_far.0)
+    (all_read c.args.room c.args.place c.args.heads c.args.bytes c.loop-head.streams.items c.loop-head.left c.loop-head.rest others none so_far.read)

@@ -1,6 +1,8 @@
-use Rattle.std.proofs.Common.{◌≡◌, ◌+◌, ◌-◌, ◌/◌, ◌≤◌, length, sym, ap, subst, ◌∙◌, arith}
+use Rattle.std.proofs.Common.{◌+◌, ◌-◌, ◌/◌, ◌≤◌, length, pos, refl, sym, ap, subst, ◌∙◌, arith}
 use Rattle.vol_units.specs.declared.range.BlockRange.{BlockRange}
-use Rattle.vol_units.specs.Bytes.{with_bytes_at}
+use Rattle.replica_node.specs.Room.{put_at, bytes_in}
+use Rattle.volume_model.specs.PlainState.{written}
+use Rattle.replica_disk.specs.State.{state_of_node}
 use Rattle.replica_disk.specs.Merged.{Touches}
 use Rattle.replica_disk.proofs.MergedLemmas.{put_range}
 use Rattle.replica_disk.proofs.disk.ReplicaDisk.put_blocks.Goals as goal
@@ -11,7 +13,6 @@ returns-clause-ok c =
     let at = c.args.at in
     let bytes = c.args.bytes.now in
     let range : BlockRange = record { first = at / 4096; end = (at + length bytes - 1) / 4096 + 1 } in
-    let same : c.make_room.new.self.disk ≡ disk = ap (λ n. n.disk) c.make_room.ensures.same in
     let inside : at + length bytes ≤ length disk = subst (λ s. at + length bytes ≤ length s.disk) (sym c.self.view_is) c.requires.inside in
     let some = c.requires.some in
     let touches : Touches range at (length bytes) = record {
@@ -21,7 +22,8 @@ returns-clause-ok c =
       high = omega (arith, some);
       end = omega (arith, some);
     } in
-    ap (λ n. n.disk) c.write_blocks.ensures.put
-    ∙ put_range disk c.make_room.new.self.disk bytes at range c.in_ok-blocks.blocks same inside touches
-    (omega (arith, inside, c.block_count-count.ensures)) c.in_ok-blocks.ensures
-    ∙ ap (λ s. with_bytes_at s.disk at bytes) c.self.view_is
+    ap state_of_node c.write_blocks.ensures.put
+    ∙ ap (λ n. state_of_node (put_at n range.first (bytes_in c.in_ok-blocks.blocks))) c.make_room.ensures.same
+    ∙ ap (λ d. record (state_of_node c.self.inside.node) { disk = d }) (put_range disk disk bytes at range c.in_ok-blocks.blocks refl inside touches
+    (omega (arith, inside, c.block_count-count.ensures)) c.in_ok-blocks.ensures)
+    ∙ ap (λ s. written s (pos at) bytes) c.self.view_is

@@ -1,0 +1,30 @@
+//! What the entries of a run leave of the count of layers.
+
+ghost use Rattle.std.specs.Prelude.{◌≡◌, ◌+◌, ◌^◌, ◌<◌, ◌≤◌};
+ghost use Rattle.volume_model.specs.Names.{layers_after_call, layers_after_entry};
+
+use volume_model::{Call, Command, Entry, Reply};
+
+/// How many layers there are after the entry, of so many before it.
+pub(crate) fn layers_after(layers: u64, entry: &Entry) -> u64
+    requires { layers + 1 < 2 ^ 64 }
+    ensures layers { result ≡ layers_after_entry layers entry.now }
+    ensures one_more { result ≤ layers + 1 }
+{
+    let answer = entry.answer();
+    match &answer.reply {
+        Reply::Refused(_) => layers,
+        _ => layers_after_call(layers, &answer.call),
+    }
+}
+
+fn layers_after_call(layers: u64, call: &Call) -> u64
+    requires { layers + 1 < 2 ^ 64 }
+    ensures layers { result ≡ layers_after_call layers call.now }
+    ensures one_more { result ≤ layers + 1 }
+{
+    match call {
+        Call::Command(Command::Snapshot(_)) => layers + 1,
+        _ => layers,
+    }
+}

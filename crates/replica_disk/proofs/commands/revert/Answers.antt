@@ -1,0 +1,8 @@
+use Rattle.replica_disk.proofs.StateLemmas.{kept_for, reverted_step}
+use Rattle.replica_disk.proofs.commands.revert.Goals as goal
+
+pub revert-requires-clause-kept : goal.revert-requires-clause-kept
+revert-requires-clause-kept c = kept_for c.args.node.now c.args.name c.in_default.ensures
+
+pub returns-clause-step : goal.returns-clause-step
+returns-clause-step c = reverted_step c.args.node.now c.revert.new.self c.args.name c.in_default.ensures c.revert.ensures

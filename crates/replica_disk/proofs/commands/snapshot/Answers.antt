@@ -1,0 +1,5 @@
+use Rattle.replica_disk.proofs.StateLemmas.{free_for}
+use Rattle.replica_disk.proofs.commands.snapshot.Goals as goal
+
+pub snapshot-requires-clause-free : goal.snapshot-requires-clause-free
+snapshot-requires-clause-free c = free_for c.args.node.now c.args.name c.in_default.ensures

@@ -1,0 +1,42 @@
+use Rattle.std.proofs.Common.{◌≡◌, ◌<◌, ◌+◌, List, ◌++◌, length, get_or, drop, sym, ap, subst, ◌∙◌, arith, append_assoc}
+use Rattle.frame_wire.specs.declared.head.Head.{Head}
+use Rattle.volume_model.specs.History.{answers_of}
+use Rattle.run_report.specs.Report.{reply_lines, replies_from}
+use Rattle.run_report.proofs.ReportLemmas.{next_stream}
+use Rattle.outer_flow.specs.Passing.{WritesFront}
+use Rattle.outer_flow.proofs.Passing.{Passes-trans, WritesFront-after, WritesFront-more}
+use Rattle.report_writer.proofs.report.pass_streams.Goals as goal
+
+pub loop-stream-preserved : goal.loop-stream-preserved
+loop-stream-preserved g c =
+    let i = c.loop-stream.invariant in
+    let entries = c.args.journal.now.entries in
+    let streams = c.args.streams.now in
+    let stream = c.loop-stream.stream in
+    let heads = c.as_slice.result.now in
+    let text = reply_lines heads (answers_of stream entries) in
+    let inside : stream < length streams = omega arith in
+    let at : get_or streams stream heads ≡ heads =
+    subst (λ (hs : List Head). get_or streams stream hs ≡ hs) (sym c.as_slice.ensures) (sym c.index-streams-stream.is) in (
+      i.0 ++ text,
+      Passes-trans _ _ _ _ _ _ i.0 text i.1 c.in_ok-pass_replies.ensures.passed,
+      next_stream i.0 (replies_from 0 streams entries) stream streams entries heads inside at i.2,
+      c.in_ok-pass_replies.ensures.cause.cause ∙ i.3,
+    )
+
+pub returns-in_err-pass_replies-clause-front : goal.returns-in_err-pass_replies-clause-front
+returns-in_err-pass_replies-clause-front g c =
+    let i = c.loop-stream.invariant in
+    let entries = c.args.journal.now.entries in
+    let streams = c.args.streams.now in
+    let had = c.args.buffer.now.items in
+    let stream = c.loop-stream.stream in
+    let heads = c.as_slice.result.now in
+    let text = reply_lines heads (answers_of stream entries) in
+    let rest = replies_from (stream + 1) (drop (stream + 1) streams) entries in
+    let inside : stream < length streams = omega arith in
+    let at : get_or streams stream heads ≡ heads =
+    subst (λ (hs : List Head). get_or streams stream hs ≡ hs) (sym c.as_slice.ensures) (sym c.index-streams-stream.is) in
+    let t = next_stream i.0 (replies_from 0 streams entries) stream streams entries heads inside at i.2 in
+    let front = WritesFront-after _ _ _ had _ i.0 text i.1 c.in_err-pass_replies.ensures.front in
+    subst (WritesFront _ _) (append_assoc had (i.0 ++ text) rest ∙ ap (λ l. had ++ l) t) (WritesFront-more _ _ _ rest front)

@@ -1,0 +1,82 @@
+//! The items of `streams`. One that is no stream makes the member a bad one.
+
+ghost use Rattle.std.specs.Prelude.{◌≡◌, ◌≤◌, Some, length};
+ghost use Rattle.serde_json.specs.View.{view, items_view};
+ghost use Rattle.script_head.specs.Refusals.{Reads};
+ghost use Rattle.script_head.specs.Members.{IsCommandItem, IsStreamItem};
+ghost use Rattle.script_head.specs.Values.{whole, AreItems, HasItems};
+
+use crate::error::HeadError;
+use crate::head::StreamHead;
+use crate::limits::{MOST_COMMANDS, MOST_STREAM_BYTES};
+use crate::member::Member;
+use command_text::Command;
+use serde_json::Value;
+use std::alloc::Global;
+use volume_model::Sequence;
+
+const BAD: HeadError = HeadError::BadMember(Member::Streams);
+
+pub(crate) fn streams_from(
+    alloc: Global,
+    items: &[Value],
+) -> Result<Sequence<StreamHead>, HeadError>
+    ensures { Reads Member.Streams (AreItems IsStreamItem (items_view items.now)) result }
+{
+    let mut streams = Vec::new(alloc);
+    for item in items {
+        streams.push(stream_of(alloc, item)?)?;
+    }
+    Ok(Sequence::of(streams))
+}
+
+fn stream_of(alloc: Global, item: &Value) -> Result<StreamHead, HeadError>
+    ensures { Reads Member.Streams (IsStreamItem (view item.now)) result }
+{
+    match (item.get("frames"), item.get("control")) {
+        (Some(frames), None) => Ok(StreamHead::Frames(bytes_of(frames)?)),
+        (None, Some(control)) => Ok(StreamHead::Control(commands_in(alloc, control)?)),
+        _ => Err(BAD),
+    }
+}
+
+/// How many bytes of frames.
+fn bytes_of(frames: &Value) -> Result<u64, HeadError>
+    ensures { Reads Member.Streams
+        (λ count. (whole (view frames.now) ≡ Some count) × (count ≤ MOST_STREAM_BYTES)) result }
+{
+    match frames.as_u64() {
+        Some(count) if count <= MOST_STREAM_BYTES => Ok(count),
+        _ => Err(BAD),
+    }
+}
+
+fn commands_in(alloc: Global, control: &Value) -> Result<Sequence<Command>, HeadError>
+    ensures { Reads Member.Streams
+        (λ commands. HasItems IsCommandItem (Some (view control.now)) commands
+        × (length commands ≤ MOST_COMMANDS)) result }
+{
+    let items = control.as_array().ok_or(BAD)?;
+    // Too long a list is refused before memory is taken for it.
+    if items.len() > MOST_COMMANDS {
+        return Err(BAD);
+    }
+    commands_from(alloc, items)
+}
+
+fn commands_from(alloc: Global, items: &[Value]) -> Result<Sequence<Command>, HeadError>
+    ensures { Reads Member.Streams (AreItems IsCommandItem (items_view items.now)) result }
+{
+    let mut commands = Vec::new(alloc);
+    for item in items {
+        commands.push(command_of(item)?)?;
+    }
+    Ok(Sequence::of(commands))
+}
+
+fn command_of(item: &Value) -> Result<Command, HeadError>
+    ensures { Reads Member.Streams (IsCommandItem (view item.now)) result }
+{
+    let text = item.as_str().ok_or(BAD)?;
+    Command::read(text.as_bytes()).or(Err(BAD))
+}

@@ -1,0 +1,28 @@
+use Rattle.std.proofs.Common.{◌≡◌, ◌+◌, ◌^◌, ◌∷◌, ◌∙◌, refl, ap, subst}
+use Rattle.std.specs.List.{sum_by}
+use Rattle.std.specs.Vec.Iter.{into_iter_items}
+use Rattle.std.proofs.lemmas.List.Sums.{sum_by-cons}
+use Rattle.script_text.specs.Streams.{call_count}
+use Rattle.solo_worker.proofs.AnswerLemmas.{StreamsSoFar, streams_more, streams_number, some_numbers}
+use Rattle.solo_worker.proofs.answer.answer_streams.Goals as goal
+
+pub answer_stream-requires-clause-number : goal.answer_stream-requires-clause-number
+answer_stream-requires-clause-number c =
+    let rest = into_iter_items c.next.new.self in
+    let cut : into_iter_items c.loop-stream.stream-iterator ≡ c.in-Some.stream ∷ rest = c.in-Some.ensures.steps.0 in
+    some_numbers c.loop-stream.disk.snapshots.number (sum_by call_count (into_iter_items c.loop-stream.stream-iterator)) (call_count c.in-Some.stream)
+    (sum_by call_count rest) (c.args.disk.now.snapshots.number + sum_by call_count c.args.streams.items) (2 ^ 64)
+    (streams_number c.loop-stream.number c.args.streams.items _ _ _ _ _ c.loop-stream.invariant)
+    (ap (sum_by call_count) cut ∙ sum_by-cons call_count c.in-Some.stream rest) c.requires.number
+
+pub loop-stream-preserved : goal.loop-stream-preserved
+loop-stream-preserved c =
+    let all = c.args.streams.items in
+    let rest = into_iter_items c.next.new.self in
+    let stream = c.in-Some.stream in
+    let number = c.loop-stream.number in
+    let cut : into_iter_items c.loop-stream.stream-iterator ≡ stream ∷ rest = c.in-Some.ensures.steps.0 in
+    streams_more number (number + 1) all rest stream c.args.journal.now c.loop-stream.journal c.answer_stream.new.journal c.args.disk.now c.loop-stream.disk
+    c.answer_stream.new.disk
+    (subst (λ xs. StreamsSoFar number all xs c.args.journal.now c.loop-stream.journal c.args.disk.now c.loop-stream.disk) cut c.loop-stream.invariant)
+    c.in_ok-answer_stream.ensures refl

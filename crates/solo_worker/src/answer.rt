@@ -1,0 +1,134 @@
+ghost use Rattle.std.specs.Prelude.{◌≡◌, ◌+◌, ◌^◌, ◌<◌, ◌≤◌, ◌∷◌, [], All, map, length, sum_by, OnOk};
+ghost use Rattle.frame_stream.specs.Asked.{asked_of, call_of};
+ghost use Rattle.frame_stream.specs.declared.asked.Asked.TheVariants as asked;
+ghost use Rattle.script_text.specs.Streams.{call_count};
+ghost use Rattle.volume_model.specs.declared.call.Call.TheVariants as call;
+ghost use Rattle.solo_worker.specs.Serving.{Answers, AnswersStreams};
+ghost use Rattle.solo_worker.specs.Volume.{calls_of, AreCalls, IsOfCalls};
+
+use frame_stream::{Asked, Frame, of_frame};
+use journal_book::{Answer, Call, Command, Entry, Journal};
+use replica_disk::ReplicaDisk;
+use script_text::Stream;
+use std::alloc::{AllocError, Global};
+
+/// Answers the calls of the streams, one stream after another.
+pub(crate) fn answer_streams(
+    alloc: Global,
+    streams: Vec<Stream>,
+    journal: &mut Journal,
+    disk: &mut ReplicaDisk,
+) -> Result<(), AllocError>
+    requires few { length streams.items ≤ 16 }
+    requires calls { All IsOfCalls streams.items }
+    requires number { disk.old.snapshots.number + sum_by call_count streams.items < 2 ^ 64 }
+    ensures { OnOk result
+        (AnswersStreams 0 (map calls_of streams.items) journal.old journal.new disk.old disk.new) }
+{
+    let mut number = 0;
+    for stream in streams {
+        answer_stream(alloc, number, stream, journal, disk)?;
+        number += 1;
+    }
+    Ok(())
+}
+
+/// Answers the calls of the stream of this number.
+fn answer_stream(
+    alloc: Global,
+    number: u8,
+    stream: Stream,
+    journal: &mut Journal,
+    disk: &mut ReplicaDisk,
+) -> Result<(), AllocError>
+    requires calls { IsOfCalls stream }
+    requires number { disk.old.snapshots.number + call_count stream < 2 ^ 64 }
+    ensures { OnOk result (Answers number 0 (calls_of stream) journal.old journal.new disk.old disk.new) }
+{
+    match stream {
+        Stream::Frames(frames) => answer_frames(alloc, number, frames.into_vec(), journal, disk),
+        Stream::Control(commands) => {
+            answer_commands(alloc, number, commands.into_vec(), journal, disk)
+        }
+    }
+}
+
+fn answer_frames(
+    alloc: Global,
+    stream: u8,
+    frames: Vec<Frame>,
+    journal: &mut Journal,
+    disk: &mut ReplicaDisk,
+) -> Result<(), AllocError>
+    requires calls { AreCalls frames.items }
+    requires number { disk.old.snapshots.number + length frames.items < 2 ^ 64 }
+    ensures { OnOk result
+        (Answers stream 0 (map call_of frames.items) journal.old journal.new disk.old disk.new) }
+{
+    journal.reserve(frames.len() as u64)?;
+    let mut index = 0;
+    for frame in frames {
+        answer(alloc, stream, index, call_in(frame), journal, disk)?;
+        index += 1;
+    }
+    Ok(())
+}
+
+fn answer_commands(
+    alloc: Global,
+    stream: u8,
+    commands: Vec<Command>,
+    journal: &mut Journal,
+    disk: &mut ReplicaDisk,
+) -> Result<(), AllocError>
+    requires { disk.old.snapshots.number + length commands.items < 2 ^ 64 }
+    ensures { OnOk result
+        (Answers stream 0 (map call.Command commands.items) journal.old journal.new disk.old disk.new) }
+{
+    journal.reserve(commands.len() as u64)?;
+    let mut index = 0;
+    for command in commands {
+        answer(alloc, stream, index, Call::Command(command), journal, disk)?;
+        index += 1;
+    }
+    Ok(())
+}
+
+/// Answers the call of a stream that has this index there, and puts the answer into a place of the journal that
+/// was made before.
+fn answer(
+    alloc: Global,
+    stream: u8,
+    index: u64,
+    call: Call,
+    journal: &mut Journal,
+    disk: &mut ReplicaDisk,
+) -> Result<(), AllocError>
+    requires spare { 0 < journal.old.spare }
+    requires number { disk.old.snapshots.number + 1 < 2 ^ 64 }
+    ensures answers { OnOk result
+        (Answers stream index (call ∷ []) journal.old journal.new disk.old disk.new) }
+    ensures spare { OnOk result (journal.new.spare + 1 ≡ journal.old.spare) }
+{
+    let reply = disk.step(alloc, journal.modes(), &call)?;
+    let saw = journal.len();
+    journal.push_reserved(Entry::Answer(Answer {
+        call,
+        reply,
+        index,
+        saw,
+        stream,
+    }));
+    Ok(())
+}
+
+/// The call that a frame is.
+fn call_in(frame: Frame) -> Call
+    requires { asked_of frame ≡ asked.Call (call_of frame) }
+    ensures { result ≡ call_of frame }
+{
+    match of_frame(frame) {
+        Asked::Call(call) => call,
+        Asked::End => unreachable!(),
+    }
+}

@@ -1,0 +1,7 @@
+//! The one worker of a run without threads: it answers the streams of a script one after another, on one replica.
+#![tactic(auto)]
+
+mod answer;
+mod solo;
+
+pub use solo::{Served, serve};
