@@ -1,0 +1,300 @@
+"""What is odd in a report."""
+import re
+
+from replay import ERR, RW, WO, Replay
+from report import (FRAME_CALLS, Entry, FrameReply, Mark, OfReplica, bytes_count, is_shortest, replica_number, runs_of, shorten)
+
+MOST_LENGTH = 1 << 20
+MOST_LAYERS = 250
+GROUPS = ('open', 'journal', 'reply', 'mode', 'chain', 'head')
+# The refusals of each call.
+REFUSALS = {
+    'read': ('too long', 'out of range', 'no replica'),
+    'write': ('out of range', 'no replica'),
+    'unmap': ('too long', 'out of range', 'no replica'),
+    'ping': (),
+    'other': ('unsupported',),
+    'snapshot': ('name used', 'chain full', 'no replica'),
+    'remove': ('no such snapshot', 'no replica'),
+    'revert': ('no such snapshot', 'no replica'),
+    'purge': ('no replica',),
+    'add': ('in use', 'chain full', 'no replica', 'aborted [0-9]+'),
+    'fail': (),
+    'backup': ('no such snapshot', 'backup exists', 'no replica', 'block differs', 'target fault'),
+    'expand': ('bad size', 'no replica'),
+    'salvage': ('in use', 'replica left', 'not last'),
+    'status': (),
+}
+NEEDS_REPLICA = ('write', 'unmap', 'snapshot', 'remove', 'revert', 'purge', 'expand')
+
+
+def find_odd(report):
+    """The findings, each as the number of its line, or None for the report as a whole, and a sentence."""
+    checker = Checker(report)
+    checker.check()
+    return sorted(checker.findings, key=lambda finding: (finding[0] is None, finding[0] or 0))
+
+
+class Checker:
+    """Goes over a report once, and keeps what it finds."""
+
+    def __init__(self, report):
+        self.report = report
+        self.findings = []
+        self.replay = Replay(report)
+        self.entries = {entry.place: entry for entry in report.entries}
+        journal = report.journal
+        self.following = dict(zip((line.line for line in journal), journal[1:]))
+        # The front of a report, as a fault of its sink leaves, lacks lines and says nothing by that.
+        self.is_front = not report.of_replicas('mode')
+        # Whether every line of the journal so far was there; else nothing is said of what follows from all of them.
+        self.is_whole = not report.unread
+        self.next_place = 0
+        self.next_index = {}
+        self.last_place = {}
+        self.counts = {}
+
+    def say(self, line, sentence, *words):
+        """Keeps a finding of a line, which is None or anything that has a line's number."""
+        self.findings.append((line and line.line, sentence % words))
+
+    def check(self):
+        """All checks."""
+        for number, line in self.report.unread:
+            self.findings.append((number, 'is no line of a report: `%s`' % shorten(line, 60)))
+        self.check_groups()
+        for line in self.report.journal:
+            self.check_place(line)
+            if isinstance(line, Entry):
+                self.check_order(line)
+                self.check_entry(line)
+            else:
+                self.check_mark(line)
+        self.check_replies()
+        self.check_end()
+
+    def check_groups(self):
+        """The groups stand in their order."""
+        highest = 0
+        for line in self.report.lines:
+            rank = GROUPS.index(group_of(line))
+            if rank < highest:
+                self.say(line, 'stands behind a line of the group `%s`, and belongs before it', GROUPS[highest])
+            highest = max(highest, rank)
+
+    def check_place(self, line):
+        """Places count from 0."""
+        if line.place != self.next_place:
+            self.say(line, 'has place %d, where %d comes next', line.place, self.next_place)
+            self.is_whole = False
+        self.next_place = line.place + 1
+
+    def check_order(self, entry):
+        """Each stream's calls stand in order, and see what came before."""
+        stream, index = entry.stream, self.next_index.get(entry.stream, 0)
+        if entry.index != index:
+            self.say(entry, 'is call %d of stream %d, where call %d comes next', entry.index, stream, index)
+        if entry.saw > entry.place:
+            self.say(entry, 'saw %d, which is past its own place %d', entry.saw, entry.place)
+        if entry.saw <= self.last_place.get(stream, -1):
+            self.say(entry, 'saw %d, but the call before it in stream %d ended at place %d', entry.saw, stream,
+                     self.last_place[stream])
+        self.next_index[stream] = entry.index + 1
+        self.last_place[stream] = entry.place
+
+    def check_entry(self, entry):
+        """The answer is one that the call may have here."""
+        if entry.refusal and not any(re.fullmatch(text, entry.refusal) for text in REFUSALS[entry.kind]):
+            self.say(entry, 'is refused as `%s`, which no `%s` is', entry.refusal, entry.kind)
+        if entry.kind == 'other' and not entry.refusal:
+            self.say(entry, 'is `ok`, but a frame of another type is answered `unsupported`')
+        self.check_bytes(entry)
+        if self.is_whole:
+            self.check_modes(entry)
+            if self.replay.layers_known:
+                self.check_names(entry)
+            self.replay.take_entry(entry)
+
+    def check_bytes(self, entry):
+        """Ranges and bytes of a read or a write fit."""
+        if entry.kind not in ('read', 'write', 'unmap'):
+            return
+        offset, length = map(int, entry.call[1:3])
+        runs = entry.call[3] if entry.kind == 'write' else entry.runs
+        if runs and bytes_count(runs) != length:
+            self.say(entry, 'has %d bytes, and its length is %d', bytes_count(runs), length)
+        if runs and not is_shortest(runs):
+            self.say(entry, 'has two runs of one byte side by side')
+        if offset < 0 and not entry.refusal:
+            self.say(entry, 'is `ok` at a negative offset')
+        if entry.kind != 'write' and (length > MOST_LENGTH) != (entry.refusal == 'too long'):
+            self.say(entry, 'of %d bytes is answered `%s`; `too long` is for more than %d', length, shorten(entry.answer, 30),
+                     MOST_LENGTH)
+
+    def check_modes(self, entry):
+        """The answer fits the replicas' modes."""
+        source = self.replay.source()
+        if entry.refusal == 'no replica' and source is not None:
+            self.say(entry, 'is refused as `no replica`, but r%d is RW', source)
+        if not entry.refusal and source is None and entry.kind in NEEDS_REPLICA:
+            self.say(entry, 'is `ok`, but no replica is RW')
+        if entry.kind in ('add', 'fail', 'salvage') and replica_number(entry.call[1]) >= len(self.replay.modes):
+            self.say(entry, 'names %s, which the report has no mode of', entry.call[1])
+        elif entry.kind == 'fail' and self.replay.modes[replica_number(entry.call[1])] != ERR:
+            self.say(entry, 'is `ok`, but %s is %s', entry.call[1], self.replay.modes[replica_number(entry.call[1])])
+        if entry.kind == 'status' and entry.answer.split(' ')[-1] != ','.join(self.replay.modes):
+            self.say(entry, 'tells the modes %s, which are %s', entry.answer.split(' ')[-1], ','.join(self.replay.modes))
+
+    def check_names(self, entry):
+        """The answer fits the names and layers that the journal has made."""
+        replay, name = self.replay, entry.call[-1]
+        if entry.kind == 'snapshot' and (name in replay.used) != (entry.refusal == 'name used'):
+            self.say(entry, 'is answered `%s`, but the name %s', entry.answer,
+                     'was taken before' if name in replay.used else 'is free')
+        if entry.kind in ('snapshot', 'add') and entry.refusal == 'chain full' and replay.layer_count != MOST_LAYERS:
+            self.say(entry, 'is refused as `chain full`, but there are %d layers', replay.layer_count)
+        if entry.kind in ('remove', 'revert', 'backup') and replay.is_live(name) == (entry.refusal == 'no such snapshot'):
+            self.say(entry, 'is answered `%s`, but there is %s snapshot of the name', entry.answer,
+                     'a' if replay.is_live(name) else 'no')
+        if entry.kind == 'status' and int(entry.answer.split(' ')[2]) != replay.layer_count:
+            self.say(entry, 'tells %s layers, and there are %d', entry.answer.split(' ')[2], replay.layer_count)
+
+    def check_mark(self, mark):
+        """The mark may stand here."""
+        if mark.kind == 'fault':
+            self.check_count(mark)
+        if not self.is_whole:
+            return
+        if mark.kind in ('folded', 'dropped'):
+            if self.replay.layers_known:
+                self.check_layer_mark(mark)
+        else:
+            self.check_replica_mark(mark)
+        self.replay.take_mark(mark, self.entries)
+
+    def check_count(self, mark):
+        """The counts of one line's faults rise."""
+        line, count = mark.words[1:3], int(mark.words[3])
+        if count <= self.counts.get(line, 0):
+            self.say(mark, 'has the count %d, and the fault before it on that line %d', count, self.counts.get(line, 0))
+        self.counts[line] = count
+
+    def check_replica_mark(self, mark):
+        """The mark fits the mode of its replica, and what comes next."""
+        name = mark.words[2] if mark.kind == 'fault' else mark.words[1]
+        mode, after = self.replay.modes[replica_number(name)], self.following.get(mark.line)
+        if mark.kind in ('fault', 'failed') and mode == ERR:
+            self.say(mark, 'takes %s to ERR, which is ERR already', name)
+        if mark.kind in ('added', 'salvaged') and mode != ERR:
+            self.say(mark, 'begins with %s as %s, and not as ERR', name, mode)
+        if mark.kind == 'added' and replica_number(mark.words[2]) != self.replay.source():
+            self.say(mark, 'takes %s as the source, which is not the lowest replica in mode RW', mark.words[2])
+        if mark.kind in ('promoted', 'aborted') and (self.replay.rebuild or [None])[0] != replica_number(name):
+            self.say(mark, 'ends a rebuild of %s, and none has begun', name)
+        if mark.kind == 'promoted' and mode != WO:
+            self.say(mark, 'takes %s to RW, which is %s and not WO', name, mode)
+        wanted = {'promoted': ('add', name), 'failed': ('fail', name), 'salvaged': ('salvage', name)}.get(mark.kind)
+        while isinstance(after, Mark) and mark.kind != 'promoted':
+            after = self.following.get(after.line)
+        if wanted and not (isinstance(after, Entry) and after.call == wanted and not after.refusal):
+            self.say(mark, 'has no `%s ok` behind it', ' '.join(wanted))
+
+    def check_layer_mark(self, mark):
+        """The layer may be folded or dropped."""
+        replay, gone = self.replay, mark.words[1]
+        children = replay.children(gone)
+        if gone not in replay.marked:
+            self.say(mark, 'takes %s away, which is not marked', gone)
+        if replay.below_head == gone:
+            self.say(mark, 'takes %s away, on which the head stands', gone)
+        if children != list(mark.words[2:]):
+            self.say(mark, 'takes %s away, on which %s', gone, ('stands ' + ', '.join(children)) if children else 'no layer stands')
+
+    def check_replies(self):
+        """Each call by a frame has one reply line, which says what its entry says."""
+        asked = {(entry.stream, entry.index): entry for entry in self.report.entries if entry.kind in FRAME_CALLS}
+        answered, last = set(), (-1, -1)
+        for reply in (line for line in self.report.lines if isinstance(line, FrameReply)):
+            key = reply.stream, reply.index
+            entry = asked.get(key)
+            if entry is None:
+                self.say(reply, 'replies to call %d of stream %d, which has no entry as a frame', reply.index, reply.stream)
+            elif key in answered:
+                self.say(reply, 'replies to call %d of stream %d once more', reply.index, reply.stream)
+            elif key < last:
+                self.say(reply, 'stands behind the reply to call %d of stream %d', last[1], last[0])
+            if entry is not None:
+                self.check_reply(reply, entry)
+            answered.add(key)
+            last = max(last, key)
+        for key, entry in asked.items():
+            if key not in answered and not self.is_front:
+                self.say(entry, 'is call %d of stream %d, which has no reply line', entry.index, entry.stream)
+
+    def check_reply(self, reply, entry):
+        """A reply line says what its entry says."""
+        if entry.refusal:
+            wanted = 3, len(entry.refusal), runs_of(entry.refusal)
+        elif entry.kind == 'read':
+            wanted = 2, bytes_count(entry.runs), entry.runs
+        else:
+            wanted = 2, int(entry.call[2]) if entry.kind in ('write', 'unmap') else 0, '-'
+        for what, seen, want in zip(('type', 'size', 'bytes'), (reply.kind, reply.size, reply.runs), wanted):
+            if seen != want:
+                self.say(reply, 'has the %s %s, and its entry in line %d makes it %s', what, shorten(str(seen), 30), entry.line,
+                         shorten(str(want), 30))
+        if entry.kind in ('read', 'write', 'unmap') and reply.offset != int(entry.call[1]):
+            self.say(reply, 'has the offset %d, and its entry in line %d has %s', reply.offset, entry.line, entry.call[1])
+
+    def check_end(self):
+        """The lines of the replicas are all there, and agree."""
+        lines = [line for line in self.report.lines if isinstance(line, OfReplica) and line.group != 'open']
+        modes = [line for line in lines if line.group == 'mode']
+        if self.is_front:
+            self.say(None, 'has no modes at its end: it is the front of a report')
+            return
+        if [line.replica for line in modes] != list(range(len(modes))):
+            self.say(modes[0], 'begins modes of %s, where each replica has one, in order',
+                     replicas_text([line.replica for line in modes]))
+        self.check_last_modes(modes)
+        wanted = [line.replica for line in modes if line.value == RW]
+        for group in ('chain', 'head'):
+            self.check_sameness([line for line in lines if line.group == group], group, wanted)
+
+    def check_last_modes(self, modes):
+        """The modes at the end are those of the journal."""
+        for line in modes:
+            known = self.is_whole and line.replica < len(self.replay.modes)
+            if known and line.value != self.replay.modes[line.replica]:
+                self.say(line, 'gives r%d the mode %s, and the journal %s', line.replica, line.value,
+                         self.replay.modes[line.replica])
+
+    def check_sameness(self, lines, group, wanted):
+        """Exactly the replicas in mode RW have a line of the group, and all say the same."""
+        seen = [line.replica for line in lines]
+        if seen != wanted:
+            self.say(lines[0] if lines else None, 'has `%s` of %s, and in mode RW is %s', group, replicas_text(seen),
+                     replicas_text(wanted))
+        for line in lines[1:]:
+            if line.value != lines[0].value:
+                self.say(line, 'gives r%d another %s than r%d has', line.replica, group, lines[0].replica)
+        if group == 'chain' and lines and self.is_whole and self.replay.layers_known and lines[0].value != self.replay.chain:
+            self.say(lines[0], 'gives the chain `%s`, and the journal `%s`', chain_text(lines[0].value),
+                     chain_text(self.replay.chain))
+
+
+def replicas_text(replicas):
+    """Some replicas, by name."""
+    return ', '.join('r%d' % replica for replica in replicas) or 'none'
+
+
+def chain_text(names):
+    """A chain, from the head down."""
+    return shorten(' '.join(('head', *names)), 60)
+
+
+def group_of(line):
+    """The group of a line."""
+    if isinstance(line, (Entry, Mark)):
+        return 'journal'
+    return 'reply' if isinstance(line, FrameReply) else line.group

@@ -1,0 +1,317 @@
+"""One SVG of a run: the places from left to right, a lane for each stream and each replica."""
+from bisect import bisect_left
+from collections import Counter
+
+from canvas import FAINT, INK, RED, Canvas
+from layout import AXIS, BAND_GAP, LEFT, LETTER, LINE_HEIGHT, RIGHT, RING, SHORT, SMALL_LETTER, WIDTH, Layout, lane_of
+from replay import ERR, RW, WO, Replay
+from report import LAYER_MARKS, Entry, shorten
+
+LEAST_WIDTH = 640
+MOST_CHAIN_ROWS = 8
+# How the box of each kind of call is filled, and its border.
+COLOURS = {
+    'read': ('#d6e9f8', '#3a7ab0'),
+    'write': ('#fde3bd', '#b5730b'),
+    'unmap': ('#f6d3cc', '#a8523f'),
+    'ping': ('#ececec', '#777777'),
+    'other': ('#ffffff', '#777777'),
+    'snapshot': ('#cdeed9', '#2a8a55'),
+    'remove': ('#f5efb2', '#94850e'),
+    'revert': ('#e6d8f3', '#7a4bab'),
+    'purge': ('#e9d5c3', '#8a5a2b'),
+    'add': ('#d3ecec', '#23807f'),
+    'fail': ('#f3d6e2', '#a63a6b'),
+    'backup': ('#dfe3f0', '#56608a'),
+    'expand': ('#dfe3f0', '#56608a'),
+    'salvage': ('#dfe3f0', '#56608a'),
+    'status': ('#f2f2f2', '#777777'),
+}
+HEAD_FILL, LAYER_FILL, MARKED_FILL = '#fde3bd', '#cdeed9', '#f0f0f0'
+MODES = {RW: '#58a55c', WO: '#e8a800', ERR: RED}
+MODE_AFTER = {'fault': ERR, 'failed': ERR, 'aborted': ERR, 'added': WO, 'promoted': RW, 'salvaged': RW}
+
+
+def draw(report, most=None, height=4000):
+    """The SVG of a report, of which at most `most` entries and marks are drawn, and no more than that height has room for."""
+    return Picture(report, most, height).draw()
+
+
+class Picture:
+    """Draws a report that is laid out."""
+
+    def __init__(self, report, most, height):
+        self.report = report
+        self.layout = Layout(report, most, height)
+        self.canvas = Canvas()
+        self.modes_before = find_modes(report)
+        self.bands = [band for group in self.layout.groups for band in group]
+        self.places = [line.place for line in self.layout.kept]
+        self.left_out = len(self.layout.journal) - len(self.places)
+        self.width = WIDTH if len(self.bands) > 1 else max([LEAST_WIDTH, *(band.right + RIGHT for band in self.bands)])
+
+    def draw(self):
+        """The whole picture."""
+        top, first = self.draw_title(), 0
+        for number, group in enumerate(self.layout.groups):
+            if number:
+                top = self.draw_gap(top)
+            for band in group:
+                self.draw_band(band, first, top)
+                first += len(band.columns)
+                top += band.height
+        top = self.draw_end(top + 6)
+        if not self.layout.is_detailed:
+            top = self.draw_refusals(top)
+        return self.canvas.svg(self.width, self.draw_legend(top + 4) + 10)
+
+    def draw_title(self):
+        """What the picture shows; gives the next free height."""
+        entries = self.report.entries
+        refused, marks = sum(bool(entry.refusal) for entry in entries), len(self.layout.journal) - len(entries)
+        title = '%s of %s on %s, %d refused' % (count_text(len(entries), 'call'), count_text(len(self.layout.streams), 'stream'),
+                                                count_text(self.report.replica_count, 'replica'), refused)
+        self.note(24, title + (', ' + count_text(marks, 'mark') if marks else ''), size=15, bold=True)
+        notes = ['Places from left to right.']
+        if any(('stream', stream) not in band.lanes for band in self.bands for stream in self.layout.streams):
+            notes.append('A band shows the streams that have a call in it.')
+        if self.left_out:
+            notes.append('Left out in the middle: %d of %d places.' % (self.left_out, len(self.layout.journal)))
+        if self.report.unread:
+            notes.append('Of the report %s could not be read.' % count_text(len(self.report.unread), 'line'))
+        self.note(42, ' '.join(notes), FAINT)
+        return 56
+
+    def note(self, base, text, colour=INK, size=11, bold=False):
+        """A line of text from the left edge."""
+        self.canvas.text(12, base, text, size, colour, bold, label=False)
+
+    def draw_gap(self, top):
+        """Says what is left out between the front and the end; gives the next free height."""
+        front = sum(len(band.columns) for band in self.layout.groups[0])
+        left_out = self.layout.journal[front:front + self.left_out]
+        self.canvas.rectangle(12, top, self.width - 24, 24, '#f4f4f4')
+        text = 'places %d to %d are left out here: %d of %d' % (left_out[0].place, left_out[-1].place, self.left_out,
+                                                                len(self.layout.journal))
+        self.canvas.text(24, top + 16, text, 12, bold=True, label=False)
+        return top + 24 + BAND_GAP
+
+    # A band.
+
+    def draw_band(self, band, first, top):
+        """A band whose upper edge is at `top`; its first column is of the kept line of number `first`."""
+        self.draw_axis(band, top)
+        tops, place = {}, top + AXIS
+        for lane, height in band.lanes.items():
+            kind, number = lane
+            tops[lane] = place
+            name = 'layers' if kind == 'layers' else 'stream %d' % number if kind == 'stream' else 'r%d' % number
+            self.note(place + (height / 2 + 4 if kind == 'stream' else 12), name, bold=True)
+            self.canvas.line(12, place + height, band.right, place + height, '#dddddd')
+            if kind == 'replica':
+                self.draw_modes(band, number, place)
+            place += height
+        self.draw_sights(band, first, tops)
+        for column, left in zip(band.columns, band.lefts):
+            lane = lane_of(column.line)
+            if isinstance(column.line, Entry):
+                self.draw_call(column, left, tops[lane] + band.lanes[lane] / 2)
+            else:
+                self.draw_mark(column, left, tops[lane])
+
+    def draw_axis(self, band, top):
+        """The places above a band, as many as have room, and a line down from each."""
+        free = 0
+        self.note(top + 12, 'place', FAINT, 10)
+        for column, left in zip(band.columns, band.lefts):
+            self.canvas.line(left, top + AXIS - 4, left, top + band.height - BAND_GAP, '#ececec')
+            if left >= free:
+                self.canvas.text(left, top + 12, str(column.line.place), 10, FAINT)
+                free = left + (len(str(column.line.place)) + 1) * SMALL_LETTER
+
+    def draw_sights(self, band, first, tops):
+        """From each call a thin line back to the place that it saw, also from a call in a later band."""
+        after = first + len(band.columns)
+        for number, entry in enumerate(self.layout.kept[first:], first):
+            lane = lane_of(entry)
+            if not isinstance(entry, Entry) or lane not in tops:
+                continue
+            seen = min(bisect_left(self.places, entry.saw), number)
+            if seen >= after:
+                continue
+            left = band.lefts[seen - first] + 4 if seen >= first else LEFT
+            right = band.lefts[number - first] + RING if number < after else band.right
+            centre = tops[lane] + band.lanes[lane] / 2
+            self.canvas.line(left, centre, right, centre, FAINT)
+            if seen >= first:
+                self.canvas.ring(left, centre)
+
+    def draw_call(self, column, left, centre):
+        """The box of a call."""
+        entry, (fill, border) = column.line, COLOURS[column.line.kind]
+        width, height = column.width - RING - 5, len(column.labels) * LINE_HEIGHT + 6
+        left, top = left + RING, centre - height / 2
+        title = 'place %d, saw %d, stream %d, call %d: %s: %s' % (*entry[1:5], ' '.join(entry.call), entry.answer)
+        self.canvas.rectangle(left, top, width, height, fill, RED if entry.refusal else border, 2 if entry.refusal else 1,
+                              shorten(title, 200))
+        for number, label in enumerate(column.labels):
+            is_refusal = bool(entry.refusal) and self.layout.is_detailed and number + 1 == len(column.labels)
+            self.canvas.text(left + 4, top + 13 + number * LINE_HEIGHT, label, colour=RED if is_refusal else INK, bold=number == 0)
+        if entry.refusal:
+            self.canvas.cross(left + width, top)
+
+    def draw_modes(self, band, replica, top):
+        """The bar of a replica's modes in a band."""
+        mode, begin = self.modes_before[band.columns[0].line.line][replica], band.lefts[0]
+        for column, left in zip(band.columns, band.lefts):
+            if lane_of(column.line) == ('replica', replica):
+                self.canvas.rectangle(begin, top + 5, left + 6 - begin, 7, MODES[mode])
+                mode, begin = MODE_AFTER[column.line.kind], left + 6
+        self.canvas.rectangle(begin, top + 5, band.right - begin, 7, MODES[mode])
+
+    def draw_mark(self, column, left, top):
+        """A mark, in the lane of its replica or in the lane of layers."""
+        mark, middle = column.line, left + 6
+        if mark.kind in LAYER_MARKS:
+            self.canvas.rectangle(left + 3, top + 3, column.width - 6, 16, '#ffffff', FAINT, title=' '.join(mark.words))
+            self.canvas.text(left + 6, top + 14, column.labels[0], 10)
+            return
+        if mark.kind in ('promoted', 'salvaged'):
+            self.canvas.polygon([(middle - 6, top + 14), (middle + 6, top + 14), (middle, top + 2)])
+        elif mark.kind == 'added':
+            self.canvas.polygon([(middle - 6, top + 8.5), (middle, top + 2), (middle + 6, top + 8.5), (middle, top + 15)])
+        else:
+            self.canvas.cross(middle, top + 8.5, INK, 5)
+        self.canvas.text(left + 3, top + 25, column.labels[0], 10)
+
+    # What stands below the bands.
+
+    def draw_end(self, top):
+        """The chain and the digest of each replica at the end, once where several have the same; gives the next free height."""
+        chains, heads = self.report.of_replicas('chain'), self.report.of_replicas('head')
+        for chain in dict.fromkeys(chains.values()):
+            top = self.draw_chain(names_of(chains, chain), chain, top)
+        for digest in dict.fromkeys(heads.values()):
+            self.note(top + 12, 'digest of the head of %s: %s…' % (names_of(heads, digest), digest[:16]))
+            top += 20
+        modes = self.report.of_replicas('mode')
+        if ERR in modes.values():
+            self.note(top + 12, '%s at the end: ERR' % names_of(modes, ERR), RED)
+            top += 20
+        return top
+
+    def draw_chain(self, replicas, chain, top):
+        """One chain from the head down; gives the next free height."""
+        self.note(top + 12, 'chain of %s at the end, from the head down' % replicas, bold=True)
+        rows, half, left_out = self.chain_rows(('head', *chain)), MOST_CHAIN_ROWS // 2, 0
+        if len(rows) > MOST_CHAIN_ROWS:
+            left_out = sum(map(len, rows[half:-half]))
+            rows = rows[:half] + rows[-half:]
+        top += 20
+        for number, row in enumerate(rows):
+            if left_out and number == half:
+                self.canvas.text(24, top + 13, '%d layers are left out here' % left_out, bold=True, label=False)
+                top += 22
+            self.draw_layers(row, top, number + 1 == len(rows))
+            top += 26
+        return top
+
+    def chain_rows(self, names):
+        """The names of a chain in rows that have room, each with where its box begins and how wide that is."""
+        rows, place = [[]], 24
+        for name in names:
+            width = len(name) * LETTER + 12
+            if rows[-1] and place + width > self.width - RIGHT - 14:
+                rows.append([])
+                place = 24
+            rows[-1].append((name, place, width))
+            place += width + 14
+        return rows
+
+    def draw_layers(self, row, top, is_last):
+        """The boxes of layers, each joined to its parent."""
+        for number, (name, left, width) in enumerate(row):
+            if not is_last or number + 1 < len(row):
+                self.canvas.line(left + width, top + 10, left + width + 14, top + 10, INK)
+            fill = MARKED_FILL if name.endswith('*') else HEAD_FILL if name == 'head' else LAYER_FILL
+            self.canvas.rectangle(left, top, width, 20, fill, INK, dashed=name.endswith('*'))
+            self.canvas.text(left + 6, top + 14, name)
+
+    def draw_refusals(self, top):
+        """The refusals with their places, for which small boxes have no room; gives the next free height."""
+        places = {}
+        for entry in self.report.entries:
+            if entry.refusal:
+                places.setdefault(entry.refusal, []).append(str(entry.place))
+        for refusal, numbers in sorted(places.items()):
+            text = '%s refused, %s: place%s %s' % (count_text(len(numbers), 'call'), refusal, 's' * (len(numbers) > 1),
+                                                   ', '.join(numbers))
+            room = int((self.width - 30) / LETTER)
+            self.note(top + 14, text if len(text) <= room else text[:room].rpartition(', ')[0] + ', and more', RED)
+            top += 18
+        return top
+
+    def draw_legend(self, top):
+        """The signs of the picture, of those that it has; gives the next free height."""
+        left = 12
+        for what, key, text in self.legend():
+            width = 26 + len(text) * 6.3 + 16
+            if left + width > self.width - 12:
+                left, top = 12, top + 20
+            self.draw_sign(what, key, left, top)
+            self.canvas.text(left + 26, top + 13, text, label=False)
+            left += width
+        return top + 20
+
+    def legend(self):
+        """What the legend says: which sign, of which kind or mode, and the words for it."""
+        counts = Counter(entry.kind for entry in self.report.entries)
+        words = {kind: kind if self.layout.is_detailed or short == kind else '%s: %s' % (short, kind)
+                 for kind, short in SHORT.items()}
+        items = [('kind', kind, text) for kind, text in words.items() if counts[kind]]
+        if any(entry.refusal for entry in self.report.entries):
+            items.append(('refused', None, 'refused'))
+        if counts:
+            items.append(('saw', None, 'from the place that a call saw when it was taken up'))
+        seen = {mode for modes in self.modes_before.values() for mode in modes}
+        items += [('mode', mode, 'replica in mode ' + mode) for mode in MODES if mode in seen]
+        if any(name.endswith('*') for chain in self.report.of_replicas('chain').values() for name in chain):
+            items.append(('marked', None, 'removed layer'))
+        return items
+
+    def draw_sign(self, what, key, left, top):
+        """One sign of the legend."""
+        if what == 'kind':
+            self.canvas.rectangle(left, top + 3, 20, 12, *COLOURS[key])
+        elif what == 'refused':
+            self.canvas.rectangle(left, top + 3, 20, 12, '#ffffff', RED, 2)
+            self.canvas.cross(left + 20, top + 3)
+        elif what == 'saw':
+            self.canvas.line(left + 2, top + 9, left + 20, top + 9, FAINT)
+            self.canvas.ring(left + 3, top + 9)
+        elif what == 'mode':
+            self.canvas.rectangle(left, top + 5, 20, 7, MODES[key])
+        else:
+            self.canvas.rectangle(left, top + 3, 20, 12, MARKED_FILL, INK, dashed=True)
+
+
+def find_modes(report):
+    """The modes of all replicas before each line of the journal, by the line's number, and those at the end by None."""
+    replay, modes = Replay(report), {}
+    entries = {entry.place: entry for entry in report.entries}
+    for line in report.journal:
+        modes[line.line] = tuple(replay.modes)
+        if not isinstance(line, Entry):
+            replay.take_mark(line, entries)
+    modes[None] = tuple(replay.modes)
+    return modes
+
+
+def names_of(values, value):
+    """The replicas that have a value."""
+    return ', '.join('r%d' % replica for replica in sorted(values) if values[replica] == value)
+
+
+def count_text(count, noun):
+    """A number of things."""
+    return '%d %s%s' % (count, noun, '' if count == 1 else 's')

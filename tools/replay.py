@@ -1,0 +1,101 @@
+"""What a journal makes of modes, names and layers. It knows no bytes."""
+from report import replica_number
+
+RW, WO, ERR = 'RW', 'WO', 'ERR'
+LAYER_CHANGES = ('snapshot', 'remove', 'revert')
+
+
+class Replay:
+    """Modes and layers, as the journal's lines so far leave them.
+
+    Where the run began with saved replicas, their layers are not told, and `layers_known` is false.
+    """
+
+    def __init__(self, report):
+        opened = report.of_replicas('open')
+        self.modes = [opened.get(replica, RW).split(' ')[0] for replica in range(report.replica_count)]
+        self.layers_known = not opened
+        self.parents = {}
+        self.marked = set()
+        self.used = set()
+        self.below_head = None
+        # Target and source of the rebuild that has not ended.
+        self.rebuild = None
+
+    @property
+    def layer_count(self):
+        """How many layers there are, the head counted."""
+        return len(self.parents) + 1
+
+    @property
+    def chain(self):
+        """The layers below the head, from its parent down, as a chain line names them."""
+        names, name = [], self.below_head
+        while name is not None:
+            names.append(name + '*' * (name in self.marked))
+            name = self.parents.get(name)
+        return tuple(names)
+
+    def source(self):
+        """The lowest replica in mode RW, or None."""
+        return self.modes.index(RW) if RW in self.modes else None
+
+    def is_live(self, name):
+        """Whether there is a snapshot of the name that is not marked."""
+        return name in self.parents and name not in self.marked
+
+    def children(self, parent):
+        """The layers that stand on one, by name."""
+        return [name for name, below in self.parents.items() if below == parent]
+
+    def put_layer(self, name):
+        """The head becomes a layer of that name."""
+        self.used.add(name)
+        self.parents[name] = self.below_head
+        self.below_head = name
+
+    def take_entry(self, entry):
+        """Takes the changes of an entry."""
+        if entry.answer == 'ok' and entry.kind in LAYER_CHANGES:
+            self.change_layers(entry.kind, entry.call[1])
+
+    def change_layers(self, kind, name):
+        """A snapshot, a mark or a revert that was done."""
+        if kind == 'snapshot':
+            self.put_layer(name)
+        elif kind == 'remove':
+            self.marked.add(name)
+        else:
+            self.below_head = name
+
+    def take_mark(self, mark, entries):
+        """Takes the changes of a mark; a salvage lists some of `entries`, by place."""
+        words = mark.words
+        if mark.kind == 'fault':
+            self.modes[replica_number(words[2])] = ERR
+        elif mark.kind in ('failed', 'aborted'):
+            self.modes[replica_number(words[1])] = ERR
+            self.rebuild = None if mark.kind == 'aborted' else self.rebuild
+        elif mark.kind == 'added':
+            self.rebuild = replica_number(words[1]), replica_number(words[2])
+            self.modes[self.rebuild[0]] = WO
+            self.put_layer(words[3])
+        elif mark.kind == 'promoted':
+            self.modes[replica_number(words[1])] = RW
+            self.rebuild = None
+        elif mark.kind == 'salvaged':
+            self.modes[replica_number(words[1])] = RW
+            listed = () if words[2] == '-' else [entries.get(int(place)) for place in words[2].split(',')]
+            for entry in listed:
+                if entry is not None and entry.kind in LAYER_CHANGES:
+                    self.change_layers(entry.kind, entry.call[1])
+        else:
+            self.take_layer_away(words)
+
+    def take_layer_away(self, words):
+        """A layer that was folded into its child, or dropped."""
+        gone = words[1]
+        below = self.parents.pop(gone, None)
+        self.marked.discard(gone)
+        if words[0] == 'folded' and words[2] in self.parents:
+            self.parents[words[2]] = below

@@ -1,0 +1,73 @@
+"""Tests of the examples, and of run_all with programs that stand for longhorn."""
+import os
+import subprocess
+import sys
+import tempfile
+import unittest
+
+import journal
+import script
+from report import read_report
+
+EXAMPLES = os.path.join(os.path.dirname(os.path.dirname(os.path.abspath(script.__file__))), 'examples')
+TEXT = '.script.txt'
+NAMES = sorted(name[:-len(TEXT)] for name in os.listdir(EXAMPLES) if name.endswith(TEXT))
+# Prints what stands beside the example whose script it gets, with `ok` changed where it is told to.
+STAND_IN = '''#!%s
+import os, sys
+sys.path.insert(0, %r)
+import script
+given = sys.stdin.buffer.read()
+assert sys.argv[1:] == ['run', '--workers', 'one'], sys.argv
+for name in %r:
+    with open(os.path.join(%r, name + %r), encoding='utf-8') as file:
+        if script.make(file.read()) == given:
+            with open(os.path.join(%r, name + '.output')) as output:
+                sys.stdout.write(output.read()%s)
+'''
+
+
+def read(name):
+    """The text of a file of the examples."""
+    with open(os.path.join(EXAMPLES, name), encoding='utf-8') as file:
+        return file.read()
+
+
+class Examples(unittest.TestCase):
+    def test_show_of_make_is_the_text_but_for_its_comments(self):
+        self.assertTrue(NAMES)
+        for name in NAMES:
+            lines = read(name + TEXT).splitlines(True)
+            self.assertTrue(lines[0].startswith('# '), name)
+            self.assertEqual(script.show(script.make(''.join(lines))), ''.join(line for line in lines if line[0] != '#'), name)
+
+    def test_the_first_example_is_the_script_beside_it(self):
+        with open(os.path.join(EXAMPLES, 'first.script'), 'rb') as file:
+            self.assertEqual(script.make(read('first_steps' + TEXT)), file.read())
+
+    def test_no_expected_output_has_anything_odd(self):
+        for name in NAMES:
+            self.assertEqual(journal.check(read_report(read(name + '.output'))), '', name)
+
+    def run_all(self, change):
+        """The status and the output of run_all with a program that changes what it prints."""
+        with tempfile.TemporaryDirectory() as folder:
+            program = os.path.join(folder, 'program')
+            with open(program, 'w') as file:
+                file.write(STAND_IN % (sys.executable, os.path.dirname(script.__file__), NAMES, EXAMPLES, TEXT, EXAMPLES, change))
+            os.chmod(program, 0o755)
+            ended = subprocess.run([sys.executable, os.path.join(EXAMPLES, 'run_all'), program], capture_output=True, text=True)
+            return ended.returncode, ended.stdout.splitlines()
+
+    def test_run_all_passes_what_prints_the_expected_output(self):
+        status, lines = self.run_all('')
+        self.assertEqual((status, lines[-1]), (0, 'examples: %d passed, 0 failed' % len(NAMES)))
+
+    def test_run_all_names_what_prints_another_output(self):
+        status, lines = self.run_all(".replace('ping ok', 'ping error too long')")
+        self.assertEqual((status, lines[-1]), (1, 'examples: %d passed, 1 failed' % (len(NAMES) - 1)))
+        self.assertIn('first_steps: line 3 is `2 2 0 2 ping error too long`, and `2 2 0 2 ping ok` is expected', lines)
+
+
+if __name__ == '__main__':
+    unittest.main()

@@ -1,0 +1,223 @@
+"""Tests of journal.py: what is odd, and the table."""
+import random
+import subprocess
+import sys
+import unittest
+
+import journal
+import picture
+from findings import find_odd
+from report import read_report
+
+TOOL = journal.__file__
+HEAD = '731859029215873fdac1c9f2f8bd25a334abf0f3a9e1b057cf2cacc2826d86b0'
+OTHER_HEAD = '85f0f89e45067bf835186d74db75cef739d5a1ccdff92f301eb2c1cfbc74ca96'
+OUT_OF_RANGE = '6f*1,75*1,74*1,20*1,6f*1,66*1,20*1,72*1,61*1,6e*1,67*1,65*1'
+
+ONE_STREAM = '''0 0 0 0 write 4095 1 61*1 ok
+1 1 0 1 read 4094 4 ok 00*1,61*1,00*2
+2 2 0 2 ping ok
+3 3 0 3 read 2097151 4 error out of range
+4 4 0 4 other 7 error unsupported
+reply 0 0 1 2 4095 1 -
+reply 0 1 2 2 4094 4 00*1,61*1,00*2
+reply 0 2 3 2 0 0 -
+reply 0 3 4 3 2097151 12 %s
+reply 0 4 5 3 0 11 75*1,6e*1,73*1,75*1,70*2,6f*1,72*1,74*1,65*1,64*1
+mode r0 RW
+chain r0 head
+head r0 %s
+''' % (OUT_OF_RANGE, OTHER_HEAD)
+
+COMMANDS = '''0 0 0 0 snapshot s ok
+1 1 0 1 snapshot s error name used
+2 2 0 2 snapshot t ok
+3 3 0 3 remove s ok
+4 4 0 4 revert s error no such snapshot
+5 5 0 5 status ok layers 3 modes RW
+6 mark folded s t
+7 6 0 6 purge ok
+8 8 0 7 snapshot u ok
+9 9 0 8 revert t ok
+10 10 0 9 remove u ok
+11 mark dropped u
+12 11 0 10 purge ok
+mode r0 RW
+chain r0 head t
+head r0 %s
+''' % HEAD
+
+# A replica fails, is rebuilt and goes on alone; stream 2 had seen little when its calls ended.
+REBUILD = '''0 0 0 0 write 0 1 61*1 ok
+1 mark failed r1
+2 1 1 0 fail r1 ok
+3 mark added r1 r0 sys-0
+4 0 2 0 write 4096 1 62*1 ok
+5 mark promoted r1
+6 3 1 1 add r1 ok
+7 mark failed r0
+8 7 1 2 fail r0 ok
+9 6 2 1 read 0 1 ok 61*1
+10 mark fault 2 r1 1
+11 10 2 2 write 0 1 63*1 error no replica
+reply 0 0 1 2 0 1 -
+reply 2 0 1 2 4096 1 -
+reply 2 1 2 2 0 1 61*1
+reply 2 2 3 3 0 10 6e*1,6f*1,20*1,72*1,65*1,70*1,6c*1,69*1,63*1,61*1
+mode r0 ERR
+mode r1 ERR
+'''
+
+SAVED = '''open r0 RW
+open r1 ERR unclean Dirty
+0 0 0 0 revert old ok
+1 mark fault 0 r0 3
+2 1 0 1 write 0 1 61*1 error no replica
+3 mark salvaged r0 2
+4 3 1 0 salvage r0 ok
+reply 0 1 1 3 0 10 6e*1,6f*1,20*1,72*1,65*1,70*1,6c*1,69*1,63*1,61*1
+mode r0 RW
+mode r1 ERR
+chain r0 head old
+head r0 %s
+''' % HEAD
+
+GOOD = (ONE_STREAM, COMMANDS, REBUILD, SAVED)
+# A report, a text of it, what stands there instead, and what is found, with the number of its line.
+BREAKS = [
+    (ONE_STREAM, '2 2 0 2 ping', '3 2 0 2 ping', 'line 3: has place 3, where 2 comes next'),
+    (ONE_STREAM, '2 2 0 2 ping ok\n', '', 'line 3: has place 3, where 2 comes next'),
+    (ONE_STREAM, '2 2 0 2 ping', '2 2 0 3 ping', 'line 3: is call 3 of stream 0, where call 2 comes next'),
+    (ONE_STREAM, '2 2 0 2 ping', '2 3 0 2 ping', 'line 3: saw 3, which is past its own place 2'),
+    (ONE_STREAM, '2 2 0 2 ping', '2 1 0 2 ping', 'line 3: saw 1, but the call before it in stream 0 ended at place 1'),
+    (ONE_STREAM, '2 2 0 2 ping ok', '2 2 0 2 pong ok', 'line 3: is no line of a report: `2 2 0 2 pong ok`'),
+    (ONE_STREAM, '2 2 0 2 ping ok', '2 2 0 2 ping ok 00*1', 'line 3: is no line of a report'),
+    (ONE_STREAM, '2 2 0 2 ping ok', '2 2 0 2 ping error out of range', 'line 3: is refused as `out of range`, which no `ping` is'),
+    (ONE_STREAM, 'other 7 error unsupported', 'other 7 ok', 'line 5: is `ok`, but a frame of another type'),
+    (ONE_STREAM, 'read 4094 4 ok', 'read 4094 5 ok', 'line 2: has 4 bytes, and its length is 5'),
+    (ONE_STREAM, 'write 4095 1 61*1 ok', 'write 4095 2 61*1,61*1 ok', 'line 1: has two runs of one byte side by side'),
+    (ONE_STREAM, 'read 4094 4 ok', 'read -4 4 ok', 'line 2: is `ok` at a negative offset'),
+    (ONE_STREAM, 'read 2097151 4 error out of range', 'read 2097151 1048577 error out of range', 'line 4: of 1048577 bytes is answered'),
+    (ONE_STREAM, 'reply 0 2 3 2 0 0 -\n', '', 'line 3: is call 2 of stream 0, which has no reply line'),
+    (ONE_STREAM, 'reply 0 2 3 2 0 0 -', 'reply 0 9 3 2 0 0 -', 'line 8: replies to call 9 of stream 0, which has no entry'),
+    (ONE_STREAM, 'reply 0 2 3 2 0 0 -', 'reply 0 2 3 2 0 0 -\nreply 0 2 3 2 0 0 -', 'line 9: replies to call 2 of stream 0 once more'),
+    (ONE_STREAM, 'reply 0 2 3 2 0 0 -', 'reply 0 2 3 2 0 1 -', 'line 8: has the size 1, and its entry in line 3 makes it 0'),
+    (ONE_STREAM, 'reply 0 2 3 2 0 0 -', 'reply 0 2 3 3 0 0 -', 'line 8: has the type 3, and its entry in line 3 makes it 2'),
+    (ONE_STREAM, '4094 4 00*1,61*1,00*2\nreply', '4094 4 00*4\nreply', 'line 7: has the bytes 00*4, and its entry in line 2'),
+    (ONE_STREAM, 'reply 0 0 1 2 4095 1 -', 'reply 0 0 1 2 4094 1 -', 'line 6: has the offset 4094, and its entry in line 1 has 4095'),
+    (ONE_STREAM, 'mode r0 RW\nchain r0 head\n', 'chain r0 head\nmode r0 RW\n', 'line 12: stands behind a line of the group `chain`'),
+    (ONE_STREAM, 'mode r0 RW', 'mode r0 ERR', 'line 11: gives r0 the mode ERR, and the journal RW'),
+    (ONE_STREAM, 'mode r0 RW', 'mode r1 RW', 'line 11: begins modes of r1, where each replica has one, in order'),
+    (ONE_STREAM, 'chain r0 head\n', '', 'the report has `chain` of none, and in mode RW is r0'),
+    (ONE_STREAM, 'chain r0 head\n', 'chain r0 head s\n', 'line 12: gives the chain `head s`, and the journal `head`'),
+    (ONE_STREAM, 'mode r0 RW\n', 'mode r0 RW\nmode r1 RW\n', 'line 13: has `chain` of r0, and in mode RW is r0, r1'),
+    (ONE_STREAM, 'mode r0 RW\nchain r0 head\nhead r0 %s\n' % OTHER_HEAD, '', 'the report has no modes at its end'),
+    (COMMANDS, '1 1 0 1 snapshot s error name used', '1 1 0 1 snapshot r error name used', 'line 2: is answered `error name used`, but'),
+    (COMMANDS, '2 2 0 2 snapshot t ok', '2 2 0 2 snapshot t error chain full', 'line 3: is refused as `chain full`, but there are 2 layers'),
+    (COMMANDS, '4 4 0 4 revert s error no such snapshot', '4 4 0 4 revert s ok', 'line 5: is answered `ok`, but there is no snapshot'),
+    (COMMANDS, '3 3 0 3 remove s ok', '3 3 0 3 remove s error no such snapshot', 'line 4: is answered `error no such snapshot`, but there is a'),
+    (COMMANDS, 'layers 3', 'layers 2', 'line 6: tells 2 layers, and there are 3'),
+    (COMMANDS, 'layers 3 modes RW', 'layers 3 modes RW,RW', 'line 6: tells the modes RW,RW, which are RW'),
+    (COMMANDS, 'folded s t', 'folded t s', 'line 7: takes t away, which is not marked'),
+    (COMMANDS, 'folded s t', 'dropped s', 'line 7: takes s away, on which stands t'),
+    (COMMANDS, '9 9 0 8 revert t ok', '9 9 0 8 status ok layers 3 modes RW', 'line 12: takes u away, on which the head stands'),
+    (REBUILD, 'error no replica', 'ok', 'line 12: is `ok`, but no replica is RW'),
+    (REBUILD, 'read 0 1 ok 61*1', 'read 0 1 error no replica', 'line 10: is refused as `no replica`, but r1 is RW'),
+    (REBUILD, '8 7 1 2 fail r0 ok', '8 7 1 2 fail r1 ok', 'line 8: has no `fail r0 ok` behind it'),
+    (REBUILD, '8 7 1 2 fail r0 ok', '8 7 1 2 fail r1 ok', 'line 9: is `ok`, but r1 is RW'),
+    (REBUILD, '8 7 1 2 fail r0 ok', '8 7 1 2 fail r7 ok', 'line 9: names r7, which the report has no mode of'),
+    (REBUILD, 'fault 2 r1 1', 'fault 2 r1 0', 'line 11: has the count 0, and the fault before it on that line 0'),
+    (REBUILD, 'fault 2 r1 1', 'fault 2 r0 1', 'line 11: takes r0 to ERR, which is ERR already'),
+    (REBUILD, 'added r1 r0 sys-0', 'added r1 r1 sys-0', 'line 4: takes r1 as the source, which is not the lowest replica'),
+    (REBUILD, 'promoted r1', 'promoted r0', 'line 6: ends a rebuild of r0, and none has begun'),
+    (REBUILD, '1 mark failed r1', '1 mark promoted r1', 'line 2: takes r1 to RW, which is RW and not WO'),
+    (REBUILD, '6 3 1 1 add r1 ok', '6 3 1 1 add r1 error in use', 'line 6: has no `add r1 ok` behind it'),
+    (SAVED, 'salvaged r0 2', 'salvaged r0 -\n4 mark salvaged r0 -', 'line 7: begins with r0 as RW, and not as ERR'),
+    (SAVED, 'chain r0 head old\n', 'chain r0 head old\nchain r1 head\n', 'line 11: has `chain` of r0, r1, and in mode RW is r0'),
+]
+
+
+class Check(unittest.TestCase):
+    def test_a_good_report_has_no_finding(self):
+        for report in GOOD:
+            self.assertEqual(journal.check(read_report(report)), '')
+
+    def test_what_is_odd_is_found(self):
+        for report, old, new, found in BREAKS:
+            with self.subTest(found, new=new):
+                self.assertEqual(report.count(old), 1, old)
+                lines = journal.check(read_report(report.replace(old, new))).split('\n')
+                self.assertTrue(any(line.startswith(found) for line in lines), lines)
+
+    def test_replicas_that_differ_are_found(self):
+        ends = 'mode r0 RW\nmode r1 RW\nchain r0 head\nchain r1 head%s\nhead r0 %s\nhead r1 %s\n'
+        self.assertEqual(find_odd(read_report(ends % ('', HEAD, HEAD))), [])
+        self.assertEqual(journal.check(read_report(ends % (' s', HEAD, HEAD))), 'line 4: gives r1 another chain than r0 has\n')
+        self.assertEqual(journal.check(read_report(ends % ('', HEAD, OTHER_HEAD))), 'line 6: gives r1 another head than r0 has\n')
+
+    def test_a_front_of_a_report_is_called_so_and_nothing_else(self):
+        found = journal.check(read_report(''.join(ONE_STREAM.splitlines(True)[:7])))
+        self.assertEqual(found, 'the report has no modes at its end: it is the front of a report\n')
+
+    def test_a_missing_line_says_nothing_of_what_follows_from_it(self):
+        found = journal.check(read_report(COMMANDS.replace('2 2 0 2 snapshot t ok\n', '')))
+        self.assertEqual(found, 'line 3: has place 3, where 2 comes next\nline 3: is call 3 of stream 0, where call 2 comes next\n')
+
+    def test_no_change_of_a_report_stops_the_tool(self):
+        source = random.Random(11)
+        for _ in range(150):
+            lines = source.choice(GOOD).splitlines()
+            for _ in range(source.randint(1, 3)):
+                place, other = source.randrange(len(lines)), source.randrange(len(lines))
+                words = lines[place].split(' ')
+                words[source.randrange(len(words))] = source.choice(['0', '9', 'r1', 'r9', 'ok', 's', '-', 'added', 'mark', ''])
+                lines[place] = source.choice([lines[other], ' '.join(words)])
+            report = read_report('\n'.join(lines))
+            journal.check(report)
+            journal.table(report)
+            picture.draw(report)
+
+
+class Table(unittest.TestCase):
+    def test_columns_stand_below_each_other(self):
+        report = '''0 0 0 0 write 4095 40 61*1,62*1,63*1,64*1,65*1,66*1,67*1,68*1,00*32 ok
+1 1 0 1 read 4094 4 ok 00*1,61*1,00*2
+2 mark fault 0 r1 1
+3 2 10 0 revert s error no such snapshot
+'''
+        self.assertEqual(journal.table(read_report(report)), '''place  saw  stream  call                           reply
+    0    0       0  write 4095+40 61*1,62*1,63*1…  ok
+    1    1       0  read 4094+4                    ok 00*1,61*1,00*2
+    2               mark fault 0 r1 1
+    3    2      10  revert s                       error no such snapshot
+''')
+
+    def test_no_column_is_wide(self):
+        long_ = '0 0 0 0 write -9223372036854775808 256 %s error out of range\n' % ','.join('%02x*1' % value for value in range(256))
+        long_ += '1 1 0 1 backup %s %s ok\n2 2 0 2 status ok layers 2 modes %s\n' % ('b' * 64, 's' * 64, ','.join(['RW'] * 8))
+        self.assertLess(max(map(len, journal.table(read_report(long_)).split('\n'))), 110)
+
+
+class CommandLine(unittest.TestCase):
+    def run_tool(self, *words, given=''):
+        """The status and the output of the tool."""
+        ended = subprocess.run([sys.executable, TOOL, *words], input=given, capture_output=True, text=True)
+        return ended.returncode, ended.stdout
+
+    def test_check_ends_with_1_where_something_is_odd(self):
+        self.assertEqual(self.run_tool('check', given=ONE_STREAM), (0, ''))
+        self.assertEqual(self.run_tool('check', given=''), (1, 'the report has no modes at its end: it is the front of a report\n'))
+
+    def test_table_and_picture_print(self):
+        self.assertIn('write 4095+1', self.run_tool('table', given=ONE_STREAM)[1])
+        self.assertTrue(self.run_tool('picture', '--most', '2', '-', given=ONE_STREAM)[1].startswith('<svg '))
+        self.assertEqual(self.run_tool('table', 'no-such-file'), (1, ''))
+
+    def test_help_tells_what_each_does(self):
+        for words in (['--help'], ['check', '--help'], ['table', '--help'], ['picture', '--help']):
+            status, output = self.run_tool(*words)
+            self.assertEqual((status, 'standard input' in output or len(words) == 1), (0, True))
+
+
+if __name__ == '__main__':
+    unittest.main()

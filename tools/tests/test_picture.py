@@ -1,0 +1,101 @@
+"""Tests of the picture that journal.py draws."""
+import re
+import unittest
+from xml.etree import ElementTree
+
+import picture
+from report import read_report
+from test_journal import COMMANDS, HEAD, ONE_STREAM, REBUILD, SAVED
+
+SVG = '{http://www.w3.org/2000/svg}'
+
+
+def drawn(report, **limits):
+    """The picture of a report, as a tree of elements."""
+    return ElementTree.fromstring(picture.draw(read_report(report), **limits))
+
+
+def texts(tree):
+    """The texts of a picture."""
+    return [element.text for element in tree.iter(SVG + 'text')]
+
+
+def boxes(tree):
+    """The texts that show where a pointer rests on the box of a call."""
+    return [element.text for element in tree.iter(SVG + 'title') if element.text.startswith('place ')]
+
+
+def long_run(count, streams):
+    """The report of a run of so many calls by turns of streams, each of which saw as much as it could."""
+    calls = ['read %d 4096' % (4096 * place) if place % 3 else 'snapshot nightly-%d' % place for place in range(count)]
+    answers = ['error out of range' if place % 100 == 50 else 'ok 00*4096' if place % 3 else 'ok' for place in range(count)]
+    lines = ['%d %d %d %d %s %s' % (place, max(0, place - streams + 1), place % streams, place // streams, call, answer)
+             for place, (call, answer) in enumerate(zip(calls, answers))]
+    return '\n'.join([*lines, 'mode r0 RW', 'chain r0 head s', 'head r0 ' + HEAD, ''])
+
+
+class Picture(unittest.TestCase):
+    def test_each_call_has_a_box_with_all_that_it_says(self):
+        tree = drawn(ONE_STREAM)
+        self.assertEqual(len(boxes(tree)), 5)
+        self.assertIn('place 3, saw 3, stream 0, call 3: read 2097151 4: error out of range', boxes(tree))
+        for text in ('stream 0', 'r0', 'write', '4095+1', '61*1', 'out of range', 'other', 'replica in mode RW'):
+            self.assertIn(text, texts(tree))
+        self.assertIn('5 calls of 1 stream on 1 replica, 2 refused', texts(tree))
+
+    def test_a_refused_call_has_a_red_border(self):
+        boxed = [element for element in drawn(ONE_STREAM).iter(SVG + 'rect') if element.find(SVG + 'title') is not None]
+        red = [element for element in boxed if element.get('stroke') == picture.RED]
+        self.assertEqual(len(red), 2)
+
+    def test_names_marks_and_the_chain_are_shown(self):
+        for text in ('s into t', 'u dropped', 'layers', 'name used', 'no such snapshot', 'head', 't'):
+            self.assertIn(text, texts(drawn(COMMANDS)))
+        removed = drawn(COMMANDS.replace('chain r0 head t', 'chain r0 head t s*'))
+        self.assertTrue({'s*', 'removed layer'} <= set(texts(removed)))
+        for text in ('failed', 'from r0, sys-0', 'promoted', 'fault w2 #1', 'r0, r1 at the end: ERR', 'replica in mode WO'):
+            self.assertIn(text, texts(drawn(REBUILD)))
+        self.assertIn('salvaged', texts(drawn(SAVED)))
+
+    def test_a_line_leads_back_to_the_place_that_a_call_saw(self):
+        tree = drawn(REBUILD)
+        self.assertEqual(len(list(tree.iter(SVG + 'circle'))), 7 + 1)
+        lefts = {element.text: float(element.get('x')) for element in tree.iter(SVG + 'text') if re.fullmatch('[0-9]+', element.text)}
+        rings = {round(float(ring.get('cx')) - 4, 1) for ring in tree.iter(SVG + 'circle')}
+        self.assertTrue({round(lefts[place], 1) for place in ('0', '1', '3', '6', '7', '10')} <= rings)
+
+    def test_300_calls_are_all_there(self):
+        tree = drawn(long_run(300, 3))
+        self.assertEqual(len(boxes(tree)), 300)
+        self.assertFalse([text for text in texts(tree) if 'left out' in text.lower()])
+        self.assertTrue({'nightly-0', 'nightly-297', 'snap: snapshot'} <= set(texts(tree)))
+        self.assertIn('3 calls refused, out of range: places 50, 150, 250', texts(tree))
+        self.assertLess(float(tree.get('height')), 4500)
+
+    def test_it_says_what_it_leaves_out(self):
+        tree = drawn(long_run(300, 3), most=20)
+        self.assertEqual(len(boxes(tree)), 20)
+        self.assertIn('places 10 to 289 are left out here: 280 of 300', texts(tree))
+        self.assertIn('Places from left to right. Left out in the middle: 280 of 300 places.', texts(tree))
+        low = drawn(long_run(2000, 16), height=1500)
+        self.assertLess(float(low.get('height')), 2000)
+        self.assertTrue(any('are left out here' in text for text in texts(low)))
+        chain = ' '.join('n%d' % number for number in range(249))
+        self.assertTrue(any(text.endswith('layers are left out here')
+                            for text in texts(drawn('mode r0 RW\nchain r0 head %s\nhead r0 %s\n' % (chain, HEAD)))))
+
+    def test_all_stands_within_the_picture(self):
+        for report in (ONE_STREAM, COMMANDS, REBUILD, SAVED, long_run(300, 16), ''):
+            tree = drawn(report)
+            width, height = float(tree.get('width')), float(tree.get('height'))
+            for element in list(tree)[1:]:
+                right = float(element.get('x', element.get('x2', 0))) + float(element.get('width', 0))
+                if element.tag == SVG + 'text':
+                    right += 6 * len(element.text)
+                bottom = float(element.get('y', element.get('y2', 0))) + float(element.get('height', 0))
+                self.assertLessEqual(right, width, element.text)
+                self.assertLessEqual(bottom, height, element.text)
+
+
+if __name__ == '__main__':
+    unittest.main()
