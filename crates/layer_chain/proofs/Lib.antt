@@ -2,6 +2,7 @@ pub mod ChangeLemmas
 pub mod ChildLemmas
 pub mod Cuts
 pub mod FoldLaws
+pub mod FoldLemmas
 pub mod ReadLaws
 pub mod ReadLemmas
 pub mod TreeLemmas

@@ -1,6 +1,6 @@
 -- What stands on a layer.
-use Rattle.std.specs.Prelude.{◌≡◌, ◌≢◌, ℕ, ◌<◌, List, Option, Some}
-use Rattle.layer_chain.specs.Tree.{name_of, layer_at, IsChild}
+use Rattle.std.specs.Prelude.{◌≡◌, ◌≢◌, ℕ, ◌<◌, List, length, Option, Some}
+use Rattle.layer_chain.specs.Tree.{Tree, name_of, layer_at, IsChild}
 use Rattle.layer_chain.specs.declared.layer.Layer.{Layer}
 use Rattle.layer_chain.specs.declared.children.Child.{Child}
 use Rattle.layer_chain.specs.declared.children.Child.TheVariants as child
@@ -25,3 +25,11 @@ abbrev pub with_child : Children → ℕ → Children
 with_child children.None c = children.One (child.Layer c)
 with_child (children.One a) c = children.More
 with_child children.More c = children.More
+
+-- nothing stands on the layer at p
+abbrev pub IsLeaf : Tree → ℕ → Type 0
+IsLeaf t p = Tells t.layers t.on (length t.layers) p children.None
+
+-- the layer at c stands on that at p, and nothing else does
+abbrev pub IsOnlyChild : Tree → ℕ → ℕ → Type 0
+IsOnlyChild t p c = Tells t.layers t.on (length t.layers) p (children.One (child.Layer c))

@@ -4,12 +4,13 @@ ghost use Rattle.vol_units.specs.Bytes.{with_bytes_at};
 ghost use Rattle.sparse_image.specs.Disk.{disk_of};
 ghost use Rattle.sparse_image.specs.Image.{block_at, has_page, MakesPage, ChangesBlock};
 ghost use Rattle.layer_chain.specs.Tree.{IsBlank, IsWhole, IsNew, IsThere, IsAt, IsChild, IsParent, reads, head_reads, head_chain, layer_at, name_of, parent_of};
-ghost use Rattle.layer_chain.specs.Changes.{pushed, with_head, headed, snapped, reverted, marked_at};
-ghost use Rattle.layer_chain.specs.Children.{Tells};
+ghost use Rattle.layer_chain.specs.Changes.{pushed, with_head, headed, snapped, reverted, marked_at, with_layers, MovesPage, without, replaced};
+ghost use Rattle.layer_chain.specs.Children.{Tells, IsLeaf, IsOnlyChild};
 
 use crate::chain::chain_in;
 use crate::children::{Children, children_in};
 use crate::layer::{Layer, LayerMeta};
+use crate::moving::move_page_in;
 use crate::reading::{index_in, read_in};
 use sparse_image::{BLOCK_BYTES, Block, Image, PAGE_BLOCKS};
 use std::alloc::{AllocError, Global};
@@ -215,6 +216,38 @@ impl LayerTree {
         ensures { self.new ≡ marked_at self.old place }
     {
         self.layers[place].meta.marked = true;
+    }
+
+    /// Moves the blocks of a page of a layer onto its parent. The boxes move, and nothing is copied.
+    pub fn move_page(&mut self, parent: usize, child: usize, page: u32)
+        requires parent { IsParent self.old.layers parent child }
+        requires own { page < length (layer_at self.old.layers child).image }
+        requires under { page < length (layer_at self.old.layers parent).image }
+        ensures moves { MovesPage self.old.layers self.new.layers parent child page }
+        ensures rest { self.new ≡ with_layers self.old self.new.layers }
+    {
+        move_page_in(&mut self.layers, parent, child, page);
+    }
+
+    /// The layer goes, and the one that stands on it stands in its place, with its blocks.
+    pub fn replace(&mut self, parent: usize, child: usize)
+        requires within { parent < length self.old.layers }
+        requires only { IsOnlyChild self.old parent child }
+        ensures { self.new ≡ replaced self.old parent child }
+    {
+        let Layer { meta, image } = self.layers.remove(parent);
+        let upper = &mut self.layers[child];
+        upper.meta.parent = meta.parent;
+        upper.image = image;
+    }
+
+    /// The layer goes, on which nothing stands.
+    pub fn take_out(&mut self, place: usize)
+        requires within { place < length self.old.layers }
+        requires leaf { IsLeaf self.old place }
+        ensures { self.new ≡ without self.old place }
+    {
+        let _ = self.layers.remove(place);
     }
 
     /// Makes the table of a page of the head, if it is not there. No block changes.

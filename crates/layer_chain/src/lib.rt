@@ -6,6 +6,7 @@ mod children;
 pub mod laws;
 mod layer;
 mod layer_tree;
+mod moving;
 mod reading;
 
 pub use children::{Child, Children};

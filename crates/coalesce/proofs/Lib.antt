@@ -1,0 +1,4 @@
+pub mod FirstLemmas
+pub mod KeepLemmas
+pub mod MetaLemmas
+pub mod PlaceLemmas
