@@ -1,12 +1,7 @@
 -- The search for the first layer that can go.
-use Rattle.std.proofs.Common.{◌≡◌, ◌≢◌, ◌⊎◌, inl, inr, ⊎_elim, ℕ, ◌+◌, ◌<◌, Bool, true, false, List, length, Option, None, Some, MatchOption, sym, refl, ap, ◌∙◌, subst, arith}
+use Rattle.std.proofs.Common.{◌≡◌, ◌≢◌, ◌⊎◌, inl, inr, ⊎_elim, ℕ, ◌+◌, ◌<◌, Bool, true, false, List, [], ◌∷◌, length, Option, None, Some, MatchOption, sym, refl, ap, ◌∙◌, subst, arith}
 use Rattle.std.specs.Prelude.{if◌then◌else◌}
-use Rattle.std.specs.Cmp.Lexicographic.{slice_cmp}
-use Rattle.std.specs.Ordering.{nat_cmp, is_lt, ordering_reverse}
-use Rattle.std.specs.declared.cmp.Ordering.{Ordering}
-use Rattle.std.specs.declared.cmp.Ordering.TheVariants as order
 use Rattle.std.proofs.lemmas.Bool.{cases_eq, false_from_ne_true, false≢true}
-use Rattle.std.proofs.lemmas.Cmp.{nat_list_cmp_total}
 use Rattle.layer_chain.specs.Children.{Stands, Tells}
 use Rattle.layer_chain.specs.Tree.{Tree, name_of, layer_at, IsWhole}
 use Rattle.layer_chain.specs.declared.layer.LayerMeta.{LayerMeta}
@@ -14,56 +9,42 @@ use Rattle.layer_chain.specs.declared.children.Child.{Child}
 use Rattle.layer_chain.specs.declared.children.Child.TheVariants as child
 use Rattle.layer_chain.specs.declared.children.Children.TheVariants as children
 use Rattle.layer_chain.proofs.TreeLemmas.{one_place}
-use Rattle.coalesce.specs.Folding.{metas, IsMarked, CanFold, CanBeDone, gone, is_before, IsFirst}
-use Rattle.coalesce.specs.Search.{GoesAt, StaysAt, first_of, IsFirstBelow, IsBest}
-use Rattle.coalesce.specs.declared.fold_or_drop.FoldOrDrop.{FoldOrDrop}
-use Rattle.coalesce.specs.declared.fold_or_drop.FoldOrDrop.TheVariants as part
-use Rattle.coalesce.proofs.PlaceLemmas.{any_at, at_any, all_at, at_all, drop_leaf}
-
--- ---- the order of names
-
-less : (o : Ordering) → is_lt o ≡ true → o ≡ order.Less
-less order.Less e = refl
-less order.Equal e = absurd (false≢true e)
-less order.Greater e = absurd (false≢true e)
-
-before_trans : (a b c : List ℕ) → is_before a b ≡ true → is_before b c ≡ true → is_before a c ≡ true
-before_trans a b c h k = ap is_lt (nat_list_cmp_total.trans a b c (less (slice_cmp nat_cmp a b) h) (less (slice_cmp nat_cmp b c) k))
-
-itself : (o : Ordering) → o ≡ ordering_reverse o → is_lt o ≡ false
-itself order.Less e = absurd (cc)
-itself order.Equal e = refl
-itself order.Greater e = refl
-
-before_itself : (a : List ℕ) → is_before a a ≡ false
-before_itself a = itself (slice_cmp nat_cmp a a) (nat_list_cmp_total.antisymm a a)
+use Rattle.volume_model.proofs.PurgeLemmas.{before_trans, before_itself}
+use Rattle.volume_model.specs.Purge.{IsMarked, CanFold, CanBeDone, IsPurged, gone, is_before, first_of, IsFirst}
+use Rattle.volume_model.specs.Snapshots.{Snapshot}
+use Rattle.volume_model.specs.declared.mark.FoldOrDrop.{FoldOrDrop}
+use Rattle.volume_model.specs.declared.mark.FoldOrDrop.TheVariants as part
+use Rattle.coalesce.specs.Folding.{snapshots_in}
+use Rattle.coalesce.specs.Search.{GoesAt, StaysAt, IsFirstBelow, IsBest}
+use Rattle.coalesce.proofs.ChildLemmas.{child_only, children_none, children_one}
+use Rattle.coalesce.proofs.PlaceLemmas.{any_at, at_any, drop_leaf}
 
 -- ---- what goes, and what stays
 
-is_marked : (ms : List LayerMeta) (on : Option (List ℕ)) (f : FoldOrDrop) → CanBeDone ms on f → IsMarked ms (gone f)
+is_marked : (ms : List Snapshot) (on : Option (List ℕ)) (f : FoldOrDrop) → CanBeDone ms on f → IsMarked ms (gone f)
 is_marked ms on (part.Fold p c) can = can.marked
 is_marked ms on (part.Drop p) can = can.marked
 
-no_head : (ms : List LayerMeta) (on : Option (List ℕ)) (f : FoldOrDrop) → CanBeDone ms on f → on ≢ Some (gone f)
+no_head : (ms : List Snapshot) (on : Option (List ℕ)) (f : FoldOrDrop) → CanBeDone ms on f → on ≢ Some (gone f)
 no_head ms on (part.Fold p c) can = can.head
 no_head ms on (part.Drop p) can = can.head
 
 -- what can go stands somewhere
-goes_somewhere : (t : Tree) (f : FoldOrDrop) → CanBeDone (metas t) t.on f → (i : ℕ) × (i < length t.layers) × GoesAt t i f
+goes_somewhere : (t : Tree) (f : FoldOrDrop) → CanBeDone (snapshots_in t) t.on f → (i : ℕ) × (i < length t.layers) × GoesAt t i f
 goes_somewhere t f can =
-    let a = any_at (λ m. (m.name ≡ gone f) × (m.marked ≡ true)) t (is_marked (metas t) t.on f can) in
+    let a = any_at (λ m. (m.name ≡ gone f) × (m.marked ≡ true)) t (is_marked (snapshots_in t) t.on f can) in
     (a.0, a.1, record { can = can; named = sym a.2.0 })
 
 module _ (t : Tree) (i : ℕ) (m : LayerMeta) (within : i < length t.layers) (m_is : m ≡ (layer_at t.layers i).meta) where
   own_name : Some m.name ≡ Some (name_of (layer_at t.layers i))
   own_name = ap (λ (l : LayerMeta). Some l.name) m_is
 
-  own_mark : m.marked ≡ true → IsMarked (metas t) m.name
+  own_mark : m.marked ≡ true → IsMarked (snapshots_in t) m.name
   own_mark marked = at_any (λ l. (l.name ≡ m.name) × (l.marked ≡ true)) t i within (sym (ap (λ (l : LayerMeta). l.name) m_is), sym (ap (λ (l : LayerMeta). l.marked) m_is) ∙ marked)
 
   pub stays_unmarked : IsWhole t → m.marked ≡ false → StaysAt t i
   stays_unmarked w unmarked = λ f goes.
-      let a = any_at (λ l. (l.name ≡ gone f) × (l.marked ≡ true)) t (is_marked (metas t) t.on f goes.can) in
+      let a = any_at (λ l. (l.name ≡ gone f) × (l.marked ≡ true)) t (is_marked (snapshots_in t) t.on f goes.can) in
       let same : a.0 ≡ i = one_place t.layers (gone f) a.0 i w.layers (record { within = a.1; named = a.2.0 }) (record { within = within; named = sym goes.named }) in
       let marked : (layer_at t.layers i).meta.marked ≡ true = subst (λ (n : ℕ). (layer_at t.layers n).meta.marked ≡ true) same a.2.1 in
       absurd (false≢true (sym unmarked ∙ ap (λ (l : LayerMeta). l.marked) m_is ∙ marked))
@@ -72,7 +53,7 @@ module _ (t : Tree) (i : ℕ) (m : LayerMeta) (within : i < length t.layers) (m_
   goes_drop marked told = record {
     can = record {
       marked = own_mark marked;
-      leaf = at_all (λ l. l.parent ≢ Some m.name) t (λ k h e. told (child.Layer k) (h, e ∙ own_name));
+      leaf = children_none t.layers m.name (λ k h e. told (child.Layer k) (h, e ∙ own_name));
       head = λ e. told child.Head (e ∙ own_name);
     };
     named = ap (λ (l : LayerMeta). l.name) m_is;
@@ -82,27 +63,27 @@ module _ (t : Tree) (i : ℕ) (m : LayerMeta) (within : i < length t.layers) (m_
   goes_fold j n n_is marked told = record {
     can = record {
       marked = own_mark marked;
-      child = at_any (λ l. (l.name ≡ n.name) × (l.parent ≡ Some m.name)) t j told.0.0 (sym (ap (λ (l : LayerMeta). l.name) n_is), told.0.1 ∙ sym own_name);
-      only = at_all (λ l. l.parent ≡ Some m.name → l.name ≡ n.name) t (λ k h e.
+      child =
+          children_one t.layers m.name j told.0.0 (told.0.1 ∙ sym own_name) (λ k h e.
           let is : child.Layer k ≡ child.Layer j = told.1 (child.Layer k) (h, e ∙ own_name) in
-          let same : k ≡ j = cc in
-          ap (λ (q : ℕ). name_of (layer_at t.layers q)) same ∙ sym (ap (λ (l : LayerMeta). l.name) n_is));
+          cc)
+          ∙ ap (λ (l : LayerMeta). l.name ∷ []) (sym n_is);
       head = λ e. let is : child.Head ≡ child.Layer j = told.1 child.Head (e ∙ own_name) in absurd (cc);
     };
     named = ap (λ (l : LayerMeta). l.name) m_is;
   }
 
 pub stays_head : (t : Tree) (i : ℕ) → t.on ≡ Some (name_of (layer_at t.layers i)) → StaysAt t i
-stays_head t i on = λ f goes. no_head (metas t) t.on f goes.can (on ∙ ap (λ (n : List ℕ). Some n) (sym goes.named))
+stays_head t i on = λ f goes. no_head (snapshots_in t) t.on f goes.can (on ∙ ap (λ (n : List ℕ). Some n) (sym goes.named))
 
 -- one thing that stands on the layer is the one that it is folded into
-only_one : (t : Tree) (i : ℕ) (p c : List ℕ) → IsWhole t → p ≡ name_of (layer_at t.layers i) → CanFold (metas t) t.on p c → (a b : Child) → Stands t.layers t.on (length t.layers) i a → Stands t.layers t.on (length t.layers) i b → a ≡ b
+only_one : (t : Tree) (i : ℕ) (p c : List ℕ) → IsWhole t → p ≡ name_of (layer_at t.layers i) → CanFold (snapshots_in t) t.on p c → (a b : Child) → Stands t.layers t.on (length t.layers) i a → Stands t.layers t.on (length t.layers) i b → a ≡ b
 only_one t i p c w is can child.Head b s u = absurd (can.head (s ∙ ap (λ (n : List ℕ). Some n) (sym is)))
 only_one t i p c w is can (child.Layer j) child.Head s u = absurd (can.head (u ∙ ap (λ (n : List ℕ). Some n) (sym is)))
 only_one t i p c w is can (child.Layer j) (child.Layer k) s u =
     let back : Some (name_of (layer_at t.layers i)) ≡ Some p = ap (λ (n : List ℕ). Some n) (sym is) in
-    let named_j : name_of (layer_at t.layers j) ≡ c = all_at (λ l. l.parent ≡ Some p → l.name ≡ c) t can.only j s.0 (s.1 ∙ back) in
-    let named_k : name_of (layer_at t.layers k) ≡ c = all_at (λ l. l.parent ≡ Some p → l.name ≡ c) t can.only k u.0 (u.1 ∙ back) in
+    let named_j : name_of (layer_at t.layers j) ≡ c = child_only t.layers p c can.child j s.0 (s.1 ∙ back) in
+    let named_k : name_of (layer_at t.layers k) ≡ c = child_only t.layers p c can.child k u.0 (u.1 ∙ back) in
     ap (λ (n : ℕ). child.Layer n) (one_place t.layers c j k w.layers (record { within = s.0; named = named_j }) (record { within = u.0; named = named_k }))
 
 stays_under : (t : Tree) (i : ℕ) → i < length t.layers → IsWhole t → (a b : Child) → a ≢ b → Stands t.layers t.on (length t.layers) i a → Stands t.layers t.on (length t.layers) i b → (f : FoldOrDrop) → GoesAt t i f → ⊥
@@ -118,7 +99,7 @@ upto : (q i : ℕ) → q < i + 1 → (q ≡ i) ⊎ (q < i)
 upto q i h = ⊎_elim (λ e. inl e) (λ n. inr (omega (arith, h, n))) (cases_eq q i)
 
 module _ (t : Tree) (i : ℕ) where
-  pub best_stays : (b : Option FoldOrDrop) → StaysAt t i → IsBest t i b → IsBest t (i + 1) b
+  best_stays : (b : Option FoldOrDrop) → StaysAt t i → IsBest t i b → IsBest t (i + 1) (first_of b None)
   best_stays None stays best = λ q h. ⊎_elim (λ e. subst (λ (n : ℕ). StaysAt t n) (sym e) stays) (λ l. best q l) (upto q i h)
   best_stays (Some b) stays best = record {
     can = best.can;
@@ -136,7 +117,7 @@ module _ (t : Tree) (i : ℕ) where
       first = λ q g h goes. ⊎_elim (λ e. ap (λ (n : List ℕ). is_before n (gone f)) (here q g e goes) ∙ before_itself (gone f)) (λ l. absurd (none q l g goes)) (upto q i h);
     }
 
-    best_chosen : (b : FoldOrDrop) (s : Bool) → s ≡ is_before (gone f) (gone b) → IsFirstBelow t i b → IsFirstBelow t (i + 1) (if s then f else b)
+    best_chosen : (b : FoldOrDrop) (s : Bool) → s ≡ is_before (gone f) (gone b) → IsFirstBelow t i b → IsBest t (i + 1) (if s then Some f else Some b)
     best_chosen b true s_is best = record {
       can = found.can;
       first = λ q g h goes. ⊎_elim
@@ -149,12 +130,16 @@ module _ (t : Tree) (i : ℕ) where
       first = λ q g h goes. ⊎_elim (λ e. ap (λ (n : List ℕ). is_before n (gone b)) (here q g e goes) ∙ sym s_is) (λ l. best.first q g l goes) (upto q i h);
     }
 
-    pub best_found : (b : Option FoldOrDrop) → IsBest t i b → IsBest t (i + 1) (Some (first_of b f))
+    best_found : (b : Option FoldOrDrop) → IsBest t i b → IsBest t (i + 1) (first_of b (Some f))
     best_found None best = best_new best
     best_found (Some b) best = best_chosen b (is_before (gone f) (gone b)) refl best
 
+  pub best_more : (found b : Option FoldOrDrop) → MatchOption found (StaysAt t i) (λ f. GoesAt t i f) → IsBest t i b → IsBest t (i + 1) (first_of b found)
+  best_more None b stays best = best_stays b stays best
+  best_more (Some f) b goes best = best_found f goes b best
+
 -- the best of all places is the first of all that can go
-pub best_is : (t : Tree) (b : Option FoldOrDrop) → IsBest t (length t.layers) b → MatchOption b ((f : FoldOrDrop) → CanBeDone (metas t) t.on f → ⊥) (λ f. IsFirst (metas t) t.on f)
+pub best_is : (t : Tree) (b : Option FoldOrDrop) → IsBest t (length t.layers) b → MatchOption b (IsPurged (snapshots_in t) t.on) (λ f. IsFirst (snapshots_in t) t.on f)
 best_is t None best = λ f can. let g = goes_somewhere t f can in best g.0 g.1 f g.2
 best_is t (Some b) best = record {
   can = best.can;

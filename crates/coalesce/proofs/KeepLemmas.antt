@@ -9,9 +9,11 @@ use Rattle.sparse_image.specs.declared.block.TheConstants.{PAGE_BLOCKS}
 use Rattle.layer_chain.specs.Changes.{with_layers, with_image, with_images, MovesPage, without, replaced}
 use Rattle.layer_chain.specs.Tree.{Tree, name_of, layer_at, reads, head_reads, IsAt, IsWhole}
 use Rattle.layer_chain.specs.declared.layer.Layer.{Layer}
-use Rattle.layer_chain.specs.declared.layer.LayerMeta.{LayerMeta}
 use Rattle.layer_chain.proofs.FoldLemmas.{images_reads, replaced_reads, without_reads, child_above}
-use Rattle.coalesce.specs.Folding.{metas, CanFold, CanDrop, AreAt, MovesBlock, HasNoBlock, KeepsOthers}
+use Rattle.volume_model.specs.Purge.{CanFold, CanDrop}
+use Rattle.volume_model.specs.Snapshots.{Snapshot}
+use Rattle.coalesce.specs.Folding.{snapshot_of, snapshots_in, AreAt, MovesBlock, HasNoBlock, KeepsOthers}
+use Rattle.coalesce.proofs.ChildLemmas.{told}
 use Rattle.coalesce.proofs.PlaceLemmas.{fold_only, drop_leaf}
 
 -- other layers that read alike but for p, on which the head doesn't stand
@@ -25,7 +27,7 @@ other_than : (t : Tree) (p : List ℕ) (i : ℕ) (other : Option (List ℕ)) →
 other_than t p i other at n e = n (e ∙ ap (λ (m : List ℕ). Some m) at.named)
 
 -- two layers' blocks that together read as before
-images_keep : (t new : Tree) (p c : List ℕ) (i j : ℕ) (under over : Tables) → IsWhole t → AreAt t.layers p c i j → CanFold (metas t) t.on p c → new ≡ with_layers t (with_images t.layers i j under over) → ((block : ℕ) → option_or (block_at over block) (block_at under block) ≡ option_or (block_at (layer_at t.layers j).image block) (block_at (layer_at t.layers i).image block)) → KeepsOthers t new p
+images_keep : (t new : Tree) (p c : List ℕ) (i j : ℕ) (under over : Tables) → IsWhole t → AreAt t.layers p c i j → CanFold (snapshots_in t) t.on p c → new ≡ with_layers t (with_images t.layers i j under over) → ((block : ℕ) → option_or (block_at over block) (block_at under block) ≡ option_or (block_at (layer_at t.layers j).image block) (block_at (layer_at t.layers i).image block)) → KeepsOthers t new p
 images_keep t new p c i j under over w at can is moved =
     keeps_others t new (with_images t.layers i j under over) p can.head is (λ other block n.
     images_reads t i j w at.parent.within (fold_only t p c i j w at can) under over block (moved block) other (other_than t p i other at.parent n))
@@ -37,7 +39,7 @@ page_moved upper lower over under page own below block =
     (λ n. ap (λ (o : Option (List ℕ)). option_or o (block_at under block)) (own.others block n) ∙ ap (option_or (block_at upper block)) (below.others block n))
     (cases_eq (block / PAGE_BLOCKS) page)
 
-pub page_keeps : (t new : Tree) (p c : List ℕ) (i j page : ℕ) → IsWhole t → AreAt t.layers p c i j → CanFold (metas t) t.on p c → MovesPage t.layers new.layers i j page → new ≡ with_layers t new.layers → KeepsOthers t new p
+pub page_keeps : (t new : Tree) (p c : List ℕ) (i j page : ℕ) → IsWhole t → AreAt t.layers p c i j → CanFold (snapshots_in t) t.on p c → MovesPage t.layers new.layers i j page → new ≡ with_layers t new.layers → KeepsOthers t new p
 page_keeps t new p c i j page w at can moves rest =
     images_keep t new p c i j (layer_at new.layers i).image (layer_at new.layers j).image w at can
     (rest ∙ ap (λ (xs : List Layer). with_layers t xs) moves.rest)
@@ -55,16 +57,16 @@ block_moved t new p c block m other =
     (λ n. ap (λ (o : Option (List ℕ)). option_or o (block_at under other)) (m.others other n).0 ∙ ap (option_or (block_at upper other)) (m.others other n).1)
     (cases_eq other block)
 
-pub block_keeps : (t new : Tree) (p c : List ℕ) (block : ℕ) → IsWhole t → CanFold (metas t) t.on p c → MovesBlock t new p c block → KeepsOthers t new p
+pub block_keeps : (t new : Tree) (p c : List ℕ) (block : ℕ) → IsWhole t → CanFold (snapshots_in t) t.on p c → MovesBlock t new p c block → KeepsOthers t new p
 block_keeps t new p c block w can m =
     images_keep t new p c m.parent m.child (layer_at new.layers m.parent).image (layer_at new.layers m.child).image w m.at can m.rest (block_moved t new p c block m)
 
-pub replaced_keeps : (t new : Tree) (p c : List ℕ) (i j : ℕ) → IsWhole t → AreAt t.layers p c i j → CanFold (metas t) t.on p c → HasNoBlock t.layers c → new ≡ replaced t i j → KeepsOthers t new p
+pub replaced_keeps : (t new : Tree) (p c : List ℕ) (i j : ℕ) → IsWhole t → AreAt t.layers p c i j → CanFold (snapshots_in t) t.on p c → HasNoBlock t.layers c → new ≡ replaced t i j → KeepsOthers t new p
 replaced_keeps t new p c i j w at can empty is =
     keeps_others t new (replaced t i j).layers p can.head is (λ other block n.
     replaced_reads t i j w at.parent.within (fold_only t p c i j w at can) block (empty j _ at.child.within at.child.named block) other (other_than t p i other at.parent n))
 
-pub dropped_keeps : (t new : Tree) (p : List ℕ) (i : ℕ) → IsAt t.layers p i → CanDrop (metas t) t.on p → new ≡ without t i → KeepsOthers t new p
+pub dropped_keeps : (t new : Tree) (p : List ℕ) (i : ℕ) → IsAt t.layers p i → CanDrop (snapshots_in t) t.on p → new ≡ without t i → KeepsOthers t new p
 dropped_keeps t new p i at can is =
     keeps_others t new (without t i).layers p can.head is (λ other block n.
     without_reads t i at.within (drop_leaf t p i at can) block other (other_than t p i other at n))
@@ -77,22 +79,22 @@ no_layer = record {
   image = [];
 }
 
-images_metas : (xs : List Layer) (i j : ℕ) (under over : Tables) → j < i → map (λ (l : Layer). l.meta) (with_images xs i j under over) ≡ map (λ (l : Layer). l.meta) xs
-images_metas xs i j under over h =
+images_snapshots : (xs : List Layer) (i j : ℕ) (under over : Tables) → j < i → map (λ (l : Layer). snapshot_of l.meta) (with_images xs i j under over) ≡ map (λ (l : Layer). snapshot_of l.meta) xs
+images_snapshots xs i j under over h =
     let apart : i ≢ j = λ e. absurd (omega (arith, h, e)) in
-    map-set_same (λ (l : Layer). l.meta) (set xs j (with_image (layer_at xs j) over)) i (with_image (layer_at xs i) under) no_layer
-    (sym (ap (λ (l : Layer). l.meta) (get_or-set_other xs j i (with_image (layer_at xs j) over) no_layer apart)))
-    ∙ map-set_same (λ (l : Layer). l.meta) xs j (with_image (layer_at xs j) over) no_layer refl
+    map-set_same (λ (l : Layer). snapshot_of l.meta) (set xs j (with_image (layer_at xs j) over)) i (with_image (layer_at xs i) under) no_layer
+    (sym (ap (λ (l : Layer). snapshot_of l.meta) (get_or-set_other xs j i (with_image (layer_at xs j) over) no_layer apart)))
+    ∙ map-set_same (λ (l : Layer). snapshot_of l.meta) xs j (with_image (layer_at xs j) over) no_layer refl
 
-pub page_metas : (t new : Tree) (p c : List ℕ) (i j page : ℕ) → IsWhole t → AreAt t.layers p c i j → CanFold (metas t) t.on p c → MovesPage t.layers new.layers i j page → metas new ≡ metas t
-page_metas t new p c i j page w at can moves =
-    ap (λ (xs : List Layer). map (λ (l : Layer). l.meta) xs) moves.rest
-    ∙ images_metas t.layers i j (layer_at new.layers i).image (layer_at new.layers j).image (child_above t i j w at.parent.within (fold_only t p c i j w at can))
+pub page_snapshots : (t new : Tree) (p c : List ℕ) (i j page : ℕ) → IsWhole t → AreAt t.layers p c i j → CanFold (snapshots_in t) t.on p c → MovesPage t.layers new.layers i j page → snapshots_in new ≡ snapshots_in t
+page_snapshots t new p c i j page w at can moves =
+    ap told moves.rest
+    ∙ images_snapshots t.layers i j (layer_at new.layers i).image (layer_at new.layers j).image (child_above t i j w at.parent.within (fold_only t p c i j w at can))
 
-pub page_can : (t new : Tree) (p c : List ℕ) → CanFold (metas t) t.on p c → metas new ≡ metas t → new ≡ with_layers t new.layers → CanFold (metas new) new.on p c
+pub page_can : (t new : Tree) (p c : List ℕ) → CanFold (snapshots_in t) t.on p c → snapshots_in new ≡ snapshots_in t → new ≡ with_layers t new.layers → CanFold (snapshots_in new) new.on p c
 page_can t new p c can same rest =
-    subst (λ (on : Option (List ℕ)). CanFold (metas new) on p c) (sym (ap (λ (u : Tree). u.on) rest))
-    (subst (λ (ms : List LayerMeta). CanFold ms t.on p c) (sym same) can)
+    subst (λ (on : Option (List ℕ)). CanFold (snapshots_in new) on p c) (sym (ap (λ (u : Tree). u.on) rest))
+    (subst (λ (ms : List Snapshot). CanFold ms t.on p c) (sym same) can)
 
 rest : (t new : Tree) (xs : List Layer) → new ≡ with_layers t xs → new ≡ with_layers t new.layers
 rest t new xs is = is ∙ ap (λ (ys : List Layer). with_layers t ys) (sym (ap (λ (u : Tree). u.layers) is))

@@ -1,4 +1,7 @@
+pub mod ChildLemmas
 pub mod FirstLemmas
 pub mod KeepLemmas
-pub mod MetaLemmas
+pub mod NameLemmas
+pub mod PageLemmas
 pub mod PlaceLemmas
+pub mod SnapshotLemmas

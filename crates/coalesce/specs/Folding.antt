@@ -1,82 +1,21 @@
--- Which layers can be folded or dropped, and what that leaves, as Longhorn's documentation of snapshots tells of a
--- purge. All layers are told by their names.
-use Rattle.std.specs.Prelude.{◌≡◌, ◌≢◌, ℕ, ◌<◌, Bool, true, false, if◌then◌else◌, List, [], ◌∷◌, length, map, All, Any, Option, None, Some}
-use Rattle.std.specs.Cmp.Lexicographic.{slice_cmp}
+-- What folding and dropping make of the layers of a replica. All layers are told by their names, as snapshots: what can
+-- go, and what that leaves, is told of snapshots alone, in volume_model's specs/Purge.antt.
+use Rattle.std.specs.Prelude.{◌≡◌, ◌≢◌, ℕ, ◌<◌, List, length, map, All, Option, None, Some}
 use Rattle.std.specs.Option.{option_or}
-use Rattle.std.specs.Ordering.{nat_cmp, is_lt}
-use Rattle.std.specs.Str.{bytes_eq}
 use Rattle.sparse_image.specs.Image.{block_at}
 use Rattle.layer_chain.specs.Changes.{with_layers, with_images, MovesPage, without, replaced}
 use Rattle.layer_chain.specs.Tree.{Tree, layer_at, reads, head_reads, IsAt}
 use Rattle.layer_chain.specs.declared.layer.Layer.{Layer}
 use Rattle.layer_chain.specs.declared.layer.LayerMeta.{LayerMeta}
-use Rattle.coalesce.specs.declared.fold_or_drop.FoldOrDrop.{FoldOrDrop}
-use Rattle.coalesce.specs.declared.fold_or_drop.FoldOrDrop.TheVariants as part
+use Rattle.volume_model.specs.Snapshots.{Snapshot}
 
--- what is told of the layers beside their blocks, the newest first
-abbrev pub metas : Tree → List LayerMeta
-metas t = map (λ l. l.meta) t.layers
+-- what is told of a layer, as a snapshot
+abbrev pub snapshot_of : LayerMeta → Snapshot
+snapshot_of m = record { name = m.name; parent = m.parent; marked = m.marked }
 
--- ---- what can be folded or dropped
-
--- the layer of that name is to be removed
-abbrev pub IsMarked : List LayerMeta → List ℕ → Type 0
-IsMarked metas p = Any (λ (m : LayerMeta). (m.name ≡ p) × (m.marked ≡ true)) metas
-
--- p is to be removed, c and no other layer stands on it, and the head doesn't
-pub record CanFold (metas : List LayerMeta) (on : Option (List ℕ)) (p c : List ℕ) : Type 0 where
-  pub marked : IsMarked metas p
-  pub child : Any (λ (m : LayerMeta). (m.name ≡ c) × (m.parent ≡ Some p)) metas
-  pub only : All (λ (m : LayerMeta). m.parent ≡ Some p → m.name ≡ c) metas
-  pub head : on ≢ Some p
-
--- p is to be removed, and neither a layer nor the head stands on it
-pub record CanDrop (metas : List LayerMeta) (on : Option (List ℕ)) (p : List ℕ) : Type 0 where
-  pub marked : IsMarked metas p
-  pub leaf : All (λ (m : LayerMeta). m.parent ≢ Some p) metas
-  pub head : on ≢ Some p
-
--- that can be done
-abbrev pub CanBeDone : List LayerMeta → Option (List ℕ) → FoldOrDrop → Type 0
-CanBeDone metas on (part.Fold p c) = CanFold metas on p c
-CanBeDone metas on (part.Drop p) = CanDrop metas on p
-
--- the name of the layer that goes
-abbrev pub gone : FoldOrDrop → List ℕ
-gone (part.Fold p c) = p
-gone (part.Drop p) = p
-
--- the first name comes before the second in the order of bytes
-abbrev pub is_before : List ℕ → List ℕ → Bool
-is_before a b = is_lt (slice_cmp nat_cmp a b)
-
--- that can be done, and no layer of a name before can go
-pub record IsFirst (metas : List LayerMeta) (on : Option (List ℕ)) (best : FoldOrDrop) : Type 0 where
-  pub can : CanBeDone metas on best
-  pub first : (other : FoldOrDrop) → CanBeDone metas on other
-      → is_before (gone other) (gone best) ≡ false
-
--- ---- what is left
-
--- without the layer of that name
-abbrev pub dropped : List ℕ → List LayerMeta → List LayerMeta
-dropped p [] = []
-dropped p (m ∷ ms) = if bytes_eq p m.name then ms else m ∷ dropped p ms
-
--- the parent of the layer of that name
-abbrev pub parent_in : List ℕ → List LayerMeta → Option (List ℕ)
-parent_in p [] = None
-parent_in p (m ∷ ms) = if bytes_eq p m.name then m.parent else parent_in p ms
-
--- the layer of that name on another parent, or on none
-abbrev pub given : List ℕ → Option (List ℕ) → List LayerMeta → List LayerMeta
-given c parent [] = []
-given c parent (m ∷ ms) =
-    (if bytes_eq c m.name then record m { parent = parent } else m) ∷ given c parent ms
-
--- p is taken out, and c gets p's parent
-abbrev pub folded : List ℕ → List ℕ → List LayerMeta → List LayerMeta
-folded p c ms = given c (parent_in p ms) (dropped p ms)
+-- the snapshots of a tree, the newest first
+abbrev pub snapshots_in : Tree → List Snapshot
+snapshots_in t = map (λ l. snapshot_of l.meta) t.layers
 
 -- each layer but p reads as before, and so does the head
 pub record KeepsOthers (old new : Tree) (p : List ℕ) : Type 0 where

@@ -1,26 +1,22 @@
 -- The search for the first layer that can go, one place after another.
-use Rattle.std.specs.Prelude.{◌≡◌, ℕ, ◌<◌, false, if◌then◌else◌, Option, None, Some}
+use Rattle.std.specs.Prelude.{◌≡◌, ℕ, ◌<◌, false, Option, None, Some}
 use Rattle.layer_chain.specs.Tree.{Tree, name_of, layer_at}
-use Rattle.coalesce.specs.Folding.{metas, CanBeDone, gone, is_before}
-use Rattle.coalesce.specs.declared.fold_or_drop.FoldOrDrop.{FoldOrDrop}
+use Rattle.volume_model.specs.Purge.{CanBeDone, gone, is_before}
+use Rattle.volume_model.specs.declared.mark.FoldOrDrop.{FoldOrDrop}
+use Rattle.coalesce.specs.Folding.{snapshots_in}
 
 -- the layer at the place can go so
 pub record GoesAt (t : Tree) (place : ℕ) (part : FoldOrDrop) : Type 0 where
-  pub can : CanBeDone (metas t) t.on part
+  pub can : CanBeDone (snapshots_in t) t.on part
   pub named : gone part ≡ name_of (layer_at t.layers place)
 
 -- the layer at the place cannot go
 abbrev pub StaysAt : Tree → ℕ → Type 0
 StaysAt t place = (part : FoldOrDrop) → GoesAt t place part → ⊥
 
--- the one whose layer's name comes first
-abbrev pub first_of : Option FoldOrDrop → FoldOrDrop → FoldOrDrop
-first_of None found = found
-first_of (Some best) found = if is_before (gone found) (gone best) then found else best
-
 -- that can be done, and no layer at the places before goes under a name before
 pub record IsFirstBelow (t : Tree) (until : ℕ) (best : FoldOrDrop) : Type 0 where
-  pub can : CanBeDone (metas t) t.on best
+  pub can : CanBeDone (snapshots_in t) t.on best
   pub first : (place : ℕ) (other : FoldOrDrop) → place < until → GoesAt t place other
       → is_before (gone other) (gone best) ≡ false
 

@@ -2,13 +2,12 @@
 #![tactic(auto)]
 
 mod change;
-mod fold_or_drop;
 pub mod laws;
 mod next;
 
 pub use change::{delete_leaf, fold_page, replace};
-pub use fold_or_drop::FoldOrDrop;
 pub use next::next_fold;
+pub use volume_model::FoldOrDrop;
 
 #[cfg(test)]
 mod tests;

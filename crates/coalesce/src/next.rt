@@ -1,22 +1,22 @@
 ghost use Rattle.std.specs.Prelude.{◌≡◌, ◌<◌, length, MatchOption};
 ghost use Rattle.layer_chain.specs.Tree.{IsWhole};
-ghost use Rattle.coalesce.specs.Folding.{metas, CanBeDone, IsFirst};
-ghost use Rattle.coalesce.specs.Search.{GoesAt, StaysAt, first_of};
+ghost use Rattle.volume_model.specs.Purge.{IsPurged, IsFirst, gone, is_before, first_of};
+ghost use Rattle.coalesce.specs.Folding.{snapshots_in};
+ghost use Rattle.coalesce.specs.Search.{GoesAt, StaysAt};
 
-use crate::fold_or_drop::FoldOrDrop;
 use layer_chain::{Child, Children, LayerTree};
+use vol_units::LayerName;
+use volume_model::FoldOrDrop;
 
 /// What is to be folded or dropped next: the first, in byte order of the names of the layers that go.
 pub fn next_fold(tree: &LayerTree) -> Option<FoldOrDrop>
     ensures { MatchOption result
-        ((part : FoldOrDrop) → CanBeDone (metas tree.now) tree.now.on part → ⊥)
-        (λ part. IsFirst (metas tree.now) tree.now.on part) }
+        (IsPurged (snapshots_in tree.now) tree.now.on)
+        (λ part. IsFirst (snapshots_in tree.now) tree.now.on part) }
 {
     let mut best: Option<FoldOrDrop> = None;
     for place in 0..tree.count() - 1 {
-        if let Some(found) = goes_at(tree, place) {
-            best = Some(first_of(best, found));
-        }
+        best = first_of(best, goes_at(tree, place));
     }
     best
 }
@@ -42,12 +42,30 @@ fn goes_at(tree: &LayerTree, place: usize) -> Option<FoldOrDrop>
     }
 }
 
-/// The one whose layer's name comes first.
-fn first_of(best: Option<FoldOrDrop>, found: FoldOrDrop) -> FoldOrDrop
+/// Of two, the one whose layer's name comes first.
+fn first_of(best: Option<FoldOrDrop>, found: Option<FoldOrDrop>) -> Option<FoldOrDrop>
     ensures { result ≡ first_of best found }
 {
-    match best {
-        Some(best) => { if found.is_before(&best) { found } else { best } }
-        None => found,
+    match (best, found) {
+        (Some(a), Some(b)) => { if is_before(&b, &a) { found } else { best } }
+        (Some(_), None) => best,
+        (None, _) => found,
+    }
+}
+
+/// Whether the first's layer has the name that comes first.
+fn is_before(a: &FoldOrDrop, b: &FoldOrDrop) -> bool
+    ensures { result ≡ is_before (gone a.now) (gone b.now) }
+{
+    gone(a).as_bytes().cmp(gone(b).as_bytes()).is_lt()
+}
+
+/// The layer that goes.
+fn gone(part: &FoldOrDrop) -> LayerName
+    ensures { result ≡ gone part.now }
+{
+    match *part {
+        FoldOrDrop::Fold { parent, child: _ } => parent,
+        FoldOrDrop::Drop(name) => name,
     }
 }

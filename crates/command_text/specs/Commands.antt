@@ -2,13 +2,14 @@
 use Rattle.std.specs.Prelude.{◌≡◌, List, ℕ, ◌++◌, codes}
 use Rattle.vol_units.specs.Name.{IsSnapName, IsLayerName}
 use Rattle.command_text.specs.declared.command.Command.{Command}
-use Rattle.command_text.specs.declared.command.Command.TheVariants.{Snapshot, Remove, Revert, Status}
+use Rattle.command_text.specs.declared.command.Command.TheVariants.{Snapshot, Remove, Revert, Purge, Status}
 
 -- a command as a text: words that one space parts
 abbrev pub command_text : Command → List ℕ
 command_text (Snapshot name) = codes "snapshot " ++ name
 command_text (Remove name) = codes "remove " ++ name
 command_text (Revert name) = codes "revert " ++ name
+command_text Purge = codes "purge"
 command_text Status = codes "status"
 
 -- The name in it, where it has one, is one that it may have: the engine takes its own snapshots.
@@ -16,6 +17,7 @@ abbrev pub HasGoodName : Command → Type 0
 HasGoodName (Snapshot name) = IsSnapName name
 HasGoodName (Remove name) = IsLayerName name
 HasGoodName (Revert name) = IsLayerName name
+HasGoodName Purge = Unit {0}
 HasGoodName Status = Unit {0}
 
 -- the text is that of the command

@@ -13,6 +13,8 @@ pub enum Command {
     Remove(LayerName),
     /// Lets the volume read as a snapshot does.
     Revert(LayerName),
+    /// Takes out the layers that are to be removed, as far as that goes.
+    Purge,
     /// How many layers there are, and the mode of each replica.
     Status,
 }
@@ -29,6 +31,9 @@ impl Command {
     {
         if text == b"status".as_slice() {
             return Ok(Command::Status);
+        }
+        if text == b"purge".as_slice() {
+            return Ok(Command::Purge);
         }
         if let Some(name) = text.strip_prefix(b"snapshot ") {
             return Ok(Command::Snapshot(SnapName::read(name)?));
@@ -60,6 +65,7 @@ impl Command {
             Command::Snapshot(name) => (b"snapshot ", name.as_bytes()),
             Command::Remove(name) => (b"remove ", name.as_bytes()),
             Command::Revert(name) => (b"revert ", name.as_bytes()),
+            Command::Purge => (b"purge", b""),
             Command::Status => (b"status", b""),
         }
     }

@@ -27,17 +27,17 @@ pub struct Journal {
     spare: u64,
     modes: Sequence<Mode>,
     layers: u64,
-    /// The newest first.
+    /// The newest last, so that one more takes a push.
     names: Vec<UsedName>,
 }
 
 impl Model for Journal {
-    ghost use Rattle.std.specs.Prelude.{vec_len, vec_capacity, ◌+◌, ◌^◌, ◌<◌, ◌≤◌};
+    ghost use Rattle.std.specs.Prelude.{reverse, vec_len, vec_capacity, ◌+◌, ◌^◌, ◌<◌, ◌≤◌};
     ghost use Rattle.journal_book.specs.Book.{Book};
 
     ghost Value = { Book };
 
-    ghost view = { λ j. record { entries = j.entries.items; spare = j.spare; modes = j.modes; layers = j.layers; names = j.names.items } };
+    ghost view = { λ j. record { entries = j.entries.items; spare = j.spare; modes = j.modes; layers = j.layers; names = reverse j.names.items } };
 
     ghost invariant = { λ j. (vec_len j.entries + j.spare ≤ vec_capacity j.entries)
         × (vec_len j.names + j.spare ≤ vec_capacity j.names) × (j.layers < 2 ^ 32 + vec_len j.entries) };
@@ -52,12 +52,14 @@ impl Journal {
         ensures layers { result.layers ≡ opening.layers }
         ensures names { result.names ≡ opening.names }
     {
+        let mut names = opening.names.into_vec();
+        names.reverse();
         Journal {
             entries: Vec::new(alloc),
             spare: 0,
             modes: opening.modes,
             layers: u64::from(opening.layers),
-            names: opening.names.into_vec(),
+            names,
         }
     }
 

@@ -3,7 +3,7 @@
 ghost use Rattle.std.specs.Prelude.{◌≡◌, ◌+◌, ◌^◌, ◌<◌, ◌≤◌};
 ghost use Rattle.volume_model.specs.Names.{layers_after_call, layers_after_entry};
 
-use volume_model::{Call, Command, Entry, Reply};
+use volume_model::{Call, Command, Entry, Mark, Reply};
 
 /// How many layers there are after the entry, of so many before it.
 pub(crate) fn layers_after(layers: u64, entry: &Entry) -> u64
@@ -11,10 +11,13 @@ pub(crate) fn layers_after(layers: u64, entry: &Entry) -> u64
     ensures layers { result ≡ layers_after_entry layers entry.now }
     ensures one_more { result ≤ layers + 1 }
 {
-    let answer = entry.answer();
-    match &answer.reply {
-        Reply::Refused(_) => layers,
-        _ => layers_after_call(layers, &answer.call),
+    match entry {
+        Entry::Answer(answer) => match &answer.reply {
+            Reply::Refused(_) => layers,
+            _ => layers_after_call(layers, &answer.call),
+        },
+        // Each part of a purge takes one layer.
+        Entry::Mark(Mark::Purged(_)) => layers.saturating_sub(1),
     }
 }
 

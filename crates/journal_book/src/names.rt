@@ -1,6 +1,7 @@
-//! The names that snapshots were taken under, the newest first, and what the entries of a run leave of them.
+//! The names that snapshots were taken under, and what the entries of a run leave of them. Here the newest name is the
+//! last, so that one more is pushed at the end; contracts see the newest first.
 
-ghost use Rattle.std.specs.Prelude.{◌≡◌, ◌+◌, ◌<◌, ◌≤◌, map, vec_len, vec_capacity};
+ghost use Rattle.std.specs.Prelude.{◌≡◌, ◌+◌, ◌<◌, ◌≤◌, map, reverse, vec_len, vec_capacity};
 ghost use Rattle.std.specs.Str.{bytes_eq};
 ghost use Rattle.volume_model.specs.Names.{is_used_in, is_live_in, name_marked, names_after_command, names_after_call, names_after_entry};
 
@@ -13,15 +14,15 @@ fn is_named(used: &UsedName, name: &LayerName) -> bool
 }
 
 pub(crate) fn is_used(names: &[UsedName], name: &LayerName) -> bool
-    ensures { result ≡ is_used_in names.now name.now }
+    ensures { result ≡ is_used_in (reverse names.now) name.now }
 {
-    names.iter().any(|used| is_named(used, name))
+    names.iter().rev().any(|used| is_named(used, name))
 }
 
 pub(crate) fn is_live(names: &[UsedName], name: &LayerName) -> bool
-    ensures { result ≡ is_live_in names.now name.now }
+    ensures { result ≡ is_live_in (reverse names.now) name.now }
 {
-    for used in names {
+    for used in names.iter().rev() {
         if is_named(used, name) {
             return !used.marked;
         }
@@ -32,20 +33,23 @@ pub(crate) fn is_live(names: &[UsedName], name: &LayerName) -> bool
 /// Makes the names what they are after the entry. No memory is taken.
 pub(crate) fn follow_entry(names: &mut Vec<UsedName>, entry: &Entry)
     requires { vec_len names.old < vec_capacity names.old }
-    ensures names { names.new.items ≡ names_after_entry names.old.items entry.now }
+    ensures names { reverse names.new.items ≡ names_after_entry (reverse names.old.items) entry.now }
     ensures one_more { vec_len names.new ≤ vec_len names.old + 1 }
     ensures capacity { vec_capacity names.old ≤ vec_capacity names.new }
 {
-    let answer = entry.answer();
-    match &answer.reply {
-        Reply::Refused(_) => {}
-        _ => follow_call(names, &answer.call),
+    match entry {
+        Entry::Answer(answer) => match &answer.reply {
+            Reply::Refused(_) => {}
+            _ => follow_call(names, &answer.call),
+        },
+        // A snapshot that went stays used, and marked.
+        Entry::Mark(_) => {}
     }
 }
 
 fn follow_call(names: &mut Vec<UsedName>, call: &Call)
     requires { vec_len names.old < vec_capacity names.old }
-    ensures names { names.new.items ≡ names_after_call names.old.items call.now }
+    ensures names { reverse names.new.items ≡ names_after_call (reverse names.old.items) call.now }
     ensures one_more { vec_len names.new ≤ vec_len names.old + 1 }
     ensures capacity { vec_capacity names.old ≤ vec_capacity names.new }
 {
@@ -57,7 +61,7 @@ fn follow_call(names: &mut Vec<UsedName>, call: &Call)
 
 fn follow_command(names: &mut Vec<UsedName>, command: &Command)
     requires { vec_len names.old < vec_capacity names.old }
-    ensures names { names.new.items ≡ names_after_command names.old.items command.now }
+    ensures names { reverse names.new.items ≡ names_after_command (reverse names.old.items) command.now }
     ensures one_more { vec_len names.new ≤ vec_len names.old + 1 }
     ensures capacity { vec_capacity names.old ≤ vec_capacity names.new }
 {
@@ -67,10 +71,10 @@ fn follow_command(names: &mut Vec<UsedName>, command: &Command)
                 name: LayerName::from(*name),
                 marked: false,
             };
-            names.insert(0, used).unwrap();
+            names.push(used).unwrap();
         }
         Command::Remove(name) => mark(names, name),
-        Command::Revert(_) | Command::Status => {}
+        Command::Revert(_) | Command::Purge | Command::Status => {}
     }
 }
 

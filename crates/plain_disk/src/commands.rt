@@ -29,6 +29,8 @@ impl PlainDisk {
             Command::Snapshot(name) => self.snapshot(alloc, LayerName::from(*name)),
             Command::Remove(name) => Ok(self.remove(name)),
             Command::Revert(name) => self.revert(alloc, name),
+            // What a purge takes out is told by its marks, which `follow` takes.
+            Command::Purge => Ok(Reply::Done),
             Command::Status => self.status(alloc, modes),
         }
     }

@@ -4,10 +4,13 @@
 mod commands;
 mod copies;
 mod disk;
+mod purge;
 mod snapshots;
 
 pub use disk::PlainDisk;
-pub use volume_model::{Bytes, Call, Command, LayerName, Mode, Refusal, Reply, Sequence, SnapName};
+pub use volume_model::{
+    Bytes, Call, Command, FoldOrDrop, LayerName, Mark, Mode, Refusal, Reply, Sequence, SnapName,
+};
 
 #[cfg(test)]
 mod tests;

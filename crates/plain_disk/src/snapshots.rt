@@ -1,6 +1,7 @@
-ghost use Rattle.std.specs.Prelude.{◌≡◌, map};
+ghost use Rattle.std.specs.Prelude.{◌≡◌, map, if◌then◌else◌};
 ghost use Rattle.std.specs.List.{list_any};
 ghost use Rattle.std.specs.Str.{bytes_eq};
+ghost use Rattle.volume_model.specs.Purge.{dropped, parent_in, given};
 ghost use Rattle.volume_model.specs.Snapshots.{is_live, marked_if};
 
 use std::marker::Model;
@@ -31,6 +32,12 @@ impl TakenSnapshot {
         name.as_bytes() == self.name.as_bytes()
     }
 
+    fn parent(&self) -> Option<LayerName>
+        ensures { result ≡ self.now.parent }
+    {
+        self.parent
+    }
+
     fn is_marked(&self) -> bool
         ensures { result ≡ self.now.marked }
     {
@@ -42,6 +49,15 @@ impl TakenSnapshot {
     {
         if self.is_named(name) {
             self.marked = true;
+        }
+    }
+
+    fn give_parent_if_named(&mut self, name: &LayerName, parent: &Option<LayerName>)
+        ensures { self.new
+            ≡ (if bytes_eq name.now self.old.name then record self.old { parent = parent.now } else self.old) }
+    {
+        if self.is_named(name) {
+            self.parent = *parent;
         }
     }
 }
@@ -70,4 +86,41 @@ pub(crate) fn is_used(used: &[LayerName], name: &LayerName) -> bool
     ensures { result ≡ list_any (bytes_eq name.now) used.now }
 {
     used.iter().any(|other| name.as_bytes() == other.as_bytes())
+}
+
+/// On which the snapshot of the name stands, if there is one and it stands on one.
+pub(crate) fn parent_of(snapshots: &[TakenSnapshot], name: &LayerName) -> Option<LayerName>
+    ensures { result ≡ parent_in name.now snapshots.now }
+{
+    for snapshot in snapshots {
+        if snapshot.is_named(name) {
+            return snapshot.parent();
+        }
+    }
+    None
+}
+
+/// Takes the snapshot of the name out, if there is one.
+pub(crate) fn take_out(snapshots: &mut Vec<TakenSnapshot>, name: &LayerName)
+    ensures { snapshots.new.items ≡ dropped name.now snapshots.old.items }
+{
+    for place in 0..snapshots.len() {
+        if snapshots[place].is_named(name) {
+            snapshots.remove(place);
+            return;
+        }
+    }
+}
+
+/// Lets the snapshot of the name stand on another parent, or on none.
+pub(crate) fn give_parent(
+    snapshots: &mut [TakenSnapshot],
+    name: &LayerName,
+    parent: &Option<LayerName>,
+)
+    ensures { snapshots.new ≡ given name.now parent.now snapshots.old }
+{
+    for snapshot in snapshots.iter_mut() {
+        snapshot.give_parent_if_named(name, parent);
+    }
 }

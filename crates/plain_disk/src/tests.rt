@@ -96,9 +96,72 @@ fn answers_the_rows_of_snapshots(rt: HostRuntime) -> Result<(), Fail> {
         (Asked::Command(b"snapshot s"), Told::Error("name used")),
         (Asked::Command(b"revert s"), Told::Error("no such snapshot")),
         (Asked::Command(b"remove s"), Told::Error("no such snapshot")),
+        (Asked::Command(b"purge"), Told::Done),
         (Asked::Command(b"status"), Told::Layers(2)),
         (Asked::Read(0, 1), Told::Bytes(b"a")),
     ];
     assert_eq!(rt; first_wrong(rt.alloc(), &rows)?, None);
+    Ok(())
+}
+
+/// The place of the first command that is answered otherwise than done.
+fn first_refused(
+    alloc: Global,
+    disk: &mut PlainDisk,
+    texts: &[&[u8]],
+) -> Result<Option<usize>, Fail> {
+    for (place, text) in texts.iter().enumerate() {
+        if disk.head_number() > 1_000 {
+            return Ok(Some(place));
+        }
+        let call = Call::Command(Command::read(text)?);
+        if !is_told(&disk.step(alloc, &[Mode::Rw], &call)?, &Told::Done) {
+            return Ok(Some(place));
+        }
+    }
+    Ok(None)
+}
+
+/// Whether the snapshot at the place has the name and stands on that parent.
+fn stands_on(disk: &PlainDisk, place: usize, name: LayerName, parent: Option<LayerName>) -> bool {
+    match disk.snapshots.get(place) {
+        Some(snapshot) => snapshot.name == name && snapshot.parent == parent,
+        None => false,
+    }
+}
+
+#[test]
+fn follows_the_marks_of_a_purge(rt: HostRuntime) -> Result<(), Fail> {
+    let alloc = rt.alloc();
+    let (a, b, c) = (
+        LayerName::read(b"a")?,
+        LayerName::read(b"b")?,
+        LayerName::read(b"c")?,
+    );
+    let mut disk = PlainDisk::zeros(alloc, 2_097_152)?;
+    let begun: [&[u8]; 5] = [
+        b"snapshot a",
+        b"snapshot b",
+        b"snapshot c",
+        b"remove b",
+        b"purge",
+    ];
+    assert_eq!(rt; first_refused(alloc, &mut disk, &begun)?, None);
+    assert!(rt; disk.snapshots.len() == 3 && stands_on(&disk, 0, c, Some(b)));
+    disk.follow(&Mark::Purged(FoldOrDrop::Fold {
+        parent: b,
+        child: c,
+    }));
+    assert!(rt; disk.snapshots.len() == 2);
+    assert!(rt; stands_on(&disk, 0, c, Some(a)) && stands_on(&disk, 1, a, None));
+    let more: [&[u8]; 2] = [b"revert a", b"remove c"];
+    assert_eq!(rt; first_refused(alloc, &mut disk, &more)?, None);
+    disk.follow(&Mark::Purged(FoldOrDrop::Drop(c)));
+    assert!(rt; disk.snapshots.len() == 1 && stands_on(&disk, 0, a, None));
+    // The names that went stay taken, and the one that is left can be used.
+    let taken: [&[u8]; 2] = [b"snapshot d", b"snapshot c"];
+    assert_eq!(rt; first_refused(alloc, &mut disk, &taken)?, Some(1));
+    assert_eq!(rt; first_refused(alloc, &mut disk, &[b"revert a"])?, None);
+    assert_eq!(rt; first_refused(alloc, &mut disk, &[b"revert b"])?, Some(0));
     Ok(())
 }

@@ -1,2 +1,3 @@
 pub mod StateLemmas
+pub mod PurgeLemmas
 pub mod MergedLemmas

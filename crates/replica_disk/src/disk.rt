@@ -3,15 +3,20 @@ ghost use Rattle.volume_model.specs.Disk.{zeros, bytes_at};
 ghost use Rattle.volume_model.specs.Snapshots.{chain_of};
 ghost use Rattle.volume_model.specs.PlainState.{state_of, written};
 ghost use Rattle.volume_model.specs.PlainStep.{plain_step};
+ghost use Rattle.volume_model.specs.Marks.{after_mark};
+ghost use Rattle.volume_model.specs.Purge.{CanBeDone, next_of};
+ghost use Rattle.volume_model.specs.declared.mark.Mark.TheVariants as mark;
 ghost use Rattle.volume_model.specs.declared.mode.Mode.{Mode};
 
 use crate::commands;
 use crate::merge::merged_blocks;
+use crate::purge::take_out;
+use crate::used::UsedNames;
 use replica_node::{BLOCK_BYTES, BlockRange, ReplicaNode};
 use std::alloc::{AllocError, Global};
 use std::marker::Model;
 use vol_units::{LayerName, VolumeSize, place_within};
-use volume_model::{Bytes, Call, Mode, Refusal, Reply};
+use volume_model::{Bytes, Call, FoldOrDrop, Mode, Refusal, Reply};
 
 /// The most bytes that one call reads.
 const LONGEST_CALL: u32 = 1_048_576;
@@ -20,15 +25,19 @@ const LONGEST_CALL: u32 = 1_048_576;
 #[derive(Drop)]
 pub struct ReplicaDisk {
     node: ReplicaNode,
+    /// Also those of snapshots that a purge took out.
+    used: UsedNames,
 }
 
 impl Model for ReplicaDisk {
     ghost use Rattle.volume_model.specs.PlainState.{PlainState};
-    ghost use Rattle.replica_disk.specs.State.{state_of_node};
+    ghost use Rattle.replica_disk.specs.State.{AreTaken, state_of_node};
 
     ghost Value = { PlainState };
 
-    ghost view = { λ d. state_of_node d.node };
+    ghost view = { λ d. state_of_node d.used d.node };
+
+    ghost invariant = { λ d. AreTaken d.used d.node };
 }
 
 impl ReplicaDisk {
@@ -38,6 +47,7 @@ impl ReplicaDisk {
     {
         Ok(ReplicaDisk {
             node: ReplicaNode::blank(alloc, size)?,
+            used: UsedNames::none(alloc),
         })
     }
 
@@ -82,8 +92,25 @@ impl ReplicaDisk {
             Call::Write { offset, bytes } => self.write(alloc, *offset, bytes.as_slice()),
             Call::Ping => Ok(Reply::Done),
             Call::Other(_) => Ok(Reply::Refused(Refusal::Unsupported)),
-            Call::Command(command) => commands::answer(&mut self.node, alloc, modes, command),
+            Call::Command(command) => {
+                commands::answer(&mut self.node, &mut self.used, alloc, modes, command)
+            }
         }
+    }
+
+    /// What a purge takes out next.
+    pub fn next_fold(&self) -> Option<FoldOrDrop>
+        ensures { result ≡ next_of self.now.snapshots }
+    {
+        self.node.next_fold()
+    }
+
+    /// Takes out a layer that can go: neither the disk nor a copy changes. It takes no memory.
+    pub fn take_out(&mut self, part: &FoldOrDrop)
+        requires { CanBeDone self.old.snapshots.tree self.old.snapshots.on part.now }
+        ensures { self.new ≡ after_mark self.old (mark.Purged part.now) }
+    {
+        take_out(&mut self.node, &self.used, part);
     }
 
     fn read(&self, alloc: Global, offset: i64, length: u32) -> Result<Reply, AllocError>

@@ -4,9 +4,13 @@
 mod commands;
 mod disk;
 mod merge;
+mod purge;
+mod used;
 
 pub use disk::ReplicaDisk;
-pub use volume_model::{Bytes, Call, Command, LayerName, Mode, Refusal, Reply, Sequence, SnapName};
+pub use volume_model::{
+    Bytes, Call, Command, FoldOrDrop, LayerName, Mode, Refusal, Reply, Sequence, SnapName,
+};
 
 #[cfg(test)]
 mod tests;

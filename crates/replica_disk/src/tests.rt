@@ -3,6 +3,7 @@ use plain_disk::PlainDisk;
 use std::alloc::{AllocError, Global};
 use std::test::Fail;
 use vol_units::VolumeSize;
+use volume_model::Mark;
 
 /// What is asked of a volume.
 #[derive(Drop)]
@@ -174,9 +175,12 @@ fn next(seed: u32) -> u32 {
     seed.wrapping_mul(1_664_525).wrapping_add(1_013_904_223)
 }
 
-/// A command on one of eight names.
+/// A command on one of 16 names.
 fn command_of(seed: u32) -> Result<Command, Fail> {
-    let name = [b's', b'a' + ((seed >> 8) % 8) as u8];
+    let name = [
+        b'0' + ((seed >> 6) % 2) as u8,
+        b'a' + ((seed >> 8) % 8) as u8,
+    ];
     let layer = LayerName::read(&name).ok().ok_or("no name")?;
     Ok(match (seed >> 16) % 5 {
         0 => Command::Remove(layer),
@@ -219,18 +223,70 @@ fn plain_answer(alloc: Global, disk: &mut PlainDisk, call: &Call) -> Result<Repl
     Ok(disk.step(alloc, &[Mode::Rw], call)?)
 }
 
+/// Takes out what goes next of both, and is false where nothing can go.
+fn take_out_next(sparse: &mut ReplicaDisk, plain: &mut PlainDisk) -> bool {
+    if let Some(part) = sparse.next_fold() {
+        sparse.take_out(&part);
+        plain.follow(&Mark::Purged(part));
+        return true;
+    }
+    false
+}
+
 #[test]
 fn answers_as_the_plain_disk_does(rt: HostRuntime) -> Result<(), Fail> {
     let alloc = rt.alloc();
     let mut sparse = ReplicaDisk::zeros(alloc, VolumeSize::new(4_194_304)?)?;
     let mut plain = PlainDisk::zeros(alloc, 4_194_304)?;
     let mut seed = 1;
-    for _call in 0..120 {
+    let mut gone = 0u32;
+    for _call in 0..200 {
         seed = next(seed);
         let call = made_of(alloc, seed)?;
         let reply = answer(alloc, &mut sparse, &call)?;
         assert!(rt; are_same(&reply, &plain_answer(alloc, &mut plain, &call)?));
+        if seed >> 29 == 0 && take_out_next(&mut sparse, &mut plain) {
+            gone = gone.saturating_add(1);
+        }
     }
+    assert!(rt; gone > 2, "{gone} layers went");
     assert_eq!(rt; sparse.head_number(), plain.head_number());
+    Ok(())
+}
+
+#[test]
+fn a_fold_leaves_the_disk_its_copies_and_the_used_names(rt: HostRuntime) -> Result<(), Fail> {
+    let alloc = rt.alloc();
+    let mut sparse = ReplicaDisk::zeros(alloc, VolumeSize::new(2_097_152)?)?;
+    let mut plain = PlainDisk::zeros(alloc, 2_097_152)?;
+    let before = [
+        (Asked::Write(0, b"a"), Told::Done),
+        (Asked::Command(b"snapshot s"), Told::Done),
+        (Asked::Write(0, b"b"), Told::Done),
+        (Asked::Command(b"snapshot t"), Told::Done),
+        (Asked::Write(0, b"c"), Told::Done),
+        (Asked::Command(b"remove s"), Told::Done),
+        (Asked::Command(b"purge"), Told::Done),
+    ];
+    assert_eq!(rt; answered(alloc, &mut sparse, &before)?, 7);
+    let name = |text: &[u8]| LayerName::read(text).ok().ok_or("no name");
+    let wanted = FoldOrDrop::Fold {
+        parent: name(b"s")?,
+        child: name(b"t")?,
+    };
+    assert_eq!(rt; sparse.next_fold(), Some(wanted));
+    assert!(rt; take_out_next(&mut sparse, &mut plain));
+    assert_eq!(rt; sparse.next_fold(), None);
+    let behind = [
+        (Asked::Command(b"status"), Told::Layers(2)),
+        (Asked::Read(0, 1), Told::Bytes(b"c")),
+        (Asked::Command(b"snapshot s"), Told::Error("name used")),
+        (Asked::Command(b"revert s"), Told::Error("no such snapshot")),
+        (Asked::Command(b"revert t"), Told::Done),
+        (Asked::Read(0, 1), Told::Bytes(b"b")),
+    ];
+    assert_eq!(rt; answered(alloc, &mut sparse, &behind)?, 6);
+    let chain = [(name(b"t")?, false)];
+    assert_eq!(rt; sparse.chain(alloc)?.as_slice(), chain.as_slice());
     Ok(())
 }

@@ -1,5 +1,13 @@
 pub mod ChainLemmas
+pub mod CutLemmas
+pub mod FoldLemmas
+pub mod FoldedNode
+pub mod GoneLemmas
+pub mod ListedLemmas
 pub mod NodeLemmas
+pub mod OwnLemmas
+pub mod PageLemmas
 pub mod ReadLemmas
 pub mod RoomLemmas
+pub mod TreeOf
 pub mod WriteLemmas

@@ -1,10 +1,10 @@
 -- What a change of a tree makes of the replica that it is.
-use Rattle.std.proofs.Common.{◌≡◌, ◌≢◌, ℕ, zero, suc, ◌+◌, ◌*◌, ◌/◌, ◌<◌, Bool, true, false, not, cond, List, [], ◌∷◌, ◌++◌, length, map, replicate, get_or, set, Option, None, Some, is_some, refl, sym, ap, subst, ◌∙◌, inl, inr, arith, length-append, ⊎_elim}
+use Rattle.std.proofs.Common.{◌≡◌, ◌≢◌, ℕ, zero, suc, ◌*◌, ◌/◌, ◌<◌, Bool, true, false, not, cond, List, [], ◌∷◌, length, map, replicate, get_or, set, Option, None, Some, is_some, refl, sym, ap, subst, ◌∙◌, inl, inr, arith, ⊎_elim}
 use Rattle.std.proofs.lemmas.List.{length-map}
 use Rattle.std.specs.List.{All}
 use Rattle.std.specs.Prelude.{Contains, IfSome, MatchOption}
 use Rattle.std.specs.Str.{bytes_eq}
-use Rattle.std.proofs.lemmas.List.Elements.{All-nil, All-cons, All-head, All-tail}
+use Rattle.std.proofs.lemmas.List.Elements.{All-nil, All-cons, All-head, All-tail, All-set}
 use Rattle.std.proofs.lemmas.Slice.Eq.{bytes_eq-Decides}
 use Rattle.std.proofs.lemmas.Bool.{false≢true}
 use Rattle.sparse_image.specs.Image.{Tables, IsEmpty, block_at, has_page}
@@ -21,47 +21,51 @@ use Rattle.layer_chain.specs.Changes as change
 use Rattle.layer_chain.specs.Tree.{Tree, name_of, reads, head_reads, layer_at, IsNew, IsThere, IsLayers, IsAt}
 use Rattle.layer_chain.proofs.ChangeLemmas.{snapped_reads, snapped_others, snapped_head, reverted_head, mark_keeps}
 use Rattle.layer_chain.proofs.ReadLaws.{cases_named}
-use Rattle.replica_node.specs.Node.{Kept, Node, node_of, kept_in, disk_in, head_disk, made_in, names_of, disk_named, IsNode, IsKept, IsFree, IsSpareOf, no_room, blank, snapped, reverted, marked, with_mark}
+use Rattle.replica_node.proofs.ListedLemmas.{length-listed, listed-all}
+use Rattle.replica_node.specs.Node.{Kept, Node, node_of, kept_in, disk_in, head_disk, own_in, made_in, names_of, disk_named, IsNode, IsKept, IsFree, IsSpareOf, no_room, no_own, blank, snapped, reverted, marked, with_mark}
 
--- ---- room
+-- ---- room, and blocks of its own
 
 pub length-made_in : (image : Tables) (count : ℕ) → length (made_in image count) ≡ count
-unfolding made_in
-length-made_in image zero = refl
-length-made_in image (suc count) =
-    omega (arith, length-append (made_in image count) (has_page image (count / 512) ∷ []), length-made_in image count)
+length-made_in image count = length-listed (λ block. has_page image (block / 512)) count
 
-replicate-push : (n : ℕ) (x : Bool) → replicate n x ++ x ∷ [] ≡ replicate (suc n) x
-replicate-push zero x = refl
-replicate-push (suc n) x = ap (λ l. x ∷ l) (replicate-push n x)
+pub length-own_in : (image : Tables) (count : ℕ) → length (own_in image count) ≡ count
+length-own_in image count = length-listed (λ block. is_some (block_at image block)) count
 
-pub made_in-empty : (image : Tables) (page_count count : ℕ) → IsEmpty image page_count → made_in image count ≡ replicate count false
-unfolding made_in
-made_in-empty image page_count zero e = refl
-made_in-empty image page_count (suc count) e =
-    both (made_in-empty image page_count count e) (e.pages (count / 512)) ∙ replicate-push count false
-  where
-    both : {l m : List Bool} {x y : Bool} → l ≡ m → x ≡ y → l ++ x ∷ [] ≡ m ++ y ∷ []
-    both p q = cc
+made_in-empty : (image : Tables) (page_count count : ℕ) → IsEmpty image page_count → made_in image count ≡ replicate count false
+made_in-empty image page_count count e =
+    listed-all (λ block. has_page image (block / 512)) count false (λ block. e.pages (block / 512))
 
--- a spare head has no room
-pub no_room-empty : (t : Tree) (spare : Tables) (page_count count : ℕ) → IsEmpty spare page_count → made_in spare count ≡ no_room (node_of t count)
+own_in-empty : (image : Tables) (page_count count : ℕ) → IsEmpty image page_count → own_in image count ≡ replicate count false
+own_in-empty image page_count count e =
+    listed-all (λ block. is_some (block_at image block)) count false (λ block. ap is_some (e.blocks block))
+
+-- a spare head has no room, and no block
+no_room-empty : (t : Tree) (spare : Tables) (page_count count : ℕ) → IsEmpty spare page_count → made_in spare count ≡ no_room (node_of t count)
 no_room-empty t spare page_count count e =
     made_in-empty spare page_count count e ∙ ap (λ n. replicate n false) (sym (length-made_in t.head count))
+
+no_own-empty : (t : Tree) (spare : Tables) (page_count count : ℕ) → IsEmpty spare page_count → own_in spare count ≡ no_own (node_of t count)
+no_own-empty t spare page_count count e =
+    own_in-empty spare page_count count e ∙ ap (λ n. replicate n false) (sym (length-own_in t.head count))
 
 -- a spare head has the pages of the tree
 pub spare_pages : (t : Tree) (count : ℕ) (node : Node) (spare : Tables) → node_of t count ≡ node → IsSpareOf node spare → length spare * 512 ≡ count
 spare_pages t count node spare view is = is.0 ∙ sym (ap (λ n. length n.room) view) ∙ length-made_in t.head count
 
+-- the image has a place for each page of so many blocks
+abbrev pub HasPages : ℕ → Layer → Type 0
+HasPages count l = length l.image * 512 ≡ count
+
 -- ---- names
 
-abbrev kept : LayerMeta → List ℕ → Kept
-kept m d = record { meta = m; disk = d }
+abbrev pub kept : LayerMeta → List ℕ → List Bool → Kept
+kept m d own = record { meta = m; disk = d; own = own }
 
-same_kept : (m : LayerMeta) (a b : List ℕ) → a ≡ b → kept m a ≡ kept m b
-same_kept m a b p = ap (kept m) p
+pub same_kept : (m : LayerMeta) (a b : List ℕ) (o u : List Bool) → a ≡ b → o ≡ u → kept m a o ≡ kept m b u
+same_kept m a b o u p q = cc
 
-some_name : (a b : List ℕ) → Some a ≡ Some b → a ≡ b
+pub some_name : (a b : List ℕ) → Some a ≡ Some b → a ≡ b
 some_name a b e = cc
 
 is_new : (xs layers : List Layer) (count : ℕ) (name : List ℕ) → All (λ (k : Kept). k.meta.name ≢ name) (map (kept_in layers count) xs) → IsNew name xs
@@ -121,21 +125,23 @@ not_found xs name (Some at) b is false_is place = absurd (false≢true (sym fals
 -- ---- what is kept
 
 -- layers of other names are kept as they were
-kept_elsewhere : (xs old new : List Layer) (count : ℕ) (name : List ℕ) → IsNew name xs
+pub kept_elsewhere : (xs old new : List Layer) (count : ℕ) (name : List ℕ) → IsNew name xs
     → ((n : List ℕ) → n ≢ name → disk_in new count n ≡ disk_in old count n) → map (kept_in new count) xs ≡ map (kept_in old count) xs
 kept_elsewhere [] old new count name free same = refl
 kept_elsewhere (x ∷ xs) old new count name free same =
-    both (same_kept x.meta _ _ (same (name_of x) free.0)) (kept_elsewhere xs old new count name free.1 same)
+    both (same_kept x.meta _ _ _ _ (same (name_of x) free.0) refl) (kept_elsewhere xs old new count name free.1 same)
   where
     both : {a b : Kept} {l m : List Kept} → a ≡ b → l ≡ m → a ∷ l ≡ b ∷ m
     both p q = cc
 
-abbrev node_with : List Kept → Option (List ℕ) → ℕ → List ℕ → List Bool → Node
-node_with layers on number disk room = record { layers = layers; on = on; number = number; disk = disk; room = room }
+abbrev pub node_with : List Kept → Option (List ℕ) → ℕ → List ℕ → List Bool → List Bool → Node
+node_with layers on number disk room own =
+    record { layers = layers; on = on; number = number; disk = disk; room = room; own = own }
 
-same_node : (a b : List Kept) (on : Option (List ℕ)) (number : ℕ) (c d : List ℕ) (r s : List Bool) → a ≡ b → c ≡ d → r ≡ s
-    → node_with a on number c r ≡ node_with b on number d s
-same_node a b on number c d r s p q e = cc
+-- the same parts, the same replica
+pub same_parts : {a b : List Kept} {c d : Option (List ℕ)} {m n : ℕ} {f g : List ℕ} {r s u v : List Bool} → a ≡ b → c ≡ d → m ≡ n → f ≡ g → r ≡ s → u ≡ v
+    → node_with a c m f r u ≡ node_with b d n g s v
+same_parts p q x y z w = cc
 
 -- ---- a snapshot
 
@@ -154,9 +160,9 @@ snapped_node t count name spare page_count free e =
     let head : head_disk after count ≡ head_disk t count =
     joined-same (λ k. bytes_of (head_reads t k)) (λ k. bytes_of (head_reads after k)) count
     (λ k h. ap bytes_of (snapped_head t name user_created spare k (e.blocks k))) in
-    same_node _ _ (Some name) (t.number + 1) _ _ _ _
-    (both (same_kept _ _ _ own) (kept_elsewhere t.layers t.layers after.layers count name free others)) head
-    (no_room-empty t spare page_count count e)
+    same_parts
+    (both (same_kept _ _ _ _ _ own refl) (kept_elsewhere t.layers t.layers after.layers count name free others)) refl refl head
+    (no_room-empty t spare page_count count e) (no_own-empty t spare page_count count e)
   where
     both : {a b : Kept} {l m : List Kept} → a ≡ b → l ≡ m → a ∷ l ≡ b ∷ m
     both p q = cc
@@ -167,6 +173,7 @@ snapped_whole t count name user_created spare page_count n e pages =
     let after = change.snapped t name user_created spare in
     record {
       pages = ap (λ l. l * 512) e.count ∙ pages;
+      images = All-cons (HasPages count) (layer_at after.layers 0) t.layers n.pages n.images;
       layers = λ want k. ⊎_elim
           (λ same. ap (λ w. length (bytes_of (reads after.layers w k))) same ∙ ap (λ b. length (bytes_of b)) (snapped_reads t name user_created spare k) ∙ n.head k)
           (λ other. ap (λ b. length (bytes_of b)) (snapped_others t name user_created spare want k other) ∙ n.layers want k)
@@ -197,13 +204,14 @@ reverted_node t count name spare page_count there e =
     let head : head_disk after count ≡ disk_in t.layers count name =
     joined-same (λ k. bytes_of (reads t.layers (Some name) k)) (λ k. bytes_of (head_reads after k)) count
     (λ k h. ap bytes_of (reverted_head t name spare k (e.blocks k))) in
-    same_node _ _ (Some name) (t.number + 1) _ _ _ _ refl (head ∙ sym (named_there t.layers t.layers count name there))
-    (no_room-empty t spare page_count count e)
+    same_parts refl refl refl (head ∙ sym (named_there t.layers t.layers count name there))
+    (no_room-empty t spare page_count count e) (no_own-empty t spare page_count count e)
 
 pub reverted_whole : (t : Tree) (count : ℕ) (name : List ℕ) (spare : Tables) (page_count : ℕ)
     → IsNode t count → IsEmpty spare page_count → page_count * 512 ≡ count → IsNode (change.reverted t name spare) count
 reverted_whole t count name spare page_count n e pages = record {
   pages = ap (λ l. l * 512) e.count ∙ pages;
+  images = n.images;
   layers = n.layers;
   head = λ k. ap (λ b. length (bytes_of b)) (reverted_head t name spare k (e.blocks k)) ∙ n.layers (Some name) k;
 }
@@ -261,7 +269,7 @@ marked_at_place (x ∷ xs) layers count name (suc place) tree within is =
 same_readings : (xs old new : List Layer) (count : ℕ) → ((n : List ℕ) → disk_in new count n ≡ disk_in old count n)
     → map (kept_in new count) xs ≡ map (kept_in old count) xs
 same_readings [] old new count same = refl
-same_readings (x ∷ xs) old new count same = both (same_kept x.meta _ _ (same (name_of x))) (same_readings xs old new count same)
+same_readings (x ∷ xs) old new count same = both (same_kept x.meta _ _ _ _ (same (name_of x)) refl) (same_readings xs old new count same)
   where
     both : {a b : Kept} {l m : List Kept} → a ≡ b → l ≡ m → a ∷ l ≡ b ∷ m
     both p q = cc
@@ -278,13 +286,14 @@ marked_node t count name place tree at =
     ∙ sym (marked_at_place t.layers t.layers count name place tree at.within at.named) in
     let head : head_disk after count ≡ head_disk t count =
     joined-same (λ k. bytes_of (head_reads t k)) (λ k. bytes_of (head_reads after k)) count (λ k h. ap bytes_of (keeps.head k)) in
-    same_node _ _ t.on t.number _ _ _ _ layers head refl
+    same_parts layers refl refl head refl refl
 
 pub marked_whole : (t : Tree) (count place : ℕ) → place < length t.layers → IsNode t count → IsNode (change.marked_at t place) count
 marked_whole t count place within n =
     let keeps = mark_keeps t place within in
     record {
       pages = n.pages;
+      images = All-set (HasPages count) t.layers place (change.with_mark (layer_at t.layers place)) (n.images place _ within) n.images;
       layers = λ want k. ap (λ b. length (bytes_of b)) (keeps.layers want k) ∙ n.layers want k;
       head = λ k. ap (λ b. length (bytes_of b)) (keeps.head k) ∙ n.head k;
     }
@@ -301,7 +310,7 @@ blank_block t page_count k none e = both (e.blocks k) (no_reading t.layers t.on 
     both : {a b : Option (List ℕ)} → a ≡ None → b ≡ None → option_or a b ≡ None
     both p q = rw (p, q) refl
 
-length-none : length (bytes_of None) ≡ 4096
+pub length-none : length (bytes_of None) ≡ 4096
 length-none = length-zeros 4096
 
 as_disk : (image : Tables) (n : ℕ) → IsEmpty image n → joined (λ k. bytes_of (block_at image k)) (length image * 512) ≡ zeros (n * 2097152)
@@ -311,6 +320,7 @@ as_disk image n e = disk_of-empty image n e
 pub blank_whole : (t : Tree) (page_count count : ℕ) → t.layers ≡ [] → IsEmpty t.head page_count → page_count * 512 ≡ count → IsNode t count
 blank_whole t page_count count none e pages = record {
   pages = ap (λ l. l * 512) e.count ∙ pages;
+  images = subst (All (HasPages count)) (sym none) (All-nil (HasPages count));
   layers = λ want k. ap (λ b. length (bytes_of b)) (no_reading t.layers want k none) ∙ length-none;
   head = λ k. ap (λ b. length (bytes_of b)) (blank_block t page_count k none e) ∙ length-none;
 }
@@ -325,8 +335,5 @@ blank_node t page_count count size none e root first pages blocks bytes =
     ∙ as_disk t.head page_count e ∙ ap zeros bytes in
     let layers : map (kept_in t.layers count) t.layers ≡ [] = ap (map (kept_in t.layers count)) none in
     let room : made_in t.head count ≡ replicate (size / 4096) false = made_in-empty t.head page_count count e ∙ ap (λ n. replicate n false) (sym blocks) in
-    whole layers root first disk room
-  where
-    whole : {a b : List Kept} {c d : Option (List ℕ)} {m n : ℕ} {f g : List ℕ} {r s : List Bool} → a ≡ b → c ≡ d → m ≡ n → f ≡ g → r ≡ s
-        → node_with a c m f r ≡ node_with b d n g s
-    whole p q x y z = cc
+    let own : own_in t.head count ≡ replicate (size / 4096) false = own_in-empty t.head page_count count e ∙ ap (λ n. replicate n false) (sym blocks) in
+    same_parts layers root first disk room own

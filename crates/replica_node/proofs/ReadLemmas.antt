@@ -11,19 +11,19 @@ use Rattle.replica_node.specs.Node.{Node, node_of, disk_of_layer, block_in, IsNo
 use Rattle.replica_node.proofs.NodeLemmas.{there_in, named_there}
 
 -- a part of a list that is known by what stands before it
-part_at : (all xs ys zs : List ℕ) (at : ℕ) → all ≡ xs ++ ys ++ zs → length xs ≡ at → length ys ≡ 4096 → bytes_at all at 4096 ≡ ys
-part_at all xs ys zs at parts before whole =
-    let long : at + 4096 - at ≡ 4096 = omega arith in
+pub part_at : (all xs ys zs : List ℕ) (at size : ℕ) → all ≡ xs ++ ys ++ zs → length xs ≡ at → length ys ≡ size → bytes_at all at size ≡ ys
+part_at all xs ys zs at size parts before whole =
+    let long : at + size - at ≡ size = omega arith in
     ap (λ n. take n (drop at all)) long
-    ∙ ap (λ l. take 4096 (drop at l)) (parts ∙ append_assoc xs ys zs)
-    ∙ ap (λ n. take 4096 (drop n (xs ++ (ys ++ zs)))) (sym before)
-    ∙ ap (take 4096) (drop-append_seam xs (ys ++ zs))
+    ∙ ap (λ l. take size (drop at l)) (parts ∙ append_assoc xs ys zs)
+    ∙ ap (λ n. take size (drop n (xs ++ (ys ++ zs)))) (sym before)
+    ∙ ap (take size) (drop-append_seam xs (ys ++ zs))
     ∙ ap (λ n. take n (ys ++ zs)) (sym whole)
     ∙ take-append_seam ys zs
 
 joined-block : (f : ℕ → List ℕ) (n i : ℕ) → i < n → ((k : ℕ) → length (f k) ≡ 4096) → bytes_at (joined f n) (i * 4096) 4096 ≡ f i
 joined-block f n i inside whole =
-    part_at (joined f n) (take (i * 4096) (joined f n)) (f i) (drop (i * 4096 + 4096) (joined f n)) (i * 4096)
+    part_at (joined f n) (take (i * 4096) (joined f n)) (f i) (drop (i * 4096 + 4096) (joined f n)) (i * 4096) 4096
     (joined-changed f f n i inside whole (λ k ne. refl))
     (length-take-le (i * 4096) (joined f n) (omega (arith, length-joined f n whole))) (whole i)
 

@@ -1,35 +1,19 @@
 -- The places that are made in the head of a replica.
-use Rattle.std.proofs.Common.{◌≡◌, ⊎_elim, ℕ, suc, zero, ◌*◌, ◌/◌, ◌<◌, ◌≤◌, true, false, [], ◌∷◌, ◌++◌, length, get_or, sym, ap, subst, ◌∙◌, arith}
-use Rattle.std.proofs.lemmas.Bool.{false≢true}
-use Rattle.std.proofs.lemmas.List.{get_or_append_left, get_or_past}
-use Rattle.std.proofs.Math.Seq.{get_or-append_seam}
-use Rattle.std.proofs.lemmas.Bool.{cases_lt, cases_eq}
+use Rattle.std.proofs.Common.{◌≡◌, ℕ, ◌*◌, ◌/◌, ◌<◌, ◌≤◌, true, false, length, get_or, sym, subst, ◌∙◌, arith}
 use Rattle.vol_units.specs.declared.range.BlockRange.{BlockRange}
 use Rattle.sparse_image.specs.Image.{Tables, has_page}
 use Rattle.layer_chain.specs.Tree.{Tree}
 use Rattle.replica_node.specs.Node.{Node, node_of, made_in, IsNode}
 use Rattle.replica_node.specs.Room.{HasRoom, KeepsRoom, HasPages, MakesPages}
-use Rattle.replica_node.proofs.NodeLemmas.{length-made_in}
+use Rattle.replica_node.proofs.ListedLemmas.{listed-at, listed-within}
 use Rattle.replica_node.proofs.ReadLemmas.{length-node}
 
-pub made_at : (image : Tables) (count block : ℕ) → block < count → get_or (made_in image count) block false ≡ has_page image (block / 512)
-unfolding made_in
-made_at image zero block inside = absurd (omega arith)
-made_at image (suc count) block inside = ⊎_elim
-    (λ last. ap (λ i. get_or (made_in image count ++ has_page image (count / 512) ∷ []) i false) (last ∙ sym (length-made_in image count))
-    ∙ get_or-append_seam (made_in image count) (has_page image (count / 512)) [] false ∙ ap (λ k. has_page image (k / 512)) (sym last))
-    (λ earlier.
-    let before : block < count = omega arith in
-    get_or_append_left (made_in image count) (has_page image (count / 512) ∷ []) false block (omega (arith, length-made_in image count))
-    ∙ made_at image count block before)
-    (cases_eq block count)
+made_at : (image : Tables) (count block : ℕ) → block < count → get_or (made_in image count) block false ≡ has_page image (block / 512)
+made_at image count block inside = listed-at (λ k. has_page image (k / 512)) count block inside
 
 -- where a place is made there is a block
 made_within : (image : Tables) (count block : ℕ) → get_or (made_in image count) block false ≡ true → block < count
-made_within image count block made = ⊎_elim
-    (λ inside. inside)
-    (λ past. absurd (false≢true (sym (get_or_past (made_in image count) block false (omega (arith, length-made_in image count))) ∙ made)))
-    (cases_lt block count)
+made_within image count block made = listed-within (λ k. has_page image (k / 512)) count block made
 
 pub end_within : (t : Tree) (count : ℕ) (node : Node) (end : ℕ) → node_of t count ≡ node → IsNode t count → end * 4096 ≤ length node.disk → end ≤ count
 end_within t count node end view n inside = omega (arith, length-node t count node view n)

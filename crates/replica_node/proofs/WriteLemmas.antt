@@ -1,11 +1,12 @@
 -- Blocks that are put into the head of a replica.
-use Rattle.std.proofs.Common.{◌≡◌, ◌≢◌, ⊎_elim, ℕ, suc, zero, ◌+◌, ◌*◌, ◌/◌, ◌<◌, ◌≤◌, Bool, true, List, [], ◌∷◌, ◌++◌, length, take, drop, get_or, map, Option, None, Some, is_some, refl, sym, ap, subst, ◌∙◌, arith, append-nil, add-one, length-append, lit<}
+use Rattle.std.proofs.Common.{◌≡◌, ◌≢◌, ⊎_elim, ℕ, suc, ◌+◌, ◌*◌, ◌/◌, ◌<◌, ◌≤◌, Bool, true, false, ◌||◌, List, [], ◌∷◌, ◌++◌, length, take, drop, get_or, map, Option, None, Some, is_some, refl, sym, ap, subst, ◌∙◌, arith, append-nil, add-one, length-append, lit<}
 use Rattle.std.proofs.lemmas.Bool.{false≢true, cases_eq}
-use Rattle.std.specs.List.{flat_map}
+use Rattle.std.proofs.lemmas.Bool.Decides.{nat_tests}
+use Rattle.std.specs.List.{All, flat_map}
 use Rattle.std.specs.Option.{option_or, option_map}
 use Rattle.std.proofs.lemmas.Grind.{flat_map-append}
 use Rattle.std.proofs.Math.Seq.{take-suc, drop-cons}
-use Rattle.std.proofs.lemmas.List.{take-append-drop}
+use Rattle.std.proofs.lemmas.List.{take-append-drop, length-take-le}
 use Rattle.vol_units.specs.Bytes.{bytes_at, with_bytes_at}
 use Rattle.vol_units.proofs.BytesLemmas.{with_bytes_at-append, length-with_bytes_at}
 use Rattle.sparse_image.specs.Image.{Tables, block_at, has_page, ChangesBlock}
@@ -13,8 +14,10 @@ use Rattle.sparse_image.specs.Disk.{bytes_of}
 use Rattle.sparse_image.proofs.DiskLemmas.{joined-changed, length-joined}
 use Rattle.layer_chain.specs.Tree.{Tree, reads, head_reads}
 use Rattle.layer_chain.specs.Changes.{with_head}
-use Rattle.replica_node.specs.Node.{Kept, Node, node_of, head_disk, made_in, kept_in, IsNode}
-use Rattle.replica_node.specs.Room.{PutsBlocks, put_at, bytes_in}
+use Rattle.replica_node.specs.Node.{Node, node_of, head_disk, listed, has_own, own_in, made_in, kept_in, IsNode}
+use Rattle.replica_node.specs.Room.{PutsBlocks, put_at, bytes_in, is_among, own_with}
+use Rattle.replica_node.proofs.ListedLemmas.{listed-at, listed-same}
+use Rattle.replica_node.proofs.NodeLemmas.{HasPages, length-own_in, same_parts}
 use Rattle.replica_node.proofs.ReadLemmas.{node_block, length-node}
 
 -- one block is put
@@ -50,6 +53,7 @@ read_elsewhere old new block b p k other =
 pub put_node : (old new : Tree) (count block : ℕ) (b : Option (List ℕ)) → IsNode old count → PutsBlock old new block b → IsNode new count
 put_node old new count block b n p = record {
   pages = ap (λ l. l * 512) p.changes.count ∙ n.pages;
+  images = subst (All (HasPages count)) (sym (layers_same old new p.rest)) n.images;
   layers = λ want k. ap (λ ls. length (bytes_of (reads ls want k))) (layers_same old new p.rest) ∙ n.layers want k;
   head = λ k. ⊎_elim
       (λ here. ap (λ i. length (bytes_of (head_reads new i))) here ∙ ap (λ o. length (bytes_of o)) (read_here old new block b p) ∙ p.whole)
@@ -66,6 +70,38 @@ put_disk old new count block b n p inside =
     ∙ ap (λ o. take (block * 4096) disk ++ bytes_of o ++ drop (block * 4096 + 4096) disk) (read_here old new block b p)
     ∙ ap (λ m. take (block * 4096) disk ++ bytes_of b ++ drop (block * 4096 + m) disk) (sym p.whole)
 
+-- ---- which blocks the head itself has
+
+among_none : (first k : ℕ) → is_among first 0 k ≡ false
+among_none first k = grind (arith, nat_tests)
+
+among_here : (first i k : ℕ) → k ≡ first + i → is_among first (i + 1) k ≡ true
+among_here first i k here = grind (arith, nat_tests)
+
+among_elsewhere : (first i k : ℕ) → k ≢ first + i → is_among first (i + 1) k ≡ is_among first i k
+among_elsewhere first i k other = grind (arith, nat_tests)
+
+-- one block more is there, where so many were
+one_own : (old new : Tree) (start : ℕ → Bool) (first i : ℕ) (b : Option (List ℕ)) → PutsBlock old new (first + i) b
+    → ((k : ℕ) → is_some (block_at old.head k) ≡ (is_among first i k || start k))
+    → (k : ℕ) → is_some (block_at new.head k) ≡ (is_among first (i + 1) k || start k)
+one_own old new start first i b p so_far k = ⊎_elim
+    (λ here. ap (λ n. is_some (block_at new.head n)) here ∙ ap is_some p.changes.here ∙ p.full
+    ∙ ap (λ t. t || start k) (sym (among_here first i k here)))
+    (λ other. ap is_some (p.changes.others k other) ∙ so_far k ∙ ap (λ t. t || start k) (sym (among_elsewhere first i k other)))
+    (cases_eq k (first + i))
+
+-- the same as a list
+put_own : (a b : Tables) (count first n : ℕ) → ((k : ℕ) → is_some (block_at b k) ≡ (is_among first n k || is_some (block_at a k)))
+    → own_in b count ≡ own_with (own_in a count) first n
+put_own a b count first n own =
+    let after = λ (k : ℕ). is_among first n k || has_own (own_in a count) k in
+    listed-same (λ k. is_some (block_at b k)) after count
+    (λ k h. own k ∙ ap (λ t. is_among first n k || t) (sym (listed-at (λ i. is_some (block_at a i)) count k h)))
+    ∙ ap (listed after) (sym (length-own_in a count))
+
+-- ---- many blocks
+
 nothing_put : (disk : List ℕ) (at : ℕ) → disk ≡ with_bytes_at disk at []
 nothing_put disk at = sym (
     ap (λ l. l ++ drop (at + 0) disk) (append-nil (take at disk))
@@ -81,16 +117,21 @@ pub none_put : (t : Tree) (first : ℕ) → IsNode t (length t.head * 512) → P
 none_put t first n = record {
   rest = refl;
   pages = λ page. refl;
+  own = λ k. sym (ap (λ b. b || is_some (block_at t.head k)) (among_none first k));
+  whole = refl;
   node = n;
   disk = nothing_put (head_disk t (length t.head * 512)) (first * 4096);
 }
 
 -- one block more is put
 pub one_put : (start old new : Tree) (first i : ℕ) (blocks : List (Option (List ℕ))) (b : Option (List ℕ)) → PutsBlocks start old first (take i blocks)
-    → i < length blocks → get_or blocks i b ≡ b → length (bytes_in (take i blocks)) ≡ i * 4096 → first + length blocks ≤ length start.head * 512
+    → i < length blocks → get_or blocks i b ≡ b → first + length blocks ≤ length start.head * 512
     → IsNode start (length start.head * 512) → PutsBlock old new (first + i) b → PutsBlocks start new first (take (i + 1) blocks)
-one_put start old new first i blocks b so_far inside is len room n p =
+one_put start old new first i blocks b so_far inside is room n p =
     let count = length start.head * 512 in
+    let before : length (take i blocks) ≡ i = length-take-le i blocks (omega arith) in
+    let after : length (take (i + 1) blocks) ≡ i + 1 = length-take-le (i + 1) blocks (omega arith) in
+    let len : length (bytes_in (take i blocks)) ≡ i * 4096 = so_far.whole ∙ ap (λ m. m * 4096) before in
     let more : take (i + 1) blocks ≡ take i blocks ++ b ∷ [] =
     ap (λ m. take m blocks) (add-one i) ∙ take-suc blocks i b inside ∙ ap (λ x. take i blocks ++ x ∷ []) is in
     let bytes : bytes_in (take (i + 1) blocks) ≡ bytes_in (take i blocks) ++ bytes_of b =
@@ -99,6 +140,10 @@ one_put start old new first i blocks b so_far inside is len room n p =
     record {
       rest = p.rest ∙ ap (λ t. with_head t new.head) so_far.rest;
       pages = λ page. p.changes.pages page ∙ so_far.pages page;
+      own = λ k. one_own old new (λ j. is_some (block_at start.head j)) first i b p
+          (λ j. so_far.own j ∙ ap (λ m. is_among first m j || is_some (block_at start.head j)) before) k
+          ∙ ap (λ m. is_among first m k || is_some (block_at start.head k)) (sym after);
+      whole = ap length bytes ∙ length-append (bytes_in (take i blocks)) (bytes_of b) ∙ omega (arith, len, p.whole, after);
       node = put_node old new count (first + i) b so_far.node p;
       disk = put_disk old new count (first + i) b so_far.node p (omega arith)
           ∙ ap (λ d. with_bytes_at d ((first + i) * 4096) (bytes_of b)) so_far.disk
@@ -109,12 +154,8 @@ one_put start old new first i blocks b so_far inside is len room n p =
 
 -- the same places are made
 same_room : (a b : Tables) (count : ℕ) → ((page : ℕ) → has_page b page ≡ has_page a page) → made_in b count ≡ made_in a count
-unfolding made_in
-same_room a b zero same = refl
-same_room a b (suc count) same = both (same_room a b count same) (same (count / 512))
-  where
-    both : {l m : List Bool} {x y : Bool} → l ≡ m → x ≡ y → l ++ x ∷ [] ≡ m ++ y ∷ []
-    both p q = cc
+same_room a b count same =
+    listed-same (λ k. has_page b (k / 512)) (λ k. has_page a (k / 512)) count (λ k h. same (k / 512))
 
 -- what is put into a tree is put into the replica
 pub put_blocks : (old new : Tree) (count : ℕ) (node : Node) (first : ℕ) (blocks : List (Option (List ℕ))) → node_of old count ≡ node → IsNode old count
@@ -124,15 +165,11 @@ put_blocks old new count node first blocks view n p =
     subst (λ m. head_disk new m ≡ with_bytes_at (head_disk old m) (first * 4096) (bytes_in blocks)) n.pages p.disk in
     let kept : map (kept_in new.layers count) new.layers ≡ map (kept_in old.layers count) old.layers =
     ap (λ ls. map (kept_in ls count) ls) (layers_same old new p.rest) in
-    same_node kept (on_same old new p.rest) (ap (λ t. t.number) p.rest) disk (same_room old.head new.head count p.pages)
+    let many : length (bytes_in blocks) / 4096 ≡ length blocks = omega (arith, p.whole) in
+    let own : own_in new.head count ≡ own_with (own_in old.head count) first (length (bytes_in blocks) / 4096) =
+    put_own old.head new.head count first (length blocks) p.own ∙ ap (own_with (own_in old.head count) first) (sym many) in
+    same_parts kept (on_same old new p.rest) (ap (λ t. t.number) p.rest) disk (same_room old.head new.head count p.pages) own
     ∙ ap (λ x. put_at x first (bytes_in blocks)) view
-  where
-    node_with : List Kept → Option (List ℕ) → ℕ → List ℕ → List Bool → Node
-    node_with layers on number disk room = record { layers = layers; on = on; number = number; disk = disk; room = room }
-
-    same_node : {a b : List Kept} {c d : Option (List ℕ)} {m k : ℕ} {f g : List ℕ} {r s : List Bool} → a ≡ b → c ≡ d → m ≡ k → f ≡ g → r ≡ s
-        → node_with a c m f r ≡ node_with b d k g s
-    same_node p q x y z = cc
 
 -- the tree of a replica stays that of one, by the same count
 pub put_whole : (old new : Tree) (count first : ℕ) (blocks : List (Option (List ℕ))) → IsNode old count → PutsBlocks old new first blocks → IsNode new count
@@ -154,16 +191,6 @@ same_at {X = X} a b i d inside long rest =
   where
     heads : {x y : X} {l m : List X} → x ∷ l ≡ y ∷ m → (x ≡ y) × (l ≡ m)
     heads {x = x} {l = l} e = (ap (λ zs. head_or x zs) e, ap tail_of e)
-
--- one block more has its bytes
-pub one_longer : (blocks : List (Option (List ℕ))) (i : ℕ) (b : Option (List ℕ)) → i < length blocks → get_or blocks i b ≡ b
-    → length (bytes_in (take i blocks)) ≡ i * 4096 → length (bytes_of b) ≡ 4096 → length (bytes_in (take (i + 1) blocks)) ≡ (i + 1) * 4096
-one_longer blocks i b inside is len whole =
-    let more : take (i + 1) blocks ≡ take i blocks ++ b ∷ [] =
-    ap (λ m. take m blocks) (add-one i) ∙ take-suc blocks i b inside ∙ ap (λ x. take i blocks ++ x ∷ []) is in
-    let bytes : bytes_in (take (i + 1) blocks) ≡ bytes_in (take i blocks) ++ bytes_of b =
-    ap (flat_map bytes_of) more ∙ flat_map-append bytes_of (take i blocks) (b ∷ []) ∙ ap (λ l. bytes_in (take i blocks) ++ l) (append-nil (bytes_of b)) in
-    omega (arith, ap length bytes, length-append (bytes_in (take i blocks)) (bytes_of b), len, whole)
 
 -- ---- a part of a block that the head has
 
@@ -199,7 +226,7 @@ one_block old new count node block b view n inside p =
     let whole : IsNode old all = subst (IsNode old) (sym n.pages) n in
     let first : block + 0 ≡ block = omega arith in
     let put : PutsBlocks old new block (Some b ∷ []) =
-    one_put old old new block 0 (Some b ∷ []) (Some b) (none_put old block whole) (lit< tt) refl refl (omega (arith, n.pages)) whole
+    one_put old old new block 0 (Some b ∷ []) (Some b) (none_put old block whole) (lit< tt) refl (omega (arith, n.pages)) whole
     (subst (λ k. PutsBlock old new k (Some b)) (sym first) p) in
     put_blocks old new count node block (Some b ∷ []) view n put ∙ ap (put_at node block) (append-nil b)
 

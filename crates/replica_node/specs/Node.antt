@@ -1,10 +1,10 @@
 -- One replica as those above it see it: what its head and each of its layers read as.
-use Rattle.std.specs.Prelude.{◌≡◌, ℕ, zero, suc, ◌+◌, ◌*◌, ◌/◌, Bool, true, false, not, List, [], ◌∷◌, ◌++◌, length, map, replicate, Option, Some, None, if◌then◌else◌, Contains, All, ◌≢◌}
+use Rattle.std.specs.Prelude.{◌≡◌, ℕ, zero, suc, ◌+◌, ◌*◌, ◌/◌, Bool, true, false, not, List, [], ◌∷◌, ◌++◌, length, map, replicate, Option, Some, None, is_some, if◌then◌else◌, Contains, All, ◌≢◌, slice_index_or}
 use Rattle.std.specs.Str.{bytes_eq}
 use Rattle.vol_units.specs.Bytes.{zeros}
 use Rattle.vol_units.specs.declared.size.TheConstants.{BLOCK_BYTES}
 use Rattle.sparse_image.specs.declared.block.TheConstants.{PAGE_BLOCKS}
-use Rattle.sparse_image.specs.Image.{Tables, IsEmpty, has_page}
+use Rattle.sparse_image.specs.Image.{Tables, IsEmpty, block_at, has_page}
 use Rattle.sparse_image.specs.Disk.{bytes_of, joined}
 use Rattle.layer_chain.specs.Layers.{is_named}
 use Rattle.layer_chain.specs.declared.layer.LayerMeta.{LayerMeta}
@@ -12,19 +12,25 @@ use Rattle.layer_chain.specs.declared.layer.Layer.{Layer}
 use Rattle.snapshot_ops.specs.Ops.{fresh}
 use Rattle.layer_chain.specs.Tree.{Tree, name_of, reads, head_reads}
 
--- a layer, and the disk that it reads as
+-- a layer, the disk that it reads as, and of each block whether the layer itself has it
 pub record Kept : Type 0 where
   pub meta : LayerMeta
   pub disk : List ℕ
+  pub own : List Bool
 
 -- The layers, the newest first, the one on which the head stands, if there is one, the head's number, the disk that
--- the head reads as, and of each block whether a write finds its place made.
+-- the head reads as, of each block whether a write finds its place made, and whether the head itself has it.
 pub record Node : Type 0 where
   pub layers : List Kept
   pub on : Option (List ℕ)
   pub number : ℕ
   pub disk : List ℕ
   pub room : List Bool
+  pub own : List Bool
+
+-- whether a block is one of those that are told to be there
+abbrev pub has_own : List Bool → ℕ → Bool
+has_own own block = slice_index_or own block false
 
 -- ---- how a tree is a replica of so many blocks
 
@@ -41,14 +47,26 @@ abbrev pub block_in : Tree → Option (List ℕ) → ℕ → Option (List ℕ)
 block_in t None block = head_reads t block
 block_in t (Some name) block = reads t.layers (Some name) block
 
--- a layer as it is kept
-abbrev pub kept_in : List Layer → ℕ → Layer → Kept
-kept_in layers count l = record { meta = l.meta; disk = disk_in layers count (name_of l) }
+-- the answers for the numbers below so many
+unfoldable pub listed : (ℕ → Bool) → ℕ → List Bool
+listed answer zero = []
+listed answer (suc count) = listed answer count ++ answer count ∷ []
+
+-- of each block whether the image has it
+abbrev pub own_in : Tables → ℕ → List Bool
+own_in image count = listed (λ block. is_some (block_at image block)) count
 
 -- of each block whether the page of its place is made
-unfoldable pub made_in : Tables → ℕ → List Bool
-made_in image zero = []
-made_in image (suc count) = made_in image count ++ has_page image (count / PAGE_BLOCKS) ∷ []
+abbrev pub made_in : Tables → ℕ → List Bool
+made_in image count = listed (λ block. has_page image (block / PAGE_BLOCKS)) count
+
+-- a layer as it is kept
+abbrev pub kept_in : List Layer → ℕ → Layer → Kept
+kept_in layers count l = record {
+  meta = l.meta;
+  disk = disk_in layers count (name_of l);
+  own = own_in l.image count;
+}
 
 -- the replica that the tree is
 abbrev pub node_of : Tree → ℕ → Node
@@ -58,11 +76,13 @@ node_of t count = record {
   number = t.number;
   disk = head_disk t count;
   room = made_in t.head count;
+  own = own_in t.head count;
 }
 
--- the head has a place for each page, and each block that is read has all its bytes
+-- the head and each layer have a place for each page, and each block that is read has all its bytes
 pub record IsNode (t : Tree) (count : ℕ) : Type 0 where
   pub pages : length t.head * PAGE_BLOCKS ≡ count
+  pub images : All (λ (l : Layer). length l.image * PAGE_BLOCKS ≡ count) t.layers
   pub layers : (name : Option (List ℕ)) (block : ℕ)
       → length (bytes_of (reads t.layers name block)) ≡ BLOCK_BYTES
   pub head : (block : ℕ) → length (bytes_of (head_reads t block)) ≡ BLOCK_BYTES
@@ -121,19 +141,25 @@ blank size = record {
   number = 0;
   disk = zeros size;
   room = replicate (size / BLOCK_BYTES) false;
+  own = replicate (size / BLOCK_BYTES) false;
 }
 
 -- no place is made
 abbrev pub no_room : Node → List Bool
 no_room node = replicate (length node.room) false
 
--- the head's disk is kept under the name, and a new head stands on it
+-- the head itself has no block
+abbrev pub no_own : Node → List Bool
+no_own node = replicate (length node.own) false
+
+-- the head's disk and blocks are kept under the name, and a new head stands on them
 abbrev pub snapped : Node → List ℕ → Node
 snapped node name = record node {
-  layers = record { meta = fresh name node.on; disk = node.disk } ∷ node.layers;
+  layers = record { meta = fresh name node.on; disk = node.disk; own = node.own } ∷ node.layers;
   on = Some name;
   number = node.number + 1;
   room = no_room node;
+  own = no_own node;
 }
 
 -- the head is dropped, and a new one stands on the layer of the name, and reads as it
@@ -143,6 +169,7 @@ reverted node name = record node {
   number = node.number + 1;
   disk = disk_named node.layers name;
   room = no_room node;
+  own = no_own node;
 }
 
 -- the layers of the name, which is one, with their mark

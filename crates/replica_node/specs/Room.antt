@@ -1,5 +1,5 @@
--- The places that writes find made in the head of a replica.
-use Rattle.std.specs.Prelude.{◌≡◌, ℕ, ◌+◌, ◌*◌, ◌/◌, true, false, List, Option, length, slice_index_or}
+-- The places that writes find made in the head of a replica, and what a write puts there.
+use Rattle.std.specs.Prelude.{◌≡◌, ℕ, ◌+◌, ◌*◌, ◌/◌, Bool, true, false, ◌&&◌, ◌||◌, nat_le, nat_lt, List, Option, is_some, length, slice_index_or}
 use Rattle.std.specs.List.{flat_map}
 use Rattle.vol_units.specs.Bytes.{with_bytes_at}
 use Rattle.vol_units.specs.declared.range.BlockRange.{BlockRange}
@@ -9,7 +9,7 @@ use Rattle.sparse_image.specs.Disk.{bytes_of}
 use Rattle.sparse_image.specs.Image.{Tables, block_at, has_page}
 use Rattle.layer_chain.specs.Tree.{Tree}
 use Rattle.layer_chain.specs.Changes.{with_head}
-use Rattle.replica_node.specs.Node.{Node, IsNode, head_disk}
+use Rattle.replica_node.specs.Node.{Node, IsNode, head_disk, has_own, listed}
 
 -- a write of the range finds its places
 abbrev pub HasRoom : Node → BlockRange → Type 0
@@ -32,9 +32,20 @@ blocks_from first count = record { first = first; end = first + count }
 abbrev pub bytes_in : List (Option (List ℕ)) → List ℕ
 bytes_in blocks = flat_map bytes_of blocks
 
--- the replica once these bytes are put at a block
+-- the block is one of so many from the first on
+abbrev pub is_among : ℕ → ℕ → ℕ → Bool
+is_among first count block = nat_le first block && nat_lt block (first + count)
+
+-- of each block whether it is there once so many from the first on are put
+abbrev pub own_with : List Bool → ℕ → ℕ → List Bool
+own_with own first count = listed (λ block. is_among first count block || has_own own block) (length own)
+
+-- the replica once these bytes, whole blocks, are put from the first block on
 abbrev pub put_at : Node → ℕ → List ℕ → Node
-put_at node block bytes = record node { disk = with_bytes_at node.disk (block * BLOCK_BYTES) bytes }
+put_at node first bytes = record node {
+  disk = with_bytes_at node.disk (first * BLOCK_BYTES) bytes;
+  own = own_with node.own first (length bytes / BLOCK_BYTES);
+}
 
 -- ---- the same of a tree
 
@@ -53,6 +64,9 @@ pub record MakesPages (old new : Tree) : Type 0 where
 pub record PutsBlocks (old new : Tree) (first : ℕ) (blocks : List (Option (List ℕ))) : Type 0 where
   pub rest : new ≡ with_head old new.head
   pub pages : (page : ℕ) → has_page new.head page ≡ has_page old.head page
+  pub own : (block : ℕ) → is_some (block_at new.head block)
+      ≡ (is_among first (length blocks) block || is_some (block_at old.head block))
+  pub whole : length (bytes_in blocks) ≡ length blocks * BLOCK_BYTES
   pub node : IsNode new (length old.head * PAGE_BLOCKS)
   pub disk : head_disk new (length old.head * PAGE_BLOCKS)
       ≡ with_bytes_at (head_disk old (length old.head * PAGE_BLOCKS)) (first * BLOCK_BYTES) (bytes_in blocks)

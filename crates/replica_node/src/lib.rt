@@ -12,6 +12,7 @@ pub use node::ReplicaNode;
 pub use snapshot_ops::Spare;
 pub use sparse_image::{BLOCK_BYTES, Block};
 pub use vol_units::{BlockRange, LayerName, VolumeSize};
+pub use volume_model::FoldOrDrop;
 
 #[cfg(test)]
 mod tests;

@@ -1,9 +1,12 @@
-ghost use Rattle.std.specs.Prelude.{◌≡◌, ◌+◌, ◌*◌, ◌/◌, ◌^◌, ◌<◌, ◌≤◌, length, Some, IfOk, OnOk, All, is_some, true, false};
+ghost use Rattle.std.specs.Prelude.{◌≡◌, ℕ, ◌+◌, ◌*◌, ◌/◌, ◌^◌, ◌<◌, ◌≤◌, length, Some, IfOk, OnOk, All, is_some, true, false};
 ghost use Rattle.vol_units.specs.Bytes.{zeros, bytes_at, with_bytes_at};
-ghost use Rattle.vol_units.specs.declared.size.TheConstants.{LARGEST_SIZE};
+ghost use Rattle.vol_units.specs.declared.size.TheConstants.{LARGEST_SIZE, PAGE_BYTES};
 ghost use Rattle.sparse_image.specs.Disk.{bytes_of};
 ghost use Rattle.replica_node.specs.Room.{HasRoom, KeepsRoom, with_room_of, put_at, bytes_in};
-ghost use Rattle.replica_node.specs.Node.{blank, snapped, reverted, marked, disk_of_layer, block_in, is_live_in, chain_of, node_of, IsNode, IsKept, IsFree, IsSpareOf};
+ghost use Rattle.volume_model.specs.Names.{NamesOnce};
+ghost use Rattle.volume_model.specs.Purge.{CanFold, CanDrop, next_in};
+ghost use Rattle.replica_node.specs.Node.{Kept, blank, snapped, reverted, marked, disk_of_layer, block_in, is_live_in, chain_of, has_own, node_of, IsNode, IsKept, IsFree, IsSpareOf};
+ghost use Rattle.replica_node.specs.Fold.{tree_of, own_named, page_folded, replaced, dropped_node};
 
 use crate::blocks::Blocks;
 use crate::chain::chain_below;
@@ -14,6 +17,7 @@ use sparse_image::{BLOCK_BYTES, Block};
 use std::alloc::{AllocError, Global};
 use std::marker::Model;
 use vol_units::{BlockRange, LayerName, VolumeSize};
+use volume_model::FoldOrDrop;
 
 /// One replica. A contract sees what its head and each of its layers read as.
 #[derive(Drop)]
@@ -89,6 +93,46 @@ impl ReplicaNode {
         snapshot_ops::mark(&mut self.tree, &name);
     }
 
+    /// What a purge folds or drops next.
+    pub fn next_fold(&self) -> Option<FoldOrDrop>
+        ensures { result ≡ next_in (tree_of self.now) self.now.on }
+    {
+        coalesce::next_fold(&self.tree)
+    }
+
+    /// Folds a page of the child onto its parent, which is to be removed. It takes no memory.
+    pub fn fold_step(&mut self, parent: &LayerName, child: &LayerName, page: u32)
+        requires can { CanFold (tree_of self.old) self.old.on parent.now child.now }
+        requires inside { page * PAGE_BYTES < length self.old.disk }
+        ensures { self.new ≡ page_folded self.old parent.now child.now page }
+    {
+        // That no name comes twice, a proof learns here.
+        let _count = self.tree.count();
+        coalesce::fold_page(&mut self.tree, parent, child, page);
+    }
+
+    /// Lets the parent go, once each page of the child is folded onto it, and the child takes its
+    /// place. It takes no memory.
+    pub fn replace(&mut self, parent: &LayerName, child: &LayerName)
+        requires can { CanFold (tree_of self.old) self.old.on parent.now child.now }
+        requires empty { (block : ℕ) → has_own (own_named self.old.layers child.now) block ≡ false }
+        ensures { self.new ≡ replaced self.old parent.now child.now }
+    {
+        // That no name comes twice, a proof learns here.
+        let _count = self.tree.count();
+        coalesce::replace(&mut self.tree, parent, child);
+    }
+
+    /// Lets a layer go on which nothing stands. It takes no memory.
+    pub fn delete(&mut self, name: &LayerName)
+        requires { CanDrop (tree_of self.old) self.old.on name.now }
+        ensures { self.new ≡ dropped_node self.old name.now }
+    {
+        // That no name comes twice, a proof learns here.
+        let _count = self.tree.count();
+        coalesce::delete_leaf(&mut self.tree, name);
+    }
+
     /// Makes places in the head for the blocks of a range, so that writing them takes no memory.
     pub fn make_room(&mut self, alloc: Global, range: BlockRange) -> Result<(), AllocError>
         requires { range.end * BLOCK_BYTES ≤ length self.old.disk }
@@ -127,6 +171,7 @@ impl ReplicaNode {
     pub fn layer_count(&self) -> usize
         ensures value { result ≡ length self.now.layers + 1 }
         ensures most { result ≤ MOST_LAYERS }
+        ensures once { NamesOnce (tree_of self.now) }
     {
         self.tree.count()
     }
@@ -172,9 +217,16 @@ impl ReplicaNode {
     }
 
     pub fn block_count(&self) -> u32
-        ensures { result * BLOCK_BYTES ≡ length self.now.disk }
+        ensures value { result * BLOCK_BYTES ≡ length self.now.disk }
+        ensures own { All (λ (k : Kept). length k.own ≡ result) self.now.layers }
     {
         self.size.block_count()
+    }
+
+    pub fn page_count(&self) -> u32
+        ensures { result * PAGE_BYTES ≡ length self.now.disk }
+    {
+        self.size.page_count()
     }
 
     /// Reads what a layer, or the head where none is named, reads as from a place on.

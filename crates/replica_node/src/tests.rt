@@ -1,4 +1,6 @@
+ghost use Rattle.volume_model.specs.Purge.{CanBeDone, CanFold};
 ghost use Rattle.replica_node.specs.Node.{IsKept};
+ghost use Rattle.replica_node.specs.Fold.{tree_of};
 
 use super::*;
 use std::alloc::Global;
@@ -27,8 +29,8 @@ struct Copies {
 }
 
 fn write(alloc: Global, node: &mut ReplicaNode, block: u32, byte: u8) -> Result<(), Fail> {
-    if node.size() != SIZE || block >= 4 {
-        return Err(Fail::new("another size"));
+    if block >= node.block_count() {
+        return Err(Fail::new("no such block"));
     }
     let range = BlockRange {
         first: block,
@@ -185,5 +187,120 @@ fn tells_the_chain_with_its_marks(rt: HostRuntime) -> Result<(), Fail> {
     let wanted = [(LayerName::sys(1), false), (LayerName::sys(0), true)];
     assert_eq!(rt; told.as_slice(), wanted.as_slice());
     assert!(rt; node.is_live(&LayerName::sys(2)) && !node.is_live(&LayerName::sys(0)));
+    Ok(())
+}
+
+/// What goes next goes, and it is told.
+fn purge_one(node: &mut ReplicaNode) -> Option<FoldOrDrop> {
+    let next = node.next_fold();
+    if let Some(part) = &next {
+        take_out(node, part);
+    }
+    next
+}
+
+fn take_out(node: &mut ReplicaNode, part: &FoldOrDrop)
+    requires { CanBeDone (tree_of node.old) node.old.on part.now }
+{
+    match part {
+        FoldOrDrop::Fold { parent, child } => fold(node, parent, child),
+        FoldOrDrop::Drop(name) => node.delete(name),
+    }
+}
+
+fn fold(node: &mut ReplicaNode, parent: &LayerName, child: &LayerName)
+    requires { CanFold (tree_of node.old) node.old.on parent.now child.now }
+{
+    for page in 0..node.page_count() {
+        node.fold_step(parent, child, page);
+    }
+    // That no layer has blocks past the volume, a proof learns here.
+    let _blocks = node.block_count();
+    node.replace(parent, child);
+}
+
+/// The first byte of a block, as a layer reads, or the head.
+fn first_byte(node: &ReplicaNode, layer: Option<LayerName>, block: u32) -> Result<u8, Fail> {
+    if let Some(name) = &layer {
+        if !node.has_layer(name) {
+            return Err(Fail::new("not there"));
+        }
+    }
+    if block >= node.block_count() {
+        return Err(Fail::new("no such block"));
+    }
+    Ok(node.block(&layer, block)[0])
+}
+
+/// The first bytes of the first two blocks of each of the two pages.
+fn first_bytes(node: &ReplicaNode, layer: Option<LayerName>) -> Result<(u8, u8, u8, u8), Fail> {
+    Ok((
+        first_byte(node, layer, 0)?,
+        first_byte(node, layer, 1)?,
+        first_byte(node, layer, 512)?,
+        first_byte(node, layer, 513)?,
+    ))
+}
+
+/// Two pages, with the layer 2 on 1, and 1 on 0, and blocks of each layer in both pages.
+fn two_pages(alloc: Global) -> Result<ReplicaNode, Fail> {
+    let mut node = ReplicaNode::blank(alloc, VolumeSize::new(4_194_304)?)?;
+    for block in [0, 1, 512, 513] {
+        write(alloc, &mut node, block, 1)?;
+    }
+    snapshot(alloc, &mut node, LayerName::sys(0))?;
+    for block in [0, 1, 512] {
+        write(alloc, &mut node, block, 2)?;
+    }
+    snapshot(alloc, &mut node, LayerName::sys(1))?;
+    for block in [1, 513] {
+        write(alloc, &mut node, block, 3)?;
+    }
+    snapshot(alloc, &mut node, LayerName::sys(2))?;
+    write(alloc, &mut node, 0, 4)?;
+    Ok(node)
+}
+
+#[test]
+fn a_layer_is_folded_under_the_readings_of_all_others(rt: HostRuntime) -> Result<(), Fail> {
+    let alloc = rt.alloc();
+    let mut node = two_pages(alloc)?;
+    let (lowest, middle, newest) = (LayerName::sys(0), LayerName::sys(1), LayerName::sys(2));
+    assert_eq!(rt; purge_one(&mut node), None);
+    mark(&mut node, middle)?;
+    assert_eq!(rt; first_bytes(&node, Some(lowest))?, (1, 1, 1, 1));
+    assert_eq!(rt; first_bytes(&node, Some(middle))?, (2, 2, 2, 1));
+    assert_eq!(rt; first_bytes(&node, Some(newest))?, (2, 3, 2, 3));
+    assert_eq!(rt; first_bytes(&node, None)?, (4, 3, 2, 3));
+    let gone = FoldOrDrop::Fold {
+        parent: middle,
+        child: newest,
+    };
+    assert_eq!(rt; purge_one(&mut node), Some(gone));
+    assert_eq!(rt; first_bytes(&node, Some(lowest))?, (1, 1, 1, 1));
+    assert_eq!(rt; first_bytes(&node, Some(newest))?, (2, 3, 2, 3));
+    assert_eq!(rt; first_bytes(&node, None)?, (4, 3, 2, 3));
+    assert!(rt; !node.has_layer(&middle) && node.layer_count() == 3);
+    let told = node.chain(alloc)?;
+    let wanted = [(newest, false), (lowest, false)];
+    assert_eq!(rt; told.as_slice(), wanted.as_slice());
+    Ok(())
+}
+
+#[test]
+fn a_leaf_is_dropped_and_the_layer_of_the_head_stays(rt: HostRuntime) -> Result<(), Fail> {
+    let alloc = rt.alloc();
+    let mut node = two_pages(alloc)?;
+    let (lowest, middle, newest) = (LayerName::sys(0), LayerName::sys(1), LayerName::sys(2));
+    mark(&mut node, newest)?;
+    // The head stands on it.
+    assert_eq!(rt; node.next_fold(), None);
+    revert(alloc, &mut node, middle)?;
+    assert_eq!(rt; purge_one(&mut node), Some(FoldOrDrop::Drop(newest)));
+    assert_eq!(rt; purge_one(&mut node), None);
+    assert_eq!(rt; first_bytes(&node, Some(lowest))?, (1, 1, 1, 1));
+    assert_eq!(rt; first_bytes(&node, Some(middle))?, (2, 2, 2, 1));
+    assert_eq!(rt; first_bytes(&node, None)?, (2, 2, 2, 1));
+    assert!(rt; !node.has_layer(&newest) && node.layer_count() == 3);
     Ok(())
 }

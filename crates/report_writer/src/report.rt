@@ -93,7 +93,10 @@ fn pass_replies<K: Sink>(
     }
     let mut next = 0;
     for place in 0..journal.len() {
-        let answer = journal.entry(place).answer();
+        // A mark has no reply.
+        let Some(answer) = journal.entry(place).answer() else {
+            continue;
+        };
         if let Some(asked) = head_for(stream, heads, next, answer) {
             pass_reply(asked, answer, sink, buffer)?;
             next += 1;

@@ -6,6 +6,7 @@ use Rattle.volume_model.specs.declared.entry.Entry.{Entry}
 use Rattle.volume_model.specs.declared.entry.Entry.TheVariants as entry
 use Rattle.volume_model.specs.declared.entry.Answer.{Answer}
 use Rattle.volume_model.specs.History.{answers_from, answers_of}
+use Rattle.volume_model.specs.Marks.{IsMark}
 use Rattle.frame_wire.specs.declared.head.Head.{Head}
 use Rattle.run_report.specs.Lines.{entry_line, reply_line}
 use Rattle.run_report.specs.Report.{journal_lines, reply_lines, replies_from}
@@ -58,7 +59,7 @@ next_reply into whole stream next place heads entries h a inside is room at own 
     both : {hs gs : List Head} {ps qs : List (ℕ × Answer)} → hs ≡ gs → ps ≡ qs → reply_lines hs ps ≡ reply_lines gs qs
     both p q = cc
 
--- The entry is of another stream, or no header is left.
+-- The entry answers a call of another stream.
 pub skip_other : (into whole : List ℕ) (stream next place : ℕ) (heads : List Head) (entries : List Entry) (a : Answer)
     → place < length entries → get_or entries place (entry.Answer a) ≡ entry.Answer a → (a.stream ≡ stream → ⊥)
     → into ++ reply_lines (drop next heads) (answers_from stream place (drop place entries)) ≡ whole
@@ -68,6 +69,24 @@ skip_other into whole stream next place heads entries a inside is other text =
     answers-cut stream place entries a inside is ∙ cond_is_false (eqb a.stream stream) _ _ (ne_eqb _ _ other) in
     ap (λ l. into ++ reply_lines (drop next heads) l) (sym answers) ∙ text
 
+-- The entry is a mark.
+answers_from-mark : (stream place : ℕ) (e : Entry) (entries : List Entry) → IsMark e
+    → answers_from stream place (e ∷ entries) ≡ answers_from stream (suc place) entries
+answers_from-mark stream place (entry.Answer a) entries mark = absurd mark
+answers_from-mark stream place (entry.Mark m) entries mark = refl
+
+pub skip_mark : (into whole : List ℕ) (stream next place : ℕ) (heads : List Head) (entries : List Entry) (e : Entry)
+    → place < length entries → get_or entries place e ≡ e → IsMark e
+    → into ++ reply_lines (drop next heads) (answers_from stream place (drop place entries)) ≡ whole
+    → into ++ reply_lines (drop next heads) (answers_from stream (place + 1) (drop (place + 1) entries)) ≡ whole
+skip_mark into whole stream next place heads entries e inside is mark text =
+    let cut : drop place entries ≡ e ∷ drop (suc place) entries = drop-cons entries place e inside ∙ ap (λ x. x ∷ drop (suc place) entries) is in
+    let answers : answers_from stream place (drop place entries) ≡ answers_from stream (place + 1) (drop (place + 1) entries) =
+    ap (answers_from stream place) cut ∙ answers_from-mark stream place e (drop (suc place) entries) mark
+    ∙ ap (λ n. answers_from stream n (drop n entries)) (sym (add-one place)) in
+    ap (λ l. into ++ reply_lines (drop next heads) l) (sym answers) ∙ text
+
+-- No header is left.
 pub skip_past : (into whole : List ℕ) (next : ℕ) (heads : List Head) (ps qs : List (ℕ × Answer)) → length heads ≤ next
     → into ++ reply_lines (drop next heads) ps ≡ whole → into ++ reply_lines (drop next heads) qs ≡ whole
 skip_past into whole next heads ps qs past text =

@@ -1,5 +1,5 @@
--- The lines that a run prints: one for an entry of the journal, one for the frame that replies to a frame, and those of a
--- replica at the end. The form is this project's own.
+-- The lines that a run prints: one for an entry of the journal, an answer or a mark, one for the frame that replies to a
+-- frame, and those of a replica at the end. The form is this project's own.
 use Rattle.std.specs.Prelude.{ℕ, List, [], ◌∷◌, ◌++◌, length, codes, Bool, if◌then◌else◌, Option, Some, None}
 use Rattle.std.specs.List.{flat_map}
 use Rattle.std.specs.Fmt.{decimal, signed_decimal}
@@ -13,6 +13,10 @@ use Rattle.volume_model.specs.declared.call.Reply.TheVariants as reply
 use Rattle.volume_model.specs.declared.entry.Answer.{Answer}
 use Rattle.volume_model.specs.declared.entry.Entry.{Entry}
 use Rattle.volume_model.specs.declared.entry.Entry.TheVariants as entry
+use Rattle.volume_model.specs.declared.mark.FoldOrDrop.{FoldOrDrop}
+use Rattle.volume_model.specs.declared.mark.FoldOrDrop.TheVariants as part
+use Rattle.volume_model.specs.declared.mark.Mark.{Mark}
+use Rattle.volume_model.specs.declared.mark.Mark.TheVariants as mark
 use Rattle.volume_model.specs.declared.mode.Mode.{Mode}
 use Rattle.volume_model.specs.declared.mode.Mode.TheVariants as mode
 use Rattle.volume_model.specs.Texts.{refusal_text}
@@ -56,9 +60,23 @@ place_words place a = word (decimal place) ++ word (decimal a.saw) ++ word (deci
 abbrev pub answer_line : ℕ → Answer → List ℕ
 answer_line place a = place_words place a ++ word (call_text a.call) ++ reply_text a.reply ++ 10 ∷ []
 
+-- how a layer went: the one that went, and the one that took its blocks and its place
+abbrev pub part_text : FoldOrDrop → List ℕ
+part_text (part.Fold p c) = codes "folded " ++ word p ++ c
+part_text (part.Drop p) = codes "dropped " ++ p
+
+-- what a mark tells
+abbrev pub mark_text : Mark → List ℕ
+mark_text (mark.Purged part) = part_text part
+
+-- the place, and what the mark tells
+abbrev pub mark_line : ℕ → Mark → List ℕ
+mark_line place m = word (decimal place) ++ codes "mark " ++ mark_text m ++ 10 ∷ []
+
 -- the line of an entry at a place
 abbrev pub entry_line : ℕ → Entry → List ℕ
 entry_line place (entry.Answer a) = answer_line place a
+entry_line place (entry.Mark m) = mark_line place m
 
 -- the type of the frame that replies: 2 is a response, 3 an error
 abbrev pub reply_kind : Reply → ℕ

@@ -1,12 +1,12 @@
 ghost use Rattle.std.specs.Prelude.{◌≡◌, ◌++◌, ◌∷◌, [], OnOk, OnErr, take, length};
 ghost use Rattle.std.specs.Fmt.{decimal};
-ghost use Rattle.run_report.specs.Lines.{entry_line, answer_line, place_words, call_text, reply_text, word};
+ghost use Rattle.run_report.specs.Lines.{entry_line, answer_line, mark_line, part_text, place_words, call_text, reply_text, word};
 
 use crate::words::{append_modes, append_number, append_offset};
 use image_runs::print_runs;
 use itoa::Buffer;
 use std::alloc::AllocError;
-use volume_model::{Answer, Call, Entry, Mode, Reply};
+use volume_model::{Answer, Call, Entry, FoldOrDrop, Mark, Mode, Reply};
 
 /// Appends the line of the entry at a place of the journal.
 pub fn print_entry(place: u64, entry: &Entry, into: &mut Vec<u8>) -> Result<(), AllocError>
@@ -14,7 +14,10 @@ pub fn print_entry(place: u64, entry: &Entry, into: &mut Vec<u8>) -> Result<(), 
     ensures err { OnErr result (into.new.items ≡ into.old.items) }
 {
     let start = into.len();
-    let printed = append_answer(place, entry.answer(), into);
+    let printed = match entry {
+        Entry::Answer(answer) => append_answer(place, answer, into),
+        Entry::Mark(mark) => append_mark(place, mark, into),
+    };
     if printed.is_err() {
         // A part of a line would be read as a line.
         into.truncate(start);
@@ -32,6 +35,37 @@ fn append_answer(place: u64, answer: &Answer, into: &mut Vec<u8>) -> Result<(), 
     append_reply(&answer.reply, into)?;
     into.push(b'\n')?;
     Ok(())
+}
+
+fn append_mark(place: u64, mark: &Mark, into: &mut Vec<u8>) -> Result<(), AllocError>
+    ensures ok { OnOk result (into.new.items ≡ into.old.items ++ mark_line place mark.now) }
+    ensures kept { take (length into.old.items) into.new.items ≡ into.old.items }
+{
+    let Mark::Purged(part) = mark;
+    append_number(place, into)?;
+    into.extend_from_slice(b"mark ")?;
+    append_part(part, into)?;
+    into.push(b'\n')?;
+    Ok(())
+}
+
+/// Appends how a layer went.
+fn append_part(part: &FoldOrDrop, into: &mut Vec<u8>) -> Result<(), AllocError>
+    ensures ok { OnOk result (into.new.items ≡ into.old.items ++ part_text part.now) }
+    ensures kept { take (length into.old.items) into.new.items ≡ into.old.items }
+{
+    match part {
+        FoldOrDrop::Fold { parent, child } => {
+            into.extend_from_slice(b"folded ")?;
+            into.extend_from_slice(parent.as_bytes())?;
+            into.push(b' ')?;
+            into.extend_from_slice(child.as_bytes())
+        }
+        FoldOrDrop::Drop(name) => {
+            into.extend_from_slice(b"dropped ")?;
+            into.extend_from_slice(name.as_bytes())
+        }
+    }
 }
 
 fn append_place(place: u64, answer: &Answer, into: &mut Vec<u8>) -> Result<(), AllocError>

@@ -8,8 +8,11 @@ ghost use Rattle.volume_model.specs.PlainState.{state_of};
 ghost use Rattle.volume_model.specs.Replay.{replay};
 ghost use Rattle.volume_model.specs.Snapshots.{chain_of};
 ghost use Rattle.volume_model.specs.OneWorker.{served};
+ghost use Rattle.volume_model.specs.declared.entry.Entry.TheVariants as entry;
+ghost use Rattle.volume_model.specs.declared.mark.FoldOrDrop.TheVariants as part;
+ghost use Rattle.volume_model.specs.declared.mark.Mark.TheVariants as mark;
 ghost use Rattle.volume_model.specs.declared.mode.Mode.TheVariants as mode;
-ghost use Rattle.run_report.specs.Lines.{reply_text, mode_line, chain_line};
+ghost use Rattle.run_report.specs.Lines.{entry_line, reply_text, mode_line, chain_line};
 ghost use Rattle.run_report.specs.Report.{call_lines};
 
 /// What is printed of a write that was done, of a read, of a read past the end, and of a ping.
@@ -35,6 +38,15 @@ pub fn the_commands_read()
         ∷ map call.Command (command.Snapshot (codes "s") ∷ command.Status ∷ command.Revert (codes "s") ∷ command.Remove (codes "t") ∷ [])
         ∷ (call.Read (pos 0) 1 ∷ []) ∷ []))
         ≡ codes "0 0 0 0 write 0 1 62*1 ok\n1 1 1 0 snapshot s ok\n2 2 1 1 status ok layers 2 modes RW,ERR\n3 3 1 2 revert s ok\n4 4 1 3 remove t error no such snapshot\n5 5 2 0 read 0 1 ok 62*1\nreply 0 0 5 2 0 1 -\nreply 2 0 6 2 0 1 62*1\n" }
+{}
+
+/// What is printed of the marks of a purge, and of a purge that leaves nothing to fold or to drop.
+pub fn the_marks_read()
+    ensures folded { entry_line 4 (entry.Mark (mark.Purged (part.Fold (codes "s") (codes "t")))) ≡ codes "4 mark folded s t\n" }
+    ensures dropped { entry_line 4 (entry.Mark (mark.Purged (part.Drop (codes "b")))) ≡ codes "4 mark dropped b\n" }
+    ensures purge { call_lines ([] ∷ []) (served (record { state = state_of (97 ∷ []); modes = mode.Rw ∷ [] })
+        (map call.Command (command.Snapshot (codes "s") ∷ command.Remove (codes "s") ∷ command.Snapshot (codes "t") ∷ command.Purge ∷ []) ∷ []))
+        ≡ codes "0 0 0 0 snapshot s ok\n1 1 0 1 remove s ok\n2 2 0 2 snapshot t ok\n3 mark folded s t\n4 3 0 3 purge ok\n" }
 {}
 
 /// What a status reads as.

@@ -1,7 +1,7 @@
 use super::*;
 use std::test::Fail;
 use vol_units::{LayerName, SnapName};
-use volume_model::{Answer, Call, Command, Entry, Mode, Reply, Sequence};
+use volume_model::{Answer, Call, Command, Entry, FoldOrDrop, Mark, Mode, Reply, Sequence};
 
 /// The front half of SHA-512 of `abc`, as the examples to FIPS 180-4 gives it.
 const DIGEST_OF_ABC: &[u8; 64] =
@@ -44,10 +44,11 @@ fn what_a_run_leaves_is_printed(rt: HostRuntime) -> Result<(), Fail> {
 
 #[test]
 fn commands_are_printed(rt: HostRuntime) -> Result<(), Fail> {
-    let rows: [(Command, &[u8]); 4] = [
+    let rows: [(Command, &[u8]); 5] = [
         (Command::Snapshot(SnapName::read(b"a.1")?), b"snapshot a.1"),
         (Command::Remove(LayerName::sys(7)), b"remove sys-7"),
         (Command::Revert(LayerName::read(b"a.1")?), b"revert a.1"),
+        (Command::Purge, b"purge"),
         (Command::Status, b"status"),
     ];
     for (command, words) in rows {
@@ -65,6 +66,25 @@ fn commands_are_printed(rt: HostRuntime) -> Result<(), Fail> {
         wanted.extend_from_slice(b" ok\n")?;
         assert!(rt; text.as_slice() == wanted.as_slice(), "at {words:?}");
     }
+    Ok(())
+}
+
+#[test]
+fn the_marks_of_a_purge_are_printed(rt: HostRuntime) -> Result<(), Fail> {
+    let snapshot = LayerName::read(b"a.1")?;
+    let fold = FoldOrDrop::Fold {
+        parent: snapshot,
+        child: LayerName::sys(7),
+    };
+    let mut text = Vec::new(rt.alloc());
+    print_entry(4, &Entry::Mark(Mark::Purged(fold)), &mut text)?;
+    print_entry(
+        12,
+        &Entry::Mark(Mark::Purged(FoldOrDrop::Drop(snapshot))),
+        &mut text,
+    )?;
+    let wanted = b"4 mark folded a.1 sys-7\n12 mark dropped a.1\n";
+    assert!(rt; text.as_slice() == wanted.as_slice());
     Ok(())
 }
 

@@ -117,7 +117,7 @@ fn line_of(alloc: Global, streams: &[u8]) -> Result<Vec<u8>, AllocError> {
 #[test]
 fn two_streams_are_read(rt: HostRuntime) -> Result<(), Fail> {
     let streams =
-        b"[{\"frames\":268435456},{\"control\":[\"status\",\"snapshot a\",\"remove sys-0\",\"revert \\u0062\"]}]";
+        b"[{\"frames\":268435456},{\"control\":[\"status\",\"snapshot a\",\"remove sys-0\",\"revert \\u0062\",\"purge\"]}]";
     let head = read_head(rt.alloc(), &line_of(rt.alloc(), streams)?)
         .ok()
         .ok_or("refused")?;
@@ -133,20 +133,23 @@ fn two_streams_are_read(rt: HostRuntime) -> Result<(), Fail> {
             Command::Snapshot(SnapName::read(b"a")?),
             Command::Remove(LayerName::read(b"sys-0")?),
             Command::Revert(LayerName::read(b"b")?),
+            Command::Purge,
         ]
         .as_slice()
     );
     assert_eq!(rt; head.streams.as_slice()[1].byte_count(), 0);
-    assert_eq!(rt; head.streams.as_slice()[1].command_count(), 4);
+    assert_eq!(rt; head.streams.as_slice()[1].command_count(), 5);
     Ok(())
 }
 
 #[test]
 fn a_stream_is_frames_or_control(rt: HostRuntime) -> Result<(), Fail> {
-    let rows: [(&[u8], bool); 20] = [
+    let rows: [(&[u8], bool); 22] = [
         (b"[{\"control\":[]}]", true),
         (b"[{\"control\":[],\"frame\":1}]", true),
         (b"[{\"control\":[\"status\"]},{\"frames\":0}]", true),
+        (b"[{\"control\":[\"purge\"]}]", true),
+        (b"[{\"control\":[\"purge \"]}]", false),
         (b"[{\"frames\":0,\"control\":[]}]", false),
         (b"[{\"frames\":0,\"control\":null}]", false),
         (b"[{\"frames\":null,\"control\":[]}]", false),

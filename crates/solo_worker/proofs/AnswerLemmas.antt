@@ -9,8 +9,8 @@ use Rattle.volume_model.specs.declared.call.Call.{Call}
 use Rattle.volume_model.specs.declared.entry.Entry.{Entry}
 use Rattle.volume_model.specs.declared.mode.Mode.{Mode}
 use Rattle.volume_model.specs.PlainState.{PlainState}
-use Rattle.volume_model.specs.OneWorker.{served_from, served_streams, after_calls, after_streams}
-use Rattle.volume_model.proofs.ServedLemmas.{served_from-push, length-served_from, after_calls-push, served_streams-push, length-served_streams, after_streams-push, call_count, after_calls_raise_number, after_streams_raise_number}
+use Rattle.volume_model.specs.OneWorker.{behind, served_from, served_streams, after_calls, after_streams}
+use Rattle.volume_model.proofs.ServedLemmas.{served_from-append, after_calls-append, served_streams-push, after_streams-push, call_count, after_calls_raise_number, after_streams_raise_number}
 use Rattle.frame_stream.specs.Asked.{call_of}
 use Rattle.volume_model.specs.declared.call.Call.TheVariants as call
 use Rattle.script_text.specs.declared.script.Stream.{Stream}
@@ -19,14 +19,14 @@ use Rattle.script_text.specs.Streams.{call_count as stream_calls}
 use Rattle.solo_worker.specs.Serving.{Answers, AnswersStreams}
 use Rattle.solo_worker.specs.Volume.{calls_of, IsOfCalls}
 
--- answers behind a front of answers
-behind : (old front new now : List Entry) (modes later : List Mode) (state next : PlainState) (stream many index : ℕ) (cs : List Call)
-    → new ≡ old ++ front → later ≡ modes → next ≡ state → length front ≡ many
+-- entries behind a front of entries
+placed : (old front new now : List Entry) (modes later : List Mode) (state next : PlainState) (stream index : ℕ) (cs : List Call)
+    → new ≡ old ++ front → later ≡ modes → next ≡ state
     → now ≡ new ++ served_from later next stream (length new) index cs
-    → now ≡ old ++ (front ++ served_from modes state stream (length old + many) index cs)
-behind old front new now modes later state next stream many index cs is same at count more =
-    let len : length new ≡ length old + many = ap length is ∙ length-append old front ∙ ap (λ n. length old + n) count in
-    more ∙ moved new (old ++ front) later modes next state (length new) (length old + many) is same at len ∙ append_assoc old front _
+    → now ≡ old ++ (front ++ served_from modes state stream (behind (length old) front) index cs)
+placed old front new now modes later state next stream index cs is same at more =
+    let len : length new ≡ behind (length old) front = ap length is ∙ length-append old front in
+    more ∙ moved new (old ++ front) later modes next state (length new) (behind (length old) front) is same at len ∙ append_assoc old front _
   where
     moved : (a b : List Entry) (m n : List Mode) (s t : PlainState) (i j : ℕ) → a ≡ b → m ≡ n → s ≡ t → i ≡ j
         → a ++ served_from m s stream i index cs ≡ b ++ served_from n t stream j index cs
@@ -49,28 +49,32 @@ none_answered stream old new state entries modes =
 -- one call more of a stream
 pub answers_push : (stream index : ℕ) (cs : List Call) (c : Call) (a b d : Book) (s t u : PlainState)
     → Answers stream 0 cs a b s t → index ≡ length cs → Answers stream index (c ∷ []) b d t u → Answers stream 0 (cs ++ c ∷ []) a d s u
-answers_push stream index cs c a b d s t u done at more = record {
-  entries = behind a.entries (served_from a.modes s stream (length a.entries) 0 cs) b.entries d.entries a.modes b.modes (after_calls a.modes s cs) t
-      stream (length cs) index (c ∷ []) done.entries done.modes done.state (length-served_from a.modes s stream (length a.entries) 0 cs) more.entries
-      ∙ ap (λ n. a.entries ++ (served_from a.modes s stream (length a.entries) 0 cs
-      ++ served_from a.modes (after_calls a.modes s cs) stream (length a.entries + length cs) n (c ∷ []))) (from_none index (length cs) at)
-      ∙ ap (λ es. a.entries ++ es) (sym (served_from-push a.modes s stream (length a.entries) 0 cs c));
-  modes = more.modes ∙ done.modes;
-  state = more.state ∙ after-moved a.modes b.modes (after_calls a.modes s cs) t (c ∷ []) done.modes done.state ∙ sym (after_calls-push a.modes s cs c);
-}
+answers_push stream index cs c a b d s t u done at more =
+    let front = served_from a.modes s stream (length a.entries) 0 cs in
+    record {
+      entries = placed a.entries front b.entries d.entries a.modes b.modes (after_calls a.modes s cs) t
+          stream index (c ∷ []) done.entries done.modes done.state more.entries
+          ∙ ap (λ n. a.entries ++ (front ++ served_from a.modes (after_calls a.modes s cs) stream (behind (length a.entries) front) n (c ∷ [])))
+          (from_none index (length cs) at)
+          ∙ ap (λ es. a.entries ++ es) (sym (served_from-append a.modes s stream (length a.entries) 0 cs (c ∷ [])));
+      modes = more.modes ∙ done.modes;
+      state = more.state ∙ after-moved a.modes b.modes (after_calls a.modes s cs) t (c ∷ []) done.modes done.state ∙ sym (after_calls-append a.modes s cs (c ∷ []));
+    }
 
 -- one stream more
 pub streams_push : (number : ℕ) (css : List (List Call)) (cs : List Call) (a b d : Book) (s t u : PlainState)
     → AnswersStreams 0 css a b s t → number ≡ length css → Answers number 0 cs b d t u → AnswersStreams 0 (css ++ cs ∷ []) a d s u
-streams_push number css cs a b d s t u done at more = record {
-  entries = behind a.entries (served_streams a.modes s 0 (length a.entries) css) b.entries d.entries a.modes b.modes (after_streams a.modes s css) t
-      number (call_count css) 0 cs done.entries done.modes done.state (length-served_streams a.modes s 0 (length a.entries) css) more.entries
-      ∙ ap (λ n. a.entries ++ (served_streams a.modes s 0 (length a.entries) css
-      ++ served_from a.modes (after_streams a.modes s css) n (length a.entries + call_count css) 0 cs)) (from_none number (length css) at)
-      ∙ ap (λ es. a.entries ++ es) (sym (served_streams-push a.modes s 0 (length a.entries) css cs));
-  modes = more.modes ∙ done.modes;
-  state = more.state ∙ after-moved a.modes b.modes (after_streams a.modes s css) t cs done.modes done.state ∙ sym (after_streams-push a.modes s css cs);
-}
+streams_push number css cs a b d s t u done at more =
+    let front = served_streams a.modes s 0 (length a.entries) css in
+    record {
+      entries = placed a.entries front b.entries d.entries a.modes b.modes (after_streams a.modes s css) t
+          number 0 cs done.entries done.modes done.state more.entries
+          ∙ ap (λ n. a.entries ++ (front ++ served_from a.modes (after_streams a.modes s css) n (behind (length a.entries) front) 0 cs))
+          (from_none number (length css) at)
+          ∙ ap (λ es. a.entries ++ es) (sym (served_streams-push a.modes s 0 (length a.entries) css cs));
+      modes = more.modes ∙ done.modes;
+      state = more.state ∙ after-moved a.modes b.modes (after_streams a.modes s css) t cs done.modes done.state ∙ sym (after_streams-push a.modes s css cs);
+    }
 
 -- what is left of the numbers is enough for one call more, and for the calls of one stream more
 pub one_number : (n m r most top : ℕ) → n + m ≤ most → m ≡ suc r → most < top → n + 1 < top
@@ -81,32 +85,30 @@ some_numbers n m k r most top far more low = omega (arith, far, more, low)
 
 -- ---- how far the answering of a stream has come
 
--- The first of a stream's calls, which these things are, are answered, and there are places for the rest.
+-- The first of a stream's calls, which these things are, are answered.
 pub record CallsSoFar {X : Type 0} (call_of : X → Call) (stream index : ℕ) (all rest : List X) (old now : Book) (before after : PlainState) : Type 0 where
   pub done : List X
   pub cut : all ≡ done ++ rest
   pub count : index ≡ length done
   pub answers : Answers stream 0 (map call_of done) old now before after
-  pub room : length rest ≤ now.spare
 
 -- none yet
 pub no_calls : {X : Type 0} (call_of : X → Call) (stream : ℕ) (all : List X) (old new : Book) (state : PlainState)
-    → new.entries ≡ old.entries → new.modes ≡ old.modes → length all ≤ new.spare → CallsSoFar call_of stream 0 all all old new state state
-no_calls call_of stream all old new state entries modes room =
-    record { done = []; cut = refl; count = refl; answers = none_answered stream old new state entries modes; room = room }
+    → new.entries ≡ old.entries → new.modes ≡ old.modes → CallsSoFar call_of stream 0 all all old new state state
+no_calls call_of stream all old new state entries modes =
+    record { done = []; cut = refl; count = refl; answers = none_answered stream old new state entries modes }
 
 -- one more
 pub calls_more : {X : Type 0} (call_of : X → Call) (stream index later : ℕ) (all rest : List X) (x : X) (c : Call) (a b d : Book) (s t u : PlainState)
-    → CallsSoFar call_of stream index all (x ∷ rest) a b s t → c ≡ call_of x → Answers stream index (c ∷ []) b d t u → d.spare + 1 ≡ b.spare → later ≡ index + 1
+    → CallsSoFar call_of stream index all (x ∷ rest) a b s t → c ≡ call_of x → Answers stream index (c ∷ []) b d t u → later ≡ index + 1
     → CallsSoFar call_of stream later all rest a d s u
-calls_more call_of stream index later all rest x c a b d s t u far is more spare next = record {
+calls_more call_of stream index later all rest x c a b d s t u far is more next = record {
   done = far.done ++ x ∷ [];
   cut = far.cut ∙ sym (append_assoc far.done (x ∷ []) rest);
   count = omega (arith, next, far.count, length-append far.done (x ∷ []));
   answers = subst (λ cs. Answers stream 0 cs a d s u) (sym (map-append call_of far.done (x ∷ [])))
       (answers_push stream index (map call_of far.done) (call_of x) a b d s t u far.answers (far.count ∙ sym (length-map far.done call_of))
       (subst (λ c. Answers stream index (c ∷ []) b d t u) is more));
-  room = omega (arith, far.room, spare);
 }
 
 -- all of them

@@ -1,3 +1,4 @@
 pub mod AnswerLemmas
 pub mod ScriptLemmas
 pub mod SoloLemmas
+pub mod PurgeLemmas

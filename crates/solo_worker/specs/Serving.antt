@@ -4,11 +4,17 @@ use Rattle.journal_book.specs.Book.{Book}
 use Rattle.volume_model.specs.declared.call.Call.{Call}
 use Rattle.volume_model.specs.PlainState.{PlainState}
 use Rattle.volume_model.specs.Replay.{replay}
-use Rattle.volume_model.specs.OneWorker.{served_from, served_streams, after_calls, after_streams, served}
+use Rattle.volume_model.specs.OneWorker.{marks_before, state_for, served_from, served_streams, after_calls, after_streams, served}
 use Rattle.script_text.specs.declared.script.Script.{Script}
 use Rattle.script_text.specs.Script.{IsScript}
 use Rattle.solo_worker.specs.declared.solo.Served.{Served}
 use Rattle.solo_worker.specs.Volume.{opening_of, heads_in, calls_in}
+
+-- What a call has marks for before its answer is done, and the marks stand in the journal.
+pub record MakesMarks (c : Call) (old new : Book) (before after : PlainState) : Type 0 where
+  pub entries : new.entries ≡ old.entries ++ marks_before before c
+  pub modes : new.modes ≡ old.modes
+  pub state : after ≡ state_for before c
 
 -- These calls of a stream are answered one after another, the first of which has this index, and the volume is what they
 -- leave.

@@ -6,6 +6,7 @@ ghost use Rattle.volume_model.specs.declared.call.Call.TheVariants as call;
 ghost use Rattle.solo_worker.specs.Serving.{Answers, AnswersStreams};
 ghost use Rattle.solo_worker.specs.Volume.{calls_of, AreCalls, IsOfCalls};
 
+use crate::purge::make_marks;
 use frame_stream::{Asked, Frame, of_frame};
 use journal_book::{Answer, Call, Command, Entry, Journal};
 use replica_disk::ReplicaDisk;
@@ -94,8 +95,7 @@ fn answer_commands(
     Ok(())
 }
 
-/// Answers the call of a stream that has this index there, and puts the answer into a place of the journal that
-/// was made before.
+/// Answers the call of a stream that has this index there.
 fn answer(
     alloc: Global,
     stream: u8,
@@ -104,14 +104,15 @@ fn answer(
     journal: &mut Journal,
     disk: &mut ReplicaDisk,
 ) -> Result<(), AllocError>
-    requires spare { 0 < journal.old.spare }
-    requires number { disk.old.snapshots.number + 1 < 2 ^ 64 }
-    ensures answers { OnOk result
+    requires { disk.old.snapshots.number + 1 < 2 ^ 64 }
+    ensures { OnOk result
         (Answers stream index (call ∷ []) journal.old journal.new disk.old disk.new) }
-    ensures spare { OnOk result (journal.new.spare + 1 ≡ journal.old.spare) }
 {
-    let reply = disk.step(alloc, journal.modes(), &call)?;
     let saw = journal.len();
+    make_marks(&call, journal, disk)?;
+    // Marks may have used the place that was made for the answer.
+    journal.reserve(1)?;
+    let reply = disk.step(alloc, journal.modes(), &call)?;
     journal.push_reserved(Entry::Answer(Answer {
         call,
         reply,

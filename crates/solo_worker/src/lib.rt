@@ -2,6 +2,7 @@
 #![tactic(auto)]
 
 mod answer;
+mod purge;
 mod solo;
 
 pub use solo::{Served, serve};

@@ -1,7 +1,7 @@
 use crate::status::Status;
 use crate::top::longhorn;
 use frame_wire::{Head, encode_header};
-use journal_book::{Answer, Bytes, Call, Command, Entry, Reply};
+use journal_book::{Answer, Bytes, Call, Command, Entry, FoldOrDrop, Mark, Reply};
 use outer_memory::{FaultPlan, LimitedSink, MemorySink, MemorySource, NoFaultSink, NoFaultSource};
 use plain_disk::PlainDisk;
 use run_report::{Digest, print_chain, print_entry, print_head, print_mode, print_reply};
@@ -314,22 +314,39 @@ fn made_of(seq: u32, seed: u32) -> Head {
     }
 }
 
-/// Texts of commands over few names, so that refusals are common.
-const TEXTS: [&str; 16] = [
-    "snapshot a",
+/// Texts of commands over few names, so that refusals are common. Some names begin with others or are
+/// capitals, so that only their bytes tell which is first.
+const TEXTS: [&str; 32] = [
     "snapshot b",
-    "snapshot c",
+    "snapshot ab",
+    "snapshot a",
+    "snapshot C",
     "snapshot d",
+    "snapshot a-b",
+    "snapshot c",
+    "snapshot D",
     "snapshot e",
-    "revert a",
+    "snapshot B",
     "revert b",
-    "revert c",
+    "revert ab",
+    "revert a",
+    "revert C",
     "revert d",
+    "revert a-b",
     "revert sys-0",
-    "remove a",
     "remove b",
-    "remove c",
+    "remove ab",
+    "remove a",
+    "remove C",
     "remove d",
+    "remove a-b",
+    "remove c",
+    "remove D",
+    "remove e",
+    "remove B",
+    "purge",
+    "purge",
+    "purge",
     "status",
     "status",
 ];
@@ -356,6 +373,10 @@ struct Taken {
     name: LayerName,
     parent: Option<LayerName>,
     marked: bool,
+}
+
+fn is_before(a: &LayerName, b: &LayerName) -> bool {
+    a.as_bytes().cmp(b.as_bytes()).is_lt()
 }
 
 /// A plain disk that answers calls slowly, and prints what a run prints.
@@ -391,6 +412,10 @@ impl Slow {
         call: Call,
         asked: Option<&Head>,
     ) -> Result<(), AllocError> {
+        let saw = self.place;
+        if let Call::Command(Command::Purge) = &call {
+            self.purge()?;
+        }
         if self.disk.head_number() > 1_000_000 {
             return Ok(());
         }
@@ -402,7 +427,7 @@ impl Slow {
             call,
             reply,
             index,
-            saw: self.place,
+            saw,
             stream,
         };
         if let Some(asked) = asked {
@@ -436,9 +461,87 @@ impl Slow {
                 }
             }
             Command::Revert(name) => self.on = Some(name),
-            Command::Status => (),
+            Command::Purge | Command::Status => (),
         }
         Ok(())
+    }
+
+    /// Takes out what can go, the first by name again and again, and prints a mark of each.
+    fn purge(&mut self) -> Result<(), AllocError> {
+        // One goes each time, so that is often enough.
+        for _ in 0..self.taken.len() {
+            let Some((name, way)) = self.first_to_go() else {
+                return Ok(());
+            };
+            let mark = Mark::Purged(way);
+            self.take_out(name);
+            self.disk.follow(&mark);
+            print_entry(self.place, &Entry::Mark(mark), &mut self.lines)?;
+            self.place = self.place.saturating_add(1);
+        }
+        Ok(())
+    }
+
+    /// The first by name of the snapshots that can go, and how it goes.
+    fn first_to_go(&self) -> Option<(LayerName, FoldOrDrop)> {
+        for taken in &self.taken {
+            if let Some(way) = self.way_of(taken) {
+                if !self.goes_before(&taken.name) {
+                    return Some((taken.name, way));
+                }
+            }
+        }
+        None
+    }
+
+    /// Whether a snapshot can go whose name comes before that one.
+    fn goes_before(&self, name: &LayerName) -> bool {
+        for taken in &self.taken {
+            if is_before(&taken.name, name) && self.way_of(taken).is_some() {
+                return true;
+            }
+        }
+        false
+    }
+
+    /// How the snapshot goes, if it can: into the only one that stands on it, or away where none does.
+    fn way_of(&self, taken: &Taken) -> Option<FoldOrDrop> {
+        if !taken.marked || self.on == Some(taken.name) {
+            return None;
+        }
+        let mut way = FoldOrDrop::Drop(taken.name);
+        for other in &self.taken {
+            if other.parent == Some(taken.name) {
+                if let FoldOrDrop::Fold { .. } = way {
+                    return None;
+                }
+                way = FoldOrDrop::Fold {
+                    parent: taken.name,
+                    child: other.name,
+                };
+            }
+        }
+        Some(way)
+    }
+
+    fn parent_of(&self, name: LayerName) -> Option<LayerName> {
+        for taken in &self.taken {
+            if taken.name == name {
+                return taken.parent;
+            }
+        }
+        None
+    }
+
+    /// Takes the snapshot of the name out: what stood on it stands on its parent.
+    fn take_out(&mut self, name: LayerName) {
+        let parent = &self.parent_of(name);
+        for taken in &mut self.taken {
+            if taken.parent == Some(name) {
+                taken.parent = *parent;
+            }
+        }
+        self.taken.retain(|taken| taken.name != name);
     }
 
     fn chain(&self, alloc: Global) -> Result<Vec<(LayerName, bool)>, AllocError> {
@@ -466,21 +569,32 @@ impl Slow {
     }
 }
 
+/// Whether the text stands somewhere in what was printed.
+fn stands_in(printed: &[u8], text: &[u8]) -> bool {
+    for at in 0..printed.len() {
+        if printed[at..].starts_with(text) {
+            return true;
+        }
+    }
+    false
+}
+
 #[test]
 fn prints_what_a_slow_executor_prints(rt: HostRuntime) -> Result<(), Fail> {
     let alloc = rt.alloc();
     let words = words(alloc, &["run", "--workers", "each"])?;
     let mut seed = 1;
-    for streams in [1u8, 2, 5, 16] {
+    let mut printed = Vec::new(alloc);
+    for streams in [1u8, 2, 5, 16, 16, 16, 16, 16] {
         let mut draft = Draft::new(alloc)?;
         let mut slow = Slow::new(alloc)?;
         for stream in 0..streams {
             seed = next(seed);
             if seed >> 31 == 0 {
                 let mut texts = Vec::new(alloc);
-                for index in 0..12 {
+                for index in 0..24 {
                     seed = next(seed);
-                    let text = TEXTS[(seed >> 28) as usize];
+                    let text = TEXTS[(seed >> 27) as usize];
                     let Ok(command) = Command::read(text.as_bytes()) else {
                         return Err(Fail::new("no command"));
                     };
@@ -506,7 +620,13 @@ fn prints_what_a_slow_executor_prints(rt: HostRuntime) -> Result<(), Fail> {
         assert_eq!(rt; status, Status::Done);
         let wanted = slow.report(alloc)?;
         assert_eq!(rt; sink.bytes(), wanted.as_slice());
+        printed.extend_from_slice(&wanted)?;
     }
+    assert!(rt; stands_in(&printed, b" mark folded "), "nothing was folded");
+    assert!(rt;
+        stands_in(&printed, b" mark dropped "),
+        "nothing was dropped"
+    );
     Ok(())
 }
 
@@ -566,6 +686,190 @@ fn commands_are_answered_as_the_worked_rows_say(rt: HostRuntime) -> Result<(), F
 }
 
 #[test]
+fn a_purge_folds_a_layer_into_its_only_child(rt: HostRuntime) -> Result<(), Fail> {
+    answers(
+        &rt,
+        &["snapshot s", "remove s", "purge"],
+        &[
+            "0 0 0 0 snapshot s ok\n",
+            "1 1 0 1 remove s ok\n",
+            "2 2 0 2 purge ok\n",
+            "mode r0 RW\nchain r0 head s*\n",
+            HEAD_OF_ZEROS,
+        ],
+    )?;
+    answers(
+        &rt,
+        &["snapshot s", "remove s", "purge", "snapshot t", "purge"],
+        &[
+            "0 0 0 0 snapshot s ok\n",
+            "1 1 0 1 remove s ok\n",
+            "2 2 0 2 purge ok\n",
+            "3 3 0 3 snapshot t ok\n",
+            "4 mark folded s t\n",
+            "5 4 0 4 purge ok\n",
+            "mode r0 RW\nchain r0 head t\n",
+            HEAD_OF_ZEROS,
+        ],
+    )?;
+    Ok(())
+}
+
+#[test]
+fn a_purge_leaves_a_layer_with_two_children(rt: HostRuntime) -> Result<(), Fail> {
+    answers(
+        &rt,
+        &[
+            "snapshot a",
+            "snapshot b",
+            "revert a",
+            "snapshot c",
+            "remove a",
+            "purge",
+        ],
+        &[
+            "0 0 0 0 snapshot a ok\n",
+            "1 1 0 1 snapshot b ok\n",
+            "2 2 0 2 revert a ok\n",
+            "3 3 0 3 snapshot c ok\n",
+            "4 4 0 4 remove a ok\n",
+            "5 5 0 5 purge ok\n",
+            "mode r0 RW\nchain r0 head c a*\n",
+            HEAD_OF_ZEROS,
+        ],
+    )?;
+    answers(
+        &rt,
+        &[
+            "snapshot a",
+            "snapshot b",
+            "revert a",
+            "snapshot c",
+            "remove a",
+            "purge",
+            "revert b",
+        ],
+        &[
+            "0 0 0 0 snapshot a ok\n",
+            "1 1 0 1 snapshot b ok\n",
+            "2 2 0 2 revert a ok\n",
+            "3 3 0 3 snapshot c ok\n",
+            "4 4 0 4 remove a ok\n",
+            "5 5 0 5 purge ok\n",
+            "6 6 0 6 revert b ok\n",
+            "mode r0 RW\nchain r0 head b a*\n",
+            HEAD_OF_ZEROS,
+        ],
+    )?;
+    Ok(())
+}
+
+#[test]
+fn a_purge_drops_a_layer_without_a_child(rt: HostRuntime) -> Result<(), Fail> {
+    answers(
+        &rt,
+        &[
+            "snapshot a",
+            "snapshot b",
+            "revert a",
+            "remove b",
+            "purge",
+            "status",
+        ],
+        &[
+            "0 0 0 0 snapshot a ok\n",
+            "1 1 0 1 snapshot b ok\n",
+            "2 2 0 2 revert a ok\n",
+            "3 3 0 3 remove b ok\n",
+            "4 mark dropped b\n",
+            "5 4 0 4 purge ok\n",
+            "6 6 0 5 status ok layers 2 modes RW\n",
+            "mode r0 RW\nchain r0 head a\n",
+            HEAD_OF_ZEROS,
+        ],
+    )?;
+    Ok(())
+}
+
+#[test]
+fn a_purge_goes_on_until_nothing_is_left(rt: HostRuntime) -> Result<(), Fail> {
+    // `a` can go only when `b` has gone, and then goes before `c`. Their names stay used.
+    answers(
+        &rt,
+        &[
+            "snapshot a",
+            "snapshot b",
+            "revert a",
+            "snapshot c",
+            "snapshot d",
+            "remove a",
+            "remove b",
+            "remove c",
+            "purge",
+            "snapshot a",
+            "status",
+        ],
+        &[
+            "0 0 0 0 snapshot a ok\n",
+            "1 1 0 1 snapshot b ok\n",
+            "2 2 0 2 revert a ok\n",
+            "3 3 0 3 snapshot c ok\n",
+            "4 4 0 4 snapshot d ok\n",
+            "5 5 0 5 remove a ok\n",
+            "6 6 0 6 remove b ok\n",
+            "7 7 0 7 remove c ok\n",
+            "8 mark dropped b\n",
+            "9 mark folded a c\n",
+            "10 mark folded c d\n",
+            "11 8 0 8 purge ok\n",
+            "12 12 0 9 snapshot a error name used\n",
+            "13 13 0 10 status ok layers 2 modes RW\n",
+            "mode r0 RW\nchain r0 head d\n",
+            HEAD_OF_ZEROS,
+        ],
+    )?;
+    Ok(())
+}
+
+#[test]
+fn a_fold_leaves_what_its_child_and_the_head_read_as(rt: HostRuntime) -> Result<(), Fail> {
+    let alloc = rt.alloc();
+    let mut draft = Draft::new(alloc)?;
+    // Block 0 is under `s` alone, block 1 under `s` and `t`, block 2 under `t` alone.
+    draft.frames(alloc, &[write(1, 0, 8192)], b'a', b"")?;
+    draft.control(&["snapshot s"])?;
+    draft.frames(alloc, &[write(1, 8191, 2)], b'b', b"")?;
+    draft.control(&["snapshot t"])?;
+    draft.frames(alloc, &[write(1, 0, 1)], b'c', b"")?;
+    draft.control(&["remove s", "purge"])?;
+    draft.frames(alloc, &[read(1, 0, 8194)], 0, b"")?;
+    draft.control(&["revert t"])?;
+    draft.frames(alloc, &[read(1, 0, 8194)], 0, b"")?;
+    let lines = [
+        "0 0 0 0 write 0 8192 61*8192 ok\n",
+        "1 1 1 0 snapshot s ok\n",
+        "2 2 2 0 write 8191 2 62*2 ok\n",
+        "3 3 3 0 snapshot t ok\n",
+        "4 4 4 0 write 0 1 63*1 ok\n",
+        "5 5 5 0 remove s ok\n",
+        "6 mark folded s t\n",
+        "7 6 5 1 purge ok\n",
+        "8 8 6 0 read 0 8194 ok 63*1,61*8190,62*2,00*1\n",
+        "9 9 7 0 revert t ok\n",
+        "10 10 8 0 read 0 8194 ok 61*8191,62*2,00*1\n",
+        "reply 0 0 1 2 0 8192 -\n",
+        "reply 2 0 1 2 8191 2 -\n",
+        "reply 4 0 1 2 0 1 -\n",
+        "reply 6 0 1 2 0 8194 63*1,61*8190,62*2,00*1\n",
+        "reply 8 0 1 2 0 8194 61*8191,62*2,00*1\n",
+        "mode r0 RW\nchain r0 head t\n",
+        "head r0 c9e0c3e9d537a460567a6aeacf4b4ffbc6372532137ebfc2694cff7ab2ffbc92\n",
+    ];
+    runs(&rt, &["run"], draft.input()?, Status::Done, "", &lines)?;
+    Ok(())
+}
+
+#[test]
 fn a_chain_has_two_hundred_and_fifty_layers(rt: HostRuntime) -> Result<(), Fail> {
     let alloc = rt.alloc();
     let mut texts = Vec::new(alloc);
@@ -610,7 +914,8 @@ fn a_text_that_is_no_command_is_a_bad_member(rt: HostRuntime) -> Result<(), Fail
         "",
         "status ",
         " status",
-        "purge",
+        "purge ",
+        "purge a",
         "snapshot",
         "snapshot ",
         "snapshot  a",

@@ -1,4 +1,5 @@
 pub mod StepLemmas
+pub mod PurgeLemmas
 pub mod ServedLemmas
 pub mod OneWorkerLemmas
 pub mod NamesLemmas

@@ -1,20 +1,34 @@
--- What a journal tells of the snapshots is what its replay has.
-use Rattle.std.proofs.Common.{◌≡◌, ℕ, suc, ◌+◌, Bool, true, false, cond, not, ◌||◌, List, [], ◌∷◌, length, map, refl, sym, ap, ◌∙◌, arith}
+-- What a legal journal tells of the snapshots is what its replay has.
+use Rattle.std.proofs.Common.{◌≡◌, ℕ, suc, ◌+◌, ◌-◌, ◌⊎◌, inl, inr, Bool, true, false, cond, not, ◌||◌, List, [], ◌∷◌, ◌++◌, length, map, refl, sym, ap, subst, ◌∙◌, arith}
+use Rattle.std.specs.Prelude.{Option, Some}
+use Rattle.std.specs.List.{list_any}
 use Rattle.std.specs.Str.{bytes_eq}
+use Rattle.std.proofs.lemmas.Bool.{true≢false, cases_Bool, or_cases, or_parts, or_from, or_left, or_right, cond-true, cond-false}
 use Rattle.std.proofs.lemmas.Slice.Eq.{bytes_eq-Decides}
 use Rattle.command_text.specs.declared.command.Command.TheVariants as command
 use Rattle.volume_model.specs.declared.call.Call.{Call}
 use Rattle.volume_model.specs.declared.call.Call.TheVariants as call
+use Rattle.volume_model.specs.declared.call.Refusal.{Refusal}
+use Rattle.volume_model.specs.declared.call.Refusal.TheVariants.{NameUsed}
 use Rattle.volume_model.specs.declared.entry.Entry.{Entry}
 use Rattle.volume_model.specs.declared.entry.Entry.TheVariants as entry
+use Rattle.volume_model.specs.declared.mark.FoldOrDrop.{FoldOrDrop}
+use Rattle.volume_model.specs.declared.mark.FoldOrDrop.TheVariants as part
+use Rattle.volume_model.specs.declared.mark.Mark.TheVariants as mark
+use Rattle.volume_model.specs.declared.mode.Mode.{Mode}
 use Rattle.volume_model.specs.declared.names.UsedName.{UsedName}
-use Rattle.volume_model.specs.Snapshots.{Snapshot, Snapshots, layer_count, is_live, with_snapshot, with_mark, marked_if}
+use Rattle.volume_model.specs.Snapshots.{Snapshot, Snapshots, layer_count, is_used, is_live, with_snapshot, with_mark, marked_if}
+use Rattle.volume_model.specs.Purge.{IsMarked, CanBeDone, dropped, parent_in, given, with_part}
 use Rattle.volume_model.specs.PlainState.{PlainState}
-use Rattle.volume_model.specs.PlainStep.{after_call}
+use Rattle.volume_model.specs.PlainStep.{room_refusal, after_call, step_unless, plain_step}
 use Rattle.volume_model.specs.Replay.{is_refusal, after_entry, replay}
-use Rattle.volume_model.specs.Names.{is_used_in, is_live_in, name_marked, names_after_call, names_after_entry, names_after, layers_after_call, layers_after_entry, layers_after, TellOf}
+use Rattle.volume_model.specs.Modes.{modes_after}
+use Rattle.volume_model.specs.History.{Opening, IsAnswered, CouldBe, MayStand, LegalAfter, IsLegal}
+use Rattle.volume_model.specs.Names.{is_used_in, is_live_in, name_marked, names_after_call, names_after_entry, names_after, layers_after_call, layers_after_entry, layers_after, has_name, NamesOnce, TellOf, AreNamed}
+use Rattle.volume_model.proofs.StepLemmas.{replay-push}
+use Rattle.volume_model.proofs.PurgeLemmas.{any_cases, length-with_part}
 
--- ---- a mark
+-- ---- a snapshot that is to be removed
 
 -- a look-up at one element: a mark of the same name is false there
 mark_first : (here same asked marked rest : Bool) → (here ≡ true → same ≡ asked)
@@ -71,6 +85,255 @@ length-marked : (name : List ℕ) (tree : List Snapshot) → length (map (marked
 length-marked name [] = refl
 length-marked name (s ∷ ss) = ap suc (length-marked name ss)
 
+-- a snapshot that is to be removed keeps its name
+name-marked : (same : Bool) (s : Snapshot) → (cond same (record s { marked = true }) s).name ≡ s.name
+name-marked true s = refl
+name-marked false s = refl
+
+-- so the same names are there
+has_name-marked : (name q : List ℕ) (tree : List Snapshot) → has_name (map (marked_if name) tree) q ≡ has_name tree q
+has_name-marked name q [] = refl
+has_name-marked name q (s ∷ ss) =
+    ap (λ n. bytes_eq q n || has_name (map (marked_if name) ss) q) (name-marked (bytes_eq name s.name) s)
+    ∙ ap (λ b. bytes_eq q s.name || b) (has_name-marked name q ss)
+
+-- and names that come once do so still
+once-marked : (name : List ℕ) (tree : List Snapshot) → NamesOnce tree → NamesOnce (map (marked_if name) tree)
+once-marked name [] once = tt
+once-marked name (s ∷ ss) once = (
+  has_name-marked name _ ss ∙ ap (has_name ss) (name-marked (bytes_eq name s.name) s) ∙ once.0,
+  once-marked name ss once.1,
+)
+
+-- ---- a snapshot that goes
+
+-- the marked one is the first, or among the others
+marked_cases : (p : List ℕ) (s : Snapshot) (ss : List Snapshot) → IsMarked (s ∷ ss) p → ((s.name ≡ p) × (s.marked ≡ true)) ⊎ IsMarked ss p
+marked_cases p s ss marked = any_cases (λ (t : Snapshot). (t.name ≡ p) × (t.marked ≡ true)) s ss marked
+
+-- it is there
+pub marked_has_name : (p : List ℕ) (tree : List Snapshot) → IsMarked tree p → has_name tree p ≡ true
+marked_has_name p [] marked = absurd (omega (arith, marked.2))
+marked_has_name p (s ∷ ss) marked = elim (marked_cases p s ss marked) [
+  | inl here ↦ or_left (bytes_eq p s.name) (has_name ss p) ((bytes_eq-Decides p s.name).1 (sym here.0))
+  | inr there ↦ or_right (bytes_eq p s.name) (has_name ss p) (marked_has_name p ss there)
+]
+
+-- a name that is not there cannot be used
+not_there : (q : List ℕ) (tree : List Snapshot) → has_name tree q ≡ false → is_live tree q ≡ false
+not_there q [] none = refl
+not_there q (s ∷ ss) none =
+    let apart = or_parts (bytes_eq q s.name) (has_name ss q) none in
+    cond-false (bytes_eq q s.name) (not s.marked) (is_live ss q) apart.0 ∙ not_there q ss apart.1
+
+-- a name that is not there does not come back
+has_name-dropped : (p q : List ℕ) (tree : List Snapshot) → has_name tree q ≡ false → has_name (dropped p tree) q ≡ false
+has_name-dropped p q [] none = refl
+has_name-dropped p q (s ∷ ss) none =
+    let apart = or_parts (bytes_eq q s.name) (has_name ss q) none in
+    one (bytes_eq p s.name) apart.0 apart.1 (has_name-dropped p q ss apart.1)
+  where
+    one : (same : Bool) → bytes_eq q s.name ≡ false → has_name ss q ≡ false → has_name (dropped p ss) q ≡ false
+        → has_name (cond same ss (s ∷ dropped p ss)) q ≡ false
+    one true apart none more = none
+    one false apart none more = or_from (bytes_eq q s.name) (has_name (dropped p ss) q) apart more
+
+-- so names that come once do so still
+once-dropped : (p : List ℕ) (tree : List Snapshot) → NamesOnce tree → NamesOnce (dropped p tree)
+once-dropped p [] once = tt
+once-dropped p (s ∷ ss) once = one (bytes_eq p s.name) (once-dropped p ss once.1)
+  where
+    one : (same : Bool) → NamesOnce (dropped p ss) → NamesOnce (cond same ss (s ∷ dropped p ss))
+    one true more = once.1
+    one false more = (has_name-dropped p s.name ss once.0, more)
+
+-- no name can be used or not that could before: the one that goes could not
+is_live-dropped : (p q : List ℕ) (tree : List Snapshot) → NamesOnce tree → IsMarked tree p → is_live (dropped p tree) q ≡ is_live tree q
+is_live-dropped p q [] once marked = refl
+is_live-dropped p q (s ∷ ss) once marked = elim (cases_Bool (bytes_eq p s.name)) [
+  | inl same ↦ this same
+  | inr other ↦ later other (λ among. is_live-dropped p q ss once.1 among)
+]
+  where
+    -- the first goes, which no other has the name of
+    this : bytes_eq p s.name ≡ true → is_live (dropped p (s ∷ ss)) q ≡ is_live (s ∷ ss) q
+    this same =
+        cut ∙ elim (cases_Bool (bytes_eq q s.name)) [
+          | inl asked ↦ not_there q ss (ap (has_name ss) ((bytes_eq-Decides q s.name).0 asked) ∙ once.0)
+              ∙ sym (cond-true (bytes_eq q s.name) (not s.marked) (is_live ss q) asked ∙ ap not is_marked)
+          | inr apart ↦ sym (cond-false (bytes_eq q s.name) (not s.marked) (is_live ss q) apart)
+        ]
+      where
+        cut : is_live (dropped p (s ∷ ss)) q ≡ is_live ss q
+        cut = ap (λ l. is_live l q) (cond-true (bytes_eq p s.name) ss (s ∷ dropped p ss) same)
+
+        is_marked : s.marked ≡ true
+        is_marked = elim (marked_cases p s ss marked) [
+          | inl here ↦ here.1
+          | inr there ↦ absurd (true≢false (sym (marked_has_name p ss there) ∙ ap (has_name ss) ((bytes_eq-Decides p s.name).0 same) ∙ once.0))
+        ]
+
+    -- the first stays
+    later : bytes_eq p s.name ≡ false → (IsMarked ss p → is_live (dropped p ss) q ≡ is_live ss q) → is_live (dropped p (s ∷ ss)) q ≡ is_live (s ∷ ss) q
+    later other more =
+        ap (λ l. is_live l q) (cond-false (bytes_eq p s.name) ss (s ∷ dropped p ss) other)
+        ∙ ap (cond (bytes_eq q s.name) (not s.marked)) (more among)
+      where
+        among : IsMarked ss p
+        among = elim (marked_cases p s ss marked) [
+          | inl here ↦ absurd (true≢false (sym ((bytes_eq-Decides p s.name).1 (sym here.0)) ∙ other))
+          | inr there ↦ there
+        ]
+
+-- a snapshot on another parent keeps its name and its mark
+name-given : (same : Bool) (s : Snapshot) (parent : Option (List ℕ)) → (cond same (record s { parent = parent }) s).name ≡ s.name
+name-given true s parent = refl
+name-given false s parent = refl
+
+mark-given : (same : Bool) (s : Snapshot) (parent : Option (List ℕ)) → (cond same (record s { parent = parent }) s).marked ≡ s.marked
+mark-given true s parent = refl
+mark-given false s parent = refl
+
+-- so the same names are there
+has_name-given : (c : List ℕ) (parent : Option (List ℕ)) (q : List ℕ) (tree : List Snapshot) → has_name (given c parent tree) q ≡ has_name tree q
+has_name-given c parent q [] = refl
+has_name-given c parent q (s ∷ ss) =
+    ap (λ n. bytes_eq q n || has_name (given c parent ss) q) (name-given (bytes_eq c s.name) s parent)
+    ∙ ap (λ b. bytes_eq q s.name || b) (has_name-given c parent q ss)
+
+-- each once still
+once-given : (c : List ℕ) (parent : Option (List ℕ)) (tree : List Snapshot) → NamesOnce tree → NamesOnce (given c parent tree)
+once-given c parent [] once = tt
+once-given c parent (s ∷ ss) once = (
+  has_name-given c parent _ ss ∙ ap (has_name ss) (name-given (bytes_eq c s.name) s parent) ∙ once.0,
+  once-given c parent ss once.1,
+)
+
+-- and the same can be used
+is_live-given : (c : List ℕ) (parent : Option (List ℕ)) (q : List ℕ) (tree : List Snapshot) → is_live (given c parent tree) q ≡ is_live tree q
+is_live-given c parent q [] = refl
+is_live-given c parent q (s ∷ ss) =
+    ap (λ n. cond (bytes_eq q n) (not (cond (bytes_eq c s.name) (record s { parent = parent }) s).marked) (is_live (given c parent ss) q)) (name-given (bytes_eq c s.name) s parent)
+    ∙ ap (λ m. cond (bytes_eq q s.name) (not m) (is_live (given c parent ss) q)) (mark-given (bytes_eq c s.name) s parent)
+    ∙ ap (cond (bytes_eq q s.name) (not s.marked)) (is_live-given c parent q ss)
+
+-- ---- a part of a purge
+
+-- a name that is not there does not come back
+has_name-part : (s : Snapshots) (p : FoldOrDrop) (q : List ℕ) → has_name s.tree q ≡ false → has_name (with_part s p).tree q ≡ false
+has_name-part s (part.Fold p c) q none = has_name-given c (parent_in p s.tree) q (dropped p s.tree) ∙ has_name-dropped p q s.tree none
+has_name-part s (part.Drop p) q none = has_name-dropped p q s.tree none
+
+-- names that come once do so still
+once-part : (s : Snapshots) (p : FoldOrDrop) → NamesOnce s.tree → NamesOnce (with_part s p).tree
+once-part s (part.Fold p c) once = once-given c (parent_in p s.tree) (dropped p s.tree) (once-dropped p s.tree once)
+once-part s (part.Drop p) once = once-dropped p s.tree once
+
+-- no name was taken by it
+used-part : (s : Snapshots) (p : FoldOrDrop) → (with_part s p).used ≡ s.used
+used-part s (part.Fold p c) = refl
+used-part s (part.Drop p) = refl
+
+-- the same names can be used
+is_live-part : (s : Snapshots) (p : FoldOrDrop) (q : List ℕ) → NamesOnce s.tree → CanBeDone s.tree s.on p → is_live (with_part s p).tree q ≡ is_live s.tree q
+is_live-part s (part.Fold p c) q once can =
+    is_live-given c (parent_in p s.tree) q (dropped p s.tree) ∙ is_live-dropped p q s.tree once can.marked
+is_live-part s (part.Drop p) q once can = is_live-dropped p q s.tree once can.marked
+
+-- ---- an entry of a legal journal
+
+-- it stands where this state and these modes are
+abbrev StandsAt : PlainState → List Mode → Entry → Type 0
+StandsAt state modes (entry.Answer a) = IsAnswered state modes a
+StandsAt state modes (entry.Mark m) = CouldBe state modes m
+
+-- so does each that may stand behind a journal that leaves them
+stands : (opening : Opening) (before : List Entry) (state : PlainState) (e : Entry) (after : List Entry)
+    → replay opening.state before ≡ state → MayStand opening before e after → StandsAt state (modes_after opening.modes before) e
+stands opening before state (entry.Answer a) after at may = subst (λ s. IsAnswered s (modes_after opening.modes before) a) at may
+stands opening before state (entry.Mark m) after at may = subst (λ s. CouldBe s (modes_after opening.modes before) m) at may
+
+-- and the state behind it is that of the journal with it
+next : (opening : Opening) (before : List Entry) (state : PlainState) (e : Entry)
+    → replay opening.state before ≡ state → replay opening.state (before ++ e ∷ []) ≡ after_entry state e
+next opening before state e at = replay-push opening.state before e ∙ ap (λ s. after_entry s e) at
+
+-- a name that was taken by a snapshot just now was not used before
+taken_is_new : (modes : List Mode) (state : PlainState) (name : List ℕ)
+    → is_refusal (plain_step modes state (call.Command (command.Snapshot name))).1 ≡ false → is_used state.snapshots name ≡ false
+taken_is_new modes state name done = one (is_used state.snapshots name) (room_refusal state) done
+  where
+    one : (used : Bool) (room : Option Refusal)
+        → is_refusal (step_unless (cond used (Some NameUsed) room) modes state (call.Command (command.Snapshot name))).1 ≡ false → used ≡ false
+    one true room done = done
+    one false room done = refl
+
+-- ---- the snapshots have names of their own
+
+-- a snapshot of a name that was not used
+named_taken : (name : List ℕ) (s : Snapshots) → is_used s name ≡ false → AreNamed s → AreNamed (with_snapshot s name)
+named_taken name s new named = record {
+  once = (elim (cases_Bool (has_name s.tree name)) [ inl there ↦ absurd (true≢false (sym (named.taken name there) ∙ new)) | inr none ↦ none ], named.once);
+  taken = λ q there. elim (or_cases (bytes_eq q name) (has_name s.tree q) there) [
+    | inl this ↦ or_left (bytes_eq q name) (is_used s q) this
+    | inr old ↦ or_right (bytes_eq q name) (is_used s q) (named.taken q old)
+  ];
+}
+
+-- one more that is to be removed
+named_marked : (name : List ℕ) (s : Snapshots) → AreNamed s → AreNamed (with_mark s name)
+named_marked name s named = record {
+  once = once-marked name s.tree named.once;
+  taken = λ q there. named.taken q (sym (has_name-marked name q s.tree) ∙ there);
+}
+
+-- a part of a purge
+named_part : (s : Snapshots) (p : FoldOrDrop) → AreNamed s → AreNamed (with_part s p)
+named_part s p named = record {
+  once = once-part s p named.once;
+  taken = λ q there. ap (list_any (bytes_eq q)) (used-part s p) ∙ named.taken q (elim (cases_Bool (has_name s.tree q)) [
+    | inl old ↦ old
+    | inr none ↦ absurd (true≢false (sym there ∙ has_name-part s p q none))
+  ]);
+}
+
+-- a call that was done
+named_called : (modes : List Mode) (state : PlainState) (c : Call) → is_refusal (plain_step modes state c).1 ≡ false
+    → AreNamed state.snapshots → AreNamed (after_call state c).snapshots
+named_called modes state (call.Read offset n) done named = named
+named_called modes state (call.Write offset bytes) done named = named
+named_called modes state call.Ping done named = named
+named_called modes state (call.Other kind) done named = named
+named_called modes state (call.Command (command.Snapshot name)) done named = named_taken name state.snapshots (taken_is_new modes state name done) named
+named_called modes state (call.Command (command.Remove name)) done named = named_marked name state.snapshots named
+named_called modes state (call.Command (command.Revert name)) done named = record { once = named.once; taken = named.taken }
+named_called modes state (call.Command command.Purge) done named = named
+named_called modes state (call.Command command.Status) done named = named
+
+-- a call that was answered so
+named_unless : (refused : Bool) (modes : List Mode) (state : PlainState) (c : Call) → refused ≡ is_refusal (plain_step modes state c).1
+    → AreNamed state.snapshots → AreNamed (cond refused state (after_call state c)).snapshots
+named_unless true modes state c is named = named
+named_unless false modes state c is named = named_called modes state c (sym is) named
+
+-- one entry
+named_entry : (state : PlainState) (modes : List Mode) (e : Entry) → StandsAt state modes e → AreNamed state.snapshots → AreNamed (after_entry state e).snapshots
+named_entry state modes (entry.Answer a) stands named = named_unless (is_refusal a.reply) modes state a.call (ap is_refusal stands.reply) named
+named_entry state modes (entry.Mark (mark.Purged p)) stands named = named_part state.snapshots p named
+
+-- entries behind a journal
+named_behind : (opening : Opening) (before : List Entry) (state : PlainState) (journal : List Entry)
+    → replay opening.state before ≡ state → LegalAfter opening before journal → AreNamed state.snapshots → AreNamed (replay state journal).snapshots
+named_behind opening before state [] at legal named = named
+named_behind opening before state (e ∷ es) at legal named =
+    named_behind opening (before ++ e ∷ []) (after_entry state e) es (next opening before state e at) legal.1
+    (named_entry state (modes_after opening.modes before) e (stands opening before state e es at legal.0) named)
+
+-- a journal
+pub stay_named : (opening : Opening) (journal : List Entry) → IsLegal opening journal → AreNamed opening.state.snapshots
+    → AreNamed (replay opening.state journal).snapshots
+stay_named opening journal legal named = named_behind opening [] opening.state journal refl legal named
+
 -- ---- the names
 
 tell_taken : (name : List ℕ) (names : List UsedName) (s : Snapshots) → TellOf names s → TellOf (record { name = name; marked = false } ∷ names) (with_snapshot s name)
@@ -85,6 +348,13 @@ tell_marked name names s tell = record {
   live = λ q. is_live_in-marked name q names ∙ ap (cond (bytes_eq name q) false) (tell.live q) ∙ sym (is_live-marked name q s.tree);
 }
 
+-- a part of a purge: what goes can be used no longer, and its name stays
+tell_part : (names : List UsedName) (s : Snapshots) (p : FoldOrDrop) → CanBeDone s.tree s.on p → AreNamed s → TellOf names s → TellOf names (with_part s p)
+tell_part names s p can named tell = record {
+  used = λ q. tell.used q ∙ sym (ap (list_any (bytes_eq q)) (used-part s p));
+  live = λ q. tell.live q ∙ sym (is_live-part s p q named.once can);
+}
+
 tell_called : (names : List UsedName) (state : PlainState) (c : Call) → TellOf names state.snapshots → TellOf (names_after_call names c) (after_call state c).snapshots
 tell_called names state (call.Read offset n) tell = tell
 tell_called names state (call.Write offset bytes) tell = tell
@@ -93,6 +363,7 @@ tell_called names state (call.Other kind) tell = tell
 tell_called names state (call.Command (command.Snapshot name)) tell = tell_taken name names state.snapshots tell
 tell_called names state (call.Command (command.Remove name)) tell = tell_marked name names state.snapshots tell
 tell_called names state (call.Command (command.Revert name)) tell = record { used = tell.used; live = tell.live }
+tell_called names state (call.Command command.Purge) tell = tell
 tell_called names state (call.Command command.Status) tell = tell
 
 tell_unless : (refused : Bool) (names : List UsedName) (state : PlainState) (c : Call) → TellOf names state.snapshots
@@ -101,17 +372,32 @@ tell_unless true names state c tell = tell
 tell_unless false names state c tell = tell_called names state c tell
 
 -- one entry
-pub names_tell_entry : (state : PlainState) (names : List UsedName) (e : Entry) → TellOf names state.snapshots
-    → TellOf (names_after_entry names e) (after_entry state e).snapshots
-names_tell_entry state names (entry.Answer a) tell = tell_unless (is_refusal a.reply) names state a.call tell
+tell_entry : (state : PlainState) (modes : List Mode) (names : List UsedName) (e : Entry) → StandsAt state modes e → AreNamed state.snapshots
+    → TellOf names state.snapshots → TellOf (names_after_entry names e) (after_entry state e).snapshots
+tell_entry state modes names (entry.Answer a) stands named tell = tell_unless (is_refusal a.reply) names state a.call tell
+tell_entry state modes names (entry.Mark (mark.Purged p)) stands named tell = tell_part names state.snapshots p stands.0 named tell
+
+-- entries behind a journal
+tell_behind : (opening : Opening) (before : List Entry) (state : PlainState) (names : List UsedName) (journal : List Entry)
+    → replay opening.state before ≡ state → LegalAfter opening before journal → AreNamed state.snapshots
+    → TellOf names state.snapshots → TellOf (names_after names journal) (replay state journal).snapshots
+tell_behind opening before state names [] at legal named tell = tell
+tell_behind opening before state names (e ∷ es) at legal named tell =
+    let modes = modes_after opening.modes before in
+    let here = stands opening before state e es at legal.0 in
+    tell_behind opening (before ++ e ∷ []) (after_entry state e) (names_after_entry names e) es (next opening before state e at) legal.1
+    (named_entry state modes e here named) (tell_entry state modes names e here named tell)
 
 -- a journal
-pub names_tell : (state : PlainState) (names : List UsedName) (journal : List Entry) → TellOf names state.snapshots
-    → TellOf (names_after names journal) (replay state journal).snapshots
-names_tell state names [] tell = tell
-names_tell state names (e ∷ es) tell = names_tell (after_entry state e) (names_after_entry names e) es (names_tell_entry state names e tell)
+pub names_tell : (opening : Opening) (names : List UsedName) (journal : List Entry) → IsLegal opening journal → AreNamed opening.state.snapshots
+    → TellOf names opening.state.snapshots → TellOf (names_after names journal) (replay opening.state journal).snapshots
+names_tell opening names journal legal named tell = tell_behind opening [] opening.state names journal refl legal named tell
 
 -- ---- the layers
+
+-- a part of a purge
+layers_part : (s : Snapshots) (p : FoldOrDrop) → CanBeDone s.tree s.on p → layer_count s - 1 ≡ layer_count (with_part s p)
+layers_part s p can = omega (arith, length-with_part s p can)
 
 layers_called : (state : PlainState) (c : Call) → layers_after_call (layer_count state.snapshots) c ≡ layer_count (after_call state c).snapshots
 layers_called state (call.Read offset n) = refl
@@ -121,6 +407,7 @@ layers_called state (call.Other kind) = refl
 layers_called state (call.Command (command.Snapshot name)) = omega arith
 layers_called state (call.Command (command.Remove name)) = ap (λ n. n + 1) (sym (length-marked name state.snapshots.tree))
 layers_called state (call.Command (command.Revert name)) = refl
+layers_called state (call.Command command.Purge) = refl
 layers_called state (call.Command command.Status) = refl
 
 layers_unless : (refused : Bool) (state : PlainState) (c : Call)
@@ -129,10 +416,21 @@ layers_unless true state c = refl
 layers_unless false state c = layers_called state c
 
 -- one entry
-pub layers_tell_entry : (state : PlainState) (e : Entry) → layers_after_entry (layer_count state.snapshots) e ≡ layer_count (after_entry state e).snapshots
-layers_tell_entry state (entry.Answer a) = layers_unless (is_refusal a.reply) state a.call
+layers_entry : (state : PlainState) (modes : List Mode) (e : Entry) → StandsAt state modes e
+    → layers_after_entry (layer_count state.snapshots) e ≡ layer_count (after_entry state e).snapshots
+layers_entry state modes (entry.Answer a) stands = layers_unless (is_refusal a.reply) state a.call
+layers_entry state modes (entry.Mark (mark.Purged p)) stands = layers_part state.snapshots p stands.0
+
+-- entries behind a journal
+layers_behind : (opening : Opening) (before : List Entry) (state : PlainState) (journal : List Entry)
+    → replay opening.state before ≡ state → LegalAfter opening before journal
+    → layers_after (layer_count state.snapshots) journal ≡ layer_count (replay state journal).snapshots
+layers_behind opening before state [] at legal = refl
+layers_behind opening before state (e ∷ es) at legal =
+    ap (λ n. layers_after n es) (layers_entry state (modes_after opening.modes before) e (stands opening before state e es at legal.0))
+    ∙ layers_behind opening (before ++ e ∷ []) (after_entry state e) es (next opening before state e at) legal.1
 
 -- a journal
-pub layers_tell : (state : PlainState) (journal : List Entry) → layers_after (layer_count state.snapshots) journal ≡ layer_count (replay state journal).snapshots
-layers_tell state [] = refl
-layers_tell state (e ∷ es) = ap (λ n. layers_after n es) (layers_tell_entry state e) ∙ layers_tell (after_entry state e) es
+pub layers_tell : (opening : Opening) (journal : List Entry) → IsLegal opening journal
+    → layers_after (layer_count opening.state.snapshots) journal ≡ layer_count (replay opening.state journal).snapshots
+layers_tell opening journal legal = layers_behind opening [] opening.state journal refl legal

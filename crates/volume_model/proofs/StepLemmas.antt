@@ -32,6 +32,7 @@ command_is_kept :
 command_is_kept modes state (command.Snapshot name) = refl
 command_is_kept modes state (command.Remove name) = refl
 command_is_kept modes state (command.Revert name) = refl
+command_is_kept modes state command.Purge = refl
 command_is_kept modes state command.Status = refl
 
 done_is_kept :
@@ -55,15 +56,17 @@ pub after_entry-answer_at :
     → after_entry state (answer_at modes state stream place index c) ≡ (plain_step modes state c).0
 after_entry-answer_at modes state stream place index c = step_is_kept (refusal_of state c) modes state c
 
--- an answer leaves the modes, and the journal has nothing else
+-- an answer leaves the modes, and so does the mark of a purge
 pub modes_after-same : (modes : List Mode) (es : List Entry) → modes_after modes es ≡ modes
 modes_after-same modes [] = refl
 modes_after-same modes (entry.Answer a ∷ es) = modes_after-same modes es
+modes_after-same modes (entry.Mark m ∷ es) = modes_after-same modes es
 
--- an answer is no mark of a fault
+-- no entry is a mark of a fault
 pub fault_counts-none : (stream replica : ℕ) (es : List Entry) → fault_counts stream replica es ≡ []
 fault_counts-none stream replica [] = refl
 fault_counts-none stream replica (entry.Answer a ∷ es) = fault_counts-none stream replica es
+fault_counts-none stream replica (entry.Mark m ∷ es) = fault_counts-none stream replica es
 
 -- a step gives the head the next number, or leaves it
 done_raises : (state : PlainState) (c : Call) → (after_call state c).snapshots.number ≤ state.snapshots.number + 1
@@ -74,6 +77,7 @@ done_raises state (call.Other kind) = omega arith
 done_raises state (call.Command (command.Snapshot name)) = omega arith
 done_raises state (call.Command (command.Remove name)) = omega arith
 done_raises state (call.Command (command.Revert name)) = omega arith
+done_raises state (call.Command command.Purge) = omega arith
 done_raises state (call.Command command.Status) = omega arith
 
 unless_raises :

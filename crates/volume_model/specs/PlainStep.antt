@@ -40,6 +40,7 @@ command_refusal state (command.Snapshot name) =
     if is_used state.snapshots name then Some NameUsed else room_refusal state
 command_refusal state (command.Remove name) = live_refusal state name
 command_refusal state (command.Revert name) = live_refusal state name
+command_refusal state command.Purge = None
 command_refusal state command.Status = None
 
 abbrev pub refusal_of : PlainState → Call → Option Refusal
@@ -49,12 +50,13 @@ refusal_of state call.Ping = None
 refusal_of state (call.Other kind) = Some Unsupported
 refusal_of state (call.Command c) = command_refusal state c
 
--- ---- what a call leaves that nothing stands against
+-- ---- what a call leaves that nothing stands against: what a purge takes out, its marks tell
 
 abbrev pub after_command : PlainState → Command → PlainState
 after_command state (command.Snapshot name) = snapped state name
 after_command state (command.Remove name) = removed state name
 after_command state (command.Revert name) = reverted state name
+after_command state command.Purge = state
 after_command state command.Status = state
 
 abbrev pub after_call : PlainState → Call → PlainState
@@ -70,6 +72,7 @@ abbrev pub command_reply : List Mode → PlainState → Command → Reply
 command_reply modes state (command.Snapshot name) = reply.Done
 command_reply modes state (command.Remove name) = reply.Done
 command_reply modes state (command.Revert name) = reply.Done
+command_reply modes state command.Purge = reply.Done
 command_reply modes state command.Status = reply.Status (layer_count state.snapshots) modes
 
 abbrev pub reply_of : List Mode → PlainState → Call → Reply

@@ -1,21 +1,24 @@
 //! What follows from the definitions alone. Each law is a contract.
 
-ghost use Rattle.std.specs.Prelude.{◌≡◌, ℕ, ℤ, ◌+◌, ◌≤◌, List, ◌∷◌, [], length, take, drop, Some};
+ghost use Rattle.std.specs.Prelude.{◌≡◌, ℕ, ℤ, ◌+◌, ◌≤◌, List, ◌∷◌, [], length, take, drop, Option, Some, None};
 ghost use Rattle.volume_model.specs.declared.call.Call.{Call};
 ghost use Rattle.volume_model.specs.declared.call.Refusal.{Refusal};
 ghost use Rattle.volume_model.specs.declared.call.Reply.TheVariants as reply;
 ghost use Rattle.volume_model.specs.declared.entry.Entry.{Entry};
+ghost use Rattle.volume_model.specs.declared.mark.FoldOrDrop.{FoldOrDrop};
 ghost use Rattle.volume_model.specs.declared.mode.Mode.{Mode};
 ghost use Rattle.volume_model.specs.declared.names.UsedName.{UsedName};
 ghost use Rattle.volume_model.specs.Disk.{bytes_at, with_bytes_at};
-ghost use Rattle.volume_model.specs.Snapshots.{layer_count};
+ghost use Rattle.volume_model.specs.Snapshots.{Snapshot, layer_count};
+ghost use Rattle.volume_model.specs.Purge.{IsFirst, IsPurged, next_in};
 ghost use Rattle.volume_model.specs.PlainState.{PlainState, written, snapped, reverted};
+ghost use Rattle.volume_model.specs.Marks.{HasNoMark};
 ghost use Rattle.volume_model.specs.PlainStep.{plain_step, refusal_of};
 ghost use Rattle.volume_model.specs.Replay.{replay};
 ghost use Rattle.volume_model.specs.Modes.{HasSource};
-ghost use Rattle.volume_model.specs.History.{Opening, IsHistory};
+ghost use Rattle.volume_model.specs.History.{Opening, IsLegal, IsHistory};
 ghost use Rattle.volume_model.specs.OneWorker.{served, after_streams, stream_of};
-ghost use Rattle.volume_model.specs.Names.{TellOf, names_after, layers_after};
+ghost use Rattle.volume_model.specs.Names.{TellOf, AreNamed, names_after, layers_after};
 
 /// A write within the disk keeps its size, is read back, and leaves all bytes before and behind it.
 pub fn a_write_puts_its_bytes_and_no_others()
@@ -47,16 +50,28 @@ pub fn a_call_raises_the_number_by_at_most_one()
         → (plain_step modes state call).0.snapshots.number ≤ state.snapshots.number + 1 }
 {}
 
+/// What goes next in a purge is the first that can go in byte order of names, and there is none exactly where nothing
+/// can.
+pub fn the_next_to_go_is_the_first()
+    ensures first { (tree : List Snapshot) (on : Option (List ℕ)) (part : FoldOrDrop)
+        → next_in tree on ≡ Some part → IsFirst tree on part }
+    ensures only { (tree : List Snapshot) (on : Option (List ℕ)) (part : FoldOrDrop)
+        → IsFirst tree on part → next_in tree on ≡ Some part }
+    ensures left { (tree : List Snapshot) (on : Option (List ℕ)) → next_in tree on ≡ None → IsPurged tree on }
+    ensures none { (tree : List Snapshot) (on : Option (List ℕ)) → IsPurged tree on → next_in tree on ≡ None }
+{}
+
 /// The calls of streams, answered one after another and one stream after another, make a legal history.
 pub fn one_worker_makes_a_history()
     ensures { (opening : Opening) (counted : ℕ → ℕ → ℕ) (streams : List (List Call)) → HasSource opening.modes
         → IsHistory opening counted (stream_of streams) (served opening streams) }
 {}
 
-/// A legal history of one stream's calls is what answering them one after another gives.
+/// A legal history of one stream's calls in which no mark stands is what answering them one after another gives.
 pub fn one_stream_has_one_history()
     ensures { (opening : Opening) (counted : ℕ → ℕ → ℕ) (calls : List Call) (journal : List Entry)
-        → IsHistory opening counted (stream_of (calls ∷ [])) journal → journal ≡ served opening (calls ∷ []) }
+        → IsHistory opening counted (stream_of (calls ∷ [])) journal → HasNoMark journal
+        → journal ≡ served opening (calls ∷ []) }
 {}
 
 /// The replay of that journal is what the calls leave.
@@ -65,10 +80,14 @@ pub fn the_replay_is_the_last_state()
         → replay opening.state (served opening streams) ≡ after_streams opening.modes opening.state streams }
 {}
 
-/// A journal tells which names were taken, which can be used, and how many layers there are.
+/// A legal journal tells which names were taken, which can be used, and how many layers there are. Where no two snapshots
+/// had one name, and none a name that was not taken, it is so behind the journal.
 pub fn a_journal_tells_of_its_snapshots()
-    ensures names { (state : PlainState) (names : List UsedName) (journal : List Entry) → TellOf names state.snapshots
-        → TellOf (names_after names journal) (replay state journal).snapshots }
-    ensures layers { (state : PlainState) (journal : List Entry)
-        → layers_after (layer_count state.snapshots) journal ≡ layer_count (replay state journal).snapshots }
+    ensures names { (opening : Opening) (names : List UsedName) (journal : List Entry) → IsLegal opening journal
+        → AreNamed opening.state.snapshots → TellOf names opening.state.snapshots
+        → TellOf (names_after names journal) (replay opening.state journal).snapshots }
+    ensures layers { (opening : Opening) (journal : List Entry) → IsLegal opening journal
+        → layers_after (layer_count opening.state.snapshots) journal ≡ layer_count (replay opening.state journal).snapshots }
+    ensures named { (opening : Opening) (journal : List Entry) → IsLegal opening journal
+        → AreNamed opening.state.snapshots → AreNamed (replay opening.state journal).snapshots }
 {}

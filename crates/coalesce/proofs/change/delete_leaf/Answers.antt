@@ -1,5 +1,5 @@
 use Rattle.coalesce.proofs.KeepLemmas.{dropped_keeps, dropped_rest}
-use Rattle.coalesce.proofs.MetaLemmas.{dropped_metas}
+use Rattle.coalesce.proofs.SnapshotLemmas.{dropped_snapshots}
 use Rattle.coalesce.proofs.PlaceLemmas.{leaf_there, drop_leaf}
 use Rattle.coalesce.proofs.change.delete_leaf.Goals as goal
 
@@ -18,8 +18,8 @@ returns-clause-drops c = record { place = c.place_of-place.result; at = c.place_
 pub returns-clause-readings : goal.returns-clause-readings
 returns-clause-readings c = dropped_keeps c.args.tree.now c.take_out.new.self c.args.name.now c.place_of-place.result c.place_of-place.ensures.at c.requires c.take_out.ensures
 
-pub returns-clause-metas : goal.returns-clause-metas
-returns-clause-metas c = dropped_metas c.args.tree.now c.take_out.new.self c.args.name.now c.place_of-place.result c.place_of-place.ensures.whole c.place_of-place.ensures.at c.take_out.ensures
+pub returns-clause-snapshots : goal.returns-clause-snapshots
+returns-clause-snapshots c = dropped_snapshots c.args.tree.now c.take_out.new.self c.args.name.now c.place_of-place.result c.place_of-place.ensures.whole c.place_of-place.ensures.at c.take_out.ensures
 
 pub returns-clause-rest : goal.returns-clause-rest
 returns-clause-rest c = dropped_rest c.args.tree.now c.take_out.new.self c.place_of-place.result c.take_out.ensures

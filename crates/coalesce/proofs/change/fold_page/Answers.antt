@@ -1,6 +1,6 @@
 use Rattle.std.proofs.Common.{◌≡◌}
-use Rattle.coalesce.specs.Folding.{metas}
-use Rattle.coalesce.proofs.KeepLemmas.{page_keeps, page_metas, page_can}
+use Rattle.coalesce.specs.Folding.{snapshots_in}
+use Rattle.coalesce.proofs.KeepLemmas.{page_keeps, page_snapshots, page_can}
 use Rattle.coalesce.proofs.PlaceLemmas.{parent_there, child_there, fold_parent}
 use Rattle.coalesce.proofs.change.fold_page.Goals as goal
 
@@ -35,14 +35,14 @@ returns-clause-readings c =
     page_keeps c.args.tree.now c.move_page.new.self c.args.parent.now c.args.child.now c.place_of-below.result c.place_of-above.result c.args.page c.place_of-below.ensures.whole
     (record { parent = c.place_of-below.ensures.at; child = c.place_of-above.ensures.at }) c.requires.can c.move_page.ensures.moves c.move_page.ensures.rest
 
-pub returns-clause-metas : goal.returns-clause-metas
-returns-clause-metas c =
-    page_metas c.args.tree.now c.move_page.new.self c.args.parent.now c.args.child.now c.place_of-below.result c.place_of-above.result c.args.page c.place_of-below.ensures.whole
+pub returns-clause-snapshots : goal.returns-clause-snapshots
+returns-clause-snapshots c =
+    page_snapshots c.args.tree.now c.move_page.new.self c.args.parent.now c.args.child.now c.place_of-below.result c.place_of-above.result c.args.page c.place_of-below.ensures.whole
     (record { parent = c.place_of-below.ensures.at; child = c.place_of-above.ensures.at }) c.requires.can c.move_page.ensures.moves
 
 pub returns-clause-can : goal.returns-clause-can
 returns-clause-can c =
-    let same : metas c.move_page.new.self ≡ metas c.args.tree.now =
-    page_metas c.args.tree.now c.move_page.new.self c.args.parent.now c.args.child.now c.place_of-below.result c.place_of-above.result c.args.page c.place_of-below.ensures.whole
+    let same : snapshots_in c.move_page.new.self ≡ snapshots_in c.args.tree.now =
+    page_snapshots c.args.tree.now c.move_page.new.self c.args.parent.now c.args.child.now c.place_of-below.result c.place_of-above.result c.args.page c.place_of-below.ensures.whole
     (record { parent = c.place_of-below.ensures.at; child = c.place_of-above.ensures.at }) c.requires.can c.move_page.ensures.moves in
     page_can c.args.tree.now c.move_page.new.self c.args.parent.now c.args.child.now c.requires.can same c.move_page.ensures.rest

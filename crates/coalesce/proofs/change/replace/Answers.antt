@@ -1,5 +1,5 @@
 use Rattle.coalesce.proofs.KeepLemmas.{replaced_keeps, replaced_rest}
-use Rattle.coalesce.proofs.MetaLemmas.{replaced_metas}
+use Rattle.coalesce.proofs.SnapshotLemmas.{replaced_snapshots}
 use Rattle.coalesce.proofs.PlaceLemmas.{parent_there, child_there, fold_only}
 use Rattle.coalesce.proofs.change.replace.Goals as goal
 
@@ -30,9 +30,9 @@ returns-clause-readings c =
     replaced_keeps c.args.tree.now c.replace.new.self c.args.parent.now c.args.child.now c.place_of-below.result c.place_of-above.result c.place_of-below.ensures.whole
     (record { parent = c.place_of-below.ensures.at; child = c.place_of-above.ensures.at }) c.requires.can c.requires.empty c.replace.ensures
 
-pub returns-clause-metas : goal.returns-clause-metas
-returns-clause-metas c =
-    replaced_metas c.args.tree.now c.replace.new.self c.args.parent.now c.args.child.now c.place_of-below.result c.place_of-above.result c.place_of-below.ensures.whole
+pub returns-clause-snapshots : goal.returns-clause-snapshots
+returns-clause-snapshots c =
+    replaced_snapshots c.args.tree.now c.replace.new.self c.args.parent.now c.args.child.now c.place_of-below.result c.place_of-above.result c.place_of-below.ensures.whole
     (record { parent = c.place_of-below.ensures.at; child = c.place_of-above.ensures.at }) c.requires.can c.replace.ensures
 
 pub returns-clause-rest : goal.returns-clause-rest

@@ -2,7 +2,7 @@ use Rattle.std.proofs.Common.{◌≡◌, ◌+◌, ◌<◌, is_some, true, length
 use Rattle.std.proofs.lemmas.List.{drop-set-lt}
 use Rattle.sparse_image.specs.Image.{ChangesBlock}
 use Rattle.sparse_image.specs.Disk.{bytes_of}
-use Rattle.replica_node.proofs.WriteLemmas.{PutsBlock, same_at, one_put, one_longer}
+use Rattle.replica_node.proofs.WriteLemmas.{PutsBlock, same_at, one_put}
 use Rattle.replica_node.proofs.blocks.swap_all.Goals as goal
 
 pub swap_block-requires-clause-full : goal.swap_block-requires-clause-full
@@ -27,8 +27,7 @@ loop-i-preserved c =
     let whole : length (bytes_of b) ≡ 4096 = ap (λ x. length (bytes_of x)) c.index-slots-i.is ∙ c.swap_block.ensures.whole in
     let put : PutsBlock c.loop-i.tree c.swap_block.new.tree (c.args.first + at) b = record { full = full; changes = subst (λ x. ChangesBlock c.loop-i.tree.head c.swap_block.new.tree.head (c.args.first + at) x) (sym c.index-slots-i.is) c.swap_block.ensures.changes; rest = c.swap_block.ensures.rest; whole = whole } in
     record {
-      puts = one_put c.args.tree.now c.loop-i.tree c.swap_block.new.tree c.args.first at blocks b i.puts within is i.bytes c.requires.inside c.requires.node put;
-      bytes = one_longer blocks at b within is i.bytes whole;
+      puts = one_put c.args.tree.now c.loop-i.tree c.swap_block.new.tree c.args.first at blocks b i.puts within is c.requires.inside c.requires.node put;
       rest = drop-set-lt (at + 1) c.loop-i.slots at c.swap_block.new.slot (omega arith) ∙ ap (λ n. drop n c.loop-i.slots) (add-one at) ∙ same.1 ∙ ap (λ n. drop n blocks) (sym (add-one at));
       count = length-set c.loop-i.slots at c.swap_block.new.slot ∙ i.count;
     }

@@ -4,11 +4,11 @@ use Rattle.volume_model.specs.History.{answers_from}
 use Rattle.volume_model.specs.declared.entry.Entry.TheVariants as entry
 use Rattle.run_report.specs.Lines.{reply_line}
 use Rattle.run_report.specs.Report.{reply_lines}
-use Rattle.run_report.proofs.ReportLemmas.{next_reply, skip_other, skip_past, no_reply}
+use Rattle.run_report.proofs.ReportLemmas.{next_reply, skip_mark, skip_other, skip_past, no_reply}
 use Rattle.outer_flow.specs.Passing.{WritesFront, Passes}
 use Rattle.outer_flow.proofs.Passing.{Passes-trans, WritesFront-after, WritesFront-more, WritesFront-passed}
 use Rattle.report_writer.proofs.report.pass_replies.Goals as goal
-use Rattle.report_writer.proofs.report.pass_replies.Goals.{in-Some+in_ok-pass_reply, in_default}
+use Rattle.report_writer.proofs.report.pass_replies.Goals.{in-Some-head_for+in_ok-pass_reply, in_default-head_for}
 
 pub loop-place-preserved : goal.loop-place-preserved
 loop-place-preserved g c =
@@ -16,15 +16,15 @@ loop-place-preserved g c =
     let heads = c.args.heads.now in
     let s = c.loop-place in
     let i = s.invariant in
-    let a = c.answer-answer.result.now in
+    let a = c.in-Some.answer.now in
     let whole = reply_lines heads (answers_from c.args.stream 0 entries) in
     let inside : s.place < length entries = omega (arith, c.len-place-end.ensures) in
     let is : get_or entries s.place (entry.Answer a) ≡ entry.Answer a =
-    get_or_from_slice_get entries s.place c.entry.result.now (entry.Answer a) c.entry.ensures ∙ c.answer-answer.ensures in
+    get_or_from_slice_get entries s.place c.entry.result.now (entry.Answer a) c.entry.ensures ∙ c.in-Some.ensures in
     elim c.match-head_for.branch [
-      | in-Some+in_ok-pass_reply w ↦
-          let h = w.in-Some.asked.now in
-          let found = w.in-Some.ensures.some in
+      | in-Some-head_for+in_ok-pass_reply w ↦
+          let h = w.in-Some-head_for.asked.now in
+          let found = w.in-Some-head_for.ensures.some in
           let t = next_reply i.0 whole c.args.stream s.next s.place heads entries h a inside is found.1 (get_or_from_slice_get heads s.next h h found.2) found.0 i.2 in
           rw (w.sink-is, w.buffer-is, w.next-is) (
             i.0 ++ reply_line h a,
@@ -32,13 +32,24 @@ loop-place-preserved g c =
             t,
             w.in_ok-pass_reply.ensures.cause.cause ∙ i.3,
           )
-      | in_default w ↦
-          let t : i.0 ++ reply_lines (drop s.next heads) (answers_from c.args.stream (s.place + 1) (drop (s.place + 1) entries)) ≡ whole = elim w.in_default.ensures.none [
+      | in_default-head_for w ↦
+          let t : i.0 ++ reply_lines (drop s.next heads) (answers_from c.args.stream (s.place + 1) (drop (s.place + 1) entries)) ≡ whole = elim w.in_default-head_for.ensures.none [
             | inl other ↦ skip_other i.0 whole c.args.stream s.next s.place heads entries a inside is other i.2
             | inr past ↦ skip_past i.0 whole s.next heads _ _ past i.2
           ] in
           rw (w.sink-is, w.buffer-is, w.next-is) (i.0, i.1, t, i.3)
     ]
+
+pub loop-place-preserved-in_default : goal.loop-place-preserved-in_default
+loop-place-preserved-in_default g c =
+    let entries = c.args.journal.now.entries in
+    let heads = c.args.heads.now in
+    let s = c.loop-place in
+    let i = s.invariant in
+    let e = c.entry.result.now in
+    let inside : s.place < length entries = omega (arith, c.len-place-end.ensures) in
+    let t = skip_mark i.0 (reply_lines heads (answers_from c.args.stream 0 entries)) c.args.stream s.next s.place heads entries e
+    inside (get_or_from_slice_get entries s.place e e c.entry.ensures) c.in_default.ensures i.2 in (i.0, i.1, t, i.3)
 
 pub returns-in_err-pass_reply-clause-front : goal.returns-in_err-pass_reply-clause-front
 returns-in_err-pass_reply-clause-front g c =
@@ -47,14 +58,14 @@ returns-in_err-pass_reply-clause-front g c =
     let had = c.args.buffer.now.items in
     let s = c.loop-place in
     let i = s.invariant in
-    let a = c.answer-answer.result.now in
-    let h = c.in-Some.asked.now in
-    let found = c.in-Some.ensures.some in
+    let a = c.in-Some.answer.now in
+    let h = c.in-Some-head_for.asked.now in
+    let found = c.in-Some-head_for.ensures.some in
     let whole = reply_lines heads (answers_from c.args.stream 0 entries) in
     let rest = reply_lines (drop (s.next + 1) heads) (answers_from c.args.stream (s.place + 1) (drop (s.place + 1) entries)) in
     let inside : s.place < length entries = omega (arith, c.len-place-end.ensures) in
     let is : get_or entries s.place (entry.Answer a) ≡ entry.Answer a =
-    get_or_from_slice_get entries s.place c.entry.result.now (entry.Answer a) c.entry.ensures ∙ c.answer-answer.ensures in
+    get_or_from_slice_get entries s.place c.entry.result.now (entry.Answer a) c.entry.ensures ∙ c.in-Some.ensures in
     let t = next_reply i.0 whole c.args.stream s.next s.place heads entries h a inside is found.1 (get_or_from_slice_get heads s.next h h found.2) found.0 i.2 in
     let front = WritesFront-after _ _ _ had _ i.0 (reply_line h a) i.1 c.in_err-pass_reply.ensures.front in
     subst (WritesFront _ _) (append_assoc had (i.0 ++ reply_line h a) rest ∙ ap (λ l. had ++ l) t) (WritesFront-more _ _ _ rest front)

@@ -4,8 +4,8 @@ use Rattle.volume_model.specs.declared.call.Call.TheVariants as call
 use Rattle.solo_worker.proofs.AnswerLemmas.{CallsSoFar, calls_more, calls_number, one_number}
 use Rattle.solo_worker.proofs.answer.answer_commands.Goals as goal
 
-pub answer-requires-clause-number : goal.answer-requires-clause-number
-answer-requires-clause-number c =
+pub answer-requires : goal.answer-requires
+answer-requires c =
     let rest = into_iter_items c.next.new.self in
     let cut : into_iter_items c.loop-command.command-iterator ≡ c.in-Some.command ∷ rest = c.in-Some.ensures.steps.0 in
     one_number c.loop-command.disk.snapshots.number (length (into_iter_items c.loop-command.command-iterator)) (length rest)
@@ -22,4 +22,4 @@ loop-command-preserved c =
     calls_more call.Command c.args.stream index (index + 1) all rest command (call.Command command) c.args.journal.now c.loop-command.journal c.answer.new.journal
     c.args.disk.now c.loop-command.disk c.answer.new.disk
     (subst (λ xs. CallsSoFar call.Command c.args.stream index all xs c.args.journal.now c.loop-command.journal c.args.disk.now c.loop-command.disk) cut c.loop-command.invariant)
-    refl c.in_ok-answer.ensures.answers c.in_ok-answer.ensures.spare refl
+    refl c.in_ok-answer.ensures refl

@@ -7,8 +7,8 @@ use Rattle.frame_stream.specs.declared.frame.Frame.{Frame}
 use Rattle.solo_worker.proofs.AnswerLemmas.{CallsSoFar, calls_more, calls_number, one_number}
 use Rattle.solo_worker.proofs.answer.answer_frames.Goals as goal
 
-pub answer-requires-clause-number : goal.answer-requires-clause-number
-answer-requires-clause-number c =
+pub answer-requires : goal.answer-requires
+answer-requires c =
     let rest = into_iter_items c.next.new.self in
     let cut : into_iter_items c.loop-frame.frame-iterator ≡ c.in-Some.frame ∷ rest = c.in-Some.ensures.steps.0 in
     one_number c.loop-frame.disk.snapshots.number (length (into_iter_items c.loop-frame.frame-iterator)) (length rest)
@@ -25,6 +25,6 @@ loop-frame-preserved c =
       calls_more call_of c.args.stream index (index + 1) all rest frame c.call_in.result c.args.journal.now c.loop-frame.journal c.answer.new.journal
           c.args.disk.now c.loop-frame.disk c.answer.new.disk
           (subst (λ xs. CallsSoFar call_of c.args.stream index all xs c.args.journal.now c.loop-frame.journal c.args.disk.now c.loop-frame.disk) cut c.loop-frame.invariant.0)
-          c.call_in.ensures c.in_ok-answer.ensures.answers c.in_ok-answer.ensures.spare refl,
+          c.call_in.ensures c.in_ok-answer.ensures refl,
       All-rest (λ (f : Frame). asked_of f ≡ asked.Call (call_of f)) frame rest (into_iter_items c.loop-frame.frame-iterator) cut c.loop-frame.invariant.1,
     )

@@ -1,8 +1,17 @@
-use Rattle.std.proofs.Common.{◌/◌, arith}
+use Rattle.std.proofs.Common.{◌≡◌, ◌/◌, length, subst, arith}
+use Rattle.std.specs.Prelude.{All}
+use Rattle.replica_node.specs.Node.{Kept}
 use Rattle.replica_node.proofs.ReadLemmas.{length-node}
+use Rattle.replica_node.proofs.TreeOf.{own_count}
 use Rattle.replica_node.proofs.node.ReplicaNode.block_count.Goals as goal
 
-pub returns : goal.returns
-returns c =
+pub returns-clause-value : goal.returns-clause-value
+returns-clause-value c =
     let whole = length-node c.self.inside.tree (c.self.inside.size / 4096) c.args.self.now c.self.view_is c.self.invariant in
     omega (arith, whole, c.block_count.ensures)
+
+pub returns-clause-own : goal.returns-clause-own
+returns-clause-own c =
+    let count : c.self.inside.size / 4096 ≡ c.block_count.result = omega (arith, c.block_count.ensures) in
+    subst (λ n. All (λ (k : Kept). length k.own ≡ n) c.args.self.now.layers) count
+    (own_count c.self.inside.tree (c.self.inside.size / 4096) c.args.self.now c.self.view_is)

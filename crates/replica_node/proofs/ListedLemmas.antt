@@ -1,0 +1,55 @@
+-- The answers for the numbers below so many, as a list.
+use Rattle.std.proofs.Common.{◌≡◌, ⊎_elim, ℕ, zero, suc, ◌<◌, ◌≤◌, Bool, true, false, List, [], ◌∷◌, ◌++◌, length, get_or, replicate, refl, sym, ap, ◌∙◌, arith, length-append}
+use Rattle.std.proofs.lemmas.Bool.{false≢true, cases_eq, cases_lt}
+use Rattle.std.proofs.lemmas.List.{get_or_append_left, get_or_past}
+use Rattle.std.proofs.Math.Seq.{get_or-append_seam}
+use Rattle.replica_node.specs.Node.{listed}
+
+pub length-listed : (f : ℕ → Bool) (count : ℕ) → length (listed f count) ≡ count
+unfolding listed
+length-listed f zero = refl
+length-listed f (suc count) = omega (arith, length-append (listed f count) (f count ∷ []), length-listed f count)
+
+-- each answer is the one for its number
+pub listed-at : (f : ℕ → Bool) (count k : ℕ) → k < count → get_or (listed f count) k false ≡ f k
+unfolding listed
+listed-at f zero k inside = absurd (omega arith)
+listed-at f (suc count) k inside = ⊎_elim
+    (λ last. ap (λ i. get_or (listed f count ++ f count ∷ []) i false) (last ∙ sym (length-listed f count))
+    ∙ get_or-append_seam (listed f count) (f count) [] false ∙ ap f (sym last))
+    (λ earlier.
+    let before : k < count = omega arith in
+    get_or_append_left (listed f count) (f count ∷ []) false k (omega (arith, length-listed f count)) ∙ listed-at f count k before)
+    (cases_eq k count)
+
+-- past the last number the answer is false
+pub listed-past : (f : ℕ → Bool) (count k : ℕ) → count ≤ k → get_or (listed f count) k false ≡ false
+listed-past f count k past = get_or_past (listed f count) k false (omega (arith, length-listed f count))
+
+-- where the answer is true there is a number
+pub listed-within : (f : ℕ → Bool) (count k : ℕ) → get_or (listed f count) k false ≡ true → k < count
+listed-within f count k there = ⊎_elim
+    (λ inside. inside)
+    (λ past. absurd (false≢true (sym (listed-past f count k past) ∙ there)))
+    (cases_lt k count)
+
+one_more : (a b : List Bool) (x y : Bool) → a ≡ b → x ≡ y → a ++ x ∷ [] ≡ b ++ y ∷ []
+one_more a b x y p q = cc
+
+-- the same answers, the same list
+pub listed-same : (f g : ℕ → Bool) (count : ℕ) → ((k : ℕ) → k < count → f k ≡ g k) → listed f count ≡ listed g count
+unfolding listed
+listed-same f g zero same = refl
+listed-same f g (suc count) same =
+    one_more (listed f count) (listed g count) (f count) (g count) (listed-same f g count (λ k h. same k (omega arith))) (same count (omega arith))
+
+replicate-push : (n : ℕ) (x : Bool) → replicate n x ++ x ∷ [] ≡ replicate (suc n) x
+replicate-push zero x = refl
+replicate-push (suc n) x = ap (λ l. x ∷ l) (replicate-push n x)
+
+-- one answer for all
+pub listed-all : (f : ℕ → Bool) (count : ℕ) (x : Bool) → ((k : ℕ) → f k ≡ x) → listed f count ≡ replicate count x
+unfolding listed
+listed-all f zero x same = refl
+listed-all f (suc count) x same =
+    one_more (listed f count) (replicate count x) (f count) x (listed-all f count x same) (same count) ∙ replicate-push count x

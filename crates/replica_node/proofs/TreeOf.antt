@@ -1,0 +1,66 @@
+-- The layers of a replica as snapshots are those of the tree that it is.
+use Rattle.std.proofs.Common.{◌≡◌, ℕ, ◌*◌, ◌<◌, List, [], ◌∷◌, length, map, Option, None, Some, MatchOption, refl, sym, ap, subst, ◌∙◌, arith}
+use Rattle.std.specs.Prelude.{All}
+use Rattle.std.proofs.lemmas.List.Elements.{All-nil, All-cons}
+use Rattle.volume_model.specs.Names.{NamesOnce}
+use Rattle.volume_model.proofs.PurgeLemmas.{next_is_first, next_is_none}
+use Rattle.volume_model.specs.Purge.{CanFold, CanDrop, IsFirst, IsPurged, next_in}
+use Rattle.volume_model.specs.declared.mark.FoldOrDrop.{FoldOrDrop}
+use Rattle.volume_model.specs.Snapshots.{Snapshot}
+use Rattle.layer_chain.specs.Tree.{Tree, IsWhole}
+use Rattle.layer_chain.specs.declared.layer.Layer.{Layer}
+use Rattle.coalesce.specs.Folding.{snapshot_of, snapshots_in, HasPage}
+use Rattle.coalesce.proofs.NameLemmas.{names_once}
+use Rattle.replica_node.specs.Node.{Kept, Node, node_of, kept_in, IsNode}
+use Rattle.replica_node.specs.Fold.{tree_of}
+use Rattle.replica_node.proofs.NodeLemmas.{length-own_in}
+use Rattle.replica_node.proofs.ReadLemmas.{length-node}
+
+kept_told : (xs layers : List Layer) (count : ℕ)
+    → map (λ (k : Kept). snapshot_of k.meta) (map (kept_in layers count) xs) ≡ map (λ (l : Layer). snapshot_of l.meta) xs
+kept_told [] layers count = refl
+kept_told (x ∷ xs) layers count = ap (λ (ss : List Snapshot). snapshot_of x.meta ∷ ss) (kept_told xs layers count)
+
+pub tree_is : (t : Tree) (count : ℕ) (node : Node) → node_of t count ≡ node → tree_of node ≡ snapshots_in t
+tree_is t count node view = ap tree_of (sym view) ∙ kept_told t.layers t.layers count
+
+pub tree_once : (t : Tree) (count : ℕ) (node : Node) → node_of t count ≡ node → IsWhole t → NamesOnce (tree_of node)
+tree_once t count node view w = subst NamesOnce (sym (tree_is t count node view)) (names_once t w)
+
+-- what can be folded or dropped of the replica can be of the tree
+pub can_fold : (t : Tree) (count : ℕ) (node : Node) (p c : List ℕ) → node_of t count ≡ node → CanFold (tree_of node) node.on p c
+    → CanFold (snapshots_in t) t.on p c
+can_fold t count node p c view can =
+    subst (λ (on : Option (List ℕ)). CanFold (snapshots_in t) on p c) (sym (ap (λ n. n.on) view))
+    (subst (λ (ss : List Snapshot). CanFold ss node.on p c) (tree_is t count node view) can)
+
+pub can_drop : (t : Tree) (count : ℕ) (node : Node) (p : List ℕ) → node_of t count ≡ node → CanDrop (tree_of node) node.on p
+    → CanDrop (snapshots_in t) t.on p
+can_drop t count node p view can =
+    subst (λ (on : Option (List ℕ)). CanDrop (snapshots_in t) on p) (sym (ap (λ n. n.on) view))
+    (subst (λ (ss : List Snapshot). CanDrop ss node.on p) (tree_is t count node view) can)
+
+-- what goes next of the tree goes next of the replica
+next_is : (tree : List Snapshot) (on : Option (List ℕ)) (found : Option FoldOrDrop)
+    → MatchOption found (IsPurged tree on) (λ part. IsFirst tree on part) → found ≡ next_in tree on
+next_is tree on None purged = sym (next_is_none tree on purged)
+next_is tree on (Some part) first = sym (next_is_first tree on part first)
+
+pub next_of_node : (t : Tree) (count : ℕ) (node : Node) (found : Option FoldOrDrop) → node_of t count ≡ node
+    → MatchOption found (IsPurged (snapshots_in t) t.on) (λ part. IsFirst (snapshots_in t) t.on part) → found ≡ next_in (tree_of node) node.on
+next_of_node t count node found view told =
+    next_is (snapshots_in t) t.on found told ∙ ap (λ ss. next_in ss t.on) (sym (tree_is t count node view)) ∙ ap (λ n. next_in (tree_of node) n.on) view
+
+-- each layer has a place for a page of the volume, and is told of as many blocks
+pub has_page_named : (t : Tree) (count : ℕ) (node : Node) (name : List ℕ) (page : ℕ) → node_of t count ≡ node → IsNode t count
+    → page * 2097152 < length node.disk → HasPage t.layers name page
+has_page_named t count node name page view n inside =
+    λ i l within named. omega (arith, n.images i l within, length-node t count node view n)
+
+own_lengths : (xs layers : List Layer) (count : ℕ) → All (λ (k : Kept). length k.own ≡ count) (map (kept_in layers count) xs)
+own_lengths [] layers count = All-nil (λ (k : Kept). length k.own ≡ count)
+own_lengths (x ∷ xs) layers count =
+    All-cons (λ (k : Kept). length k.own ≡ count) (kept_in layers count x) (map (kept_in layers count) xs) (length-own_in x.image count) (own_lengths xs layers count)
+
+pub own_count : (t : Tree) (count : ℕ) (node : Node) → node_of t count ≡ node → All (λ (k : Kept). length k.own ≡ count) node.layers
+own_count t count node view = subst (λ n. All (λ (k : Kept). length k.own ≡ count) n.layers) view (own_lengths t.layers t.layers count)

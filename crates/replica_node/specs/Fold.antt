@@ -1,0 +1,83 @@
+-- What folding a page of a child onto its parent, putting the child in the parent's place, and dropping a layer make
+-- of a replica. Which layers can go is told of them as snapshots, in volume_model's specs/Purge.antt.
+use Rattle.std.specs.Prelude.{ℕ, ◌*◌, ◌/◌, Bool, not, ◌&&◌, ◌||◌, ◌==◌, List, [], ◌∷◌, length, map, Option, if◌then◌else◌}
+use Rattle.std.specs.Str.{bytes_eq}
+use Rattle.vol_units.specs.Bytes.{bytes_at, with_bytes_at}
+use Rattle.vol_units.specs.declared.size.TheConstants.{PAGE_BYTES}
+use Rattle.sparse_image.specs.declared.block.TheConstants.{PAGE_BLOCKS}
+use Rattle.volume_model.specs.Snapshots.{Snapshot}
+use Rattle.volume_model.specs.Purge.{parent_in}
+use Rattle.coalesce.specs.Folding.{snapshot_of}
+use Rattle.replica_node.specs.Node.{Kept, Node, disk_named, has_own, listed}
+
+-- the layers of a replica as snapshots, the newest first
+abbrev pub tree_of : Node → List Snapshot
+tree_of node = map (λ k. snapshot_of k.meta) node.layers
+
+-- of each block whether the layer of the name itself has it, of the first that has the name
+abbrev pub own_named : List Kept → List ℕ → List Bool
+own_named [] name = []
+own_named (k ∷ ks) name = if bytes_eq name k.meta.name then k.own else own_named ks name
+
+-- ---- a page is folded
+
+-- the block is one of the page
+abbrev pub is_in : ℕ → ℕ → Bool
+is_in page block = block / PAGE_BLOCKS == page
+
+-- the disk, which reads in the page as the other
+abbrev pub with_page_of : ℕ → List ℕ → List ℕ → List ℕ
+with_page_of page other disk =
+    with_bytes_at disk (page * PAGE_BYTES) (bytes_at other (page * PAGE_BYTES) PAGE_BYTES)
+
+-- of each block whether it is there once those of the page of the other are there too
+abbrev pub own_with_page : ℕ → List Bool → List Bool → List Bool
+own_with_page page other own =
+    listed (λ block. (is_in page block && has_own other block) || has_own own block) (length own)
+
+-- of each block whether it is there once none of the page is
+abbrev pub own_without_page : ℕ → List Bool → List Bool
+own_without_page page own = listed (λ block. not (is_in page block) && has_own own block) (length own)
+
+-- the layer, which reads in the page as the child of that disk, and has the child's blocks of the page
+abbrev pub with_page : ℕ → List ℕ → List Bool → Kept → Kept
+with_page page disk own k = record k {
+  disk = with_page_of page disk k.disk;
+  own = own_with_page page own k.own;
+}
+
+-- the layer, which itself has no block of the page, and reads as it did
+abbrev pub without_page : ℕ → Kept → Kept
+without_page page k = record k { own = own_without_page page k.own }
+
+-- one of these layers, once a page of c is folded onto p
+abbrev pub page_folded_in : List Kept → List ℕ → List ℕ → ℕ → Kept → Kept
+page_folded_in layers p c page k =
+    if bytes_eq c k.meta.name then without_page page k
+    else if bytes_eq p k.meta.name then with_page page (disk_named layers c) (own_named layers c) k else k
+
+-- p reads in the page as c and has c's blocks there, c has none of them, and all others are as they were
+abbrev pub page_folded : Node → List ℕ → List ℕ → ℕ → Node
+page_folded node p c page = record node { layers = map (page_folded_in node.layers p c page) node.layers }
+
+-- ---- a layer goes
+
+-- without the layer of the name
+abbrev pub without : List ℕ → List Kept → List Kept
+without p [] = []
+without p (k ∷ ks) = if bytes_eq p k.meta.name then ks else k ∷ without p ks
+
+-- the layer of the name on another parent, or on none, and with other blocks; any other as it is
+abbrev pub put_down : List ℕ → Option (List ℕ) → List Bool → Kept → Kept
+put_down c parent own k =
+    if bytes_eq c k.meta.name then record k { meta = record k.meta { parent = parent }; own = own } else k
+
+-- p is out, and c, which reads as it did, stands on p's parent and has p's own blocks
+abbrev pub replaced : Node → List ℕ → List ℕ → Node
+replaced node p c = record node {
+  layers = map (put_down c (parent_in p (tree_of node)) (own_named node.layers p)) (without p node.layers);
+}
+
+-- p is out
+abbrev pub dropped_node : Node → List ℕ → Node
+dropped_node node p = record node { layers = without p node.layers }
