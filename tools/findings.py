@@ -2,7 +2,8 @@
 import re
 
 from replay import ERR, RW, WO, Replay
-from report import (FRAME_CALLS, Entry, FrameReply, Mark, OfReplica, bytes_count, is_shortest, replica_number, runs_of, shorten)
+from report import (FRAME_CALLS, LAYER_MARKS, Entry, FrameReply, Mark, OfReplica, bytes_count, is_shortest, replica_number,
+                    runs_of, shorten)
 
 MOST_LENGTH = 1 << 20
 MOST_LAYERS = 250
@@ -156,6 +157,9 @@ class Checker:
         if entry.kind in ('remove', 'revert', 'backup') and replay.is_live(name) == (entry.refusal == 'no such snapshot'):
             self.say(entry, 'is answered `%s`, but there is %s snapshot of the name', entry.answer,
                      'a' if replay.is_live(name) else 'no')
+        left = replay.can_go() if entry.kind == 'purge' and not entry.refusal else []
+        if left:
+            self.say(entry, 'is `ok`, but there is still to fold or to drop: %s', shorten(', '.join(left), 60))
         if entry.kind == 'status' and int(entry.answer.split(' ')[2]) != replay.layer_count:
             self.say(entry, 'tells %s layers, and there are %d', entry.answer.split(' ')[2], replay.layer_count)
 
@@ -165,7 +169,9 @@ class Checker:
             self.check_count(mark)
         if not self.is_whole:
             return
-        if mark.kind in ('folded', 'dropped'):
+        if mark.kind in LAYER_MARKS:
+            if self.replay.source() is None:
+                self.say(mark, 'takes %s away, but no replica is RW', mark.words[1])
             if self.replay.layers_known:
                 self.check_layer_mark(mark)
         else:

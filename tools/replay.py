@@ -1,4 +1,6 @@
 """What a journal makes of modes, names and layers. It knows no bytes."""
+from collections import Counter
+
 from report import replica_number
 
 RW, WO, ERR = 'RW', 'WO', 'ERR'
@@ -47,6 +49,11 @@ class Replay:
     def children(self, parent):
         """The layers that stand on one, by name."""
         return [name for name, below in self.parents.items() if below == parent]
+
+    def can_go(self):
+        """The layers that can be folded or dropped: marked, with one child at most, and without the head on them."""
+        standing = Counter(self.parents.values())
+        return sorted(name for name in self.marked & self.parents.keys() if name != self.below_head and standing[name] < 2)
 
     def put_layer(self, name):
         """The head becomes a layer of that name."""

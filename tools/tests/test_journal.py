@@ -121,6 +121,9 @@ BREAKS = [
     (COMMANDS, 'folded s t', 'folded t s', 'line 7: takes t away, which is not marked'),
     (COMMANDS, 'folded s t', 'dropped s', 'line 7: takes s away, on which stands t'),
     (COMMANDS, '9 9 0 8 revert t ok', '9 9 0 8 status ok layers 3 modes RW', 'line 12: takes u away, on which the head stands'),
+    (COMMANDS, '11 mark dropped u\n12 11 0 10', '11 11 0 10', 'line 12: is `ok`, but there is still to fold or to drop: u'),
+    (COMMANDS, '6 mark folded s t\n7 6 0 6 purge ok\n8 8', '6 6 0 6 purge ok\n7 7', 'line 7: is `ok`, but there is still to fold or to drop: s'),
+    (REBUILD, '11 10 2 2 write 0 1 63*1 error no replica', '11 mark dropped sys-0', 'line 12: takes sys-0 away, but no replica is RW'),
     (REBUILD, 'error no replica', 'ok', 'line 12: is `ok`, but no replica is RW'),
     (REBUILD, 'read 0 1 ok 61*1', 'read 0 1 error no replica', 'line 10: is refused as `no replica`, but r1 is RW'),
     (REBUILD, '8 7 1 2 fail r0 ok', '8 7 1 2 fail r1 ok', 'line 8: has no `fail r0 ok` behind it'),
@@ -148,6 +151,11 @@ class Check(unittest.TestCase):
                 self.assertEqual(report.count(old), 1, old)
                 lines = journal.check(read_report(report.replace(old, new))).split('\n')
                 self.assertTrue(any(line.startswith(found) for line in lines), lines)
+
+    def test_a_purge_may_leave_a_layer_under_the_head_or_with_two_children(self):
+        calls = 'snapshot a', 'snapshot b', 'revert a', 'snapshot c', 'remove a', 'remove c', 'purge'
+        lines = ['%d %d 0 %d %s ok' % (place, place, place, call) for place, call in enumerate(calls)]
+        self.assertEqual(find_odd(read_report('\n'.join([*lines, 'mode r0 RW', 'chain r0 head c* a*', 'head r0 ' + HEAD]))), [])
 
     def test_replicas_that_differ_are_found(self):
         ends = 'mode r0 RW\nmode r1 RW\nchain r0 head\nchain r1 head%s\nhead r0 %s\nhead r1 %s\n'
@@ -191,6 +199,13 @@ class Table(unittest.TestCase):
     2               mark fault 0 r1 1
     3    2      10  revert s                       error no such snapshot
 ''')
+
+    def test_the_marks_of_a_purge_stand_before_its_answer(self):
+        self.assertIn('''
+    5    5       0  status           ok layers 3 modes RW
+    6               mark folded s t
+    7    6       0  purge            ok
+''', journal.table(read_report(COMMANDS)))
 
     def test_no_column_is_wide(self):
         long_ = '0 0 0 0 write -9223372036854775808 256 %s error out of range\n' % ','.join('%02x*1' % value for value in range(256))
