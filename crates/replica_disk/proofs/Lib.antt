@@ -1,3 +1,4 @@
 pub mod StateLemmas
 pub mod PurgeLemmas
 pub mod MergedLemmas
+pub mod UsedLemmas

@@ -3,6 +3,7 @@ ghost use Rattle.std.specs.List.{list_any};
 ghost use Rattle.std.specs.Str.{bytes_eq};
 
 use std::alloc::{AllocError, Global};
+use std::collections::BTreeSet;
 use std::marker::Model;
 use vol_units::LayerName;
 
@@ -11,14 +12,19 @@ use vol_units::LayerName;
 pub(crate) struct UsedNames {
     /// The oldest first.
     names: Vec<LayerName>,
+    /// The same names, in which one is found without a walk over all.
+    sorted: BTreeSet<LayerName>,
 }
 
 impl Model for UsedNames {
     ghost use Rattle.std.specs.Prelude.{ℕ, List, reverse};
+    ghost use Rattle.replica_disk.specs.Used.{AreSame};
 
     ghost Value = { List (List ℕ) };
 
     ghost view = { λ u. reverse u.names.items };
+
+    ghost invariant = { λ u. AreSame u.sorted u.names.items };
 }
 
 impl UsedNames {
@@ -27,6 +33,7 @@ impl UsedNames {
     {
         UsedNames {
             names: Vec::new(alloc),
+            sorted: BTreeSet::new(alloc),
         }
     }
 
@@ -34,7 +41,7 @@ impl UsedNames {
     pub(crate) fn has(&self, name: &LayerName) -> bool
         ensures { result ≡ list_any (bytes_eq name.now) self.now }
     {
-        is_among(&self.names, name)
+        self.sorted.contains(name)
     }
 
     /// One name more.
@@ -42,19 +49,10 @@ impl UsedNames {
         ensures ok { OnOk result (self.new ≡ name ∷ self.old) }
         ensures err { OnErr result (self.new ≡ self.old) }
     {
-        self.names.push(name)?;
+        // All memory is taken before a name is put in either.
+        self.names.reserve(1)?;
+        self.sorted.insert(name)?;
+        self.names.push(name).unwrap();
         Ok(())
     }
-}
-
-fn is_among(names: &[LayerName], name: &LayerName) -> bool
-    ensures { result ≡ list_any (bytes_eq name.now) (reverse names.now) }
-{
-    names.iter().rev().any(|other| is_same(name, other))
-}
-
-fn is_same(name: &LayerName, other: &LayerName) -> bool
-    ensures { result ≡ bytes_eq name.now other.now }
-{
-    name.as_bytes() == other.as_bytes()
 }
