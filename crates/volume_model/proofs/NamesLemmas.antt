@@ -1,6 +1,6 @@
 -- What a legal journal tells of the snapshots is what its replay has.
 use Rattle.std.proofs.Common.{◌≡◌, ℕ, suc, ◌+◌, ◌-◌, ◌⊎◌, inl, inr, Bool, true, false, cond, not, ◌||◌, List, [], ◌∷◌, ◌++◌, length, map, refl, sym, ap, subst, ◌∙◌, arith}
-use Rattle.std.specs.Prelude.{Option, Some}
+use Rattle.std.specs.Prelude.{Option, Some, None}
 use Rattle.std.specs.List.{list_any}
 use Rattle.std.specs.Str.{bytes_eq}
 use Rattle.std.proofs.lemmas.Bool.{true≢false, cases_Bool, or_cases, or_parts, or_from, or_left, or_right, cond-true, cond-false}
@@ -14,18 +14,22 @@ use Rattle.volume_model.specs.declared.entry.Entry.{Entry}
 use Rattle.volume_model.specs.declared.entry.Entry.TheVariants as entry
 use Rattle.volume_model.specs.declared.mark.FoldOrDrop.{FoldOrDrop}
 use Rattle.volume_model.specs.declared.mark.FoldOrDrop.TheVariants as part
+use Rattle.volume_model.specs.declared.mark.Mark.{Mark}
 use Rattle.volume_model.specs.declared.mark.Mark.TheVariants as mark
+use Rattle.volume_model.specs.Rebuilds.{added_by}
+use Rattle.volume_model.specs.declared.entry.Answer.{Answer}
 use Rattle.volume_model.specs.declared.mode.Mode.{Mode}
 use Rattle.volume_model.specs.declared.names.UsedName.{UsedName}
-use Rattle.volume_model.specs.Snapshots.{Snapshot, Snapshots, layer_count, is_used, is_live, with_snapshot, with_mark, marked_if}
+use Rattle.volume_model.specs.Snapshots.{Snapshot, Snapshots, layer_count, is_live, marked_if}
 use Rattle.volume_model.specs.Purge.{IsMarked, CanBeDone, dropped, parent_in, given, with_part}
-use Rattle.volume_model.specs.PlainState.{PlainState}
-use Rattle.volume_model.specs.PlainStep.{room_refusal, after_call, step_unless, plain_step}
+use Rattle.volume_model.specs.PlainState.{PlainState, is_used, with_used, taken}
+use Rattle.volume_model.specs.Marks.{after_mark}
+use Rattle.volume_model.specs.PlainStep.{or_else, volume_refusal, after_call, step_unless, plain_step}
 use Rattle.volume_model.specs.Replay.{is_refusal, after_entry, replay}
 use Rattle.volume_model.specs.Modes.{modes_after}
-use Rattle.volume_model.specs.History.{Opening, IsAnswered, CouldBe, MayStand, LegalAfter, IsLegal}
-use Rattle.volume_model.specs.Names.{is_used_in, is_live_in, name_marked, names_after_call, names_after_entry, names_after, layers_after_call, layers_after_entry, layers_after, has_name, NamesOnce, TellOf, AreNamed}
-use Rattle.volume_model.proofs.StepLemmas.{replay-push}
+use Rattle.volume_model.specs.History.{Spot, says_no_replica, IsAnswered, IsEnded, CouldBe, MayStand, LegalAfter, IsLegal}
+use Rattle.volume_model.specs.Names.{is_used_in, is_live_in, with_name, name_marked, names_in, names_after_call, names_after_entry, names_after, layers_after_call, layers_after_entry, layers_after, has_name, NamesOnce, TellOf, AreNamed}
+use Rattle.volume_model.proofs.StepLemmas.{replay-push, says_refusal}
 use Rattle.volume_model.proofs.PurgeLemmas.{any_cases, length-with_part}
 
 -- ---- a snapshot that is to be removed
@@ -70,16 +74,6 @@ is_live-marked name q (s ∷ ss) =
         ≡ cond (bytes_eq q s.name) (cond same false (not s.marked)) rest
     one true s rest = refl
     one false s rest = refl
-
--- a mark takes no name away
-is_used_in-marked : (name q : List ℕ) (names : List UsedName) → is_used_in (map (name_marked name) names) q ≡ is_used_in names q
-is_used_in-marked name q [] = refl
-is_used_in-marked name q (n ∷ ns) =
-    one (bytes_eq name n.name) n _ ∙ ap (λ b. bytes_eq q n.name || b) (is_used_in-marked name q ns)
-  where
-    one : (same : Bool) (n : UsedName) (rest : Bool) → (bytes_eq q (cond same (record n { marked = true }) n).name || rest) ≡ (bytes_eq q n.name || rest)
-    one true n rest = refl
-    one false n rest = refl
 
 length-marked : (name : List ℕ) (tree : List Snapshot) → length (map (marked_if name) tree) ≡ length tree
 length-marked name [] = refl
@@ -229,11 +223,6 @@ once-part : (s : Snapshots) (p : FoldOrDrop) → NamesOnce s.tree → NamesOnce 
 once-part s (part.Fold p c) once = once-given c (parent_in p s.tree) (dropped p s.tree) (once-dropped p s.tree once)
 once-part s (part.Drop p) once = once-dropped p s.tree once
 
--- no name was taken by it
-used-part : (s : Snapshots) (p : FoldOrDrop) → (with_part s p).used ≡ s.used
-used-part s (part.Fold p c) = refl
-used-part s (part.Drop p) = refl
-
 -- the same names can be used
 is_live-part : (s : Snapshots) (p : FoldOrDrop) (q : List ℕ) → NamesOnce s.tree → CanBeDone s.tree s.on p → is_live (with_part s p).tree q ≡ is_live s.tree q
 is_live-part s (part.Fold p c) q once can =
@@ -242,155 +231,232 @@ is_live-part s (part.Drop p) q once can = is_live-dropped p q s.tree once can.ma
 
 -- ---- an entry of a legal journal
 
--- it stands where this state and these modes are
-abbrev StandsAt : PlainState → List Mode → Entry → Type 0
-StandsAt state modes (entry.Answer a) = IsAnswered state modes a
-StandsAt state modes (entry.Mark m) = CouldBe state modes m
+-- what counts of a mark: a part of a purge could be done, and a rebuild takes a name that no snapshot had
+abbrev pub MarkStands : PlainState → Mark → Type 0
+MarkStands state (mark.Purged part) = CanBeDone state.volume.snapshots.tree state.volume.snapshots.on part
+MarkStands state (mark.Fault stream r count) = Unit {0}
+MarkStands state (mark.Failed r) = Unit {0}
+MarkStands state (mark.Added r source name) = is_used state.used name ≡ false
+MarkStands state (mark.Promoted r) = Unit {0}
+MarkStands state (mark.Aborted r) = Unit {0}
 
--- so does each that may stand behind a journal that leaves them
-stands : (opening : Opening) (before : List Entry) (state : PlainState) (e : Entry) (after : List Entry)
-    → replay opening.state before ≡ state → MayStand opening before e after → StandsAt state (modes_after opening.modes before) e
-stands opening before state (entry.Answer a) after at may = subst (λ s. IsAnswered s (modes_after opening.modes before) a) at may
-stands opening before state (entry.Mark m) after at may = subst (λ s. CouldBe s (modes_after opening.modes before) m) at may
+-- and of an answer: a snapshot takes such a name, too
+abbrev pub StandsAt : PlainState → Entry → Type 0
+StandsAt state (entry.Answer a) = (name : List ℕ) → a.call ≡ call.Command (command.Snapshot name) → is_refusal a.reply ≡ false → is_used state.used name ≡ false
+StandsAt state (entry.Mark m) = MarkStands state m
 
--- and the state behind it is that of the journal with it
-next : (opening : Opening) (before : List Entry) (state : PlainState) (e : Entry)
-    → replay opening.state before ≡ state → replay opening.state (before ++ e ∷ []) ≡ after_entry state e
-next opening before state e at = replay-push opening.state before e ∙ ap (λ s. after_entry s e) at
+pub mark_stands : (before after : List Entry) (state : PlainState) (modes : List Mode) (m : Mark) → CouldBe before after state modes m → MarkStands state m
+mark_stands before after state modes (mark.Purged part) may = may.0
+mark_stands before after state modes (mark.Fault stream r count) may = tt
+mark_stands before after state modes (mark.Failed r) may = tt
+mark_stands before after state modes (mark.Added r source name) may = may.new
+mark_stands before after state modes (mark.Promoted r) may = tt
+mark_stands before after state modes (mark.Aborted r) may = tt
 
 -- a name that was taken by a snapshot just now was not used before
 taken_is_new : (modes : List Mode) (state : PlainState) (name : List ℕ)
-    → is_refusal (plain_step modes state (call.Command (command.Snapshot name))).1 ≡ false → is_used state.snapshots name ≡ false
-taken_is_new modes state name done = one (is_used state.snapshots name) (room_refusal state) done
+    → is_refusal (plain_step modes state (call.Command (command.Snapshot name))).1 ≡ false → is_used state.used name ≡ false
+taken_is_new modes state name done = one (is_used state.used name) (volume_refusal modes state.volume (call.Command (command.Snapshot name))) done
   where
-    one : (used : Bool) (room : Option Refusal)
-        → is_refusal (step_unless (cond used (Some NameUsed) room) modes state (call.Command (command.Snapshot name))).1 ≡ false → used ≡ false
-    one true room done = done
-    one false room done = refl
+    one : (used : Bool) (more : Option Refusal)
+        → is_refusal (step_unless (or_else (cond used (Some NameUsed) None) more) modes state (call.Command (command.Snapshot name))).1 ≡ false → used ≡ false
+    one true more done = done
+    one false more done = refl
+
+pub answer_stands : (before : List Entry) (state : PlainState) (modes : List Mode) (a : Answer) → IsEnded (added_by a.call) before state modes a → StandsAt state (entry.Answer a)
+answer_stands before state modes a ended = λ name is done. plainly name is done (subst (λ c. IsEnded (added_by c) before state modes a) is ended)
+  where
+    plainly : (name : List ℕ) → a.call ≡ call.Command (command.Snapshot name) → is_refusal a.reply ≡ false → IsAnswered state modes a → is_used state.used name ≡ false
+    plainly name is done answered = elim (cases_Bool (says_no_replica a.reply)) [
+      | inl says ↦ absurd (true≢false (sym (says_refusal a.reply says) ∙ done))
+      | inr other ↦ taken_is_new modes state name (sym (ap is_refusal (answered.reply other ∙ ap (λ c. (plain_step modes state c).1) is)) ∙ done)
+    ]
+
+-- so does each that may stand behind a journal that leaves them
+stands : (opening : Spot) (before : List Entry) (state : PlainState) (e : Entry) (after : List Entry)
+    → replay opening.state before ≡ state → MayStand opening before e after → StandsAt state e
+stands opening before state (entry.Answer a) after at may = subst (λ s. StandsAt s (entry.Answer a)) at (answer_stands before (replay opening.state before) (modes_after opening.modes before) a may)
+stands opening before state (entry.Mark m) after at may = subst (λ s. MarkStands s m) at (mark_stands before after (replay opening.state before) (modes_after opening.modes before) m may)
+
+-- and the state behind it is that of the journal with it
+next : (opening : Spot) (before : List Entry) (state : PlainState) (e : Entry)
+    → replay opening.state before ≡ state → replay opening.state (before ++ e ∷ []) ≡ after_entry state e
+next opening before state e at = replay-push opening.state before e ∙ ap (λ s. after_entry s e) at
 
 -- ---- the snapshots have names of their own
 
+-- a name more keeps those that were used, and is one of them
+with_used-keeps : (used : List (List ℕ)) (name q : List ℕ) → is_used used q ≡ true → is_used (with_used used name) q ≡ true
+with_used-keeps used name q is = one (is_used used name)
+  where
+    one : (there : Bool) → is_used (cond there used (name ∷ used)) q ≡ true
+    one true = is
+    one false = or_right (bytes_eq q name) (is_used used q) is
+
+with_used-has : (used : List (List ℕ)) (name q : List ℕ) → is_used used name ≡ false → bytes_eq q name ≡ true → is_used (with_used used name) q ≡ true
+with_used-has used name q new this = ap (λ l. is_used l q) (cond-false (is_used used name) used (name ∷ used) new) ∙ or_left (bytes_eq q name) (is_used used q) this
+
 -- a snapshot of a name that was not used
-named_taken : (name : List ℕ) (s : Snapshots) → is_used s name ≡ false → AreNamed s → AreNamed (with_snapshot s name)
-named_taken name s new named = record {
-  once = (elim (cases_Bool (has_name s.tree name)) [ inl there ↦ absurd (true≢false (sym (named.taken name there) ∙ new)) | inr none ↦ none ], named.once);
-  taken = λ q there. elim (or_cases (bytes_eq q name) (has_name s.tree q) there) [
-    | inl this ↦ or_left (bytes_eq q name) (is_used s q) this
-    | inr old ↦ or_right (bytes_eq q name) (is_used s q) (named.taken q old)
+named_taken : (name : List ℕ) (state : PlainState) → is_used state.used name ≡ false → AreNamed state → AreNamed (taken state name)
+named_taken name state new named = record {
+  once = (elim (cases_Bool (has_name state.volume.snapshots.tree name)) [ inl there ↦ absurd (true≢false (sym (named.taken name there) ∙ new)) | inr none ↦ none ], named.once);
+  taken = λ q there. elim (or_cases (bytes_eq q name) (has_name state.volume.snapshots.tree q) there) [
+    | inl this ↦ with_used-has state.used name q new this
+    | inr old ↦ with_used-keeps state.used name q (named.taken q old)
   ];
 }
 
 -- one more that is to be removed
-named_marked : (name : List ℕ) (s : Snapshots) → AreNamed s → AreNamed (with_mark s name)
-named_marked name s named = record {
-  once = once-marked name s.tree named.once;
-  taken = λ q there. named.taken q (sym (has_name-marked name q s.tree) ∙ there);
+named_marked : (name : List ℕ) (state : PlainState) → AreNamed state → AreNamed (after_call state (call.Command (command.Remove name)))
+named_marked name state named = record {
+  once = once-marked name state.volume.snapshots.tree named.once;
+  taken = λ q there. named.taken q (sym (has_name-marked name q state.volume.snapshots.tree) ∙ there);
 }
 
 -- a part of a purge
-named_part : (s : Snapshots) (p : FoldOrDrop) → AreNamed s → AreNamed (with_part s p)
-named_part s p named = record {
-  once = once-part s p named.once;
-  taken = λ q there. ap (list_any (bytes_eq q)) (used-part s p) ∙ named.taken q (elim (cases_Bool (has_name s.tree q)) [
+named_part : (state : PlainState) (p : FoldOrDrop) → AreNamed state → AreNamed (after_mark state (mark.Purged p))
+named_part state p named = record {
+  once = once-part state.volume.snapshots p named.once;
+  taken = λ q there. named.taken q (elim (cases_Bool (has_name state.volume.snapshots.tree q)) [
     | inl old ↦ old
-    | inr none ↦ absurd (true≢false (sym there ∙ has_name-part s p q none))
+    | inr none ↦ absurd (true≢false (sym there ∙ has_name-part state.volume.snapshots p q none))
   ]);
 }
 
 -- a call that was done
-named_called : (modes : List Mode) (state : PlainState) (c : Call) → is_refusal (plain_step modes state c).1 ≡ false
-    → AreNamed state.snapshots → AreNamed (after_call state c).snapshots
-named_called modes state (call.Read offset n) done named = named
-named_called modes state (call.Write offset bytes) done named = named
-named_called modes state call.Ping done named = named
-named_called modes state (call.Other kind) done named = named
-named_called modes state (call.Command (command.Snapshot name)) done named = named_taken name state.snapshots (taken_is_new modes state name done) named
-named_called modes state (call.Command (command.Remove name)) done named = named_marked name state.snapshots named
-named_called modes state (call.Command (command.Revert name)) done named = record { once = named.once; taken = named.taken }
-named_called modes state (call.Command command.Purge) done named = named
-named_called modes state (call.Command command.Status) done named = named
+named_called : (state : PlainState) (c : Call) → ((name : List ℕ) → c ≡ call.Command (command.Snapshot name) → is_used state.used name ≡ false)
+    → AreNamed state → AreNamed (after_call state c)
+named_called state (call.Read offset n) new named = named
+named_called state (call.Write offset bytes) new named = record { once = named.once; taken = named.taken }
+named_called state call.Ping new named = named
+named_called state (call.Other kind) new named = named
+named_called state (call.Command (command.Snapshot name)) new named = named_taken name state (new name refl) named
+named_called state (call.Command (command.Remove name)) new named = named_marked name state named
+named_called state (call.Command (command.Revert name)) new named = record { once = named.once; taken = named.taken }
+named_called state (call.Command command.Purge) new named = named
+named_called state (call.Command command.Status) new named = named
+named_called state (call.Command (command.Fail r)) new named = named
+named_called state (call.Command (command.Add r)) new named = named
 
 -- a call that was answered so
-named_unless : (refused : Bool) (modes : List Mode) (state : PlainState) (c : Call) → refused ≡ is_refusal (plain_step modes state c).1
-    → AreNamed state.snapshots → AreNamed (cond refused state (after_call state c)).snapshots
-named_unless true modes state c is named = named
-named_unless false modes state c is named = named_called modes state c (sym is) named
+named_unless : (refused : Bool) (state : PlainState) (c : Call) → ((name : List ℕ) → c ≡ call.Command (command.Snapshot name) → refused ≡ false → is_used state.used name ≡ false)
+    → AreNamed state → AreNamed (cond refused state (after_call state c))
+named_unless true state c new named = named
+named_unless false state c new named = named_called state c (λ name is. new name is refl) named
 
 -- one entry
-named_entry : (state : PlainState) (modes : List Mode) (e : Entry) → StandsAt state modes e → AreNamed state.snapshots → AreNamed (after_entry state e).snapshots
-named_entry state modes (entry.Answer a) stands named = named_unless (is_refusal a.reply) modes state a.call (ap is_refusal stands.reply) named
-named_entry state modes (entry.Mark (mark.Purged p)) stands named = named_part state.snapshots p named
+pub named_entry : (state : PlainState) (e : Entry) → StandsAt state e → AreNamed state → AreNamed (after_entry state e)
+named_entry state (entry.Answer a) here named = named_unless (is_refusal a.reply) state a.call here named
+named_entry state (entry.Mark (mark.Purged p)) here named = named_part state p named
+named_entry state (entry.Mark (mark.Fault stream r count)) here named = named
+named_entry state (entry.Mark (mark.Failed r)) here named = named
+named_entry state (entry.Mark (mark.Added r source name)) here named = named_taken name state here named
+named_entry state (entry.Mark (mark.Promoted r)) here named = named
+named_entry state (entry.Mark (mark.Aborted r)) here named = named
 
 -- entries behind a journal
-named_behind : (opening : Opening) (before : List Entry) (state : PlainState) (journal : List Entry)
-    → replay opening.state before ≡ state → LegalAfter opening before journal → AreNamed state.snapshots → AreNamed (replay state journal).snapshots
+named_behind : (opening : Spot) (before : List Entry) (state : PlainState) (journal : List Entry)
+    → replay opening.state before ≡ state → LegalAfter opening before journal → AreNamed state → AreNamed (replay state journal)
 named_behind opening before state [] at legal named = named
 named_behind opening before state (e ∷ es) at legal named =
     named_behind opening (before ++ e ∷ []) (after_entry state e) es (next opening before state e at) legal.1
-    (named_entry state (modes_after opening.modes before) e (stands opening before state e es at legal.0) named)
+    (named_entry state e (stands opening before state e es at legal.0) named)
 
 -- a journal
-pub stay_named : (opening : Opening) (journal : List Entry) → IsLegal opening journal → AreNamed opening.state.snapshots
-    → AreNamed (replay opening.state journal).snapshots
+pub stay_named : (opening : Spot) (journal : List Entry) → IsLegal opening journal → AreNamed opening.state
+    → AreNamed (replay opening.state journal)
 stay_named opening journal legal named = named_behind opening [] opening.state journal refl legal named
 
 -- ---- the names
 
-tell_taken : (name : List ℕ) (names : List UsedName) (s : Snapshots) → TellOf names s → TellOf (record { name = name; marked = false } ∷ names) (with_snapshot s name)
-tell_taken name names s tell = record {
-  used = λ q. ap (λ b. bytes_eq q name || b) (tell.used q);
-  live = λ q. ap (cond (bytes_eq q name) true) (tell.live q);
-}
+-- the names alone, and that one among them
+is_used-names_in : (names : List UsedName) (q : List ℕ) → is_used_in names q ≡ is_used (names_in names) q
+is_used-names_in [] q = refl
+is_used-names_in (n ∷ ns) q = ap (λ b. bytes_eq q n.name || b) (is_used-names_in ns q)
 
-tell_marked : (name : List ℕ) (names : List UsedName) (s : Snapshots) → TellOf names s → TellOf (map (name_marked name) names) (with_mark s name)
-tell_marked name names s tell = record {
-  used = λ q. is_used_in-marked name q names ∙ tell.used q;
-  live = λ q. is_live_in-marked name q names ∙ ap (cond (bytes_eq name q) false) (tell.live q) ∙ sym (is_live-marked name q s.tree);
+-- a mark leaves them
+names_in-marked : (name : List ℕ) (names : List UsedName) → names_in (map (name_marked name) names) ≡ names_in names
+names_in-marked name [] = refl
+names_in-marked name (n ∷ ns) = ap (λ x. x ∷ names_in (map (name_marked name) ns)) (one (bytes_eq name n.name)) ∙ ap (λ l. n.name ∷ l) (names_in-marked name ns)
+  where
+    one : (same : Bool) → (cond same (record n { marked = true }) n).name ≡ n.name
+    one true = refl
+    one false = refl
+
+pub names_in-with_name : (names : List UsedName) (name : List ℕ) → names_in (with_name names name) ≡ with_used (names_in names) name
+names_in-with_name names name = one (is_used_in names name) (is_used (names_in names) name) (is_used-names_in names name)
+  where
+    one : (a b : Bool) → a ≡ b → names_in (cond a names (record { name = name; marked = false } ∷ names)) ≡ cond b (names_in names) (name ∷ names_in names)
+    one true b e = ap (λ t. cond t (names_in names) (name ∷ names_in names)) e
+    one false b e = ap (λ t. cond t (names_in names) (name ∷ names_in names)) e
+
+tell_taken : (name : List ℕ) (names : List UsedName) (state : PlainState) → is_used state.used name ≡ false → TellOf names state → TellOf (with_name names name) (taken state name)
+tell_taken name names state new tell = record {
+  used = names_in-with_name names name ∙ ap (λ l. with_used l name) tell.used;
+  live = λ q. ap (λ l. is_live_in l q) (cond-false (is_used_in names name) names (record { name = name; marked = false } ∷ names) fresh) ∙ ap (cond (bytes_eq q name) true) (tell.live q);
+}
+  where
+    fresh : is_used_in names name ≡ false
+    fresh = is_used-names_in names name ∙ ap (λ l. is_used l name) tell.used ∙ new
+
+tell_marked : (name : List ℕ) (names : List UsedName) (state : PlainState) → TellOf names state → TellOf (map (name_marked name) names) (after_call state (call.Command (command.Remove name)))
+tell_marked name names state tell = record {
+  used = names_in-marked name names ∙ tell.used;
+  live = λ q. is_live_in-marked name q names ∙ ap (cond (bytes_eq name q) false) (tell.live q) ∙ sym (is_live-marked name q state.volume.snapshots.tree);
 }
 
 -- a part of a purge: what goes can be used no longer, and its name stays
-tell_part : (names : List UsedName) (s : Snapshots) (p : FoldOrDrop) → CanBeDone s.tree s.on p → AreNamed s → TellOf names s → TellOf names (with_part s p)
-tell_part names s p can named tell = record {
-  used = λ q. tell.used q ∙ sym (ap (list_any (bytes_eq q)) (used-part s p));
-  live = λ q. tell.live q ∙ sym (is_live-part s p q named.once can);
+tell_part : (names : List UsedName) (state : PlainState) (p : FoldOrDrop) → CanBeDone state.volume.snapshots.tree state.volume.snapshots.on p → AreNamed state
+    → TellOf names state → TellOf names (after_mark state (mark.Purged p))
+tell_part names state p can named tell = record {
+  used = tell.used;
+  live = λ q. tell.live q ∙ sym (is_live-part state.volume.snapshots p q named.once can);
 }
 
-tell_called : (names : List UsedName) (state : PlainState) (c : Call) → TellOf names state.snapshots → TellOf (names_after_call names c) (after_call state c).snapshots
-tell_called names state (call.Read offset n) tell = tell
-tell_called names state (call.Write offset bytes) tell = tell
-tell_called names state call.Ping tell = tell
-tell_called names state (call.Other kind) tell = tell
-tell_called names state (call.Command (command.Snapshot name)) tell = tell_taken name names state.snapshots tell
-tell_called names state (call.Command (command.Remove name)) tell = tell_marked name names state.snapshots tell
-tell_called names state (call.Command (command.Revert name)) tell = record { used = tell.used; live = tell.live }
-tell_called names state (call.Command command.Purge) tell = tell
-tell_called names state (call.Command command.Status) tell = tell
+tell_called : (names : List UsedName) (state : PlainState) (c : Call) → ((name : List ℕ) → c ≡ call.Command (command.Snapshot name) → is_used state.used name ≡ false)
+    → TellOf names state → TellOf (names_after_call names c) (after_call state c)
+tell_called names state (call.Read offset n) new tell = tell
+tell_called names state (call.Write offset bytes) new tell = record { used = tell.used; live = tell.live }
+tell_called names state call.Ping new tell = tell
+tell_called names state (call.Other kind) new tell = tell
+tell_called names state (call.Command (command.Snapshot name)) new tell = tell_taken name names state (new name refl) tell
+tell_called names state (call.Command (command.Remove name)) new tell = tell_marked name names state tell
+tell_called names state (call.Command (command.Revert name)) new tell = record { used = tell.used; live = tell.live }
+tell_called names state (call.Command command.Purge) new tell = tell
+tell_called names state (call.Command command.Status) new tell = tell
+tell_called names state (call.Command (command.Fail r)) new tell = tell
+tell_called names state (call.Command (command.Add r)) new tell = tell
 
-tell_unless : (refused : Bool) (names : List UsedName) (state : PlainState) (c : Call) → TellOf names state.snapshots
-    → TellOf (cond refused names (names_after_call names c)) (cond refused state (after_call state c)).snapshots
-tell_unless true names state c tell = tell
-tell_unless false names state c tell = tell_called names state c tell
+tell_unless : (refused : Bool) (names : List UsedName) (state : PlainState) (c : Call)
+    → ((name : List ℕ) → c ≡ call.Command (command.Snapshot name) → refused ≡ false → is_used state.used name ≡ false) → TellOf names state
+    → TellOf (cond refused names (names_after_call names c)) (cond refused state (after_call state c))
+tell_unless true names state c new tell = tell
+tell_unless false names state c new tell = tell_called names state c (λ name is. new name is refl) tell
 
 -- one entry
-tell_entry : (state : PlainState) (modes : List Mode) (names : List UsedName) (e : Entry) → StandsAt state modes e → AreNamed state.snapshots
-    → TellOf names state.snapshots → TellOf (names_after_entry names e) (after_entry state e).snapshots
-tell_entry state modes names (entry.Answer a) stands named tell = tell_unless (is_refusal a.reply) names state a.call tell
-tell_entry state modes names (entry.Mark (mark.Purged p)) stands named tell = tell_part names state.snapshots p stands.0 named tell
+pub tell_entry : (state : PlainState) (names : List UsedName) (e : Entry) → StandsAt state e → AreNamed state
+    → TellOf names state → TellOf (names_after_entry names e) (after_entry state e)
+tell_entry state names (entry.Answer a) here named tell = tell_unless (is_refusal a.reply) names state a.call here tell
+tell_entry state names (entry.Mark (mark.Purged p)) here named tell = tell_part names state p here named tell
+tell_entry state names (entry.Mark (mark.Fault stream r count)) here named tell = tell
+tell_entry state names (entry.Mark (mark.Failed r)) here named tell = tell
+tell_entry state names (entry.Mark (mark.Added r source name)) here named tell = tell_taken name names state here tell
+tell_entry state names (entry.Mark (mark.Promoted r)) here named tell = tell
+tell_entry state names (entry.Mark (mark.Aborted r)) here named tell = tell
 
 -- entries behind a journal
-tell_behind : (opening : Opening) (before : List Entry) (state : PlainState) (names : List UsedName) (journal : List Entry)
-    → replay opening.state before ≡ state → LegalAfter opening before journal → AreNamed state.snapshots
-    → TellOf names state.snapshots → TellOf (names_after names journal) (replay state journal).snapshots
+tell_behind : (opening : Spot) (before : List Entry) (state : PlainState) (names : List UsedName) (journal : List Entry)
+    → replay opening.state before ≡ state → LegalAfter opening before journal → AreNamed state
+    → TellOf names state → TellOf (names_after names journal) (replay state journal)
 tell_behind opening before state names [] at legal named tell = tell
 tell_behind opening before state names (e ∷ es) at legal named tell =
-    let modes = modes_after opening.modes before in
     let here = stands opening before state e es at legal.0 in
     tell_behind opening (before ++ e ∷ []) (after_entry state e) (names_after_entry names e) es (next opening before state e at) legal.1
-    (named_entry state modes e here named) (tell_entry state modes names e here named tell)
+    (named_entry state e here named) (tell_entry state names e here named tell)
 
 -- a journal
-pub names_tell : (opening : Opening) (names : List UsedName) (journal : List Entry) → IsLegal opening journal → AreNamed opening.state.snapshots
-    → TellOf names opening.state.snapshots → TellOf (names_after names journal) (replay opening.state journal).snapshots
+pub names_tell : (opening : Spot) (names : List UsedName) (journal : List Entry) → IsLegal opening journal → AreNamed opening.state
+    → TellOf names opening.state → TellOf (names_after names journal) (replay opening.state journal)
 names_tell opening names journal legal named tell = tell_behind opening [] opening.state names journal refl legal named tell
 
 -- ---- the layers
@@ -399,38 +465,45 @@ names_tell opening names journal legal named tell = tell_behind opening [] openi
 layers_part : (s : Snapshots) (p : FoldOrDrop) → CanBeDone s.tree s.on p → layer_count s - 1 ≡ layer_count (with_part s p)
 layers_part s p can = omega (arith, length-with_part s p can)
 
-layers_called : (state : PlainState) (c : Call) → layers_after_call (layer_count state.snapshots) c ≡ layer_count (after_call state c).snapshots
+layers_called : (state : PlainState) (c : Call) → layers_after_call (layer_count state.volume.snapshots) c ≡ layer_count (after_call state c).volume.snapshots
 layers_called state (call.Read offset n) = refl
 layers_called state (call.Write offset bytes) = refl
 layers_called state call.Ping = refl
 layers_called state (call.Other kind) = refl
 layers_called state (call.Command (command.Snapshot name)) = omega arith
-layers_called state (call.Command (command.Remove name)) = ap (λ n. n + 1) (sym (length-marked name state.snapshots.tree))
+layers_called state (call.Command (command.Remove name)) = ap (λ n. n + 1) (sym (length-marked name state.volume.snapshots.tree))
 layers_called state (call.Command (command.Revert name)) = refl
 layers_called state (call.Command command.Purge) = refl
 layers_called state (call.Command command.Status) = refl
+layers_called state (call.Command (command.Fail r)) = refl
+layers_called state (call.Command (command.Add r)) = refl
 
 layers_unless : (refused : Bool) (state : PlainState) (c : Call)
-    → cond refused (layer_count state.snapshots) (layers_after_call (layer_count state.snapshots) c) ≡ layer_count (cond refused state (after_call state c)).snapshots
+    → cond refused (layer_count state.volume.snapshots) (layers_after_call (layer_count state.volume.snapshots) c) ≡ layer_count (cond refused state (after_call state c)).volume.snapshots
 layers_unless true state c = refl
 layers_unless false state c = layers_called state c
 
 -- one entry
-layers_entry : (state : PlainState) (modes : List Mode) (e : Entry) → StandsAt state modes e
-    → layers_after_entry (layer_count state.snapshots) e ≡ layer_count (after_entry state e).snapshots
-layers_entry state modes (entry.Answer a) stands = layers_unless (is_refusal a.reply) state a.call
-layers_entry state modes (entry.Mark (mark.Purged p)) stands = layers_part state.snapshots p stands.0
+pub layers_entry : (state : PlainState) (e : Entry) → StandsAt state e
+    → layers_after_entry (layer_count state.volume.snapshots) e ≡ layer_count (after_entry state e).volume.snapshots
+layers_entry state (entry.Answer a) here = layers_unless (is_refusal a.reply) state a.call
+layers_entry state (entry.Mark (mark.Purged p)) here = layers_part state.volume.snapshots p here
+layers_entry state (entry.Mark (mark.Fault stream r count)) here = refl
+layers_entry state (entry.Mark (mark.Failed r)) here = refl
+layers_entry state (entry.Mark (mark.Added r source name)) here = omega arith
+layers_entry state (entry.Mark (mark.Promoted r)) here = refl
+layers_entry state (entry.Mark (mark.Aborted r)) here = refl
 
 -- entries behind a journal
-layers_behind : (opening : Opening) (before : List Entry) (state : PlainState) (journal : List Entry)
+layers_behind : (opening : Spot) (before : List Entry) (state : PlainState) (journal : List Entry)
     → replay opening.state before ≡ state → LegalAfter opening before journal
-    → layers_after (layer_count state.snapshots) journal ≡ layer_count (replay state journal).snapshots
+    → layers_after (layer_count state.volume.snapshots) journal ≡ layer_count (replay state journal).volume.snapshots
 layers_behind opening before state [] at legal = refl
 layers_behind opening before state (e ∷ es) at legal =
-    ap (λ n. layers_after n es) (layers_entry state (modes_after opening.modes before) e (stands opening before state e es at legal.0))
+    ap (λ n. layers_after n es) (layers_entry state e (stands opening before state e es at legal.0))
     ∙ layers_behind opening (before ++ e ∷ []) (after_entry state e) es (next opening before state e at) legal.1
 
 -- a journal
-pub layers_tell : (opening : Opening) (journal : List Entry) → IsLegal opening journal
-    → layers_after (layer_count opening.state.snapshots) journal ≡ layer_count (replay opening.state journal).snapshots
+pub layers_tell : (opening : Spot) (journal : List Entry) → IsLegal opening journal
+    → layers_after (layer_count opening.state.volume.snapshots) journal ≡ layer_count (replay opening.state journal).volume.snapshots
 layers_tell opening journal legal = layers_behind opening [] opening.state journal refl legal

@@ -1,261 +1,572 @@
 -- The journal of streams that one worker answers, one stream after another, is a legal history.
-use Rattle.std.proofs.Common.{◌≡◌, ℕ, zero, suc, ◌+◌, ◌<◌, ◌≤◌, eqb, Bool, true, false, cond, List, [], ◌∷◌, ◌++◌, length, map, refl, sym, ap, subst, ◌∙◌, arith}
-use Rattle.std.proofs.lemmas.Bool.{eq-eqb, ne_eqb}
-use Rattle.std.proofs.lemmas.List.{append-nil, append_assoc, length-append}
+use Rattle.std.proofs.Common.{◌≡◌, ◌≢◌, ℕ, zero, suc, ◌+◌, ◌<◌, ◌≤◌, ◌^◌, ◌⊎◌, inl, inr, ⊎_elim, eqb, Bool, true, false, cond, List, [], ◌∷◌, ◌++◌, length, map, refl, sym, ap, subst, ◌∙◌, arith, set, get_or}
 use Rattle.std.specs.Prelude.{Option, None, Some}
+use Rattle.std.proofs.lemmas.Bool.{cases_Bool, cases_lt, eq-eqb, ne_eqb, true≢false}
+use Rattle.std.proofs.lemmas.Bool.Decides.{nat_tests}
+use Rattle.std.proofs.lemmas.List.{append-nil, append_assoc, length-append, length-set, get_or-set_same, get_or_past}
+use Rattle.vol_units.specs.Name.{begins_sys, sys_name}
+use Rattle.command_text.specs.declared.command.Command.{Command}
 use Rattle.command_text.specs.declared.command.Command.TheVariants as command
 use Rattle.volume_model.specs.declared.call.Call.{Call}
 use Rattle.volume_model.specs.declared.call.Call.TheVariants as call
+use Rattle.volume_model.specs.declared.call.Refusal.{Refusal}
+use Rattle.volume_model.specs.declared.call.Refusal.TheVariants.{InUse, ChainFull, NoReplica}
+use Rattle.volume_model.specs.declared.call.Reply.TheVariants as reply
 use Rattle.volume_model.specs.declared.entry.Answer.{Answer}
 use Rattle.volume_model.specs.declared.entry.Entry.{Entry}
 use Rattle.volume_model.specs.declared.entry.Entry.TheVariants as entry
 use Rattle.volume_model.specs.declared.mark.FoldOrDrop.{FoldOrDrop}
+use Rattle.volume_model.specs.declared.mark.FoldOrDrop.TheVariants as part
+use Rattle.volume_model.specs.declared.mark.Mark.{Mark}
 use Rattle.volume_model.specs.declared.mark.Mark.TheVariants as mark
+use Rattle.volume_model.specs.declared.mark.Rebuild.{Rebuild}
+use Rattle.volume_model.specs.declared.mark.Rebuild.TheVariants as rebuild
 use Rattle.volume_model.specs.declared.mode.Mode.{Mode}
-use Rattle.volume_model.specs.PlainState.{PlainState}
-use Rattle.volume_model.specs.PlainStep.{plain_step}
-use Rattle.volume_model.specs.Purge.{CanBeDone, IsPurged, next_of, parts_behind, parts_within, parts_of}
+use Rattle.volume_model.specs.declared.mode.Mode.TheVariants.{Rw, Wo, Err}
+use Rattle.volume_model.specs.Snapshots.{Snapshots, layer_count}
+use Rattle.volume_model.specs.PlainState.{Volume, PlainState}
+use Rattle.volume_model.specs.PlainStep.{or_else, most_layers, room_refusal, add_refusal, refusal_of}
+use Rattle.volume_model.specs.Purge.{CanBeDone, IsPurged, next_of, with_part, parts_behind, parts_within, parts_of}
 use Rattle.volume_model.specs.Marks.{after_mark, marks_of}
-use Rattle.volume_model.specs.Replay.{replay}
-use Rattle.volume_model.specs.Modes.{HasSource}
-use Rattle.volume_model.specs.Faults.{RisesTo, FaultsShown}
-use Rattle.volume_model.specs.History.{Opening, LegalAfter, answers_from, InOrderFrom, IsHistory}
-use Rattle.volume_model.specs.OneWorker.{marks_before, state_for, answer_at, entries_at, after_done, behind, served_from, after_calls, served_streams, served, stream_of}
-use Rattle.volume_model.proofs.PurgeLemmas.{next_can, purged_after}
-use Rattle.volume_model.proofs.StepLemmas.{replay-push, replay-append, modes_after-same, fault_counts-none}
-use Rattle.volume_model.proofs.ServedLemmas.{replay-marks, replay-entries_at, replay-served_from}
+use Rattle.volume_model.specs.Replay.{is_refusal, after_entry, replay}
+use Rattle.volume_model.specs.Modes.{mode_of, modes_after, modes_after_entry, asks_replica, HasSource, source_of}
+use Rattle.volume_model.specs.Faults.{fault_counts, RisesTo, FaultsShown}
+use Rattle.volume_model.specs.Names.{AreOwnFree}
+use Rattle.volume_model.specs.Rebuilds.{added_by, rebuild_after_add, rebuild_from, rebuild_of, MayBegin}
+use Rattle.volume_model.specs.History.{Spot, IsAnswered, IsEnded, EndsAdd, LegalAfter, answers_from, InOrderFrom, IsHistory}
+use Rattle.volume_model.specs.OneWorker.{behind_entries, fail_marks, add_marks, after_streams, want_of_replica, refused_at, call_marks, marks_unless, reply_for, answer_for, entries_for, entries_at, after_done, behind, served_from, after_calls, served_streams, served, IsProper, AreProper, AllProper, call_count, stream_of}
+use Rattle.volume_model.proofs.PurgeLemmas.{next_can, purged_after, after_parts}
+use Rattle.volume_model.proofs.StepLemmas.{replay-push, replay-append, modes_after-append}
+use Rattle.volume_model.proofs.FaultLemmas.{fault_counts-append}
+use Rattle.volume_model.proofs.LegalLemmas.{LegalAfter-append, answers_from-append}
+use Rattle.volume_model.proofs.PushLemmas.{modes_after-push}
+use Rattle.volume_model.proofs.RebuildLemmas.{rebuild_from-append, rebuild_of-push}
+use Rattle.volume_model.proofs.OwnNames.{own_entry, own_sys, entry_raises}
+use Rattle.volume_model.proofs.SpotLemmas.{source_is, has_source, answer_by, answered_there}
 
--- ---- each entry may stand where it does
+-- ---- where the worker stands behind a journal
 
--- entries that are legal behind entries that are
-pub LegalAfter-append :
-    (opening : Opening) (before xs ys : List Entry)
-    → LegalAfter opening before xs → LegalAfter opening (before ++ xs) ys → LegalAfter opening before (xs ++ ys)
-LegalAfter-append opening before [] ys h k = subst (λ l. LegalAfter opening l ys) (append-nil before) k
-LegalAfter-append opening before (entry.Answer a ∷ xs) ys h k = (
-  h.0,
-  LegalAfter-append opening (before ++ entry.Answer a ∷ []) xs ys h.1 (subst (λ l. LegalAfter opening l ys) (sym (append_assoc before (entry.Answer a ∷ []) xs)) k),
-)
-LegalAfter-append opening before (entry.Mark m ∷ xs) ys h k = (
-  h.0,
-  LegalAfter-append opening (before ++ entry.Mark m ∷ []) xs ys h.1 (subst (λ l. LegalAfter opening l ys) (sym (append_assoc before (entry.Mark m ∷ []) xs)) k),
-)
+-- no rebuild was begun, and the engine's own names are free
+pub record Here (opening : Spot) (before : List Entry) (spot : Spot) : Type 0 where
+  pub state : replay opening.state before ≡ spot.state
+  pub modes : modes_after opening.modes before ≡ spot.modes
+  pub idle : (q : ℕ) → rebuild_of q before ≡ rebuild.Unasked
+  pub free : AreOwnFree spot.state
+  pub many : length spot.modes ≡ length opening.modes
+
+-- entries that one worker may make there of a call
+pub record Goes (opening : Spot) (before : List Entry) (spot : Spot) (es : List Entry) : Type 0 where
+  pub legal : LegalAfter opening before es
+  pub free : AreOwnFree (replay spot.state es)
+  pub idle : (q place : ℕ) → rebuild_from q place rebuild.Unasked es ≡ rebuild.Unasked
+  pub raise : (replay spot.state es).volume.snapshots.number ≤ spot.state.volume.snapshots.number + 1
+  pub faults : (stream replica : ℕ) → fault_counts stream replica es ≡ []
+
+length-modes_after : (modes : List Mode) (es : List Entry) → length (modes_after modes es) ≡ length modes
+length-modes_after modes [] = refl
+length-modes_after modes (entry.Answer a ∷ es) = length-modes_after modes es
+length-modes_after modes (entry.Mark (mark.Purged p) ∷ es) = length-modes_after modes es
+length-modes_after modes (entry.Mark (mark.Fault s r n) ∷ es) = length-modes_after (set modes r Err) es ∙ length-set modes r Err
+length-modes_after modes (entry.Mark (mark.Failed r) ∷ es) = length-modes_after (set modes r Err) es ∙ length-set modes r Err
+length-modes_after modes (entry.Mark (mark.Added r s name) ∷ es) = length-modes_after (set modes r Wo) es ∙ length-set modes r Wo
+length-modes_after modes (entry.Mark (mark.Promoted r) ∷ es) = length-modes_after (set modes r Rw) es ∙ length-set modes r Rw
+length-modes_after modes (entry.Mark (mark.Aborted r) ∷ es) = length-modes_after (set modes r Err) es ∙ length-set modes r Err
+
+-- behind them
+here_behind : (opening : Spot) (before : List Entry) (spot : Spot) (es : List Entry) → Here opening before spot → Goes opening before spot es → Here opening (before ++ es) (behind_entries spot es)
+here_behind opening before spot es here goes = record {
+  state = replay-append opening.state before es ∙ ap (λ s. replay s es) here.state;
+  modes = modes_after-append opening.modes before es ∙ ap (λ ms. modes_after ms es) here.modes;
+  idle = λ q. rebuild_from-append q 0 rebuild.Unasked before es ∙ ap (λ b. rebuild_from q (0 + length before) b es) (here.idle q) ∙ goes.idle q (0 + length before);
+  free = goes.free;
+  many = length-modes_after spot.modes es ∙ here.many;
+}
+
+-- ---- the entries of one call
+
+module _ (opening : Spot) (before : List Entry) (spot : Spot) (here : Here opening before spot) (fits : spot.state.volume.snapshots.number < 2 ^ 64) (stream place index : ℕ) where
+  -- what holds where the worker stands holds behind the journal
+  pub as_answered : (a : Answer) → IsAnswered spot.state spot.modes a → IsAnswered (replay opening.state before) (modes_after opening.modes before) a
+  as_answered a answered = subst (λ s. IsAnswered s (modes_after opening.modes before) a) (sym here.state) (subst (λ ms. IsAnswered spot.state ms a) (sym here.modes) answered)
+
+  -- a call that makes no marks
+  quiet : (c : Call) → ((name : List ℕ) → c ≡ call.Command (command.Snapshot name) → begins_sys name ≡ false) → added_by c ≡ None
+      → ((r : ℕ) → c ≡ call.Command (command.Fail r) → mode_of spot.modes r ≡ Err)
+      → (c ≡ call.Command command.Purge → is_refusal (reply_for (refused_at spot c) spot c) ≡ false → IsPurged spot.state.volume.snapshots.tree spot.state.volume.snapshots.on)
+      → (marks : List Entry) → marks ≡ [] → Goes opening before spot (marks ++ answer_for (refused_at spot c) spot stream place index c ∷ [])
+  quiet c user none fails purged marks empty =
+      let a = answer_by spot c (refused_at spot c) stream place index in
+      subst (λ l. Goes opening before spot (l ++ entry.Answer a ∷ [])) (sym empty) (record {
+        legal = (subst (λ x. IsEnded x before (replay opening.state before) (modes_after opening.modes before) a) (sym none)
+            (as_answered a (answered_there spot c stream place index fails purged)), tt);
+        free = own_entry spot.state (entry.Answer a) user here.free;
+        idle = λ q place. ap (λ x. rebuild_after_add q rebuild.Unasked x) none;
+        raise = entry_raises spot.state (entry.Answer a);
+        faults = λ s r. refl;
+      })
+
+  no_marks : (why : Option Refusal) (c : Call) → call_marks spot c ≡ [] → marks_unless why spot c ≡ []
+  no_marks (Some why) c e = refl
+  no_marks None c e = e
+
+-- ---- a purge
+
+-- the state after these parts
+abbrev pub with_parts : PlainState → List FoldOrDrop → PlainState
+with_parts state parts = record state { volume = record state.volume { snapshots = after_parts state.volume.snapshots parts } }
+
+pub replay-marks : (state : PlainState) (parts : List FoldOrDrop)
+    → replay state (marks_of parts) ≡ with_parts state parts
+replay-marks state [] = refl
+replay-marks state (f ∷ fs) = replay-marks (after_mark state (mark.Purged f)) fs
+
+parts_keep_number : (s : Snapshots) (parts : List FoldOrDrop) → (after_parts s parts).number ≡ s.number
+parts_keep_number s [] = refl
+parts_keep_number s (part.Fold p c ∷ fs) = parts_keep_number (with_part s (part.Fold p c)) fs
+parts_keep_number s (part.Drop p ∷ fs) = parts_keep_number (with_part s (part.Drop p)) fs
+
+marks_keep_modes : (modes : List Mode) (parts : List FoldOrDrop) → modes_after modes (marks_of parts) ≡ modes
+marks_keep_modes modes [] = refl
+marks_keep_modes modes (f ∷ fs) = marks_keep_modes modes fs
+
+marks_keep_rebuild : (q place : ℕ) (b : Rebuild) (parts : List FoldOrDrop) → rebuild_from q place b (marks_of parts) ≡ b
+marks_keep_rebuild q place b [] = refl
+marks_keep_rebuild q place b (f ∷ fs) = marks_keep_rebuild q (suc place) b fs
+
+marks_tell_none : (stream replica : ℕ) (parts : List FoldOrDrop) → fault_counts stream replica (marks_of parts) ≡ []
+marks_tell_none stream replica [] = refl
+marks_tell_none stream replica (f ∷ fs) = marks_tell_none stream replica fs
 
 -- each part of a purge could be done
 parts_legal :
-    (most : ℕ) (opening : Opening) (before : List Entry) (state : PlainState) → HasSource opening.modes → replay opening.state before ≡ state
-    → LegalAfter opening before (marks_of (parts_within most state.snapshots))
-parts_legal zero opening before state source at = tt
-parts_legal (suc most) opening before state source at =
-    go (λ b s h. parts_legal most opening b s source h) (next_of state.snapshots) refl
+    (most : ℕ) (opening : Spot) (before : List Entry) (state : PlainState) (modes : List Mode) → HasSource modes → modes_after opening.modes before ≡ modes → replay opening.state before ≡ state
+    → LegalAfter opening before (marks_of (parts_within most state.volume.snapshots))
+parts_legal zero opening before state modes source same at = tt
+parts_legal (suc most) opening before state modes source same at =
+    go (λ b s d h. parts_legal most opening b s modes source d h) (next_of state.volume.snapshots) refl
   where
-    go : ((b : List Entry) (s : PlainState) → replay opening.state b ≡ s → LegalAfter opening b (marks_of (parts_within most s.snapshots)))
-        → (n : Option FoldOrDrop) → next_of state.snapshots ≡ n
-        → LegalAfter opening before (marks_of (parts_behind (parts_within most) state.snapshots n))
+    go : ((b : List Entry) (s : PlainState) → modes_after opening.modes b ≡ modes → replay opening.state b ≡ s → LegalAfter opening b (marks_of (parts_within most s.volume.snapshots)))
+        → (n : Option FoldOrDrop) → next_of state.volume.snapshots ≡ n
+        → LegalAfter opening before (marks_of (parts_behind (parts_within most) state.volume.snapshots n))
     go rest None is = tt
     go rest (Some f) is =
         let e = entry.Mark (mark.Purged f) in (
           (
-            subst (λ (s : PlainState). CanBeDone s.snapshots.tree s.snapshots.on f) (sym at) (next_can state.snapshots.tree state.snapshots.on f is).can,
-            subst HasSource (sym (modes_after-same opening.modes before)) source,
+            subst (λ (s : PlainState). CanBeDone s.volume.snapshots.tree s.volume.snapshots.on f) (sym at) (next_can state.volume.snapshots.tree state.volume.snapshots.on f is).can,
+            subst HasSource (sym same) source,
           ),
-          rest (before ++ e ∷ []) (after_mark state (mark.Purged f))
+          rest (before ++ e ∷ []) (after_mark state (mark.Purged f)) (modes_after-push opening.modes before e ∙ same)
               (replay-push opening.state before e ∙ ap (λ s. after_mark s (mark.Purged f)) at),
         )
 
-marks_legal :
-    (opening : Opening) (before : List Entry) (state : PlainState) (c : Call) → HasSource opening.modes → replay opening.state before ≡ state
-    → LegalAfter opening before (marks_before state c)
-marks_legal opening before state (call.Read offset n) source at = tt
-marks_legal opening before state (call.Write offset bytes) source at = tt
-marks_legal opening before state call.Ping source at = tt
-marks_legal opening before state (call.Other kind) source at = tt
-marks_legal opening before state (call.Command (command.Snapshot name)) source at = tt
-marks_legal opening before state (call.Command (command.Remove name)) source at = tt
-marks_legal opening before state (call.Command (command.Revert name)) source at = tt
-marks_legal opening before state (call.Command command.Purge) source at = parts_legal (length state.snapshots.tree) opening before state source at
-marks_legal opening before state (call.Command command.Status) source at = tt
+-- the engine's own names stay free
+parts_free : (state : PlainState) (parts : List FoldOrDrop) → AreOwnFree state → AreOwnFree (with_parts state parts)
+parts_free state parts free number low most = free number (omega (arith, low, parts_keep_number state.volume.snapshots parts)) most
 
--- behind the marks of a purge nothing is left
-purged_for : (state : PlainState) (c : Call) → c ≡ call.Command command.Purge → IsPurged (state_for state c).snapshots.tree (state_for state c).snapshots.on
-purged_for state c is = subst (λ d. IsPurged (state_for state d).snapshots.tree (state_for state d).snapshots.on) (sym is)
-    (subst (λ (s : PlainState). IsPurged s.snapshots.tree s.snapshots.on) (sym (replay-marks state (parts_of state.snapshots))) (purged_after state.snapshots))
+purge_goes : (opening : Spot) (before : List Entry) (spot : Spot) (stream place index s : ℕ) → Here opening before spot → source_of spot.modes ≡ Some s
+    → Goes opening before spot (entries_for None spot stream place index (call.Command command.Purge))
+purge_goes opening before spot stream place index s here source =
+    let parts = parts_of spot.state.volume.snapshots in
+    let marks = marks_of parts in
+    let a = answer_by spot (call.Command command.Purge) None stream place index in
+    let e = entry.Answer a in
+    let behind_marks : replay spot.state (marks ++ e ∷ []) ≡ with_parts spot.state parts = replay-append spot.state marks (e ∷ []) ∙ replay-marks spot.state parts in
+    let found : replay opening.state (before ++ marks) ≡ with_parts spot.state parts =
+    replay-append opening.state before marks ∙ ap (λ s. replay s marks) here.state ∙ replay-marks spot.state parts in
+    let same : modes_after opening.modes (before ++ marks) ≡ spot.modes = modes_after-append opening.modes before marks ∙ ap (λ ms. modes_after ms marks) here.modes ∙ marks_keep_modes spot.modes parts in
+    record {
+      legal = LegalAfter-append opening before marks (e ∷ []) (parts_legal (length spot.state.volume.snapshots.tree) opening before spot.state spot.modes (has_source spot.modes s source) here.modes here.state) (
+        record {
+          reply = λ says. refl;
+          none = λ says. absurd cc;
+          fails = λ r is. absurd cc;
+          source = λ change done. subst HasSource (sym same) (has_source spot.modes s source);
+          purged = λ is done. subst (λ (s : PlainState). IsPurged s.volume.snapshots.tree s.volume.snapshots.on) (sym found) (purged_after spot.state.volume.snapshots);
+        },
+        tt,
+      );
+      free = subst AreOwnFree (sym behind_marks) (parts_free spot.state parts here.free);
+      idle = λ q p. rebuild_from-append q p rebuild.Unasked marks (e ∷ []) ∙ marks_keep_rebuild q p rebuild.Unasked parts;
+      raise = omega (arith, ap (λ (s : PlainState). s.volume.snapshots.number) behind_marks, parts_keep_number spot.state.volume.snapshots parts);
+      faults = λ stream replica. fault_counts-append stream replica marks (e ∷ []) ∙ ap (λ l. l ++ []) (marks_tell_none stream replica parts);
+    }
 
--- the entries of one call behind any journal
-entries_legal :
-    (opening : Opening) (before : List Entry) (state : PlainState) (stream place index : ℕ) (c : Call)
-    → HasSource opening.modes → replay opening.state before ≡ state
-    → LegalAfter opening before (entries_at opening.modes state stream place index c)
-entries_legal opening before state stream place index c source at =
-    let marks = marks_before state c in
-    let found : replay opening.state (before ++ marks) ≡ state_for state c =
-    replay-append opening.state before marks ∙ ap (λ s. replay s marks) at in
-    let same = modes_after-same opening.modes (before ++ marks) in
-    LegalAfter-append opening before marks _ (marks_legal opening before state c source at) (
-      record {
-        reply = answered (state_for state c) _ opening.modes _ (sym found) (sym same);
-        source = λ change done. subst HasSource (sym same) source;
-        purged = λ is done. subst (λ (s : PlainState). IsPurged s.snapshots.tree s.snapshots.on) (sym found) (purged_for state c is);
-      },
-      tt,
-    )
+-- ---- a replica that is told to fail
+
+failed_is : (modes : List Mode) (r : ℕ) → mode_of (set modes r Err) r ≡ Err
+failed_is modes r = ⊎_elim
+    (λ l. get_or-set_same modes r Err Err l)
+    (λ l. get_or_past (set modes r Err) r Err (omega (arith, l, length-set modes r Err)))
+    (cases_lt r (length modes))
+
+fail_goes : (opening : Spot) (before : List Entry) (spot : Spot) (stream place index r : ℕ) → Here opening before spot → mode_of spot.modes r ≢ Err
+    → Goes opening before spot (entry.Mark (mark.Failed r) ∷ answer_for None spot stream place index (call.Command (command.Fail r)) ∷ [])
+fail_goes opening before spot stream place index r here up =
+    let m = entry.Mark (mark.Failed r) in
+    let now : modes_after opening.modes (before ++ m ∷ []) ≡ set spot.modes r Err = modes_after-push opening.modes before m ∙ ap (λ ms. set ms r Err) here.modes in
+    record {
+      legal = (
+        (
+          record {
+            up = subst (λ ms. mode_of ms r ≢ Err) (sym here.modes) up;
+            ends = λ q s is who. absurd (unasked≢open s (sym (here.idle q) ∙ is));
+          },
+          refl,
+        ),
+        (
+          record {
+            reply = λ says. refl;
+            none = λ says. absurd cc;
+            fails = λ q is. subst (λ ms. mode_of ms q ≡ Err) (sym now) (subst (λ n. mode_of (set spot.modes r Err) n ≡ Err) (same_replica r q is) (failed_is spot.modes r));
+            source = λ change done. absurd cc;
+            purged = λ is done. absurd cc;
+          },
+          tt,
+        ),
+      );
+      free = here.free;
+      idle = λ q p. refl;
+      raise = omega arith;
+      faults = λ s q. refl;
+    }
   where
-    answered : (s t : PlainState) (ms ns : List Mode) → s ≡ t → ms ≡ ns → (plain_step ms s c).1 ≡ (plain_step ns t c).1
-    answered s t ms ns e f = cc
+    same_replica : (r q : ℕ) → call.Command (command.Fail r) ≡ call.Command (command.Fail q) → r ≡ q
+    same_replica r q e = cc
 
--- the calls of one stream behind any journal
-pub served_from_legal :
-    (opening : Opening) (before : List Entry) (state : PlainState) (stream place index : ℕ) (cs : List Call)
-    → HasSource opening.modes → replay opening.state before ≡ state
-    → LegalAfter opening before (served_from opening.modes state stream place index cs)
-served_from_legal opening before state stream place index [] source at = tt
-served_from_legal opening before state stream place index (c ∷ cs) source at =
-    let first = entries_at opening.modes state stream place index c in
-    let next = replay-append opening.state before first ∙ ap (λ s. replay s first) at ∙ replay-entries_at opening.modes state stream place index c in
-    LegalAfter-append opening before first _ (entries_legal opening before state stream place index c source at)
-    (served_from_legal opening (before ++ first) _ stream (behind place first) (suc index) cs source next)
+    unasked≢open : (t : ℕ) → rebuild.Unasked ≢ rebuild.Open t
+    unasked≢open t e = cc
 
--- the calls of streams behind any journal
-pub served_streams_legal :
-    (opening : Opening) (before : List Entry) (state : PlainState) (stream place : ℕ) (css : List (List Call))
-    → HasSource opening.modes → replay opening.state before ≡ state
-    → LegalAfter opening before (served_streams opening.modes state stream place css)
-served_streams_legal opening before state stream place [] source at = tt
-served_streams_legal opening before state stream place (cs ∷ css) source at =
-    let own = served_from opening.modes state stream place 0 cs in
-    let next = replay-append opening.state before own ∙ ap (λ s. replay s own) at ∙ replay-served_from opening.modes state stream place 0 cs in
-    LegalAfter-append opening before own _ (served_from_legal opening before state stream place 0 cs source at)
-    (served_streams_legal opening (before ++ own) _ (suc stream) (behind place own) css source next)
+-- ---- a replica that is to be rebuilt
+
+clear_parts : (x y : Option Refusal) → or_else x y ≡ None → (x ≡ None) × (y ≡ None)
+clear_parts (Some why) y e = absurd cc
+clear_parts None y e = (refl, e)
+
+clear_source : (source : Option ℕ) → want_of_replica true source ≡ None → (s : ℕ) × (source ≡ Some s)
+clear_source None e = absurd cc
+clear_source (Some s) e = (s, refl)
+
+clear_add : (m : Mode) (volume : Volume) → add_refusal m volume ≡ None → (m ≡ Err) × (room_refusal volume ≡ None)
+clear_add Rw volume e = absurd cc
+clear_add Wo volume e = absurd cc
+clear_add Err volume e = (refl, e)
+
+clear_room : (volume : Volume) → room_refusal volume ≡ None → layer_count volume.snapshots < most_layers
+clear_room volume e = grind (arith, nat_tests, e)
+
+added_and_answered : (b : Bool) (s : ℕ) → cond b rebuild.Unasked (cond b rebuild.Promoted (cond b (rebuild.Open s) rebuild.Unasked)) ≡ rebuild.Unasked
+added_and_answered true s = refl
+added_and_answered false s = refl
+
+same_test : (r : ℕ) (a b : Rebuild) → cond (eqb r r) a b ≡ a
+same_test r a b = ap (λ t. cond t a b) (eq-eqb r r refl)
+
+unasked≢open : (t : ℕ) → rebuild.Unasked ≢ rebuild.Open t
+unasked≢open t e = cc
+
+add_goes : (opening : Spot) (before : List Entry) (spot : Spot) (stream place index r : ℕ) → Here opening before spot → spot.state.volume.snapshots.number < 2 ^ 64 → r < length opening.modes
+    → refused_at spot (call.Command (command.Add r)) ≡ None
+    → Goes opening before spot (entries_for None spot stream place index (call.Command (command.Add r)))
+add_goes opening before spot stream place index r here fits there clear =
+    let both = clear_parts (add_refusal (mode_of spot.modes r) spot.state.volume) (want_of_replica true (source_of spot.modes)) clear in
+    let ready = clear_add (mode_of spot.modes r) spot.state.volume both.0 in
+    let source = clear_source (source_of spot.modes) both.1 in
+    one ready.0 (clear_room spot.state.volume ready.1) source.0 source.1
+  where
+    name : List ℕ
+    name = sys_name spot.state.volume.snapshots.number
+
+    a : Answer
+    a = answer_by spot (call.Command (command.Add r)) None stream place index
+
+    rebuilt : (s : ℕ) → rebuild_of r ((before ++ entry.Mark (mark.Added r s name) ∷ []) ++ entry.Mark (mark.Promoted r) ∷ []) ≡ rebuild.Promoted
+    rebuilt s = rebuild_of-push r (before ++ entry.Mark (mark.Added r s name) ∷ []) (entry.Mark (mark.Promoted r)) ∙ same_test r rebuild.Promoted (rebuild_of r (before ++ entry.Mark (mark.Added r s name) ∷ []))
+
+    one : mode_of spot.modes r ≡ Err → layer_count spot.state.volume.snapshots < most_layers → (s : ℕ) → source_of spot.modes ≡ Some s
+        → Goes opening before spot (entries_for None spot stream place index (call.Command (command.Add r)))
+    one failed room s is = subst (λ x. Goes opening before spot (add_marks spot.state r x ++ entry.Answer a ∷ [])) (sym is) (record {
+      legal = (
+        subst (λ (state : PlainState). MayBegin (modes_after opening.modes before) state before r s name) (sym here.state)
+        (subst (λ modes. MayBegin modes spot.state before r s name) (sym here.modes) (record {
+          replica = omega (arith, there, here.many);
+          failed = failed;
+          source = source_is spot.modes s is;
+          room = room;
+          own = refl;
+          new = here.free spot.state.volume.snapshots.number (omega arith) fits;
+          alone = λ q t e. unasked≢open t (sym (here.idle q) ∙ e);
+        })),
+        (
+          record { source = s; begun = rebuild_of-push r before (entry.Mark (mark.Added r s name)) ∙ same_test r (rebuild.Open s) (rebuild_of r before); ends = refl },
+          (
+            subst (λ b. EndsAdd b ((before ++ entry.Mark (mark.Added r s name) ∷ []) ++ entry.Mark (mark.Promoted r) ∷ []) (replay opening.state ((before ++ entry.Mark (mark.Added r s name) ∷ []) ++ entry.Mark (mark.Promoted r) ∷ [])) (modes_after opening.modes ((before ++ entry.Mark (mark.Added r s name) ∷ []) ++ entry.Mark (mark.Promoted r) ∷ [])) a r) (sym (rebuilt s))
+            (refl, (before ++ entry.Mark (mark.Added r s name) ∷ [], refl)),
+            tt,
+          ),
+        ),
+      );
+      free = own_sys spot.state fits here.free;
+      idle = λ q p. added_and_answered (eqb r q) s;
+      raise = omega arith;
+      faults = λ s q. refl;
+    })
+
+-- ---- the entries of one call
+
+module _ (opening : Spot) (before : List Entry) (spot : Spot) (here : Here opening before spot) (fits : spot.state.volume.snapshots.number < 2 ^ 64) (stream place index : ℕ) where
+  -- a call that makes no marks at all
+  plain : (c : Call) → ((name : List ℕ) → c ≡ call.Command (command.Snapshot name) → begins_sys name ≡ false) → added_by c ≡ None
+      → ((r : ℕ) → c ≡ call.Command (command.Fail r) → ⊥) → (c ≡ call.Command command.Purge → ⊥) → call_marks spot c ≡ []
+      → Goes opening before spot (entries_at spot stream place index c)
+  plain c user none fails purged empty = quiet opening before spot here fits stream place index c user none (λ r is. absurd (fails r is)) (λ is done. absurd (purged is))
+      (marks_unless (refused_at spot c) spot c) (no_marks opening before spot here fits stream place index (refused_at spot c) c empty)
+
+  purge_entries : (source : Option ℕ) → source_of spot.modes ≡ source → Goes opening before spot (entries_for (or_else None (want_of_replica true source)) spot stream place index (call.Command command.Purge))
+  purge_entries (Some s) is = purge_goes opening before spot stream place index s here is
+  purge_entries None is = subst (λ x. Goes opening before spot (entries_for (or_else None (want_of_replica true x)) spot stream place index (call.Command command.Purge))) is
+      (quiet opening before spot here fits stream place index (call.Command command.Purge) (λ name e. absurd cc) refl (λ r e. absurd cc)
+      (λ e done. absurd (not_done (source_of spot.modes) is done)) (marks_unless (refused_at spot (call.Command command.Purge)) spot (call.Command command.Purge)) (ap (λ x. marks_unless (or_else None (want_of_replica true x)) spot (call.Command command.Purge)) is))
+    where
+      not_done : (x : Option ℕ) → x ≡ None → is_refusal (reply_for (or_else None (want_of_replica true x)) spot (call.Command command.Purge)) ≡ false → ⊥
+      not_done None e done = true≢false done
+      not_done (Some s) e done = absurd cc
+
+  fail_entries : (r : ℕ) (m : Mode) → mode_of spot.modes r ≡ m → Goes opening before spot (fail_marks r m ++ answer_for None spot stream place index (call.Command (command.Fail r)) ∷ [])
+  fail_entries r Rw is = fail_goes opening before spot stream place index r here (λ e. absurd (rw_not (sym is ∙ e)))
+    where
+      rw_not : Rw ≢ Err
+      rw_not e = cc
+  fail_entries r Wo is = fail_goes opening before spot stream place index r here (λ e. absurd (wo_not (sym is ∙ e)))
+    where
+      wo_not : Wo ≢ Err
+      wo_not e = cc
+  fail_entries r Err is = quiet opening before spot here fits stream place index (call.Command (command.Fail r)) (λ name e. absurd cc) refl (λ q e. subst (λ n. mode_of spot.modes n ≡ Err) (same_replica r q e) is) (λ e done. absurd cc) [] refl
+    where
+      same_replica : (r q : ℕ) → call.Command (command.Fail r) ≡ call.Command (command.Fail q) → r ≡ q
+      same_replica r q e = cc
+
+  add_entries : (r : ℕ) → r < length opening.modes → (why : Option Refusal) → refused_at spot (call.Command (command.Add r)) ≡ why
+      → Goes opening before spot (entries_for why spot stream place index (call.Command (command.Add r)))
+  add_entries r there None is = add_goes opening before spot stream place index r here fits there is
+  add_entries r there (Some why) is =
+      let c = call.Command (command.Add r) in
+      let a = answer_by spot c (refused_at spot c) stream place index in
+      let refusal : is_refusal a.reply ≡ true = ap (λ x. is_refusal (reply_for x spot c)) is in
+      subst (λ x. Goes opening before spot (entries_for x spot stream place index c)) is (subst (λ l. Goes opening before spot (l ++ entry.Answer a ∷ [])) (sym (ap (λ x. marks_unless x spot c) is)) (record {
+        legal = (subst (λ b. EndsAdd b before (replay opening.state before) (modes_after opening.modes before) a r) (sym (here.idle r))
+            (as_answered opening before spot here fits stream place index a (answered_there spot c stream place index (λ q e. absurd cc) (λ e done. absurd cc)), refusal), tt);
+        free = own_entry spot.state (entry.Answer a) (λ name e. absurd cc) here.free;
+        idle = λ q p. either (eqb r q);
+        raise = entry_raises spot.state (entry.Answer a);
+        faults = λ s q. refl;
+      }))
+    where
+      either : (b : Bool) → cond b rebuild.Unasked rebuild.Unasked ≡ rebuild.Unasked
+      either true = refl
+      either false = refl
+
+  pub call_goes : (c : Call) → IsProper (length opening.modes) c → Goes opening before spot (entries_at spot stream place index c)
+  call_goes (call.Read offset n) proper = plain (call.Read offset n) (λ name e. absurd cc) refl (λ r e. absurd cc) (λ e. absurd cc) refl
+  call_goes (call.Write offset bytes) proper = plain (call.Write offset bytes) (λ name e. absurd cc) refl (λ r e. absurd cc) (λ e. absurd cc) refl
+  call_goes call.Ping proper = plain call.Ping (λ name e. absurd cc) refl (λ r e. absurd cc) (λ e. absurd cc) refl
+  call_goes (call.Other kind) proper = plain (call.Other kind) (λ name e. absurd cc) refl (λ r e. absurd cc) (λ e. absurd cc) refl
+  call_goes (call.Command (command.Snapshot name)) proper = plain (call.Command (command.Snapshot name)) (λ n e. subst (λ x. begins_sys x ≡ false) (same_name name n e) proper) refl (λ r e. absurd cc) (λ e. absurd cc) refl
+    where
+      same_name : (x y : List ℕ) → call.Command (command.Snapshot x) ≡ call.Command (command.Snapshot y) → x ≡ y
+      same_name x y e = cc
+  call_goes (call.Command (command.Remove name)) proper = plain (call.Command (command.Remove name)) (λ n e. absurd cc) refl (λ r e. absurd cc) (λ e. absurd cc) refl
+  call_goes (call.Command (command.Revert name)) proper = plain (call.Command (command.Revert name)) (λ n e. absurd cc) refl (λ r e. absurd cc) (λ e. absurd cc) refl
+  call_goes (call.Command command.Purge) proper = purge_entries (source_of spot.modes) refl
+  call_goes (call.Command command.Status) proper = plain (call.Command command.Status) (λ n e. absurd cc) refl (λ r e. absurd cc) (λ e. absurd cc) refl
+  call_goes (call.Command (command.Fail r)) proper = fail_entries r (mode_of spot.modes r) refl
+  call_goes (call.Command (command.Add r)) proper = add_entries r proper (refused_at spot (call.Command (command.Add r))) refl
+
+-- ---- one call after another
+
+-- of which stream a call is, and at which place, is nothing to what it leaves
+pub same_after : (spot : Spot) (stream place index : ℕ) (c : Call) → behind_entries spot (entries_at spot stream place index c) ≡ after_done spot c
+same_after spot stream place index c =
+    let marks = marks_unless (refused_at spot c) spot c in
+    let a = answer_for (refused_at spot c) spot stream place index c in
+    let b = answer_for (refused_at spot c) spot 0 0 0 c in
+    both _ _ _ _ (replay-append spot.state marks (a ∷ []) ∙ sym (replay-append spot.state marks (b ∷ [])))
+    (modes_after-append spot.modes marks (a ∷ []) ∙ sym (modes_after-append spot.modes marks (b ∷ [])))
+  where
+    spot_of : PlainState → List Mode → Spot
+    spot_of s ms = record { state = s; modes = ms }
+
+    both : (s t : PlainState) (ms ns : List Mode) → s ≡ t → ms ≡ ns → spot_of s ms ≡ spot_of t ns
+    both s t ms ns e f = cc
+
+-- entries that one worker makes there of so many calls, and where it stands then
+record Ran (opening : Spot) (before : List Entry) (spot : Spot) (es : List Entry) (next : Spot) (calls : ℕ) : Type 0 where
+  legal : LegalAfter opening before es
+  here : Here opening (before ++ es) next
+  raise : next.state.volume.snapshots.number ≤ spot.state.volume.snapshots.number + calls
+  faults : (stream replica : ℕ) → fault_counts stream replica es ≡ []
+
+ran_none : (opening : Spot) (before : List Entry) (spot : Spot) → Here opening before spot → Ran opening before spot [] spot 0
+ran_none opening before spot here = record { legal = tt; here = subst (λ l. Here opening l spot) (sym (append-nil before)) here; raise = omega arith; faults = λ s r. refl }
+
+ran_more : (opening : Spot) (before : List Entry) (spot : Spot) (xs ys : List Entry) (next last : Spot) (m n total : ℕ) → m + n ≡ total
+    → Ran opening before spot xs next m → Ran opening (before ++ xs) next ys last n → Ran opening before spot (xs ++ ys) last total
+ran_more opening before spot xs ys next last m n total sum a b = record {
+  legal = LegalAfter-append opening before xs ys a.legal b.legal;
+  here = subst (λ l. Here opening l last) (append_assoc before xs ys) b.here;
+  raise = omega (arith, sum, a.raise, b.raise);
+  faults = λ s r. fault_counts-append s r xs ys ∙ nil_nil (a.faults s r) (b.faults s r);
+}
+  where
+    nil_nil : {xs ys : List ℕ} → xs ≡ [] → ys ≡ [] → xs ++ ys ≡ []
+    nil_nil e f = cc
+
+ran_call : (opening : Spot) (before : List Entry) (spot : Spot) (stream place index : ℕ) (c : Call) → Here opening before spot → spot.state.volume.snapshots.number < 2 ^ 64
+    → IsProper (length opening.modes) c → Ran opening before spot (entries_at spot stream place index c) (after_done spot c) 1
+ran_call opening before spot stream place index c here fits proper =
+    let goes = call_goes opening before spot here fits stream place index c proper in
+    let same = same_after spot stream place index c in
+    record {
+      legal = goes.legal;
+      here = subst (Here opening (before ++ entries_at spot stream place index c)) same (here_behind opening before spot (entries_at spot stream place index c) here goes);
+      raise = subst (λ (s : Spot). s.state.volume.snapshots.number ≤ spot.state.volume.snapshots.number + 1) same goes.raise;
+      faults = goes.faults;
+    }
+
+ran_calls : (opening : Spot) (before : List Entry) (spot : Spot) (stream place index : ℕ) (cs : List Call) → Here opening before spot → spot.state.volume.snapshots.number + length cs ≤ 2 ^ 64
+    → AreProper (length opening.modes) cs → Ran opening before spot (served_from spot stream place index cs) (after_calls spot cs) (length cs)
+ran_calls opening before spot stream place index [] here fits proper = ran_none opening before spot here
+ran_calls opening before spot stream place index (c ∷ cs) here fits proper =
+    let first = entries_at spot stream place index c in
+    let one = ran_call opening before spot stream place index c here (omega (arith, fits)) proper.0 in
+    let rest = ran_calls opening (before ++ first) (after_done spot c) stream (behind place first) (suc index) cs one.here (omega (arith, fits, one.raise)) proper.1 in
+    ran_more opening before spot first (served_from (after_done spot c) stream (behind place first) (suc index) cs) (after_done spot c) (after_calls (after_done spot c) cs) 1 (length cs) (length (c ∷ cs)) (omega arith) one rest
+
+ran_streams : (opening : Spot) (before : List Entry) (spot : Spot) (stream place : ℕ) (css : List (List Call)) → Here opening before spot → spot.state.volume.snapshots.number + call_count css ≤ 2 ^ 64
+    → AllProper (length opening.modes) css → Ran opening before spot (served_streams spot stream place css) (after_streams spot css) (call_count css)
+ran_streams opening before spot stream place [] here fits proper = ran_none opening before spot here
+ran_streams opening before spot stream place (cs ∷ css) here fits proper =
+    let own = served_from spot stream place 0 cs in
+    let one = ran_calls opening before spot stream place 0 cs here (omega (arith, fits)) proper.0 in
+    let rest = ran_streams opening (before ++ own) (after_calls spot cs) (suc stream) (behind place own) css one.here (omega (arith, fits, one.raise)) proper.1 in
+    ran_more opening before spot own (served_streams (after_calls spot cs) (suc stream) (behind place own) css) (after_calls spot cs) (after_streams (after_calls spot cs) css) (length cs) (call_count css) (call_count (cs ∷ css)) (omega arith) one rest
 
 -- ---- the answers of each stream
 
-further : (p n : ℕ) → suc p + n ≡ p + suc n
-further p n = omega arith
-
--- those of a journal behind a journal
-pub answers_from-append :
-    (stream place : ℕ) (xs ys : List Entry)
-    → answers_from stream place (xs ++ ys) ≡ answers_from stream place xs ++ answers_from stream (place + length xs) ys
-answers_from-append stream place [] ys = ap (λ n. answers_from stream n ys) (omega arith)
-answers_from-append stream place (entry.Answer a ∷ xs) ys =
-    ap (λ l. cond (eqb a.stream stream) ((place, a) ∷ l) l) (
-    answers_from-append stream (suc place) xs ys
-    ∙ ap (λ n. answers_from stream (suc place) xs ++ answers_from stream n ys) (further place (length xs)))
-    ∙ choice (eqb a.stream stream) (place, a) (answers_from stream (suc place) xs) (answers_from stream (place + length (entry.Answer a ∷ xs)) ys)
-  where
-    choice : (b : Bool) (p : ℕ × Answer) (l m : List (ℕ × Answer)) → cond b (p ∷ (l ++ m)) (l ++ m) ≡ cond b (p ∷ l) l ++ m
-    choice true p l m = refl
-    choice false p l m = refl
-answers_from-append stream place (entry.Mark k ∷ xs) ys =
-    answers_from-append stream (suc place) xs ys
-    ∙ ap (λ n. answers_from stream (suc place) xs ++ answers_from stream n ys) (further place (length xs))
-
 -- marks are none
-no_marks : (stream place : ℕ) (parts : List FoldOrDrop) → answers_from stream place (marks_of parts) ≡ []
-no_marks stream place [] = refl
-no_marks stream place (f ∷ fs) = no_marks stream (suc place) fs
+no_marks_of : (stream place : ℕ) (parts : List FoldOrDrop) → answers_from stream place (marks_of parts) ≡ []
+no_marks_of stream place [] = refl
+no_marks_of stream place (f ∷ fs) = no_marks_of stream (suc place) fs
 
-none_before : (state : PlainState) (c : Call) (stream place : ℕ) → answers_from stream place (marks_before state c) ≡ []
-none_before state (call.Read offset n) stream place = refl
-none_before state (call.Write offset bytes) stream place = refl
-none_before state call.Ping stream place = refl
-none_before state (call.Other kind) stream place = refl
-none_before state (call.Command (command.Snapshot name)) stream place = refl
-none_before state (call.Command (command.Remove name)) stream place = refl
-none_before state (call.Command (command.Revert name)) stream place = refl
-none_before state (call.Command command.Purge) stream place = no_marks stream place (parts_of state.snapshots)
-none_before state (call.Command command.Status) stream place = refl
-
-abbrev answer_of : List Mode → PlainState → ℕ → ℕ → ℕ → Call → Answer
-answer_of modes state stream place index c = record { call = c; reply = (plain_step modes state c).1; index = index; saw = place; stream = stream }
+none_before : (spot : Spot) (why : Option Refusal) (c : Call) (stream place : ℕ) → answers_from stream place (marks_unless why spot c) ≡ []
+none_before spot (Some why) c stream place = refl
+none_before spot None (call.Read offset n) stream place = refl
+none_before spot None (call.Write offset bytes) stream place = refl
+none_before spot None call.Ping stream place = refl
+none_before spot None (call.Other kind) stream place = refl
+none_before spot None (call.Command (command.Snapshot name)) stream place = refl
+none_before spot None (call.Command (command.Remove name)) stream place = refl
+none_before spot None (call.Command (command.Revert name)) stream place = refl
+none_before spot None (call.Command command.Purge) stream place = no_marks_of stream place (parts_of spot.state.volume.snapshots)
+none_before spot None (call.Command command.Status) stream place = refl
+none_before spot None (call.Command (command.Fail r)) stream place = failed (mode_of spot.modes r)
+  where
+    failed : (m : Mode) → answers_from stream place (fail_marks r m) ≡ []
+    failed Rw = refl
+    failed Wo = refl
+    failed Err = refl
+none_before spot None (call.Command (command.Add r)) stream place = added (source_of spot.modes)
+  where
+    added : (x : Option ℕ) → answers_from stream place (add_marks spot.state r x) ≡ []
+    added None = refl
+    added (Some s) = refl
 
 own_answer :
-    (modes : List Mode) (state : PlainState) (stream place index n : ℕ) (c : Call)
-    → answers_from stream n (answer_at modes state stream place index c ∷ []) ≡ (n, answer_of modes state stream place index c) ∷ []
-own_answer modes state stream place index n c = rw (eq-eqb stream stream refl) refl
+    (spot : Spot) (stream place index n : ℕ) (c : Call)
+    → answers_from stream n (answer_for (refused_at spot c) spot stream place index c ∷ []) ≡ (n, answer_by spot c (refused_at spot c) stream place index) ∷ []
+own_answer spot stream place index n c = rw (eq-eqb stream stream refl) refl
 
 other_answer :
-    (modes : List Mode) (state : PlainState) (stream other place index n : ℕ) (c : Call) → (stream ≡ other → ⊥)
-    → answers_from other n (answer_at modes state stream place index c ∷ []) ≡ []
-other_answer modes state stream other place index n c apart = rw (ne_eqb stream other apart) refl
+    (spot : Spot) (stream other place index n : ℕ) (c : Call) → (stream ≡ other → ⊥)
+    → answers_from other n (answer_for (refused_at spot c) spot stream place index c ∷ []) ≡ []
+other_answer spot stream other place index n c apart = rw (ne_eqb stream other apart) refl
 
 -- a call's answer stands under its stream, behind its marks
 own_entries :
-    (modes : List Mode) (state : PlainState) (stream place index n : ℕ) (c : Call) (es : List Entry)
-    → answers_from stream n (entries_at modes state stream place index c ++ es)
-    ≡ (n + length (marks_before state c), answer_of modes (state_for state c) stream place index c)
-    ∷ answers_from stream (behind n (entries_at modes state stream place index c)) es
-own_entries modes state stream place index n c es =
-    let marks = marks_before state c in
-    let a = answer_at modes (state_for state c) stream place index c in
-    let one : answers_from stream n (marks ++ a ∷ []) ≡ (n + length marks, answer_of modes (state_for state c) stream place index c) ∷ [] =
-    answers_from-append stream n marks (a ∷ []) ∙ ap (λ l. l ++ answers_from stream (n + length marks) (a ∷ [])) (none_before state c stream n)
-    ∙ own_answer modes (state_for state c) stream place index (n + length marks) c in
+    (spot : Spot) (stream place index n : ℕ) (c : Call) (es : List Entry)
+    → answers_from stream n (entries_at spot stream place index c ++ es)
+    ≡ (n + length (marks_unless (refused_at spot c) spot c), answer_by spot c (refused_at spot c) stream place index)
+    ∷ answers_from stream (behind n (entries_at spot stream place index c)) es
+own_entries spot stream place index n c es =
+    let marks = marks_unless (refused_at spot c) spot c in
+    let a = answer_for (refused_at spot c) spot stream place index c in
+    let one : answers_from stream n (marks ++ a ∷ []) ≡ (n + length marks, answer_by spot c (refused_at spot c) stream place index) ∷ [] =
+    answers_from-append stream n marks (a ∷ []) ∙ ap (λ l. l ++ answers_from stream (n + length marks) (a ∷ [])) (none_before spot (refused_at spot c) c stream n)
+    ∙ own_answer spot stream place index (n + length marks) c in
     answers_from-append stream n (marks ++ a ∷ []) es ∙ ap (λ l. l ++ answers_from stream (behind n (marks ++ a ∷ [])) es) one
 
 -- and under no other
 other_entries :
-    (modes : List Mode) (state : PlainState) (stream other place index n : ℕ) (c : Call) (es : List Entry) → (stream ≡ other → ⊥)
-    → answers_from other n (entries_at modes state stream place index c ++ es)
-    ≡ answers_from other (behind n (entries_at modes state stream place index c)) es
-other_entries modes state stream other place index n c es apart =
-    let marks = marks_before state c in
-    let a = answer_at modes (state_for state c) stream place index c in
+    (spot : Spot) (stream other place index n : ℕ) (c : Call) (es : List Entry) → (stream ≡ other → ⊥)
+    → answers_from other n (entries_at spot stream place index c ++ es)
+    ≡ answers_from other (behind n (entries_at spot stream place index c)) es
+other_entries spot stream other place index n c es apart =
+    let marks = marks_unless (refused_at spot c) spot c in
+    let a = answer_for (refused_at spot c) spot stream place index c in
     let none : answers_from other n (marks ++ a ∷ []) ≡ [] =
-    answers_from-append other n marks (a ∷ []) ∙ ap (λ l. l ++ answers_from other (n + length marks) (a ∷ [])) (none_before state c other n)
-    ∙ other_answer modes (state_for state c) stream other place index (n + length marks) c apart in
+    answers_from-append other n marks (a ∷ []) ∙ ap (λ l. l ++ answers_from other (n + length marks) (a ∷ [])) (none_before spot (refused_at spot c) c other n)
+    ∙ other_answer spot stream other place index (n + length marks) c apart in
     answers_from-append other n (marks ++ a ∷ []) es ∙ ap (λ l. l ++ answers_from other (behind n (marks ++ a ∷ [])) es) none
 
 -- the answers of a stream's calls are in order
 pub served_in_order :
-    (modes : List Mode) (state : PlainState) (stream place index least : ℕ) (cs : List Call) → least ≤ place
-    → InOrderFrom index least (answers_from stream place (served_from modes state stream place index cs))
-served_in_order modes state stream place index least [] low = tt
-served_in_order modes state stream place index least (c ∷ cs) low =
-    let next = after_done modes state c in
-    let first = entries_at modes state stream place index c in
-    let last : behind place first ≡ suc (place + length (marks_before state c)) =
-    omega (arith, length-append (marks_before state c) (answer_at modes (state_for state c) stream place index c ∷ [])) in
-    subst (InOrderFrom index least) (sym (own_entries modes state stream place index place c (served_from modes next stream (behind place first) (suc index) cs))) (
+    (spot : Spot) (stream place index least : ℕ) (cs : List Call) → least ≤ place
+    → InOrderFrom index least (answers_from stream place (served_from spot stream place index cs))
+served_in_order spot stream place index least [] low = tt
+served_in_order spot stream place index least (c ∷ cs) low =
+    let next = after_done spot c in
+    let first = entries_at spot stream place index c in
+    let last : behind place first ≡ suc (place + length (marks_unless (refused_at spot c) spot c)) =
+    omega (arith, length-append (marks_unless (refused_at spot c) spot c) (answer_for (refused_at spot c) spot stream place index c ∷ [])) in
+    subst (InOrderFrom index least) (sym (own_entries spot stream place index place c (served_from next stream (behind place first) (suc index) cs))) (
       refl,
       low,
       omega arith,
-      served_in_order modes next stream (behind place first) (suc index) (suc (place + length (marks_before state c))) cs (omega (arith, last)),
+      served_in_order next stream (behind place first) (suc index) (suc (place + length (marks_unless (refused_at spot c) spot c))) cs (omega (arith, last)),
     )
 
 -- and those calls are in it, each once
 pub served_calls :
-    (modes : List Mode) (state : PlainState) (stream place index : ℕ) (cs : List Call)
-    → map (λ p. p.1.call) (answers_from stream place (served_from modes state stream place index cs)) ≡ cs
-served_calls modes state stream place index [] = refl
-served_calls modes state stream place index (c ∷ cs) =
-    let next = after_done modes state c in
-    let first = entries_at modes state stream place index c in
-    ap (map (λ p. p.1.call)) (own_entries modes state stream place index place c (served_from modes next stream (behind place first) (suc index) cs))
-    ∙ ap (λ l. c ∷ l) (served_calls modes next stream (behind place first) (suc index) cs)
+    (spot : Spot) (stream place index : ℕ) (cs : List Call)
+    → map (λ p. p.1.call) (answers_from stream place (served_from spot stream place index cs)) ≡ cs
+served_calls spot stream place index [] = refl
+served_calls spot stream place index (c ∷ cs) =
+    let next = after_done spot c in
+    let first = entries_at spot stream place index c in
+    ap (map (λ p. p.1.call)) (own_entries spot stream place index place c (served_from next stream (behind place first) (suc index) cs))
+    ∙ ap (λ l. c ∷ l) (served_calls next stream (behind place first) (suc index) cs)
 
 -- no other stream has answers among them
 pub served_no_other :
-    (modes : List Mode) (state : PlainState) (stream other n place index : ℕ) (cs : List Call) → (stream ≡ other → ⊥)
-    → answers_from other n (served_from modes state stream place index cs) ≡ []
-served_no_other modes state stream other n place index [] apart = refl
-served_no_other modes state stream other n place index (c ∷ cs) apart =
-    let next = after_done modes state c in
-    let first = entries_at modes state stream place index c in
-    other_entries modes state stream other place index n c (served_from modes next stream (behind place first) (suc index) cs) apart
-    ∙ served_no_other modes next stream other (behind n first) (behind place first) (suc index) cs apart
+    (spot : Spot) (stream other n place index : ℕ) (cs : List Call) → (stream ≡ other → ⊥)
+    → answers_from other n (served_from spot stream place index cs) ≡ []
+served_no_other spot stream other n place index [] apart = refl
+served_no_other spot stream other n place index (c ∷ cs) apart =
+    let next = after_done spot c in
+    let first = entries_at spot stream place index c in
+    other_entries spot stream other place index n c (served_from next stream (behind place first) (suc index) cs) apart
+    ∙ served_no_other next stream other (behind n first) (behind place first) (suc index) cs apart
 
 -- nor has a stream of a lower number, among those of streams
 pub none_below :
-    (modes : List Mode) (state : PlainState) (stream other n place : ℕ) (css : List (List Call)) → other < stream
-    → answers_from other n (served_streams modes state stream place css) ≡ []
-none_below modes state stream other n place [] low = refl
-none_below modes state stream other n place (cs ∷ css) low =
-    let next = after_calls modes state cs in
-    let own = served_from modes state stream place 0 cs in
-    answers_from-append other n own (served_streams modes next (suc stream) (behind place own) css)
-    ∙ joined (served_no_other modes state stream other n place 0 cs (λ e. apart stream other low e))
-    (none_below modes next (suc stream) other _ (behind place own) css (omega arith))
+    (spot : Spot) (stream other n place : ℕ) (css : List (List Call)) → other < stream
+    → answers_from other n (served_streams spot stream place css) ≡ []
+none_below spot stream other n place [] low = refl
+none_below spot stream other n place (cs ∷ css) low =
+    let next = after_calls spot cs in
+    let own = served_from spot stream place 0 cs in
+    answers_from-append other n own (served_streams next (suc stream) (behind place own) css)
+    ∙ joined (served_no_other spot stream other n place 0 cs (λ e. apart stream other low e))
+    (none_below next (suc stream) other _ (behind place own) css (omega arith))
   where
     apart : (s o : ℕ) → o < s → s ≡ o → ⊥
     apart s o low e = omega arith
@@ -264,81 +575,95 @@ none_below modes state stream other n place (cs ∷ css) low =
     joined e f = cc
 
 -- the answers of a stream among those of streams are those of its calls, from some state and place on
-pub record AnswersOf (modes : List Mode) (stream : ℕ) (calls : List Call) (answers : List (ℕ × Answer)) : Type 0 where
-  pub state : PlainState
+pub record AnswersOf (stream : ℕ) (calls : List Call) (answers : List (ℕ × Answer)) : Type 0 where
+  pub spot : Spot
   pub place : ℕ
-  pub are : answers ≡ answers_from stream place (served_from modes state stream place 0 calls)
+  pub are : answers ≡ answers_from stream place (served_from spot stream place 0 calls)
 
 -- a journal whose front has none of them
 AnswersOf-behind :
-    (modes : List Mode) (stream stream' place place' : ℕ) (calls : List Call) (front rest : List Entry)
+    (stream stream' place place' : ℕ) (calls : List Call) (front rest : List Entry)
     → stream ≡ stream' → place + length front ≡ place' → answers_from stream place front ≡ []
-    → AnswersOf modes stream' calls (answers_from stream' place' rest)
-    → AnswersOf modes stream calls (answers_from stream place (front ++ rest))
-AnswersOf-behind modes stream stream' place place' calls front rest same at none found = record {
-  state = found.state;
+    → AnswersOf stream' calls (answers_from stream' place' rest)
+    → AnswersOf stream calls (answers_from stream place (front ++ rest))
+AnswersOf-behind stream stream' place place' calls front rest same at none found = record {
+  spot = found.spot;
   place = found.place;
   are = answers_from-append stream place front rest ∙ ap (λ l. l ++ answers_from stream (place + length front) rest) none ∙ moved stream stream' _ place' same at
-      ∙ found.are ∙ ap (λ s. answers_from s found.place (served_from modes found.state s found.place 0 calls)) (sym same);
+      ∙ found.are ∙ ap (λ s. answers_from s found.place (served_from found.spot s found.place 0 calls)) (sym same);
 }
   where
     moved : (s s' p p' : ℕ) → s ≡ s' → p ≡ p' → answers_from s p rest ≡ answers_from s' p' rest
     moved s s' p p' e f = cc
 
 pub its_answers :
-    (modes : List Mode) (state : PlainState) (stream k place : ℕ) (css : List (List Call))
-    → AnswersOf modes (stream + k) (stream_of css k) (answers_from (stream + k) place (served_streams modes state stream place css))
-its_answers modes state stream k place [] = record { state = state; place = place; are = refl }
-its_answers modes state stream zero place (cs ∷ css) =
-    let own = served_from modes state stream place 0 cs in
-    let rest = served_streams modes (after_calls modes state cs) (suc stream) (behind place own) css in
+    (spot : Spot) (stream k place : ℕ) (css : List (List Call))
+    → AnswersOf (stream + k) (stream_of css k) (answers_from (stream + k) place (served_streams spot stream place css))
+its_answers spot stream k place [] = record { spot = spot; place = place; are = refl }
+its_answers spot stream zero place (cs ∷ css) =
+    let own = served_from spot stream place 0 cs in
+    let rest = served_streams (after_calls spot cs) (suc stream) (behind place own) css in
     record {
-      state = state;
+      spot = spot;
       place = place;
       are = answers_from-append (stream + 0) place own rest
-          ∙ ap (λ l. answers_from (stream + 0) place own ++ l) (none_below modes (after_calls modes state cs) (suc stream) (stream + 0) _ (behind place own) css (omega arith))
-          ∙ append-nil _ ∙ ap (λ s. answers_from (stream + 0) place (served_from modes state s place 0 cs)) (omega arith);
+          ∙ ap (λ l. answers_from (stream + 0) place own ++ l) (none_below (after_calls spot cs) (suc stream) (stream + 0) _ (behind place own) css (omega arith))
+          ∙ append-nil _ ∙ ap (λ s. answers_from (stream + 0) place (served_from spot s place 0 cs)) (omega arith);
     }
-its_answers modes state stream (suc k) place (cs ∷ css) =
-    let own = served_from modes state stream place 0 cs in
-    AnswersOf-behind modes (stream + suc k) (suc stream + k) place (behind place own) (stream_of css k) own _ (omega arith)
-    refl (served_no_other modes state stream (stream + suc k) place place 0 cs (apart stream k))
-    (its_answers modes (after_calls modes state cs) (suc stream) k (behind place own) css)
+its_answers spot stream (suc k) place (cs ∷ css) =
+    let own = served_from spot stream place 0 cs in
+    AnswersOf-behind (stream + suc k) (suc stream + k) place (behind place own) (stream_of css k) own _ (omega arith)
+    refl (served_no_other spot stream (stream + suc k) place place 0 cs (apart stream k))
+    (its_answers (after_calls spot cs) (suc stream) k (behind place own) css)
   where
     apart : (n k : ℕ) → n ≡ n + suc k → ⊥
     apart n k e = omega arith
 
 -- so they are in order
 pub AnswersOf-in_order :
-    (modes : List Mode) (stream : ℕ) (calls : List Call) (answers : List (ℕ × Answer)) → AnswersOf modes stream calls answers → InOrderFrom 0 0 answers
-AnswersOf-in_order modes stream calls answers found =
-    subst (InOrderFrom 0 0) (sym found.are) (served_in_order modes found.state stream found.place 0 0 calls (omega arith))
+    (stream : ℕ) (calls : List Call) (answers : List (ℕ × Answer)) → AnswersOf stream calls answers → InOrderFrom 0 0 answers
+AnswersOf-in_order stream calls answers found =
+    subst (InOrderFrom 0 0) (sym found.are) (served_in_order found.spot stream found.place 0 0 calls (omega arith))
 
 -- and each call is answered once
 pub AnswersOf-calls :
-    (modes : List Mode) (stream : ℕ) (calls : List Call) (answers : List (ℕ × Answer)) → AnswersOf modes stream calls answers
+    (stream : ℕ) (calls : List Call) (answers : List (ℕ × Answer)) → AnswersOf stream calls answers
     → map (λ p. p.1.call) answers ≡ calls
-AnswersOf-calls modes stream calls answers found =
-    ap (map (λ p. p.1.call)) found.are ∙ served_calls modes found.state stream found.place 0 calls
+AnswersOf-calls stream calls answers found =
+    ap (map (λ p. p.1.call)) found.are ∙ served_calls found.spot stream found.place 0 calls
 
 -- ---- the law
 
--- no fault is shown, so each line may have counted any
-pub none_shown : (counted : ℕ → ℕ → ℕ) (journal : List Entry) → FaultsShown counted journal
-none_shown counted journal = λ stream replica. subst (RisesTo (counted stream replica) 0) (sym (fault_counts-none stream replica journal)) tt
-
 pub served_is_history :
-    (opening : Opening) (counted : ℕ → ℕ → ℕ) (streams : List (List Call)) → HasSource opening.modes
+    (opening : Spot) (counted : ℕ → ℕ → ℕ) (streams : List (List Call)) → AllProper (length opening.modes) streams
+    → AreOwnFree opening.state → opening.state.volume.snapshots.number + call_count streams ≤ 2 ^ 64
     → IsHistory opening counted (stream_of streams) (served opening streams)
-served_is_history opening counted streams source = record {
-  legal = served_streams_legal opening [] opening.state 0 0 streams source refl;
-  order = λ stream. AnswersOf-in_order opening.modes stream (stream_of streams stream) _ (its stream);
-  each_once = λ stream. AnswersOf-calls opening.modes stream (stream_of streams stream) _ (its stream);
-  faults = none_shown counted (served opening streams);
-}
+served_is_history opening counted streams proper free fits =
+    let ran = ran_streams opening [] opening 0 0 streams (record { state = refl; modes = refl; idle = λ q. refl; free = free; many = refl }) fits proper in
+    record {
+      legal = ran.legal;
+      order = λ stream. AnswersOf-in_order stream (stream_of streams stream) _ (its stream);
+      each_once = λ stream. AnswersOf-calls stream (stream_of streams stream) _ (its stream);
+      faults = λ stream replica. subst (RisesTo (counted stream replica) 0) (sym (ran.faults stream replica)) tt;
+    }
   where
-    its : (stream : ℕ) → AnswersOf opening.modes stream (stream_of streams stream) (answers_from stream 0 (served opening streams))
-    its stream = subst (λ s. AnswersOf opening.modes s (stream_of streams stream) (answers_from s 0 (served opening streams))) (from_none stream) (its_answers opening.modes opening.state 0 stream 0 streams)
+    its : (stream : ℕ) → AnswersOf stream (stream_of streams stream) (answers_from stream 0 (served opening streams))
+    its stream = subst (λ s. AnswersOf s (stream_of streams stream) (answers_from s 0 (served opening streams))) (from_none stream) (its_answers opening 0 stream 0 streams)
       where
         from_none : (s : ℕ) → 0 + s ≡ s
         from_none s = omega arith
+
+-- the replay of the journal, and the modes after it, are where the worker stands
+pub left_by_streams : (opening : Spot) (streams : List (List Call)) → AllProper (length opening.modes) streams
+    → AreOwnFree opening.state → opening.state.volume.snapshots.number + call_count streams ≤ 2 ^ 64
+    → behind_entries opening (served opening streams) ≡ after_streams opening streams
+left_by_streams opening streams proper free fits =
+    let next = after_streams opening streams in
+    let here = (ran_streams opening [] opening 0 0 streams (record { state = refl; modes = refl; idle = λ q. refl; free = free; many = refl }) fits proper).here in
+    both (replay opening.state (served opening streams)) next.state (modes_after opening.modes (served opening streams)) next.modes here.state here.modes
+  where
+    spot_of : PlainState → List Mode → Spot
+    spot_of s ms = record { state = s; modes = ms }
+
+    both : (s t : PlainState) (ms ns : List Mode) → s ≡ t → ms ≡ ns → spot_of s ms ≡ spot_of t ns
+    both s t ms ns e f = cc

@@ -1,6 +1,8 @@
 -- One step of the plain disk, and the replay of it.
-use Rattle.std.proofs.Common.{◌≡◌, ℕ, ◌+◌, ◌≤◌, cond, List, [], ◌∷◌, ◌++◌, refl, arith}
-use Rattle.std.specs.Prelude.{Option, Some, None}
+use Rattle.std.proofs.Common.{◌≡◌, ℕ, suc, ◌+◌, ◌≤◌, inl, inr, cond, Bool, true, false, List, [], ◌∷◌, ◌++◌, length, refl, ◌∙◌, arith}
+use Rattle.std.specs.Prelude.{Option, Some, None, ℤ, nat_lt}
+use Rattle.std.proofs.lemmas.Bool.{cases_Bool}
+use Rattle.std.proofs.lemmas.List.{get_or_default}
 use Rattle.command_text.specs.declared.command.Command.{Command}
 use Rattle.command_text.specs.declared.command.Command.TheVariants as command
 use Rattle.volume_model.specs.declared.call.Call.{Call}
@@ -9,12 +11,22 @@ use Rattle.volume_model.specs.declared.call.Refusal.{Refusal}
 use Rattle.volume_model.specs.declared.entry.Entry.{Entry}
 use Rattle.volume_model.specs.declared.entry.Entry.TheVariants as entry
 use Rattle.volume_model.specs.declared.mode.Mode.{Mode}
-use Rattle.volume_model.specs.PlainState.{PlainState}
-use Rattle.volume_model.specs.PlainStep.{refusal_of, after_command, after_call, command_reply, reply_of, step_unless, plain_step}
+use Rattle.volume_model.specs.declared.mode.Mode.TheVariants.{Rw, Wo, Err}
+use Rattle.volume_model.specs.declared.mark.FoldOrDrop.{FoldOrDrop}
+use Rattle.volume_model.specs.declared.mark.Mark.TheVariants as mark
+use Rattle.volume_model.specs.declared.entry.Answer.{Answer}
+use Rattle.volume_model.specs.declared.call.Reply.{Reply}
+use Rattle.volume_model.specs.declared.call.Reply.TheVariants as reply
+use Rattle.volume_model.specs.declared.call.Refusal.TheVariants.{TooLong, OutOfRange, Unsupported, NameUsed, ChainFull, NoSuchSnapshot, NoReplica}
+use Rattle.volume_model.specs.Disk.{is_good}
+use Rattle.volume_model.specs.Snapshots.{layer_count, is_live}
+use Rattle.volume_model.specs.Marks.{marks_of, HasNoMark}
+use Rattle.volume_model.specs.History.{says_no_replica, HasNoReplica, IsAnswered}
+use Rattle.volume_model.specs.PlainState.{Volume, PlainState, is_used}
+use Rattle.volume_model.specs.PlainStep.{longest_call, most_layers, range_refusal, room_refusal, live_refusal, add_refusal, command_refusal, volume_refusal, name_refusal, or_else, refusal_of, after_call, reply_of, step_unless, plain_step}
 use Rattle.volume_model.specs.Replay.{is_refusal, after_entry, replay}
-use Rattle.volume_model.specs.Modes.{modes_after}
+use Rattle.volume_model.specs.Modes.{mode_of, modes_after_entry, modes_after, HasSource, HasNoSource}
 use Rattle.volume_model.specs.Faults.{fault_counts}
-use Rattle.volume_model.specs.OneWorker.{answer_at}
 
 -- the replay of two journals, one behind the other
 pub replay-append : (opening : PlainState) (before after : List Entry) → replay opening (before ++ after) ≡ replay (replay opening before) after
@@ -25,68 +37,146 @@ replay-append opening (e ∷ es) after = replay-append (after_entry opening e) e
 pub replay-push : (opening : PlainState) (before : List Entry) (e : Entry) → replay opening (before ++ e ∷ []) ≡ after_entry (replay opening before) e
 replay-push opening before e = replay-append opening before (e ∷ [])
 
--- what is done is no refusal
-command_is_kept :
-    (modes : List Mode) (state : PlainState) (c : Command)
-    → cond (is_refusal (command_reply modes state c)) state (after_command state c) ≡ after_command state c
-command_is_kept modes state (command.Snapshot name) = refl
-command_is_kept modes state (command.Remove name) = refl
-command_is_kept modes state (command.Revert name) = refl
-command_is_kept modes state command.Purge = refl
-command_is_kept modes state command.Status = refl
+-- the modes after two journals, one behind the other
+pub modes_after-append : (modes : List Mode) (before after : List Entry) → modes_after modes (before ++ after) ≡ modes_after (modes_after modes before) after
+modes_after-append modes [] after = refl
+modes_after-append modes (e ∷ es) after = modes_after-append (modes_after_entry modes e) es after
 
-done_is_kept :
-    (modes : List Mode) (state : PlainState) (c : Call)
-    → cond (is_refusal (reply_of modes state c)) state (after_call state c) ≡ after_call state c
-done_is_kept modes state (call.Read offset n) = refl
-done_is_kept modes state (call.Write offset bytes) = refl
-done_is_kept modes state call.Ping = refl
-done_is_kept modes state (call.Other kind) = refl
-done_is_kept modes state (call.Command c) = command_is_kept modes state c
+-- ---- journals of answers alone
 
-step_is_kept :
-    (why : Option Refusal) (modes : List Mode) (state : PlainState) (c : Call)
-    → cond (is_refusal (step_unless why modes state c).1) state (after_call state c) ≡ (step_unless why modes state c).0
-step_is_kept (Some why) modes state c = refl
-step_is_kept None modes state c = done_is_kept modes state c
+-- they leave the modes
+pub modes_after-no_mark : (modes : List Mode) (es : List Entry) → HasNoMark es → modes_after modes es ≡ modes
+modes_after-no_mark modes [] none = refl
+modes_after-no_mark modes (entry.Answer a ∷ es) none = modes_after-no_mark modes es none
+modes_after-no_mark modes (entry.Mark m ∷ es) none = absurd none
 
--- behind an answer stands the state that the plain step leaves
-pub after_entry-answer_at :
-    (modes : List Mode) (state : PlainState) (stream place index : ℕ) (c : Call)
-    → after_entry state (answer_at modes state stream place index c) ≡ (plain_step modes state c).0
-after_entry-answer_at modes state stream place index c = step_is_kept (refusal_of state c) modes state c
+pub no_mark-append : (xs ys : List Entry) → HasNoMark xs → HasNoMark ys → HasNoMark (xs ++ ys)
+no_mark-append [] ys c d = d
+no_mark-append (entry.Answer a ∷ xs) ys c d = no_mark-append xs ys c d
+no_mark-append (entry.Mark m ∷ xs) ys c d = absurd c
 
--- an answer leaves the modes, and so does the mark of a purge
-pub modes_after-same : (modes : List Mode) (es : List Entry) → modes_after modes es ≡ modes
-modes_after-same modes [] = refl
-modes_after-same modes (entry.Answer a ∷ es) = modes_after-same modes es
-modes_after-same modes (entry.Mark m ∷ es) = modes_after-same modes es
+-- ---- the plain disk has its replica
 
--- no entry is a mark of a fault
-pub fault_counts-none : (stream replica : ℕ) (es : List Entry) → fault_counts stream replica es ≡ []
-fault_counts-none stream replica [] = refl
-fault_counts-none stream replica (entry.Answer a ∷ es) = fault_counts-none stream replica es
-fault_counts-none stream replica (entry.Mark m ∷ es) = fault_counts-none stream replica es
+abbrev pub says_in : Option Refusal → Bool
+says_in (Some why) = says_no_replica (reply.Refused why)
+says_in None = false
+
+says-cond : (b : Bool) (x y : Option Refusal) → says_in x ≡ false → says_in y ≡ false → says_in (cond b x y) ≡ false
+says-cond true x y e f = e
+says-cond false x y e f = f
+
+says-or : (x y : Option Refusal) → says_in x ≡ false → says_in y ≡ false → says_in (or_else x y) ≡ false
+says-or None y e f = f
+says-or (Some why) y e f = e
+
+says-range : (volume : Volume) (offset : ℤ) (n : ℕ) → says_in (range_refusal volume offset n) ≡ false
+says-range volume offset n = says-cond (is_good (length volume.disk) offset n) None (Some OutOfRange) refl refl
+
+says-room : (volume : Volume) → says_in (room_refusal volume) ≡ false
+says-room volume = says-cond (nat_lt (layer_count volume.snapshots) most_layers) None (Some ChainFull) refl refl
+
+says-live : (volume : Volume) (name : List ℕ) → says_in (live_refusal volume name) ≡ false
+says-live volume name = says-cond (is_live volume.snapshots.tree name) None (Some NoSuchSnapshot) refl refl
+
+says-add : (m : Mode) (volume : Volume) → says_in (add_refusal m volume) ≡ false
+says-add Rw volume = refl
+says-add Wo volume = refl
+says-add Err volume = says-room volume
+
+says-command : (modes : List Mode) (volume : Volume) (c : Command) → says_in (command_refusal modes volume c) ≡ false
+says-command modes volume (command.Snapshot name) = says-room volume
+says-command modes volume (command.Remove name) = says-live volume name
+says-command modes volume (command.Revert name) = says-live volume name
+says-command modes volume command.Purge = refl
+says-command modes volume command.Status = refl
+says-command modes volume (command.Fail r) = refl
+says-command modes volume (command.Add r) = says-add (mode_of modes r) volume
+
+says-volume : (modes : List Mode) (volume : Volume) (c : Call) → says_in (volume_refusal modes volume c) ≡ false
+says-volume modes volume (call.Read offset n) = says-cond (nat_lt longest_call n) (Some TooLong) (range_refusal volume offset n) refl (says-range volume offset n)
+says-volume modes volume (call.Write offset bytes) = says-range volume offset (length bytes)
+says-volume modes volume call.Ping = refl
+says-volume modes volume (call.Other kind) = refl
+says-volume modes volume (call.Command c) = says-command modes volume c
+
+says-name : (used : List (List ℕ)) (c : Call) → says_in (name_refusal used c) ≡ false
+says-name used (call.Read offset n) = refl
+says-name used (call.Write offset bytes) = refl
+says-name used call.Ping = refl
+says-name used (call.Other kind) = refl
+says-name used (call.Command (command.Snapshot name)) = says-cond (is_used used name) (Some NameUsed) None refl refl
+says-name used (call.Command (command.Remove name)) = refl
+says-name used (call.Command (command.Revert name)) = refl
+says-name used (call.Command command.Purge) = refl
+says-name used (call.Command command.Status) = refl
+says-name used (call.Command (command.Fail r)) = refl
+says-name used (call.Command (command.Add r)) = refl
+
+pub says-refusal : (modes : List Mode) (state : PlainState) (c : Call) → says_in (refusal_of modes state c) ≡ false
+says-refusal modes state c =
+    says-or (name_refusal state.used c) (volume_refusal modes state.volume c) (says-name state.used c) (says-volume modes state.volume c)
+
+pub says-reply : (modes : List Mode) (volume : Volume) (c : Call) → says_no_replica (reply_of modes volume c) ≡ false
+says-reply modes volume (call.Read offset n) = refl
+says-reply modes volume (call.Write offset bytes) = refl
+says-reply modes volume call.Ping = refl
+says-reply modes volume (call.Other kind) = refl
+says-reply modes volume (call.Command (command.Snapshot name)) = refl
+says-reply modes volume (call.Command (command.Remove name)) = refl
+says-reply modes volume (call.Command (command.Revert name)) = refl
+says-reply modes volume (call.Command command.Purge) = refl
+says-reply modes volume (call.Command command.Status) = refl
+says-reply modes volume (call.Command (command.Fail r)) = refl
+says-reply modes volume (call.Command (command.Add r)) = refl
+
+says-unless : (why : Option Refusal) (modes : List Mode) (state : PlainState) (c : Call) → says_in why ≡ false
+    → says_no_replica (step_unless why modes state c).1 ≡ false
+says-unless (Some why) modes state c e = e
+says-unless None modes state c e = says-reply modes state.volume c
+
+-- the plain step never answers that there is no replica
+pub says-plain_step : (modes : List Mode) (state : PlainState) (c : Call) → says_no_replica (plain_step modes state c).1 ≡ false
+says-plain_step modes state c = says-unless (refusal_of modes state c) modes state c (says-refusal modes state c)
+
+-- what says that there is no replica is a refusal
+pub says_refusal : (r : Reply) → says_no_replica r ≡ true → is_refusal r ≡ true
+says_refusal reply.Done e = e
+says_refusal (reply.Read bytes) e = e
+says_refusal (reply.Status layers modes) e = e
+says_refusal (reply.Refused why) e = refl
+says_refusal (reply.Aborted place) e = refl
+
+-- where one is read and written, that there is none is not answered
+pub has_no_source : (modes : List Mode) → HasSource modes → HasNoSource modes → ⊥
+has_no_source modes source none = none source.0 (get_or_default modes source.0 Err Rw source.1 ∙ source.2)
+
+pub answered_plainly : (state : PlainState) (modes : List Mode) (a : Answer) → HasSource modes → IsAnswered state modes a → a.reply ≡ (plain_step modes state a.call).1
+answered_plainly state modes a source answered = elim (cases_Bool (says_no_replica a.reply)) [
+  | inl says ↦ absurd (has_no_source modes source (answered.none says).none)
+  | inr other ↦ answered.reply other
+]
 
 -- a step gives the head the next number, or leaves it
-done_raises : (state : PlainState) (c : Call) → (after_call state c).snapshots.number ≤ state.snapshots.number + 1
-done_raises state (call.Read offset n) = omega arith
-done_raises state (call.Write offset bytes) = omega arith
-done_raises state call.Ping = omega arith
-done_raises state (call.Other kind) = omega arith
-done_raises state (call.Command (command.Snapshot name)) = omega arith
-done_raises state (call.Command (command.Remove name)) = omega arith
-done_raises state (call.Command (command.Revert name)) = omega arith
-done_raises state (call.Command command.Purge) = omega arith
-done_raises state (call.Command command.Status) = omega arith
+pub call_raises : (state : PlainState) (c : Call) → (after_call state c).volume.snapshots.number ≤ state.volume.snapshots.number + 1
+call_raises state (call.Read offset n) = omega arith
+call_raises state (call.Write offset bytes) = omega arith
+call_raises state call.Ping = omega arith
+call_raises state (call.Other kind) = omega arith
+call_raises state (call.Command (command.Snapshot name)) = omega arith
+call_raises state (call.Command (command.Remove name)) = omega arith
+call_raises state (call.Command (command.Revert name)) = omega arith
+call_raises state (call.Command command.Purge) = omega arith
+call_raises state (call.Command command.Status) = omega arith
+call_raises state (call.Command (command.Fail r)) = omega arith
+call_raises state (call.Command (command.Add r)) = omega arith
 
 unless_raises :
     (why : Option Refusal) (modes : List Mode) (state : PlainState) (c : Call)
-    → (step_unless why modes state c).0.snapshots.number ≤ state.snapshots.number + 1
+    → (step_unless why modes state c).0.volume.snapshots.number ≤ state.volume.snapshots.number + 1
 unless_raises (Some why) modes state c = omega arith
-unless_raises None modes state c = done_raises state c
+unless_raises None modes state c = call_raises state c
 
 pub step_raises_number :
     (modes : List Mode) (state : PlainState) (c : Call)
-    → (plain_step modes state c).0.snapshots.number ≤ state.snapshots.number + 1
-step_raises_number modes state c = unless_raises (refusal_of state c) modes state c
+    → (plain_step modes state c).0.volume.snapshots.number ≤ state.volume.snapshots.number + 1
+step_raises_number modes state c = unless_raises (refusal_of modes state c) modes state c

@@ -1,5 +1,5 @@
 -- When a journal is one legal history, and in which order its calls stand.
-use Rattle.std.specs.Prelude.{◌≡◌, ℕ, suc, ◌≤◌, List, [], ◌∷◌, ◌++◌, map, if◌then◌else◌, ◌==◌, true, false}
+use Rattle.std.specs.Prelude.{◌≡◌, ◌≢◌, ℕ, suc, Bool, Option, None, Some, ◌≤◌, List, [], ◌∷◌, ◌++◌, map, if◌then◌else◌, ◌==◌, true, false}
 use Rattle.command_text.specs.declared.command.Command.TheVariants as command
 use Rattle.volume_model.specs.declared.call.Call.{Call}
 use Rattle.volume_model.specs.declared.call.Call.TheVariants as call
@@ -11,40 +11,98 @@ use Rattle.volume_model.specs.declared.mark.Mark.TheVariants as mark
 use Rattle.volume_model.specs.declared.mode.Mode.{Mode}
 use Rattle.volume_model.specs.PlainState.{PlainState}
 use Rattle.volume_model.specs.Purge.{CanBeDone, IsPurged}
-use Rattle.volume_model.specs.PlainStep.{plain_step}
+use Rattle.volume_model.specs.declared.call.Refusal.TheVariants.{NoReplica}
+use Rattle.volume_model.specs.declared.call.Reply.{Reply}
+use Rattle.volume_model.specs.declared.call.Reply.TheVariants as reply
+use Rattle.volume_model.specs.declared.mode.Mode.TheVariants.{Err}
+use Rattle.volume_model.specs.PlainStep.{plain_step, refusal_of}
 use Rattle.volume_model.specs.Replay.{is_refusal, replay}
-use Rattle.volume_model.specs.Modes.{modes_after, HasSource, is_change}
+use Rattle.volume_model.specs.Modes.{modes_after, mode_of, HasSource, HasNoSource, is_change, asks_replica}
 use Rattle.volume_model.specs.Faults.{FaultsShown}
+use Rattle.volume_model.specs.declared.mark.Rebuild.{Rebuild}
+use Rattle.volume_model.specs.declared.mark.Rebuild.TheVariants as rebuild
+use Rattle.volume_model.specs.Rebuilds.{added_by, rebuild_of, EndsWith, MayFall, MayBegin, MayPromote, MayAbort}
 
--- how a run begins: the plain state, and the mode of each replica
-pub record Opening : Type 0 where
+-- where a run stands: the plain state, and the mode of each replica
+pub record Spot : Type 0 where
   pub state : PlainState
   pub modes : List Mode
 
--- A call is answered as the plain disk answers there. A change was done only with a replica to read and write, and a
--- purge only where nothing is left to fold or to drop.
+-- whether it says that there is no replica
+abbrev pub says_no_replica : Reply → Bool
+says_no_replica (reply.Refused NoReplica) = true
+says_no_replica r = false
+
+-- the call may be answered that there is no replica: nothing else stands against it, and there is none
+pub record HasNoReplica (state : PlainState) (modes : List Mode) (c : Call) : Type 0 where
+  pub asks : asks_replica c ≡ true
+  pub refused : refusal_of modes state c ≡ None
+  pub none : HasNoSource modes
+
+-- A call is answered as the plain disk answers there, or that there is no replica. A change was done only with a replica
+-- to read and write, and a purge only where nothing is left to fold or to drop. One that was told to fail has failed.
 pub record IsAnswered (state : PlainState) (modes : List Mode) (a : Answer) : Type 0 where
-  pub reply : a.reply ≡ (plain_step modes state a.call).1
+  pub reply : says_no_replica a.reply ≡ false → a.reply ≡ (plain_step modes state a.call).1
+  pub none : says_no_replica a.reply ≡ true → HasNoReplica state modes a.call
+  pub fails : (replica : ℕ) → a.call ≡ call.Command (command.Fail replica) → mode_of modes replica ≡ Err
   pub source : is_change a.call ≡ true → is_refusal a.reply ≡ false → HasSource modes
   pub purged : a.call ≡ call.Command command.Purge → is_refusal a.reply ≡ false
-      → IsPurged state.snapshots.tree state.snapshots.on
+      → IsPurged state.volume.snapshots.tree state.volume.snapshots.on
 
--- what a mark tells could be done, on a replica to read and write
-abbrev pub CouldBe : PlainState → List Mode → Mark → Type 0
-CouldBe state modes (mark.Purged part) = CanBeDone state.snapshots.tree state.snapshots.on part × HasSource modes
+-- How an add of r is answered. Where no rebuild was begun it is refused as the plain disk refuses it, or for want of a
+-- replica. Else it ends with that rebuild: right behind its promotion, or telling the mark that ended it.
+abbrev pub EndsAdd : Rebuild → List Entry → PlainState → List Mode → Answer → ℕ → Type 0
+EndsAdd rebuild.Unasked before state modes a r = IsAnswered state modes a × (is_refusal a.reply ≡ true)
+EndsAdd (rebuild.Open source) before state modes a r = ⊥
+EndsAdd rebuild.Promoted before state modes a r = (a.reply ≡ reply.Done) × EndsWith before (mark.Promoted r)
+EndsAdd (rebuild.Aborted place) before state modes a r = a.reply ≡ reply.Aborted place
+
+-- an add is answered by its rebuild, and any other call by the volume
+abbrev pub IsEnded : Option ℕ → List Entry → PlainState → List Mode → Answer → Type 0
+IsEnded None before state modes a = IsAnswered state modes a
+IsEnded (Some r) before state modes a = EndsAdd (rebuild_of r before) before state modes a r
+
+-- the mark ends a rebuild
+abbrev pub IsEndOfRebuild : Mark → Type 0
+IsEndOfRebuild (mark.Aborted replica) = Unit {0}
+IsEndOfRebuild m = ⊥
+
+-- the next entry answers the call by which the replica failed
+abbrev pub FailsNow : ℕ → List Entry → Type 0
+FailsNow replica [] = ⊥
+FailsNow replica (entry.Answer a ∷ es) = a.call ≡ call.Command (command.Fail replica)
+FailsNow replica (entry.Mark m ∷ es) = ⊥
+
+-- the next answer is of the call by which the replica failed, behind at most the end of a rebuild
+abbrev pub FailsNext : ℕ → List Entry → Type 0
+FailsNext replica [] = ⊥
+FailsNext replica (entry.Answer a ∷ es) = a.call ≡ call.Command (command.Fail replica)
+FailsNext replica (entry.Mark m ∷ es) = IsEndOfRebuild m × FailsNow replica es
+
+-- What a mark tells could be done there, on a replica to read and write; a replica fails that had not.
+abbrev pub CouldBe : List Entry → List Entry → PlainState → List Mode → Mark → Type 0
+CouldBe before after state modes (mark.Purged part) = 
+    CanBeDone state.volume.snapshots.tree state.volume.snapshots.on part × HasSource modes
+CouldBe before after state modes (mark.Fault stream replica count) = MayFall modes before after replica
+CouldBe before after state modes (mark.Failed replica) = MayFall modes before after replica × FailsNext replica after
+CouldBe before after state modes (mark.Added replica source name) = MayBegin modes state before replica source name
+CouldBe before after state modes (mark.Promoted replica) = MayPromote before after replica
+CouldBe before after state modes (mark.Aborted replica) = MayAbort before replica
 
 -- an entry may stand between the entries before it and those after
-abbrev pub MayStand : Opening → List Entry → Entry → List Entry → Type 0
-MayStand opening before (entry.Answer a) after = IsAnswered (replay opening.state before) (modes_after opening.modes before) a
-MayStand opening before (entry.Mark m) after = CouldBe (replay opening.state before) (modes_after opening.modes before) m
+abbrev pub MayStand : Spot → List Entry → Entry → List Entry → Type 0
+MayStand opening before (entry.Answer a) after =
+    IsEnded (added_by a.call) before (replay opening.state before) (modes_after opening.modes before) a
+MayStand opening before (entry.Mark m) after =
+    CouldBe before after (replay opening.state before) (modes_after opening.modes before) m
 
 -- each of the entries may stand where it does, behind those before
-abbrev pub LegalAfter : Opening → List Entry → List Entry → Type 0
+abbrev pub LegalAfter : Spot → List Entry → List Entry → Type 0
 LegalAfter opening before [] = Unit {0}
 LegalAfter opening before (e ∷ es) = MayStand opening before e es × LegalAfter opening (before ++ e ∷ []) es
 
 -- each entry of the journal may stand where it does
-abbrev pub IsLegal : Opening → List Entry → Type 0
+abbrev pub IsLegal : Spot → List Entry → Type 0
 IsLegal opening journal = LegalAfter opening [] journal
 
 -- the answers of a stream, each with its place in the journal, the first entry being at `place`
@@ -73,7 +131,7 @@ abbrev pub SeenInOrder : List Entry → Type 0
 SeenInOrder journal = (stream : ℕ) → InOrderFrom 0 0 (answers_of stream journal)
 
 -- The journal is one legal history of these streams' calls, each once and in order, over lines that counted these faults.
-pub record IsHistory (opening : Opening) (counted : ℕ → ℕ → ℕ) (calls : ℕ → List Call) (journal : List Entry) : Type 0 where
+pub record IsHistory (opening : Spot) (counted : ℕ → ℕ → ℕ) (calls : ℕ → List Call) (journal : List Entry) : Type 0 where
   pub legal : IsLegal opening journal
   pub order : SeenInOrder journal
   pub each_once : (stream : ℕ) → calls_of stream journal ≡ calls stream

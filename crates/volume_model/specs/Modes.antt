@@ -1,27 +1,73 @@
 -- The modes of the replicas, as Longhorn's documentation of rebuilding names them. Marks alone change them.
-use Rattle.std.specs.Prelude.{List, [], ◌∷◌, Contains, Bool, true, false}
+use Rattle.std.specs.Prelude.{◌≡◌, ◌≢◌, ℕ, suc, ◌<◌, List, [], ◌∷◌, Contains, Bool, true, false, Option, Some, None, slice_index_or, slice_set}
 use Rattle.command_text.specs.declared.command.Command.{Command}
 use Rattle.command_text.specs.declared.command.Command.TheVariants as command
 use Rattle.volume_model.specs.declared.call.Call.{Call}
 use Rattle.volume_model.specs.declared.call.Call.TheVariants as call
 use Rattle.volume_model.specs.declared.entry.Entry.{Entry}
 use Rattle.volume_model.specs.declared.entry.Entry.TheVariants as entry
+use Rattle.volume_model.specs.declared.mark.Mark.{Mark}
+use Rattle.volume_model.specs.declared.mark.Mark.TheVariants as mark
 use Rattle.volume_model.specs.declared.mode.Mode.{Mode}
-use Rattle.volume_model.specs.declared.mode.Mode.TheVariants.{Rw}
+use Rattle.volume_model.specs.declared.mode.Mode.TheVariants.{Rw, Wo, Err}
 
--- the modes after one entry: an answer leaves them, and so does a purge
+-- the mode of a replica; one that is not there has failed
+abbrev pub mode_of : List Mode → ℕ → Mode
+mode_of modes replica = slice_index_or modes replica Err
+
+-- ---- what marks make of them
+
+-- the replica has failed, and the others are as they were
+abbrev pub with_failed : List Mode → ℕ → List Mode
+with_failed modes replica = slice_set modes replica Err
+
+-- the modes after a mark: a purge leaves them
+abbrev pub modes_after_mark : List Mode → Mark → List Mode
+modes_after_mark modes (mark.Purged part) = modes
+modes_after_mark modes (mark.Fault stream replica count) = with_failed modes replica
+modes_after_mark modes (mark.Failed replica) = with_failed modes replica
+modes_after_mark modes (mark.Added replica source name) = slice_set modes replica Wo
+modes_after_mark modes (mark.Promoted replica) = slice_set modes replica Rw
+modes_after_mark modes (mark.Aborted replica) = with_failed modes replica
+
+-- the modes after one entry: an answer leaves them
 abbrev pub modes_after_entry : List Mode → Entry → List Mode
 modes_after_entry modes (entry.Answer a) = modes
-modes_after_entry modes (entry.Mark m) = modes
+modes_after_entry modes (entry.Mark m) = modes_after_mark modes m
 
 -- the modes after these entries, one after another
 abbrev pub modes_after : List Mode → List Entry → List Mode
 modes_after modes [] = modes
 modes_after modes (e ∷ es) = modes_after (modes_after_entry modes e) es
 
--- some replica is read and written
+-- ---- the replicas that are read and written
+
+-- some replica is
 abbrev pub HasSource : List Mode → Type 0
 HasSource modes = Contains modes Rw
+
+-- none is
+abbrev pub HasNoSource : List Mode → Type 0
+HasNoSource modes = (replica : ℕ) → mode_of modes replica ≢ Rw
+
+-- the replica is the first that is
+pub record IsSource (modes : List Mode) (s : ℕ) : Type 0 where
+  pub read : mode_of modes s ≡ Rw
+  pub first : (q : ℕ) → q < s → mode_of modes q ≢ Rw
+
+-- the number of a replica more
+abbrev pub one_on : Option ℕ → Option ℕ
+one_on None = None
+one_on (Some r) = Some (suc r)
+
+-- the first that is, if one is
+abbrev pub source_of : List Mode → Option ℕ
+source_of [] = None
+source_of (Rw ∷ ms) = Some 0
+source_of (Wo ∷ ms) = one_on (source_of ms)
+source_of (Err ∷ ms) = one_on (source_of ms)
+
+-- ---- which calls want one
 
 -- whether the command, where it is done, was done on a replica to read and write
 abbrev pub is_command_change : Command → Bool
@@ -29,12 +75,16 @@ is_command_change (command.Snapshot name) = true
 is_command_change (command.Remove name) = true
 is_command_change (command.Revert name) = true
 is_command_change command.Purge = true
-is_command_change command.Status = false
+is_command_change c = false
 
 -- whether the call, where it is done, was done on a replica to read and write
 abbrev pub is_change : Call → Bool
-is_change (call.Read offset n) = false
 is_change (call.Write offset bytes) = true
-is_change call.Ping = false
-is_change (call.Other kind) = false
 is_change (call.Command c) = is_command_change c
+is_change c = false
+
+-- whether the call may be answered that there is no replica: it changes, it reads, or it rebuilds
+abbrev pub asks_replica : Call → Bool
+asks_replica (call.Read offset n) = true
+asks_replica (call.Command (command.Add r)) = true
+asks_replica c = is_change c

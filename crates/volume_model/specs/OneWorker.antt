@@ -1,89 +1,146 @@
--- The journal of streams whose calls one worker answers, one stream after another.
-use Rattle.std.specs.Prelude.{ℕ, suc, ◌+◌, List, [], ◌∷◌, ◌++◌, length, slice_index_or}
-use Rattle.command_text.specs.declared.command.Command.{Command}
+-- The journal of streams whose calls one worker answers, one stream after another, while no line fails.
+use Rattle.std.specs.Prelude.{◌≡◌, ℕ, zero, suc, ◌+◌, ◌<◌, Bool, true, false, ◌&&◌, List, [], ◌∷◌, ◌++◌, length, map, slice_index_or, Option, None, Some}
+use Rattle.vol_units.specs.Name.{begins_sys, sys_name}
 use Rattle.command_text.specs.declared.command.Command.TheVariants as command
 use Rattle.volume_model.specs.declared.call.Call.{Call}
 use Rattle.volume_model.specs.declared.call.Call.TheVariants as call
+use Rattle.volume_model.specs.declared.call.Refusal.{Refusal}
+use Rattle.volume_model.specs.declared.call.Refusal.TheVariants.{NoReplica}
 use Rattle.volume_model.specs.declared.entry.Entry.{Entry}
 use Rattle.volume_model.specs.declared.entry.Entry.TheVariants as entry
+use Rattle.volume_model.specs.declared.mark.Mark.{Mark}
+use Rattle.volume_model.specs.declared.mark.Mark.TheVariants as mark
 use Rattle.volume_model.specs.declared.mode.Mode.{Mode}
+use Rattle.volume_model.specs.declared.mode.Mode.TheVariants.{Rw, Wo, Err}
 use Rattle.volume_model.specs.PlainState.{PlainState}
-use Rattle.volume_model.specs.PlainStep.{plain_step}
+use Rattle.volume_model.specs.PlainStep.{or_else, refusal_of, step_unless}
 use Rattle.volume_model.specs.Purge.{parts_of}
 use Rattle.volume_model.specs.Marks.{marks_of}
 use Rattle.volume_model.specs.Replay.{replay}
-use Rattle.volume_model.specs.History.{Opening}
+use Rattle.volume_model.specs.declared.call.Reply.{Reply}
+use Rattle.volume_model.specs.Modes.{mode_of, modes_after, source_of, asks_replica}
+use Rattle.volume_model.specs.History.{Spot}
 
--- the marks of a command before its answer: a purge takes out all that can go
-abbrev pub marks_before_command : PlainState → Command → List Entry
-marks_before_command state (command.Snapshot name) = []
-marks_before_command state (command.Remove name) = []
-marks_before_command state (command.Revert name) = []
-marks_before_command state command.Purge = marks_of (parts_of state.snapshots)
-marks_before_command state command.Status = []
+-- ---- where the worker stands
 
--- the marks of a call before its answer
-abbrev pub marks_before : PlainState → Call → List Entry
-marks_before state (call.Read offset n) = []
-marks_before state (call.Write offset bytes) = []
-marks_before state call.Ping = []
-marks_before state (call.Other kind) = []
-marks_before state (call.Command c) = marks_before_command state c
+-- behind these entries
+abbrev pub behind_entries : Spot → List Entry → Spot
+behind_entries spot es = record { state = replay spot.state es; modes = modes_after spot.modes es }
 
--- what a call finds once its marks are made
-abbrev pub state_for : PlainState → Call → PlainState
-state_for state c = replay state (marks_before state c)
+-- ---- what stands against a call
 
--- the answer of a stream's call of this index, taken up at this place of the journal
-abbrev pub answer_at : List Mode → PlainState → ℕ → ℕ → ℕ → Call → Entry
-answer_at modes state stream place index c = entry.Answer (record {
-  call = c;
-  reply = (plain_step modes state c).1;
-  index = index;
-  saw = place;
-  stream = stream;
-})
+-- that there is none, where the call asks for one
+abbrev pub want_of_replica : Bool → Option ℕ → Option Refusal
+want_of_replica false source = None
+want_of_replica true None = Some NoReplica
+want_of_replica true (Some r) = None
 
--- the entries of that call: its marks, and its answer
-abbrev pub entries_at : List Mode → PlainState → ℕ → ℕ → ℕ → Call → List Entry
-entries_at modes state stream place index c =
-    marks_before state c ++ answer_at modes (state_for state c) stream place index c ∷ []
+-- what the volume refuses, and then that there is no replica
+abbrev pub refused_at : Spot → Call → Option Refusal
+refused_at spot c = or_else (refusal_of spot.modes spot.state c) (want_of_replica (asks_replica c) (source_of spot.modes))
+
+-- ---- the marks of a call before its answer
+
+-- a replica that has not failed does
+abbrev pub fail_marks : ℕ → Mode → List Entry
+fail_marks r Rw = entry.Mark (mark.Failed r) ∷ []
+fail_marks r Wo = entry.Mark (mark.Failed r) ∷ []
+fail_marks r Err = []
+
+-- a replica is rebuilt from that one, and read
+abbrev pub add_marks : PlainState → ℕ → Option ℕ → List Entry
+add_marks state r None = []
+add_marks state r (Some source) = entry.Mark (mark.Added r source (sys_name state.volume.snapshots.number)) ∷ entry.Mark (mark.Promoted r) ∷ []
+
+-- a purge takes out all that can go
+abbrev pub call_marks : Spot → Call → List Entry
+call_marks spot (call.Command command.Purge) = marks_of (parts_of spot.state.volume.snapshots)
+call_marks spot (call.Command (command.Fail r)) = fail_marks r (mode_of spot.modes r)
+call_marks spot (call.Command (command.Add r)) = add_marks spot.state r (source_of spot.modes)
+call_marks spot c = []
+
+-- a refused call makes none
+abbrev pub marks_unless : Option Refusal → Spot → Call → List Entry
+marks_unless (Some why) spot c = []
+marks_unless None spot c = call_marks spot c
+
+-- ---- the journal
+
+-- the marks that the worker makes of a call
+abbrev pub marks_before : Spot → Call → List Entry
+marks_before spot c = marks_unless (refused_at spot c) spot c
+
+-- a call's marks and its answer, where that stands against it: the answer of a stream's call of this index, taken up at
+-- this place of the journal
+abbrev pub reply_for : Option Refusal → Spot → Call → Reply
+reply_for why spot c = (step_unless why spot.modes spot.state c).1
+
+abbrev pub answer_for : Option Refusal → Spot → ℕ → ℕ → ℕ → Call → Entry
+answer_for why spot stream place index c = entry.Answer (record { call = c; reply = reply_for why spot c; index = index; saw = place; stream = stream })
+
+abbrev pub entries_for : Option Refusal → Spot → ℕ → ℕ → ℕ → Call → List Entry
+entries_for why spot stream place index c = marks_unless why spot c ++ answer_for why spot stream place index c ∷ []
+
+-- the entries of that call
+abbrev pub entries_at : Spot → ℕ → ℕ → ℕ → Call → List Entry
+entries_at spot stream place index c = entries_for (refused_at spot c) spot stream place index c
 
 -- what the call leaves
-abbrev pub after_done : List Mode → PlainState → Call → PlainState
-after_done modes state c = (plain_step modes (state_for state c) c).0
+abbrev pub after_done : Spot → Call → Spot
+after_done spot c = behind_entries spot (entries_at spot 0 0 0 c)
 
 -- the place behind these entries
 abbrev pub behind : ℕ → List Entry → ℕ
 behind place entries = place + length entries
 
 -- the entries of these calls of a stream, the first of which has this place and this index
-abbrev pub served_from : List Mode → PlainState → ℕ → ℕ → ℕ → List Call → List Entry
-served_from modes state stream place index [] = []
-served_from modes state stream place index (c ∷ cs) =
-    let first = entries_at modes state stream place index c in
-    first ++ served_from modes (after_done modes state c) stream (behind place first) (suc index) cs
+abbrev pub served_from : Spot → ℕ → ℕ → ℕ → List Call → List Entry
+served_from spot stream place index [] = []
+served_from spot stream place index (c ∷ cs) =
+    let first = entries_at spot stream place index c in
+    first ++ served_from (after_done spot c) stream (behind place first) (suc index) cs
 
--- the state after these calls, one after another
-abbrev pub after_calls : List Mode → PlainState → List Call → PlainState
-after_calls modes state [] = state
-after_calls modes state (c ∷ cs) = after_calls modes (after_done modes state c) cs
+-- where the worker stands after these calls, one after another
+abbrev pub after_calls : Spot → List Call → Spot
+after_calls spot [] = spot
+after_calls spot (c ∷ cs) = after_calls (after_done spot c) cs
 
--- the state after the calls of these streams
-abbrev pub after_streams : List Mode → PlainState → List (List Call) → PlainState
-after_streams modes state [] = state
-after_streams modes state (calls ∷ more) = after_streams modes (after_calls modes state calls) more
+-- after the calls of these streams
+abbrev pub after_streams : Spot → List (List Call) → Spot
+after_streams spot [] = spot
+after_streams spot (calls ∷ more) = after_streams (after_calls spot calls) more
 
 -- the entries of these streams, the first of which has this number, and its first entry this place
-abbrev pub served_streams : List Mode → PlainState → ℕ → ℕ → List (List Call) → List Entry
-served_streams modes state stream place [] = []
-served_streams modes state stream place (calls ∷ more) =
-    let first = served_from modes state stream place 0 calls in
-    first ++ served_streams modes (after_calls modes state calls) (suc stream) (behind place first) more
+abbrev pub served_streams : Spot → ℕ → ℕ → List (List Call) → List Entry
+served_streams spot stream place [] = []
+served_streams spot stream place (calls ∷ more) =
+    let first = served_from spot stream place 0 calls in
+    first ++ served_streams (after_calls spot calls) (suc stream) (behind place first) more
 
 -- the journal of the calls of each stream, in the order of their numbers
-abbrev pub served : Opening → List (List Call) → List Entry
-served opening streams = served_streams opening.modes opening.state 0 0 streams
+abbrev pub served : Spot → List (List Call) → List Entry
+served opening streams = served_streams opening 0 0 streams
+
+-- ---- calls as a script has them
+
+-- a snapshot is taken under a user's name, and a replica that is to be rebuilt is one of so many
+abbrev pub IsProper : ℕ → Call → Type 0
+IsProper replicas (call.Command (command.Snapshot name)) = begins_sys name ≡ false
+IsProper replicas (call.Command (command.Add r)) = r < replicas
+IsProper replicas c = Unit {0}
+
+abbrev pub AreProper : ℕ → List Call → Type 0
+AreProper replicas [] = Unit {0}
+AreProper replicas (c ∷ cs) = IsProper replicas c × AreProper replicas cs
+
+abbrev pub AllProper : ℕ → List (List Call) → Type 0
+AllProper replicas [] = Unit {0}
+AllProper replicas (calls ∷ more) = AreProper replicas calls × AllProper replicas more
+
+-- how many calls the streams have
+abbrev pub call_count : List (List Call) → ℕ
+call_count [] = 0
+call_count (calls ∷ more) = length calls + call_count more
 
 -- the calls of each stream, of these streams
 abbrev pub stream_of : List (List Call) → ℕ → List Call

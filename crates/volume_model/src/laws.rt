@@ -1,6 +1,6 @@
 //! What follows from the definitions alone. Each law is a contract.
 
-ghost use Rattle.std.specs.Prelude.{◌≡◌, ℕ, ℤ, ◌+◌, ◌≤◌, List, ◌∷◌, [], length, take, drop, Option, Some, None};
+ghost use Rattle.std.specs.Prelude.{◌≡◌, ℕ, ℤ, ◌+◌, ◌≤◌, ◌^◌, List, ◌∷◌, [], length, take, drop, Option, Some, None};
 ghost use Rattle.volume_model.specs.declared.call.Call.{Call};
 ghost use Rattle.volume_model.specs.declared.call.Refusal.{Refusal};
 ghost use Rattle.volume_model.specs.declared.call.Reply.TheVariants as reply;
@@ -11,14 +11,14 @@ ghost use Rattle.volume_model.specs.declared.names.UsedName.{UsedName};
 ghost use Rattle.volume_model.specs.Disk.{bytes_at, with_bytes_at};
 ghost use Rattle.volume_model.specs.Snapshots.{Snapshot, layer_count};
 ghost use Rattle.volume_model.specs.Purge.{IsFirst, IsPurged, next_in};
-ghost use Rattle.volume_model.specs.PlainState.{PlainState, written, snapped, reverted};
+ghost use Rattle.volume_model.specs.PlainState.{Volume, PlainState, written, snapped, reverted};
 ghost use Rattle.volume_model.specs.Marks.{HasNoMark};
 ghost use Rattle.volume_model.specs.PlainStep.{plain_step, refusal_of};
 ghost use Rattle.volume_model.specs.Replay.{replay};
 ghost use Rattle.volume_model.specs.Modes.{HasSource};
-ghost use Rattle.volume_model.specs.History.{Opening, IsLegal, IsHistory};
-ghost use Rattle.volume_model.specs.OneWorker.{served, after_streams, stream_of};
-ghost use Rattle.volume_model.specs.Names.{TellOf, AreNamed, names_after, layers_after};
+ghost use Rattle.volume_model.specs.History.{Spot, IsLegal, IsHistory};
+ghost use Rattle.volume_model.specs.OneWorker.{served, after_streams, stream_of, AllProper, call_count, behind_entries};
+ghost use Rattle.volume_model.specs.Names.{AreOwnFree, TellOf, AreNamed, names_after, layers_after};
 
 /// A write within the disk keeps its size, is read back, and leaves all bytes before and behind it.
 pub fn a_write_puts_its_bytes_and_no_others()
@@ -34,20 +34,20 @@ pub fn a_write_puts_its_bytes_and_no_others()
 
 /// A snapshot is a whole copy: what is written later does not show in it.
 pub fn a_snapshot_is_a_whole_copy()
-    ensures { (state : PlainState) (name bytes : List ℕ) (offset : ℤ)
-        → (reverted (written (snapped state name) offset bytes) name).disk ≡ state.disk }
+    ensures { (volume : Volume) (name bytes : List ℕ) (offset : ℤ)
+        → (reverted (written (snapped volume name) offset bytes) name).disk ≡ volume.disk }
 {}
 
 /// A refused call changes nothing, and is answered by the first that stands against it.
 pub fn a_refused_call_changes_nothing()
-    ensures { (modes : List Mode) (state : PlainState) (call : Call) (why : Refusal) → refusal_of state call ≡ Some why
+    ensures { (modes : List Mode) (state : PlainState) (call : Call) (why : Refusal) → refusal_of modes state call ≡ Some why
         → plain_step modes state call ≡ (state, reply.Refused why) }
 {}
 
 /// A call gives the head the next number, or leaves it.
 pub fn a_call_raises_the_number_by_at_most_one()
     ensures { (modes : List Mode) (state : PlainState) (call : Call)
-        → (plain_step modes state call).0.snapshots.number ≤ state.snapshots.number + 1 }
+        → (plain_step modes state call).0.volume.snapshots.number ≤ state.volume.snapshots.number + 1 }
 {}
 
 /// What goes next in a purge is the first that can go in byte order of names, and there is none exactly where nothing
@@ -61,33 +61,38 @@ pub fn the_next_to_go_is_the_first()
     ensures none { (tree : List Snapshot) (on : Option (List ℕ)) → IsPurged tree on → next_in tree on ≡ None }
 {}
 
-/// The calls of streams, answered one after another and one stream after another, make a legal history.
+/// The calls of streams, answered one after another and one stream after another while no line fails, make a legal
+/// history. They are as a script may have them: a user's snapshot has no name of the engine's own, and an `add` names a
+/// replica that there is.
 pub fn one_worker_makes_a_history()
-    ensures { (opening : Opening) (counted : ℕ → ℕ → ℕ) (streams : List (List Call)) → HasSource opening.modes
+    ensures { (opening : Spot) (counted : ℕ → ℕ → ℕ) (streams : List (List Call)) → AllProper (length opening.modes) streams
+        → AreOwnFree opening.state → opening.state.volume.snapshots.number + call_count streams ≤ 2 ^ 64
         → IsHistory opening counted (stream_of streams) (served opening streams) }
 {}
 
-/// A legal history of one stream's calls in which no mark stands is what answering them one after another gives.
+/// A legal history of one stream's calls in which no mark stands, on replicas of which one is read and written, is what
+/// answering them one after another gives.
 pub fn one_stream_has_one_history()
-    ensures { (opening : Opening) (counted : ℕ → ℕ → ℕ) (calls : List Call) (journal : List Entry)
+    ensures { (opening : Spot) (counted : ℕ → ℕ → ℕ) (calls : List Call) (journal : List Entry) → HasSource opening.modes
         → IsHistory opening counted (stream_of (calls ∷ [])) journal → HasNoMark journal
         → journal ≡ served opening (calls ∷ []) }
 {}
 
-/// The replay of that journal is what the calls leave.
+/// The replay of that journal, and the modes after it, are what the calls leave.
 pub fn the_replay_is_the_last_state()
-    ensures { (opening : Opening) (streams : List (List Call))
-        → replay opening.state (served opening streams) ≡ after_streams opening.modes opening.state streams }
+    ensures { (opening : Spot) (streams : List (List Call)) → AllProper (length opening.modes) streams
+        → AreOwnFree opening.state → opening.state.volume.snapshots.number + call_count streams ≤ 2 ^ 64
+        → behind_entries opening (served opening streams) ≡ after_streams opening streams }
 {}
 
 /// A legal journal tells which names were taken, which can be used, and how many layers there are. Where no two snapshots
 /// had one name, and none a name that was not taken, it is so behind the journal.
 pub fn a_journal_tells_of_its_snapshots()
-    ensures names { (opening : Opening) (names : List UsedName) (journal : List Entry) → IsLegal opening journal
-        → AreNamed opening.state.snapshots → TellOf names opening.state.snapshots
-        → TellOf (names_after names journal) (replay opening.state journal).snapshots }
-    ensures layers { (opening : Opening) (journal : List Entry) → IsLegal opening journal
-        → layers_after (layer_count opening.state.snapshots) journal ≡ layer_count (replay opening.state journal).snapshots }
-    ensures named { (opening : Opening) (journal : List Entry) → IsLegal opening journal
-        → AreNamed opening.state.snapshots → AreNamed (replay opening.state journal).snapshots }
+    ensures names { (opening : Spot) (names : List UsedName) (journal : List Entry) → IsLegal opening journal
+        → AreNamed opening.state → TellOf names opening.state
+        → TellOf (names_after names journal) (replay opening.state journal) }
+    ensures layers { (opening : Spot) (journal : List Entry) → IsLegal opening journal
+        → layers_after (layer_count opening.state.volume.snapshots) journal ≡ layer_count (replay opening.state journal).volume.snapshots }
+    ensures named { (opening : Spot) (journal : List Entry) → IsLegal opening journal
+        → AreNamed opening.state → AreNamed (replay opening.state journal) }
 {}
