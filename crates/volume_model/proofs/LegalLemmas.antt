@@ -10,7 +10,7 @@ use Rattle.volume_model.specs.declared.mode.Mode.{Mode}
 use Rattle.volume_model.specs.PlainState.{PlainState}
 use Rattle.volume_model.specs.Replay.{replay}
 use Rattle.volume_model.specs.Modes.{modes_after}
-use Rattle.volume_model.specs.Rebuilds.{BeginsWith, AddComes, MayFall, MayPromote}
+use Rattle.volume_model.specs.Rebuilds.{BeginsWith, AddComes, MayFall}
 use Rattle.volume_model.specs.History.{Spot, FailsNow, FailsNext, CouldBe, LegalAfter, answers_from}
 
 -- what is asked of the entries behind is asked of the first of them, so it stays where more come

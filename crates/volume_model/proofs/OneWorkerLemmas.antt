@@ -1,23 +1,19 @@
 -- The journal of streams that one worker answers, one stream after another, is a legal history.
-use Rattle.std.proofs.Common.{◌≡◌, ◌≢◌, ℕ, zero, suc, ◌+◌, ◌<◌, ◌≤◌, ◌^◌, ◌⊎◌, inl, inr, ⊎_elim, eqb, Bool, true, false, cond, List, [], ◌∷◌, ◌++◌, length, map, refl, sym, ap, subst, ◌∙◌, arith, set, get_or}
+use Rattle.std.proofs.Common.{◌≡◌, ◌≢◌, ℕ, zero, suc, ◌+◌, ◌<◌, ◌≤◌, ◌^◌, ⊎_elim, eqb, Bool, true, false, cond, List, [], ◌∷◌, ◌++◌, length, map, refl, sym, ap, subst, ◌∙◌, arith, set}
 use Rattle.std.specs.Prelude.{Option, None, Some}
-use Rattle.std.proofs.lemmas.Bool.{cases_Bool, cases_lt, eq-eqb, ne_eqb, true≢false}
+use Rattle.std.proofs.lemmas.Bool.{cases_lt, eq-eqb, ne_eqb, true≢false}
 use Rattle.std.proofs.lemmas.Bool.Decides.{nat_tests}
 use Rattle.std.proofs.lemmas.List.{append-nil, append_assoc, length-append, length-set, get_or-set_same, get_or_past}
 use Rattle.vol_units.specs.Name.{begins_sys, sys_name}
-use Rattle.command_text.specs.declared.command.Command.{Command}
 use Rattle.command_text.specs.declared.command.Command.TheVariants as command
 use Rattle.volume_model.specs.declared.call.Call.{Call}
 use Rattle.volume_model.specs.declared.call.Call.TheVariants as call
 use Rattle.volume_model.specs.declared.call.Refusal.{Refusal}
-use Rattle.volume_model.specs.declared.call.Refusal.TheVariants.{InUse, ChainFull, NoReplica}
-use Rattle.volume_model.specs.declared.call.Reply.TheVariants as reply
 use Rattle.volume_model.specs.declared.entry.Answer.{Answer}
 use Rattle.volume_model.specs.declared.entry.Entry.{Entry}
 use Rattle.volume_model.specs.declared.entry.Entry.TheVariants as entry
 use Rattle.volume_model.specs.declared.mark.FoldOrDrop.{FoldOrDrop}
 use Rattle.volume_model.specs.declared.mark.FoldOrDrop.TheVariants as part
-use Rattle.volume_model.specs.declared.mark.Mark.{Mark}
 use Rattle.volume_model.specs.declared.mark.Mark.TheVariants as mark
 use Rattle.volume_model.specs.declared.mark.Rebuild.{Rebuild}
 use Rattle.volume_model.specs.declared.mark.Rebuild.TheVariants as rebuild
@@ -25,12 +21,12 @@ use Rattle.volume_model.specs.declared.mode.Mode.{Mode}
 use Rattle.volume_model.specs.declared.mode.Mode.TheVariants.{Rw, Wo, Err}
 use Rattle.volume_model.specs.Snapshots.{Snapshots, layer_count}
 use Rattle.volume_model.specs.PlainState.{Volume, PlainState}
-use Rattle.volume_model.specs.PlainStep.{or_else, most_layers, room_refusal, add_refusal, refusal_of}
+use Rattle.volume_model.specs.PlainStep.{or_else, most_layers, room_refusal, add_refusal}
 use Rattle.volume_model.specs.Purge.{CanBeDone, IsPurged, next_of, with_part, parts_behind, parts_within, parts_of}
 use Rattle.volume_model.specs.Marks.{after_mark, marks_of}
-use Rattle.volume_model.specs.Replay.{is_refusal, after_entry, replay}
-use Rattle.volume_model.specs.Modes.{mode_of, modes_after, modes_after_entry, asks_replica, HasSource, source_of}
-use Rattle.volume_model.specs.Faults.{fault_counts, RisesTo, FaultsShown}
+use Rattle.volume_model.specs.Replay.{is_refusal, replay}
+use Rattle.volume_model.specs.Modes.{mode_of, modes_after, HasSource, source_of}
+use Rattle.volume_model.specs.Faults.{fault_counts, RisesTo}
 use Rattle.volume_model.specs.Names.{AreOwnFree}
 use Rattle.volume_model.specs.Rebuilds.{added_by, rebuild_after_add, rebuild_from, rebuild_of, MayBegin}
 use Rattle.volume_model.specs.History.{Spot, IsAnswered, IsEnded, EndsAdd, LegalAfter, answers_from, InOrderFrom, IsHistory}
@@ -97,8 +93,11 @@ module _ (opening : Spot) (before : List Entry) (spot : Spot) (here : Here openi
   quiet c user none fails purged marks empty =
       let a = answer_by spot c (refused_at spot c) stream place index in
       subst (λ l. Goes opening before spot (l ++ entry.Answer a ∷ [])) (sym empty) (record {
-        legal = (subst (λ x. IsEnded x before (replay opening.state before) (modes_after opening.modes before) a) (sym none)
-            (as_answered a (answered_there spot c stream place index fails purged)), tt);
+        legal = (
+          subst (λ x. IsEnded x before (replay opening.state before) (modes_after opening.modes before) a) (sym none)
+              (as_answered a (answered_there spot c stream place index fails purged)),
+          tt,
+        );
         free = own_entry spot.state (entry.Answer a) user here.free;
         idle = λ q place. ap (λ x. rebuild_after_add q rebuild.Unasked x) none;
         raise = entry_raises spot.state (entry.Answer a);
@@ -287,20 +286,20 @@ add_goes opening before spot stream place index r here fits there clear =
     one failed room s is = subst (λ x. Goes opening before spot (add_marks spot.state r x ++ entry.Answer a ∷ [])) (sym is) (record {
       legal = (
         subst (λ (state : PlainState). MayBegin (modes_after opening.modes before) state before r s name) (sym here.state)
-        (subst (λ modes. MayBegin modes spot.state before r s name) (sym here.modes) (record {
-          replica = omega (arith, there, here.many);
-          failed = failed;
-          source = source_is spot.modes s is;
-          room = room;
-          own = refl;
-          new = here.free spot.state.volume.snapshots.number (omega arith) fits;
-          alone = λ q t e. unasked≢open t (sym (here.idle q) ∙ e);
-        })),
+            (subst (λ modes. MayBegin modes spot.state before r s name) (sym here.modes) (record {
+              replica = omega (arith, there, here.many);
+              failed = failed;
+              source = source_is spot.modes s is;
+              room = room;
+              own = refl;
+              new = here.free spot.state.volume.snapshots.number (omega arith) fits;
+              alone = λ q t e. unasked≢open t (sym (here.idle q) ∙ e);
+            })),
         (
           record { source = s; begun = rebuild_of-push r before (entry.Mark (mark.Added r s name)) ∙ same_test r (rebuild.Open s) (rebuild_of r before); ends = refl },
           (
             subst (λ b. EndsAdd b ((before ++ entry.Mark (mark.Added r s name) ∷ []) ++ entry.Mark (mark.Promoted r) ∷ []) (replay opening.state ((before ++ entry.Mark (mark.Added r s name) ∷ []) ++ entry.Mark (mark.Promoted r) ∷ [])) (modes_after opening.modes ((before ++ entry.Mark (mark.Added r s name) ∷ []) ++ entry.Mark (mark.Promoted r) ∷ [])) a r) (sym (rebuilt s))
-            (refl, (before ++ entry.Mark (mark.Added r s name) ∷ [], refl)),
+                (refl, (before ++ entry.Mark (mark.Added r s name) ∷ [], refl)),
             tt,
           ),
         ),
@@ -353,8 +352,11 @@ module _ (opening : Spot) (before : List Entry) (spot : Spot) (here : Here openi
       let a = answer_by spot c (refused_at spot c) stream place index in
       let refusal : is_refusal a.reply ≡ true = ap (λ x. is_refusal (reply_for x spot c)) is in
       subst (λ x. Goes opening before spot (entries_for x spot stream place index c)) is (subst (λ l. Goes opening before spot (l ++ entry.Answer a ∷ [])) (sym (ap (λ x. marks_unless x spot c) is)) (record {
-        legal = (subst (λ b. EndsAdd b before (replay opening.state before) (modes_after opening.modes before) a r) (sym (here.idle r))
-            (as_answered opening before spot here fits stream place index a (answered_there spot c stream place index (λ q e. absurd cc) (λ e done. absurd cc)), refusal), tt);
+        legal = (
+          subst (λ b. EndsAdd b before (replay opening.state before) (modes_after opening.modes before) a r) (sym (here.idle r))
+              (as_answered opening before spot here fits stream place index a (answered_there spot c stream place index (λ q e. absurd cc) (λ e done. absurd cc)), refusal),
+          tt,
+        );
         free = own_entry spot.state (entry.Answer a) (λ name e. absurd cc) here.free;
         idle = λ q p. either (eqb r q);
         raise = entry_raises spot.state (entry.Answer a);

@@ -11,7 +11,6 @@ use Rattle.volume_model.specs.declared.entry.Answer.{Answer}
 use Rattle.volume_model.specs.declared.entry.Entry.{Entry}
 use Rattle.volume_model.specs.declared.entry.Entry.TheVariants as entry
 use Rattle.volume_model.specs.declared.mode.Mode.{Mode}
-use Rattle.volume_model.specs.PlainState.{PlainState}
 use Rattle.volume_model.specs.PlainStep.{or_else, refusal_of, plain_step}
 use Rattle.volume_model.specs.Marks.{marks_of, HasNoMark}
 use Rattle.volume_model.specs.Replay.{is_refusal, after_entry, replay}

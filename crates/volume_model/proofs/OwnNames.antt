@@ -1,8 +1,6 @@
 -- The engine's own names stay free from the head's number on.
-use Rattle.std.proofs.Common.{◌≡◌, ◌≢◌, ℕ, ◌+◌, ◌<◌, ◌≤◌, ◌^◌, ◌||◌, inl, inr, Bool, true, false, cond, List, [], ◌∷◌, ◌++◌, map, refl, sym, ap, subst, ◌∙◌, arith}
-use Rattle.std.specs.Prelude.{codes}
+use Rattle.std.proofs.Common.{◌≡◌, ◌≢◌, ℕ, ◌+◌, ◌<◌, ◌≤◌, ◌^◌, ◌||◌, inl, inr, Bool, true, false, cond, List, ◌∷◌, refl, sym, ap, subst, ◌∙◌, arith}
 use Rattle.std.specs.Fmt.{decimal}
-use Rattle.std.specs.List.{list_any}
 use Rattle.std.specs.Str.{bytes_eq}
 use Rattle.std.proofs.lemmas.Bool.{cases_Bool, true≢false}
 use Rattle.std.proofs.lemmas.Slice.Eq.{bytes_eq-Decides}
@@ -13,9 +11,7 @@ use Rattle.volume_model.specs.declared.call.Call.{Call}
 use Rattle.volume_model.specs.declared.call.Call.TheVariants as call
 use Rattle.volume_model.specs.declared.entry.Entry.{Entry}
 use Rattle.volume_model.specs.declared.entry.Entry.TheVariants as entry
-use Rattle.volume_model.specs.declared.mark.FoldOrDrop.{FoldOrDrop}
 use Rattle.volume_model.specs.declared.mark.FoldOrDrop.TheVariants as part
-use Rattle.volume_model.specs.declared.mark.Mark.{Mark}
 use Rattle.volume_model.specs.declared.mark.Mark.TheVariants as mark
 use Rattle.volume_model.specs.PlainState.{PlainState, is_used, with_used, taken}
 use Rattle.volume_model.specs.PlainStep.{after_call}

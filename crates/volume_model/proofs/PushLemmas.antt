@@ -1,16 +1,10 @@
 -- A journal with more entries at its end.
-use Rattle.std.proofs.Common.{◌≡◌, ℕ, List, [], ◌∷◌, ◌++◌, refl, sym, ap, subst, ◌∙◌}
-use Rattle.std.proofs.lemmas.List.{append_assoc}
-use Rattle.volume_model.specs.declared.entry.Answer.{Answer}
+use Rattle.std.proofs.Common.{◌≡◌, List, [], ◌∷◌, ◌++◌}
 use Rattle.volume_model.specs.declared.entry.Entry.{Entry}
-use Rattle.volume_model.specs.declared.entry.Entry.TheVariants as entry
-use Rattle.volume_model.specs.declared.mark.Mark.{Mark}
 use Rattle.volume_model.specs.declared.mode.Mode.{Mode}
-use Rattle.volume_model.specs.Replay.{replay}
-use Rattle.volume_model.specs.Modes.{modes_after_entry, modes_after, mode_of}
-use Rattle.volume_model.specs.Marks.{after_mark}
-use Rattle.volume_model.specs.History.{Spot, MayStand, LegalAfter, IsLegal}
-use Rattle.volume_model.proofs.StepLemmas.{replay-push, modes_after-append}
+use Rattle.volume_model.specs.Modes.{modes_after_entry, modes_after}
+use Rattle.volume_model.specs.History.{Spot, MayStand, IsLegal}
+use Rattle.volume_model.proofs.StepLemmas.{modes_after-append}
 use Rattle.volume_model.proofs.LegalLemmas.{LegalAfter-append}
 
 pub modes_after-push : (modes : List Mode) (es : List Entry) (e : Entry) → modes_after modes (es ++ e ∷ []) ≡ modes_after_entry (modes_after modes es) e

@@ -1,7 +1,6 @@
 -- The entries that the steps of a rebuild append to a legal journal.
-use Rattle.std.proofs.Common.{◌≡◌, ◌≢◌, ◌⊎◌, ℕ, zero, suc, ◌+◌, eqb, Bool, true, false, cond, List, [], ◌∷◌, ◌++◌, length, refl, sym, ap, subst, ◌∙◌, arith, inl, inr, ⊎_elim, Option, None, Some}
+use Rattle.std.proofs.Common.{◌≡◌, ◌≢◌, ◌⊎◌, ℕ, suc, ◌+◌, eqb, cond, List, [], ◌∷◌, ◌++◌, length, refl, sym, ap, subst, ◌∙◌, arith, inl, inr, ⊎_elim, Option, None, Some}
 use Rattle.std.proofs.lemmas.Bool.{eq-eqb, ne_eqb, cases_eq}
-use Rattle.std.proofs.lemmas.List.{append-nil, append_assoc, length-append}
 use Rattle.command_text.specs.declared.command.Command.TheVariants as command
 use Rattle.volume_model.specs.declared.call.Call.TheVariants as call
 use Rattle.volume_model.specs.declared.call.Reply.TheVariants as reply
@@ -9,7 +8,6 @@ use Rattle.volume_model.specs.declared.entry.Answer.{Answer}
 use Rattle.volume_model.specs.declared.entry.Entry.{Entry}
 use Rattle.volume_model.specs.declared.entry.Entry.TheVariants as entry
 use Rattle.volume_model.specs.declared.mark.FoldOrDrop.{FoldOrDrop}
-use Rattle.volume_model.specs.declared.mark.Mark.{Mark}
 use Rattle.volume_model.specs.declared.mark.Mark.TheVariants as mark
 use Rattle.volume_model.specs.declared.mark.Rebuild.{Rebuild}
 use Rattle.volume_model.specs.declared.mark.Rebuild.TheVariants as rebuild
@@ -19,8 +17,8 @@ use Rattle.volume_model.specs.Modes.{mode_of}
 use Rattle.volume_model.specs.declared.mode.Mode.TheVariants.{Err}
 use Rattle.volume_model.specs.Replay.{replay}
 use Rattle.volume_model.specs.Modes.{modes_after}
-use Rattle.volume_model.specs.History.{Spot, EndsAdd, IsEnded, IsAnswered, LegalAfter, IsLegal}
-use Rattle.volume_model.specs.Rebuilds.{added_by, rebuild_after_add, rebuild_after_entry, IsOpenOnly, rebuild_from, rebuild_of, MayFall}
+use Rattle.volume_model.specs.History.{Spot, EndsAdd, IsEnded, IsLegal}
+use Rattle.volume_model.specs.Rebuilds.{added_by, rebuild_after_add, rebuild_after_entry, IsOpenOnly, rebuild_from, rebuild_of}
 use Rattle.volume_model.proofs.LegalLemmas.{LegalAfter-append}
 
 pub rebuild_from-append : (r place : ℕ) (b : Rebuild) (xs ys : List Entry) → rebuild_from r place b (xs ++ ys) ≡ rebuild_from r (place + length xs) (rebuild_from r place b xs) ys
@@ -52,8 +50,11 @@ legal_promotion opening journal r source a legal begun is done =
     let now : rebuild_of r (journal ++ m ∷ []) ≡ rebuild.Promoted = rebuild_of-push r journal m ∙ same_test r rebuild.Promoted (rebuild_of r journal) in
     LegalAfter-append opening [] journal _ legal (
       record { source = source; begun = begun; ends = is },
-      (add_of a r is (journal ++ m ∷ []) _ _ (subst (λ b. EndsAdd b (journal ++ m ∷ []) (replay opening.state (journal ++ m ∷ [])) (modes_after opening.modes (journal ++ m ∷ [])) a r) (sym now)
-          (done, (journal, refl))), tt),
+      (
+        add_of a r is (journal ++ m ∷ []) _ _ (subst (λ b. EndsAdd b (journal ++ m ∷ []) (replay opening.state (journal ++ m ∷ [])) (modes_after opening.modes (journal ++ m ∷ [])) a r) (sym now)
+            (done, (journal, refl))),
+        tt,
+      ),
     )
 
 -- a fault of the source or of what is rebuilt, with the end of the rebuild
@@ -64,13 +65,16 @@ legal_fall opening journal w r count q source legal up begun only which =
     let m = entry.Mark (mark.Fault w r count) in
     LegalAfter-append opening [] journal _ legal (
       record { up = up; ends = λ p t is who. ap (λ k. entry.Mark (mark.Aborted k)) (sym (only p t is)) },
-      (record {
-        source = source;
-        begun = rebuild_of-push q journal m ∙ begun;
-        fell = mark.Fault w r count;
-        last = (journal, refl);
-        which = which;
-      }, tt),
+      (
+        record {
+          source = source;
+          begun = rebuild_of-push q journal m ∙ begun;
+          fell = mark.Fault w r count;
+          last = (journal, refl);
+          which = which;
+        },
+        tt,
+      ),
     )
 
 -- and then the answer of its add, which tells the place of that mark

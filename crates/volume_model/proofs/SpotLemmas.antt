@@ -1,27 +1,20 @@
 -- What one worker answers a call, and which entries it makes of it.
-use Rattle.std.proofs.Common.{◌≡◌, ◌≢◌, ℕ, zero, suc, ◌+◌, ◌<◌, ◌≤◌, ◌^◌, ◌⊎◌, inl, inr, ⊎_elim, eqb, Bool, true, false, cond, List, [], ◌∷◌, ◌++◌, length, map, refl, sym, ap, subst, ◌∙◌, arith, set, get_or}
-use Rattle.std.specs.Prelude.{Option, None, Some, ℤ}
-use Rattle.std.proofs.lemmas.Bool.{cases_Bool, true≢false}
-use Rattle.std.proofs.lemmas.List.{append-nil, length-set, get_or-set_same, get_or_past, get_or_default}
-use Rattle.vol_units.specs.Name.{sys_name}
-use Rattle.command_text.specs.declared.command.Command.{Command}
+use Rattle.std.proofs.Common.{◌≡◌, ◌≢◌, ℕ, zero, suc, ◌<◌, Bool, true, false, List, [], ◌∷◌, length, refl, sym, subst, ◌∙◌, arith}
+use Rattle.std.specs.Prelude.{Option, None, Some}
+use Rattle.std.proofs.lemmas.Bool.{true≢false}
+use Rattle.std.proofs.lemmas.List.{get_or_default}
 use Rattle.command_text.specs.declared.command.Command.TheVariants as command
 use Rattle.volume_model.specs.declared.call.Call.{Call}
 use Rattle.volume_model.specs.declared.call.Call.TheVariants as call
 use Rattle.volume_model.specs.declared.call.Refusal.{Refusal}
-use Rattle.volume_model.specs.declared.call.Refusal.TheVariants.{NoReplica}
-use Rattle.volume_model.specs.declared.call.Reply.{Reply}
-use Rattle.volume_model.specs.declared.call.Reply.TheVariants as reply
 use Rattle.volume_model.specs.declared.entry.Answer.{Answer}
 use Rattle.volume_model.specs.declared.mode.Mode.{Mode}
 use Rattle.volume_model.specs.declared.mode.Mode.TheVariants.{Rw, Wo, Err}
-use Rattle.volume_model.specs.PlainState.{PlainState}
-use Rattle.volume_model.specs.PlainStep.{or_else, refusal_of, reply_of, step_unless, plain_step}
+use Rattle.volume_model.specs.PlainStep.{or_else, refusal_of}
 use Rattle.volume_model.specs.Purge.{IsPurged}
 use Rattle.volume_model.specs.Replay.{is_refusal}
 use Rattle.volume_model.specs.Modes.{IsSource, mode_of, asks_replica, is_change, HasSource, HasNoSource, source_of, one_on}
-
-use Rattle.volume_model.specs.History.{Spot, says_no_replica, HasNoReplica, IsAnswered}
+use Rattle.volume_model.specs.History.{Spot, says_no_replica, IsAnswered}
 use Rattle.volume_model.specs.OneWorker.{want_of_replica, refused_at, reply_for}
 use Rattle.volume_model.proofs.StepLemmas.{says_in, says-refusal, says-reply}
 

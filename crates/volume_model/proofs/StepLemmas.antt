@@ -1,5 +1,5 @@
 -- One step of the plain disk, and the replay of it.
-use Rattle.std.proofs.Common.{◌≡◌, ℕ, suc, ◌+◌, ◌≤◌, inl, inr, cond, Bool, true, false, List, [], ◌∷◌, ◌++◌, length, refl, ◌∙◌, arith}
+use Rattle.std.proofs.Common.{◌≡◌, ℕ, ◌+◌, ◌≤◌, inl, inr, cond, Bool, true, false, List, [], ◌∷◌, ◌++◌, length, refl, ◌∙◌, arith}
 use Rattle.std.specs.Prelude.{Option, Some, None, ℤ, nat_lt}
 use Rattle.std.proofs.lemmas.Bool.{cases_Bool}
 use Rattle.std.proofs.lemmas.List.{get_or_default}
@@ -12,21 +12,18 @@ use Rattle.volume_model.specs.declared.entry.Entry.{Entry}
 use Rattle.volume_model.specs.declared.entry.Entry.TheVariants as entry
 use Rattle.volume_model.specs.declared.mode.Mode.{Mode}
 use Rattle.volume_model.specs.declared.mode.Mode.TheVariants.{Rw, Wo, Err}
-use Rattle.volume_model.specs.declared.mark.FoldOrDrop.{FoldOrDrop}
-use Rattle.volume_model.specs.declared.mark.Mark.TheVariants as mark
 use Rattle.volume_model.specs.declared.entry.Answer.{Answer}
 use Rattle.volume_model.specs.declared.call.Reply.{Reply}
 use Rattle.volume_model.specs.declared.call.Reply.TheVariants as reply
-use Rattle.volume_model.specs.declared.call.Refusal.TheVariants.{TooLong, OutOfRange, Unsupported, NameUsed, ChainFull, NoSuchSnapshot, NoReplica}
+use Rattle.volume_model.specs.declared.call.Refusal.TheVariants.{TooLong, OutOfRange, NameUsed, ChainFull, NoSuchSnapshot}
 use Rattle.volume_model.specs.Disk.{is_good}
 use Rattle.volume_model.specs.Snapshots.{layer_count, is_live}
-use Rattle.volume_model.specs.Marks.{marks_of, HasNoMark}
-use Rattle.volume_model.specs.History.{says_no_replica, HasNoReplica, IsAnswered}
+use Rattle.volume_model.specs.Marks.{HasNoMark}
+use Rattle.volume_model.specs.History.{says_no_replica, IsAnswered}
 use Rattle.volume_model.specs.PlainState.{Volume, PlainState, is_used}
 use Rattle.volume_model.specs.PlainStep.{longest_call, most_layers, range_refusal, room_refusal, live_refusal, add_refusal, command_refusal, volume_refusal, name_refusal, or_else, refusal_of, after_call, reply_of, step_unless, plain_step}
 use Rattle.volume_model.specs.Replay.{is_refusal, after_entry, replay}
 use Rattle.volume_model.specs.Modes.{mode_of, modes_after_entry, modes_after, HasSource, HasNoSource}
-use Rattle.volume_model.specs.Faults.{fault_counts}
 
 -- the replay of two journals, one behind the other
 pub replay-append : (opening : PlainState) (before after : List Entry) → replay opening (before ++ after) ≡ replay (replay opening before) after

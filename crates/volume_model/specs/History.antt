@@ -1,5 +1,5 @@
 -- When a journal is one legal history, and in which order its calls stand.
-use Rattle.std.specs.Prelude.{◌≡◌, ◌≢◌, ℕ, suc, Bool, Option, None, Some, ◌≤◌, List, [], ◌∷◌, ◌++◌, map, if◌then◌else◌, ◌==◌, true, false}
+use Rattle.std.specs.Prelude.{◌≡◌, ℕ, suc, Bool, Option, None, Some, ◌≤◌, List, [], ◌∷◌, ◌++◌, map, if◌then◌else◌, ◌==◌, true, false}
 use Rattle.command_text.specs.declared.command.Command.TheVariants as command
 use Rattle.volume_model.specs.declared.call.Call.{Call}
 use Rattle.volume_model.specs.declared.call.Call.TheVariants as call
@@ -81,7 +81,7 @@ FailsNext replica (entry.Mark m ∷ es) = IsEndOfRebuild m × FailsNow replica e
 
 -- What a mark tells could be done there, on a replica to read and write; a replica fails that had not.
 abbrev pub CouldBe : List Entry → List Entry → PlainState → List Mode → Mark → Type 0
-CouldBe before after state modes (mark.Purged part) = 
+CouldBe before after state modes (mark.Purged part) =
     CanBeDone state.volume.snapshots.tree state.volume.snapshots.on part × HasSource modes
 CouldBe before after state modes (mark.Fault stream replica count) = MayFall modes before after replica
 CouldBe before after state modes (mark.Failed replica) = MayFall modes before after replica × FailsNext replica after
