@@ -61,7 +61,7 @@ is_live_in-marked name q (n ∷ ns) =
     one true n rest = refl
     one false n rest = refl
 
-is_live-marked : (name q : List ℕ) (tree : List Snapshot) → is_live (map (marked_if name) tree) q ≡ cond (bytes_eq name q) false (is_live tree q)
+pub is_live-marked : (name q : List ℕ) (tree : List Snapshot) → is_live (map (marked_if name) tree) q ≡ cond (bytes_eq name q) false (is_live tree q)
 is_live-marked name q [] = never (bytes_eq name q)
 is_live-marked name q (s ∷ ss) =
     one (bytes_eq name s.name) s _
@@ -223,7 +223,7 @@ once-part s (part.Fold p c) once = once-given c (parent_in p s.tree) (dropped p 
 once-part s (part.Drop p) once = once-dropped p s.tree once
 
 -- the same names can be used
-is_live-part : (s : Snapshots) (p : FoldOrDrop) (q : List ℕ) → NamesOnce s.tree → CanBeDone s.tree s.on p → is_live (with_part s p).tree q ≡ is_live s.tree q
+pub is_live-part : (s : Snapshots) (p : FoldOrDrop) (q : List ℕ) → NamesOnce s.tree → CanBeDone s.tree s.on p → is_live (with_part s p).tree q ≡ is_live s.tree q
 is_live-part s (part.Fold p c) q once can =
     is_live-given c (parent_in p s.tree) q (dropped p s.tree) ∙ is_live-dropped p q s.tree once can.marked
 is_live-part s (part.Drop p) q once can = is_live-dropped p q s.tree once can.marked
@@ -272,13 +272,13 @@ answer_stands before state modes a ended = λ name is done. plainly name is done
     ]
 
 -- so does each that may stand behind a journal that leaves them
-stands : (opening : Spot) (before : List Entry) (state : PlainState) (e : Entry) (after : List Entry)
+pub stands : (opening : Spot) (before : List Entry) (state : PlainState) (e : Entry) (after : List Entry)
     → replay opening.state before ≡ state → MayStand opening before e after → StandsAt state e
 stands opening before state (entry.Answer a) after at may = subst (λ s. StandsAt s (entry.Answer a)) at (answer_stands before (replay opening.state before) (modes_after opening.modes before) a may)
 stands opening before state (entry.Mark m) after at may = subst (λ s. MarkStands s m) at (mark_stands before after (replay opening.state before) (modes_after opening.modes before) m may)
 
 -- and the state behind it is that of the journal with it
-next : (opening : Spot) (before : List Entry) (state : PlainState) (e : Entry)
+pub next : (opening : Spot) (before : List Entry) (state : PlainState) (e : Entry)
     → replay opening.state before ≡ state → replay opening.state (before ++ e ∷ []) ≡ after_entry state e
 next opening before state e at = replay-push opening.state before e ∙ ap (λ s. after_entry s e) at
 
@@ -313,7 +313,7 @@ named_marked name state named = record {
 }
 
 -- a part of a purge
-named_part : (state : PlainState) (p : FoldOrDrop) → AreNamed state → AreNamed (after_mark state (mark.Purged p))
+pub named_part : (state : PlainState) (p : FoldOrDrop) → AreNamed state → AreNamed (after_mark state (mark.Purged p))
 named_part state p named = record {
   once = once-part state.volume.snapshots p named.once;
   taken = λ q there. named.taken q (elim (cases_Bool (has_name state.volume.snapshots.tree q)) [
@@ -338,7 +338,7 @@ named_called state (call.Command (command.Fail r)) new named = named
 named_called state (call.Command (command.Add r)) new named = named
 
 -- a call that was answered so
-named_unless : (refused : Bool) (state : PlainState) (c : Call) → ((name : List ℕ) → c ≡ call.Command (command.Snapshot name) → refused ≡ false → is_used state.used name ≡ false)
+pub named_unless : (refused : Bool) (state : PlainState) (c : Call) → ((name : List ℕ) → c ≡ call.Command (command.Snapshot name) → refused ≡ false → is_used state.used name ≡ false)
     → AreNamed state → AreNamed (cond refused state (after_call state c))
 named_unless true state c new named = named
 named_unless false state c new named = named_called state c (λ name is. new name is refl) named

@@ -119,7 +119,7 @@ pub replay-marks : (state : PlainState) (parts : List FoldOrDrop)
 replay-marks state [] = refl
 replay-marks state (f ∷ fs) = replay-marks (after_mark state (mark.Purged f)) fs
 
-parts_keep_number : (s : Snapshots) (parts : List FoldOrDrop) → (after_parts s parts).number ≡ s.number
+pub parts_keep_number : (s : Snapshots) (parts : List FoldOrDrop) → (after_parts s parts).number ≡ s.number
 parts_keep_number s [] = refl
 parts_keep_number s (part.Fold p c ∷ fs) = parts_keep_number (with_part s (part.Fold p c)) fs
 parts_keep_number s (part.Drop p ∷ fs) = parts_keep_number (with_part s (part.Drop p)) fs
@@ -654,18 +654,3 @@ served_is_history opening counted streams proper free fits =
       where
         from_none : (s : ℕ) → 0 + s ≡ s
         from_none s = omega arith
-
--- the replay of the journal, and the modes after it, are where the worker stands
-pub left_by_streams : (opening : Spot) (streams : List (List Call)) → AllProper (length opening.modes) streams
-    → AreOwnFree opening.state → opening.state.volume.snapshots.number + call_count streams ≤ 2 ^ 64
-    → behind_entries opening (served opening streams) ≡ after_streams opening streams
-left_by_streams opening streams proper free fits =
-    let next = after_streams opening streams in
-    let here = (ran_streams opening [] opening 0 0 streams (record { state = refl; modes = refl; idle = λ q. refl; free = free; many = refl }) fits proper).here in
-    both (replay opening.state (served opening streams)) next.state (modes_after opening.modes (served opening streams)) next.modes here.state here.modes
-  where
-    spot_of : PlainState → List Mode → Spot
-    spot_of s ms = record { state = s; modes = ms }
-
-    both : (s t : PlainState) (ms ns : List Mode) → s ≡ t → ms ≡ ns → spot_of s ms ≡ spot_of t ns
-    both s t ms ns e f = cc

@@ -18,6 +18,7 @@ ghost use Rattle.volume_model.specs.Replay.{replay};
 ghost use Rattle.volume_model.specs.Modes.{HasSource};
 ghost use Rattle.volume_model.specs.History.{Spot, IsLegal, IsHistory};
 ghost use Rattle.volume_model.specs.OneWorker.{served, after_streams, stream_of, AllProper, call_count, behind_entries};
+ghost use Rattle.volume_model.specs.Copies.{IsWhole};
 ghost use Rattle.volume_model.specs.Names.{AreOwnFree, TellOf, AreNamed, names_after, layers_after};
 
 /// A write within the disk keeps its size, is read back, and leaves all bytes before and behind it.
@@ -80,8 +81,7 @@ pub fn one_stream_has_one_history()
 
 /// The replay of that journal, and the modes after it, are what the calls leave.
 pub fn the_replay_is_the_last_state()
-    ensures { (opening : Spot) (streams : List (List Call)) → AllProper (length opening.modes) streams
-        → AreOwnFree opening.state → opening.state.volume.snapshots.number + call_count streams ≤ 2 ^ 64
+    ensures { (opening : Spot) (streams : List (List Call))
         → behind_entries opening (served opening streams) ≡ after_streams opening streams }
 {}
 
@@ -95,4 +95,10 @@ pub fn a_journal_tells_of_its_snapshots()
         → layers_after (layer_count opening.state.volume.snapshots) journal ≡ layer_count (replay opening.state journal).volume.snapshots }
     ensures named { (opening : Spot) (journal : List Entry) → IsLegal opening journal
         → AreNamed opening.state → AreNamed (replay opening.state journal) }
+{}
+
+/// A legal journal keeps the size of the disk, and has a copy of that size for each snapshot that can be used.
+pub fn a_legal_journal_keeps_the_copies()
+    ensures { (opening : Spot) (size : ℕ) (journal : List Entry) → IsLegal opening journal → AreNamed opening.state
+        → IsWhole size opening.state.volume → IsWhole size (replay opening.state journal).volume }
 {}
