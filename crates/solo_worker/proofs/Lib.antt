@@ -1,4 +1,6 @@
-pub mod AnswerLemmas
 pub mod ScriptLemmas
-pub mod SoloLemmas
+pub mod AddsLemmas
+pub mod StepLemmas
 pub mod PurgeLemmas
+pub mod AnswerLemmas
+pub mod SoloLemmas

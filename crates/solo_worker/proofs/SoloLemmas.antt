@@ -1,43 +1,66 @@
 -- What the serving of all streams of a script leaves.
-use Rattle.std.proofs.Common.{◌≡◌, List, [], ◌++◌, map, length, replicate, sym, ap, ◌∙◌}
+use Rattle.std.proofs.Common.{◌≡◌, ℕ, List, [], ◌∷◌, ◌++◌, map, length, replicate, refl, sym, ap, subst, ◌∙◌, arith, lit<}
 use Rattle.journal_book.specs.Book.{Book}
+use Rattle.journal_book.specs.declared.opening.Opening.{Opening}
 use Rattle.volume_model.specs.declared.call.Call.{Call}
 use Rattle.volume_model.specs.declared.entry.Entry.{Entry}
 use Rattle.volume_model.specs.declared.mode.Mode.{Mode}
 use Rattle.volume_model.specs.declared.mode.Mode.TheVariants.{Rw}
+use Rattle.volume_model.specs.declared.names.UsedName.{UsedName}
 use Rattle.volume_model.specs.Disk.{zeros}
-use Rattle.volume_model.specs.PlainState.{PlainState, state_of}
+use Rattle.volume_model.specs.PlainState.{Volume, volume_of}
+use Rattle.volume_model.specs.Modes.{modes_after, HasSource}
+use Rattle.volume_model.specs.Names.{names_after, names_in}
 use Rattle.volume_model.specs.Replay.{replay}
-use Rattle.volume_model.specs.OneWorker.{served, served_streams, after_streams}
-use Rattle.volume_model.proofs.ServedLemmas.{replay-served_streams}
+use Rattle.volume_model.specs.History.{Spot}
+use Rattle.volume_model.specs.OneWorker.{served, served_streams}
 use Rattle.script_text.specs.declared.script.Script.{Script}
 use Rattle.script_text.specs.declared.script.Stream.{Stream}
+use Rattle.script_text.specs.Script.{IsScript}
 use Rattle.solo_worker.specs.Volume.{opening_of, calls_of, calls_in}
-use Rattle.solo_worker.specs.Serving.{AnswersStreams}
+use Rattle.solo_worker.specs.Serving.{spot_of, IsReady, AnswersStreams}
+use Rattle.solo_worker.proofs.ScriptLemmas.{one_replica}
+
+-- a journal without entries, over the volume that a script begins with, stands where the script begins
+pub at_start : (script : Script) (book : Book) (volume : Volume) → book.opening.modes ≡ replicate script.replicas Rw → book.opening.names ≡ [] → book.entries ≡ []
+    → volume ≡ volume_of (zeros script.size) → spot_of book volume ≡ opening_of script
+at_start script book volume modes names none at =
+    same (modes_after book.opening.modes book.entries) (replicate script.replicas Rw) (names_in (names_after book.opening.names book.entries)) [] volume (volume_of (zeros script.size))
+    (ap (modes_after book.opening.modes) none ∙ modes) (ap (λ es. names_in (names_after book.opening.names es)) none ∙ ap names_in names) at
+  where
+    spot_at : Volume → List (List ℕ) → List Mode → Spot
+    spot_at volume used modes = record { state = record { volume = volume; used = used }; modes = modes }
+
+    same : (m n : List Mode) (u x : List (List ℕ)) (v w : Volume) → m ≡ n → u ≡ x → v ≡ w → spot_at v u m ≡ spot_at w x n
+    same m n u x v w e f g = cc
+
+-- and can go on
+pub ready_at_start : (input : List ℕ) (script : Script) (spot : Spot) → IsScript input script → spot ≡ opening_of script → IsReady spot
+ready_at_start input script spot is at = subst IsReady (sym at) (record {
+  source = subst HasSource (sym (one_replica input script is)) (0, lit< tt, refl);
+  named = record { once = tt; taken = λ name there. there };
+})
 
 -- The journal, and the volume, where nothing was answered before.
-pub record Serves (script : Script) (entries : List Entry) (after : PlainState) : Type 0 where
-  pub journal : entries ≡ served (opening_of script) (calls_in script)
-  pub disk : after ≡ replay (opening_of script).state entries
+pub record Serves (script : Script) (book : Book) (after : Volume) : Type 0 where
+  pub journal : book.entries ≡ served (opening_of script) (calls_in script)
+  pub disk : after ≡ (replay (opening_of script).state book.entries).volume
 
-pub serves : (script : Script) (old new : Book) (before after : PlainState) (streams : List Stream) → old.entries ≡ [] → old.modes ≡ replicate script.replicas Rw
-    → before ≡ state_of (zeros script.size) → streams ≡ script.streams → AnswersStreams 0 (map calls_of streams) old new before after
-    → Serves script new.entries after
-serves script old new before after streams none modes at all done =
-    let css = calls_in script in
-    let opening = opening_of script in
-    let journal : new.entries ≡ served opening css = done.entries
-    ∙ from_start old.entries old.modes before (map calls_of streams) opening.modes opening.state css none modes at (ap (map calls_of) all) in
+pub serves : (script : Script) (old new : Book) (before after : Volume) (streams : List Stream) → old.entries ≡ [] → spot_of old before ≡ opening_of script
+    → streams ≡ script.streams → AnswersStreams 0 (map calls_of streams) old new before after → Serves script new after
+serves script old new before after streams none at all done =
+    let journal : new.entries ≡ served (opening_of script) (calls_in script) =
+    done.entries ∙ from_start old.entries (spot_of old before) (opening_of script) (map calls_of streams) (calls_in script) none at (ap (map calls_of) all) in
     record {
       journal = journal;
-      disk = done.state ∙ left old.modes before (map calls_of streams) opening.modes opening.state css modes at (ap (map calls_of) all)
-          ∙ sym (replay-served_streams opening.modes opening.state 0 0 css) ∙ ap (replay opening.state) (sym journal);
+      disk = done.volume
+          ∙ left old.entries (spot_of old before) (opening_of script) (map calls_of streams) (calls_in script) none at (ap (map calls_of) all)
+          ∙ ap (λ es. (replay (opening_of script).state es).volume) (sym journal);
     }
   where
-    from_start : (es : List Entry) (m : List Mode) (s : PlainState) (css : List (List Call)) (n : List Mode) (t : PlainState) (dss : List (List Call))
-        → es ≡ [] → m ≡ n → s ≡ t → css ≡ dss → es ++ served_streams m s 0 (length es) css ≡ served_streams n t 0 0 dss
-    from_start es m s css n t dss p q r u = cc
+    from_start : (es : List Entry) (s t : Spot) (css dss : List (List Call)) → es ≡ [] → s ≡ t → css ≡ dss → es ++ served_streams s 0 (length es) css ≡ served_streams t 0 0 dss
+    from_start es s t css dss p q r = cc
 
-    left : (m : List Mode) (s : PlainState) (css : List (List Call)) (n : List Mode) (t : PlainState) (dss : List (List Call))
-        → m ≡ n → s ≡ t → css ≡ dss → after_streams m s css ≡ after_streams n t dss
-    left m s css n t dss q r u = cc
+    left : (es : List Entry) (s t : Spot) (css dss : List (List Call)) → es ≡ [] → s ≡ t → css ≡ dss
+        → (replay s.state (served_streams s 0 (length es) css)).volume ≡ (replay t.state (served_streams t 0 0 dss)).volume
+    left es s t css dss p q r = cc

@@ -1,33 +1,47 @@
 -- What the answering of calls leaves: of the journal, and of the volume.
 use Rattle.std.specs.Prelude.{◌≡◌, ℕ, List, ◌++◌, length}
-use Rattle.journal_book.specs.Book.{Book}
+use Rattle.journal_book.specs.Book.{Book, modes_of, names_of}
 use Rattle.volume_model.specs.declared.call.Call.{Call}
-use Rattle.volume_model.specs.PlainState.{PlainState}
+use Rattle.volume_model.specs.declared.entry.Entry.{Entry}
+use Rattle.volume_model.specs.PlainState.{Volume}
 use Rattle.volume_model.specs.Replay.{replay}
-use Rattle.volume_model.specs.OneWorker.{marks_before, state_for, served_from, served_streams, after_calls, after_streams, served}
+use Rattle.volume_model.specs.Modes.{HasSource}
+use Rattle.volume_model.specs.Names.{names_in, AreNamed}
+use Rattle.volume_model.specs.History.{Spot}
+use Rattle.volume_model.specs.OneWorker.{marks_before, served_from, served_streams, served}
 use Rattle.script_text.specs.declared.script.Script.{Script}
 use Rattle.script_text.specs.Script.{IsScript}
 use Rattle.solo_worker.specs.declared.solo.Served.{Served}
 use Rattle.solo_worker.specs.Volume.{opening_of, heads_in, calls_in}
 
--- What a call has marks for before its answer is done, and the marks stand in the journal.
-pub record MakesMarks (c : Call) (old new : Book) (before after : PlainState) : Type 0 where
-  pub entries : new.entries ≡ old.entries ++ marks_before before c
-  pub modes : new.modes ≡ old.modes
-  pub state : after ≡ state_for before c
+-- where the worker stands with this journal and this volume
+abbrev pub spot_of : Book → Volume → Spot
+spot_of book volume = record { state = record { volume = volume; used = names_in (names_of book) }; modes = modes_of book }
 
--- These calls of a stream are answered one after another, the first of which has this index, and the volume is what they
--- leave.
-pub record Answers (stream index : ℕ) (calls : List Call) (old new : Book) (before after : PlainState) : Type 0 where
-  pub entries : new.entries ≡ old.entries ++ served_from old.modes before stream (length old.entries) index calls
-  pub modes : new.modes ≡ old.modes
-  pub state : after ≡ after_calls old.modes before calls
+-- a replica is read and written, and the snapshots have names of their own
+pub record IsReady (spot : Spot) : Type 0 where
+  pub source : HasSource spot.modes
+  pub named : AreNamed spot.state
 
--- The calls of these streams are answered, one stream after another, the first of which has this number.
-pub record AnswersStreams (first : ℕ) (streams : List (List Call)) (old new : Book) (before after : PlainState) : Type 0 where
-  pub entries : new.entries ≡ old.entries ++ served_streams old.modes before first (length old.entries) streams
-  pub modes : new.modes ≡ old.modes
-  pub state : after ≡ after_streams old.modes before streams
+-- The journal has these entries more, and the volume is what they leave.
+pub record Adds (es : List Entry) (old new : Book) (before after : Volume) : Type 0 where
+  pub opening : new.opening ≡ old.opening
+  pub entries : new.entries ≡ old.entries ++ es
+  pub volume : after ≡ (replay (spot_of old before).state es).volume
+
+-- the marks of a call before its answer
+abbrev pub MakesMarks : Call → Book → Book → Volume → Volume → Type 0
+MakesMarks c old new before after = Adds (marks_before (spot_of old before) c) old new before after
+
+-- the entries of these calls of a stream, one after another, the first of which has this index
+abbrev pub Answers : ℕ → ℕ → List Call → Book → Book → Volume → Volume → Type 0
+Answers stream index calls old new before after =
+    Adds (served_from (spot_of old before) stream (length old.entries) index calls) old new before after
+
+-- the entries of these streams, one stream after another, the first of which has this number
+abbrev pub AnswersStreams : ℕ → List (List Call) → Book → Book → Volume → Volume → Type 0
+AnswersStreams first streams old new before after =
+    Adds (served_streams (spot_of old before) first (length old.entries) streams) old new before after
 
 -- some input is this script
 abbrev pub IsRead : Script → Type 0
@@ -36,5 +50,6 @@ IsRead script = (input : List ℕ) × IsScript input script
 -- The journal has the answers of the script's streams, one stream after another, and the volume is what the journal leaves.
 pub record IsServed (script : Script) (s : Served) : Type 0 where
   pub heads : s.heads.items ≡ heads_in script
+  pub modes : s.journal.opening.modes ≡ (opening_of script).modes
   pub journal : s.journal.entries ≡ served (opening_of script) (calls_in script)
-  pub disk : s.disk ≡ replay (opening_of script).state s.journal.entries
+  pub disk : s.disk ≡ (replay (opening_of script).state s.journal.entries).volume

@@ -1,14 +1,18 @@
-ghost use Rattle.std.specs.Prelude.{◌≡◌, ◌+◌, ◌^◌, ◌<◌, ◌≤◌, ◌∷◌, [], All, map, length, sum_by, OnOk};
+ghost use Rattle.std.specs.Prelude.{◌≡◌, ◌+◌, ◌^◌, ◌<◌, ◌≤◌, ◌∷◌, [], All, map, length, sum_by, IfOk, OnOk, is_some};
+ghost use Rattle.command_text.specs.Commands.{HasGoodName};
 ghost use Rattle.frame_stream.specs.Asked.{asked_of, call_of};
 ghost use Rattle.frame_stream.specs.declared.asked.Asked.TheVariants as asked;
 ghost use Rattle.script_text.specs.Streams.{call_count};
 ghost use Rattle.volume_model.specs.declared.call.Call.TheVariants as call;
-ghost use Rattle.solo_worker.specs.Serving.{Answers, AnswersStreams};
-ghost use Rattle.solo_worker.specs.Volume.{calls_of, AreCalls, IsOfCalls};
+ghost use Rattle.journal_book.specs.Book.{names_of};
+ghost use Rattle.volume_model.specs.Names.{names_in};
+ghost use Rattle.volume_model.specs.PlainStep.{name_refusal, plain_step};
+ghost use Rattle.solo_worker.specs.Serving.{Answers, AnswersStreams, IsReady, spot_of};
+ghost use Rattle.solo_worker.specs.Volume.{calls_of, AreCalls, IsOfCalls, LeavesReplicas};
 
 use crate::purge::make_marks;
 use frame_stream::{Asked, Frame, of_frame};
-use journal_book::{Answer, Call, Command, Entry, Journal};
+use journal_book::{Answer, Call, Command, Entry, Journal, LayerName, Refusal, Reply};
 use replica_disk::ReplicaDisk;
 use script_text::Stream;
 use std::alloc::{AllocError, Global};
@@ -22,6 +26,7 @@ pub(crate) fn answer_streams(
 ) -> Result<(), AllocError>
     requires few { length streams.items ≤ 16 }
     requires calls { All IsOfCalls streams.items }
+    requires ready { IsReady (spot_of journal.old disk.old) }
     requires number { disk.old.snapshots.number + sum_by call_count streams.items < 2 ^ 64 }
     ensures { OnOk result
         (AnswersStreams 0 (map calls_of streams.items) journal.old journal.new disk.old disk.new) }
@@ -43,6 +48,7 @@ fn answer_stream(
     disk: &mut ReplicaDisk,
 ) -> Result<(), AllocError>
     requires calls { IsOfCalls stream }
+    requires ready { IsReady (spot_of journal.old disk.old) }
     requires number { disk.old.snapshots.number + call_count stream < 2 ^ 64 }
     ensures { OnOk result (Answers number 0 (calls_of stream) journal.old journal.new disk.old disk.new) }
 {
@@ -62,6 +68,7 @@ fn answer_frames(
     disk: &mut ReplicaDisk,
 ) -> Result<(), AllocError>
     requires calls { AreCalls frames.items }
+    requires ready { IsReady (spot_of journal.old disk.old) }
     requires number { disk.old.snapshots.number + length frames.items < 2 ^ 64 }
     ensures { OnOk result
         (Answers stream 0 (map call_of frames.items) journal.old journal.new disk.old disk.new) }
@@ -82,7 +89,9 @@ fn answer_commands(
     journal: &mut Journal,
     disk: &mut ReplicaDisk,
 ) -> Result<(), AllocError>
-    requires { disk.old.snapshots.number + length commands.items < 2 ^ 64 }
+    requires calls { All HasGoodName commands.items }
+    requires ready { IsReady (spot_of journal.old disk.old) }
+    requires number { disk.old.snapshots.number + length commands.items < 2 ^ 64 }
     ensures { OnOk result
         (Answers stream 0 (map call.Command commands.items) journal.old journal.new disk.old disk.new) }
 {
@@ -104,7 +113,9 @@ fn answer(
     journal: &mut Journal,
     disk: &mut ReplicaDisk,
 ) -> Result<(), AllocError>
-    requires { disk.old.snapshots.number + 1 < 2 ^ 64 }
+    requires call { LeavesReplicas call }
+    requires ready { IsReady (spot_of journal.old disk.old) }
+    requires number { disk.old.snapshots.number + 1 < 2 ^ 64 }
     ensures { OnOk result
         (Answers stream index (call ∷ []) journal.old journal.new disk.old disk.new) }
 {
@@ -112,7 +123,7 @@ fn answer(
     make_marks(&call, journal, disk)?;
     // Marks may have used the place that was made for the answer.
     journal.reserve(1)?;
-    let reply = disk.step(alloc, journal.modes(), &call)?;
+    let reply = reply_to(alloc, &call, journal, disk)?;
     journal.push_reserved(Entry::Answer(Answer {
         call,
         reply,
@@ -121,6 +132,36 @@ fn answer(
         stream,
     }));
     Ok(())
+}
+
+/// What the call is answered. The volume is then what it leaves.
+fn reply_to(
+    alloc: Global,
+    call: &Call,
+    journal: &Journal,
+    disk: &mut ReplicaDisk,
+) -> Result<Reply, AllocError>
+    requires ready { IsReady (spot_of journal.now disk.old) }
+    requires number { disk.old.snapshots.number + 1 < 2 ^ 64 }
+    ensures reply { IfOk result (λ reply. let spot = spot_of journal.now disk.old in
+        reply ≡ (plain_step spot.modes spot.state call.now).1) }
+    ensures volume { OnOk result (let spot = spot_of journal.now disk.old in
+        disk.new ≡ (plain_step spot.modes spot.state call.now).0.volume) }
+{
+    if is_taken(call, journal) {
+        return Ok(Reply::Refused(Refusal::NameUsed));
+    }
+    disk.step(alloc, journal.modes(), call)
+}
+
+/// Whether the call is for a snapshot under a name that was taken before.
+fn is_taken(call: &Call, journal: &Journal) -> bool
+    ensures { result ≡ is_some (name_refusal (names_in (names_of journal.now)) call.now) }
+{
+    match call {
+        Call::Command(Command::Snapshot(name)) => journal.used(&LayerName::from(*name)),
+        _ => false,
+    }
 }
 
 /// The call that a frame is.

@@ -1,5 +1,6 @@
 ghost use Rattle.std.specs.Prelude.{◌≡◌, ◌↔◌, IsTrue, OnOk};
-ghost use Rattle.solo_worker.specs.Serving.{MakesMarks};
+ghost use Rattle.solo_worker.specs.Serving.{IsReady, MakesMarks, spot_of};
+ghost use Rattle.solo_worker.specs.Volume.{LeavesReplicas};
 
 use journal_book::{Call, Command, Entry, Journal};
 use replica_disk::ReplicaDisk;
@@ -12,6 +13,8 @@ pub(crate) fn make_marks(
     journal: &mut Journal,
     disk: &mut ReplicaDisk,
 ) -> Result<(), AllocError>
+    requires call { LeavesReplicas call.now }
+    requires ready { IsReady (spot_of journal.old disk.old) }
     ensures { OnOk result (MakesMarks call.now journal.old journal.new disk.old disk.new) }
 {
     if is_purge(call) {
@@ -28,6 +31,7 @@ fn is_purge(call: &Call) -> bool
 
 /// Takes out all that can go, one after another, with a mark for each.
 fn purge(journal: &mut Journal, disk: &mut ReplicaDisk) -> Result<(), AllocError>
+    requires { IsReady (spot_of journal.old disk.old) }
     ensures { OnOk result (MakesMarks (Call.Command Command.Purge) journal.old journal.new disk.old disk.new) }
 {
     while let Some(part) = disk.next_fold() {

@@ -124,7 +124,7 @@ parts_keep_number s [] = refl
 parts_keep_number s (part.Fold p c ∷ fs) = parts_keep_number (with_part s (part.Fold p c)) fs
 parts_keep_number s (part.Drop p ∷ fs) = parts_keep_number (with_part s (part.Drop p)) fs
 
-marks_keep_modes : (modes : List Mode) (parts : List FoldOrDrop) → modes_after modes (marks_of parts) ≡ modes
+pub marks_keep_modes : (modes : List Mode) (parts : List FoldOrDrop) → modes_after modes (marks_of parts) ≡ modes
 marks_keep_modes modes [] = refl
 marks_keep_modes modes (f ∷ fs) = marks_keep_modes modes fs
 
@@ -455,7 +455,7 @@ ran_streams opening before spot stream place (cs ∷ css) here fits proper =
 -- ---- the answers of each stream
 
 -- marks are none
-no_marks_of : (stream place : ℕ) (parts : List FoldOrDrop) → answers_from stream place (marks_of parts) ≡ []
+pub no_marks_of : (stream place : ℕ) (parts : List FoldOrDrop) → answers_from stream place (marks_of parts) ≡ []
 no_marks_of stream place [] = refl
 no_marks_of stream place (f ∷ fs) = no_marks_of stream (suc place) fs
 

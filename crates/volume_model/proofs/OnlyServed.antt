@@ -45,7 +45,7 @@ none_wanting None false source s is = refl
 none_wanting None true (Some r) s is = refl
 none_wanting None true None s is = absurd cc
 
-with_source : (spot : Spot) (c : Call) → HasSource spot.modes → refused_at spot c ≡ refusal_of spot.modes spot.state c
+pub with_source : (spot : Spot) (c : Call) → HasSource spot.modes → refused_at spot c ≡ refusal_of spot.modes spot.state c
 with_source spot c source = let s = source_some spot.modes source in none_wanting (refusal_of spot.modes spot.state c) (asks_replica c) (source_of spot.modes) s.0 s.1
 
 -- the answer is as the volume answers, and an add is refused
