@@ -5,6 +5,7 @@ ghost use Rattle.outer_flow.specs.Passing.{WritesFront, Passes};
 ghost use Rattle.outer_flow.specs.declared.output.TheConstants.{PIECE};
 ghost use Rattle.run_report.specs.Lines.{entry_line, reply_line};
 ghost use Rattle.run_report.specs.Report.{journal_lines, reply_lines, replies_from};
+ghost use Rattle.journal_book.specs.Book.{modes_of};
 ghost use Rattle.volume_model.specs.History.{answers_of};
 ghost use Rattle.report_writer.specs.Written.{written_text};
 
@@ -18,8 +19,8 @@ use run_report::{print_entry, print_reply};
 use std::alloc::Global;
 use volume_model::{Answer, Entry, Sequence};
 
-/// Writes the report of a run on one replica, which is then this disk. The headers are those of each
-/// stream's frames: a control stream has none.
+/// Writes the report of a run on at most 255 replicas, of which each that is read and written is this volume at the end. The
+/// headers are those of each stream's frames: a control stream has none.
 pub fn write_report<K: Sink>(
     alloc: Global,
     heads: &[Sequence<Head>],
@@ -27,16 +28,17 @@ pub fn write_report<K: Sink>(
     disk: &ReplicaDisk,
     sink: &mut K,
 ) -> Outer<()>
+    requires { length (modes_of journal.now) < 256 }
     ensures whole { OnOk result (Appends (K.contents sink.old) (K.contents sink.new)
-        (written_text heads.now journal.now.entries disk.now)) }
+        (written_text heads.now journal.now disk.now)) }
     ensures front { WritesFront (K.contents sink.old) (K.contents sink.new)
-        (written_text heads.now journal.now.entries disk.now) }
+        (written_text heads.now journal.now disk.now) }
     ensures cause { HasOuterCause (K.faults sink.old) (K.faults sink.new) result }
 {
     let mut buffer = Vec::new(alloc);
     pass_entries(journal, sink, &mut buffer)?;
     pass_streams(heads, journal, sink, &mut buffer)?;
-    print_end(alloc, disk, &mut buffer)?;
+    print_end(alloc, journal.modes(), disk, &mut buffer)?;
     write_all(sink, &buffer)
 }
 

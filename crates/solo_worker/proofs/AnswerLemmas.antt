@@ -15,17 +15,17 @@ use Rattle.frame_stream.specs.Asked.{call_of}
 use Rattle.script_text.specs.declared.script.Stream.{Stream}
 use Rattle.script_text.specs.declared.script.Stream.TheVariants as stream
 use Rattle.script_text.specs.Streams.{call_count as stream_calls}
-use Rattle.solo_worker.specs.Serving.{spot_of, IsReady, Answers, AnswersStreams}
+use Rattle.solo_worker.specs.Serving.{spot_of, IsReady, AnswersCalls, AnswersEach}
 use Rattle.solo_worker.specs.Volume.{calls_of, IsOfCalls, LeavesReplicas}
 use Rattle.solo_worker.proofs.AddsLemmas.{adds_spot, adds_none, adds_append, adds_same, ready_done, ready_calls}
 use Rattle.solo_worker.proofs.ScriptLemmas.{calls_leave}
 
 -- where the worker stands behind these calls, and behind these streams
-behind_answers : (stream index : ℕ) (cs : List Call) (a b : Book) (s t : Volume) → Answers stream index cs a b s t → spot_of b t ≡ after_calls (spot_of a s) cs
+behind_answers : (stream index : ℕ) (cs : List Call) (a b : Book) (s t : Volume) → AnswersCalls stream index cs a b s t → spot_of b t ≡ after_calls (spot_of a s) cs
 behind_answers stream index cs a b s t done =
     adds_spot (served_from (spot_of a s) stream (length a.entries) index cs) a b s t done ∙ behind-calls (spot_of a s) stream (length a.entries) index cs
 
-behind_all : (css : List (List Call)) (a b : Book) (s t : Volume) → AnswersStreams 0 css a b s t → spot_of b t ≡ after_streams (spot_of a s) css
+behind_all : (css : List (List Call)) (a b : Book) (s t : Volume) → AnswersEach 0 css a b s t → spot_of b t ≡ after_streams (spot_of a s) css
 behind_all css a b s t done =
     adds_spot (served_streams (spot_of a s) 0 (length a.entries) css) a b s t done ∙ behind-streams (spot_of a s) 0 (length a.entries) css
 
@@ -37,7 +37,7 @@ from_none n m is = omega (arith, is)
 
 -- one call more of a stream
 answers_push : (stream index : ℕ) (cs : List Call) (c : Call) (a b d : Book) (s t u : Volume)
-    → Answers stream 0 cs a b s t → index ≡ length cs → Answers stream index (c ∷ []) b d t u → Answers stream 0 (cs ++ c ∷ []) a d s u
+    → AnswersCalls stream 0 cs a b s t → index ≡ length cs → AnswersCalls stream index (c ∷ []) b d t u → AnswersCalls stream 0 (cs ++ c ∷ []) a d s u
 answers_push stream index cs c a b d s t u done at more =
     let front = served_from (spot_of a s) stream (length a.entries) 0 cs in
     let last = served_from (spot_of b t) stream (length b.entries) index (c ∷ []) in
@@ -49,7 +49,7 @@ answers_push stream index cs c a b d s t u done at more =
 
 -- one stream more
 streams_push : (number : ℕ) (css : List (List Call)) (cs : List Call) (a b d : Book) (s t u : Volume)
-    → AnswersStreams 0 css a b s t → number ≡ length css → Answers number 0 cs b d t u → AnswersStreams 0 (css ++ cs ∷ []) a d s u
+    → AnswersEach 0 css a b s t → number ≡ length css → AnswersCalls number 0 cs b d t u → AnswersEach 0 (css ++ cs ∷ []) a d s u
 streams_push number css cs a b d s t u done at more =
     let front = served_streams (spot_of a s) 0 (length a.entries) css in
     let last = served_from (spot_of b t) number (length b.entries) 0 cs in
@@ -73,7 +73,7 @@ pub record CallsSoFar {X : Type 0} (call_of : X → Call) (stream index : ℕ) (
   pub done : List X
   pub cut : all ≡ done ++ rest
   pub count : index ≡ length done
-  pub answers : Answers stream 0 (map call_of done) old now before after
+  pub answers : AnswersCalls stream 0 (map call_of done) old now before after
   pub ready : IsReady (spot_of now after)
 
 -- none yet
@@ -91,23 +91,23 @@ no_calls call_of stream all old new volume opening entries ready =
 
 -- one more
 pub calls_more : {X : Type 0} (call_of : X → Call) (stream index later : ℕ) (all rest : List X) (x : X) (c : Call) (a b d : Book) (s t u : Volume)
-    → CallsSoFar call_of stream index all (x ∷ rest) a b s t → c ≡ call_of x → LeavesReplicas c → Answers stream index (c ∷ []) b d t u → later ≡ index + 1
+    → CallsSoFar call_of stream index all (x ∷ rest) a b s t → c ≡ call_of x → LeavesReplicas c → AnswersCalls stream index (c ∷ []) b d t u → later ≡ index + 1
     → CallsSoFar call_of stream later all rest a d s u
 calls_more call_of stream index later all rest x c a b d s t u far is leaves more next = record {
   done = far.done ++ x ∷ [];
   cut = far.cut ∙ sym (append_assoc far.done (x ∷ []) rest);
   count = omega (arith, next, far.count, length-append far.done (x ∷ []));
-  answers = subst (λ cs. Answers stream 0 cs a d s u) (sym (map-append call_of far.done (x ∷ [])))
+  answers = subst (λ cs. AnswersCalls stream 0 cs a d s u) (sym (map-append call_of far.done (x ∷ [])))
       (answers_push stream index (map call_of far.done) (call_of x) a b d s t u far.answers (far.count ∙ sym (length-map far.done call_of))
-      (subst (λ c. Answers stream index (c ∷ []) b d t u) is more));
+      (subst (λ c. AnswersCalls stream index (c ∷ []) b d t u) is more));
   ready = subst IsReady (sym (behind_answers stream index (c ∷ []) b d t u more)) (ready_done (spot_of b t) c leaves far.ready);
 }
 
 -- all of them
 pub calls_all : {X : Type 0} (call_of : X → Call) (stream index : ℕ) (all rest : List X) (old now : Book) (before after : Volume)
-    → CallsSoFar call_of stream index all rest old now before after → rest ≡ [] → Answers stream 0 (map call_of all) old now before after
+    → CallsSoFar call_of stream index all rest old now before after → rest ≡ [] → AnswersCalls stream 0 (map call_of all) old now before after
 calls_all call_of stream index all rest old now before after far none =
-    subst (λ xs. Answers stream 0 (map call_of xs) old now before after) (sym (far.cut ∙ ap (λ xs. far.done ++ xs) none ∙ append-nil far.done)) far.answers
+    subst (λ xs. AnswersCalls stream 0 (map call_of xs) old now before after) (sym (far.cut ∙ ap (λ xs. far.done ++ xs) none ∙ append-nil far.done)) far.answers
 
 -- The number of the head leaves room for the calls to come.
 pub calls_number : {X : Type 0} (call_of : X → Call) (stream index : ℕ) (all rest : List X) (old now : Book) (before after : Volume)
@@ -129,7 +129,7 @@ pub record StreamsSoFar (number : ℕ) (all rest : List Stream) (old now : Book)
   pub done : List Stream
   pub cut : all ≡ done ++ rest
   pub count : number ≡ length done
-  pub answers : AnswersStreams 0 (map calls_of done) old now before after
+  pub answers : AnswersEach 0 (map calls_of done) old now before after
   pub calls : All IsOfCalls rest
   pub ready : IsReady (spot_of now after)
 
@@ -138,12 +138,12 @@ no_streams all book volume calls ready =
     record { done = []; cut = refl; count = refl; answers = adds_none book book volume refl refl; calls = calls; ready = ready }
 
 pub streams_more : (number later : ℕ) (all rest : List Stream) (x : Stream) (a b d : Book) (s t u : Volume)
-    → StreamsSoFar number all (x ∷ rest) a b s t → Answers number 0 (calls_of x) b d t u → later ≡ number + 1 → StreamsSoFar later all rest a d s u
+    → StreamsSoFar number all (x ∷ rest) a b s t → AnswersCalls number 0 (calls_of x) b d t u → later ≡ number + 1 → StreamsSoFar later all rest a d s u
 streams_more number later all rest x a b d s t u far more next = record {
   done = far.done ++ x ∷ [];
   cut = far.cut ∙ sym (append_assoc far.done (x ∷ []) rest);
   count = omega (arith, next, far.count, length-append far.done (x ∷ []));
-  answers = subst (λ css. AnswersStreams 0 css a d s u) (sym (map-append calls_of far.done (x ∷ [])))
+  answers = subst (λ css. AnswersEach 0 css a d s u) (sym (map-append calls_of far.done (x ∷ [])))
       (streams_push number (map calls_of far.done) (calls_of x) a b d s t u far.answers (far.count ∙ sym (length-map far.done calls_of)) more);
   calls = All-tail IsOfCalls x rest far.calls;
   ready = subst IsReady (sym (behind_answers number 0 (calls_of x) b d t u more))
@@ -151,9 +151,9 @@ streams_more number later all rest x a b d s t u far more next = record {
 }
 
 pub streams_all : (number : ℕ) (all rest : List Stream) (old now : Book) (before after : Volume)
-    → StreamsSoFar number all rest old now before after → rest ≡ [] → AnswersStreams 0 (map calls_of all) old now before after
+    → StreamsSoFar number all rest old now before after → rest ≡ [] → AnswersEach 0 (map calls_of all) old now before after
 streams_all number all rest old now before after far none =
-    subst (λ xs. AnswersStreams 0 (map calls_of xs) old now before after) (sym (far.cut ∙ ap (λ xs. far.done ++ xs) none ∙ append-nil far.done)) far.answers
+    subst (λ xs. AnswersEach 0 (map calls_of xs) old now before after) (sym (far.cut ∙ ap (λ xs. far.done ++ xs) none ∙ append-nil far.done)) far.answers
 
 -- as many calls as the stream is
 call_count-of : (s : Stream) → length (calls_of s) ≡ stream_calls s

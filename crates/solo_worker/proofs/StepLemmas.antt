@@ -24,7 +24,7 @@ use Rattle.volume_model.specs.History.{Spot}
 use Rattle.volume_model.specs.OneWorker.{behind_entries, refused_at, call_marks, marks_unless, marks_before, reply_for, answer_for, entries_at, served_from}
 use Rattle.volume_model.proofs.OnlyServed.{with_source}
 use Rattle.replica_disk.specs.Step.{IsNew, volume_step, volume_step_unless}
-use Rattle.solo_worker.specs.Serving.{spot_of, Adds, Answers}
+use Rattle.solo_worker.specs.Serving.{spot_of, Adds, AnswersCalls}
 use Rattle.solo_worker.specs.Volume.{LeavesReplicas}
 use Rattle.solo_worker.proofs.AddsLemmas.{adds_spot, adds_append, adds_same}
 
@@ -142,7 +142,7 @@ pub call_answered : (c : Call) (r : Reply) (stream index : ℕ) (a b d : Book) (
     → Adds (marks_before (spot_of a s) c) a b s t → d.opening ≡ b.opening
     → d.entries ≡ b.entries ++ entry.Answer (record { call = c; reply = r; index = index; saw = length a.entries; stream = stream }) ∷ []
     → r ≡ (plain_step (spot_of b t).modes (spot_of b t).state c).1 → u ≡ (plain_step (spot_of b t).modes (spot_of b t).state c).0.volume
-    → Answers stream index (c ∷ []) a d s u
+    → AnswersCalls stream index (c ∷ []) a d s u
 call_answered c r stream index a b d s t u leaves source marks opening entries said left =
     adds_same (marks_before spot c ++ entry.Answer answer ∷ []) (served_from spot stream (length a.entries) index (c ∷ [])) a d s u
     (ap (λ q. marks_before spot c ++ entry.Answer (record { call = c; reply = q; index = index; saw = length a.entries; stream = stream }) ∷ []) known

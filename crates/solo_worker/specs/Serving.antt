@@ -34,13 +34,13 @@ abbrev pub MakesMarks : Call → Book → Book → Volume → Volume → Type 0
 MakesMarks c old new before after = Adds (marks_before (spot_of old before) c) old new before after
 
 -- the entries of these calls of a stream, one after another, the first of which has this index
-abbrev pub Answers : ℕ → ℕ → List Call → Book → Book → Volume → Volume → Type 0
-Answers stream index calls old new before after =
+abbrev pub AnswersCalls : ℕ → ℕ → List Call → Book → Book → Volume → Volume → Type 0
+AnswersCalls stream index calls old new before after =
     Adds (served_from (spot_of old before) stream (length old.entries) index calls) old new before after
 
 -- the entries of these streams, one stream after another, the first of which has this number
-abbrev pub AnswersStreams : ℕ → List (List Call) → Book → Book → Volume → Volume → Type 0
-AnswersStreams first streams old new before after =
+abbrev pub AnswersEach : ℕ → List (List Call) → Book → Book → Volume → Volume → Type 0
+AnswersEach first streams old new before after =
     Adds (served_streams (spot_of old before) first (length old.entries) streams) old new before after
 
 -- some input is this script

@@ -7,7 +7,7 @@ ghost use Rattle.volume_model.specs.declared.call.Call.TheVariants as call;
 ghost use Rattle.journal_book.specs.Book.{names_of};
 ghost use Rattle.volume_model.specs.Names.{names_in};
 ghost use Rattle.volume_model.specs.PlainStep.{name_refusal, plain_step};
-ghost use Rattle.solo_worker.specs.Serving.{Answers, AnswersStreams, IsReady, spot_of};
+ghost use Rattle.solo_worker.specs.Serving.{AnswersCalls, AnswersEach, IsReady, spot_of};
 ghost use Rattle.solo_worker.specs.Volume.{calls_of, AreCalls, IsOfCalls, LeavesReplicas};
 
 use crate::purge::make_marks;
@@ -17,7 +17,7 @@ use replica_disk::ReplicaDisk;
 use script_text::Stream;
 use std::alloc::{AllocError, Global};
 
-/// Answers the calls of the streams, one stream after another.
+/// AnswersCalls the calls of the streams, one stream after another.
 pub(crate) fn answer_streams(
     alloc: Global,
     streams: Vec<Stream>,
@@ -29,7 +29,7 @@ pub(crate) fn answer_streams(
     requires ready { IsReady (spot_of journal.old disk.old) }
     requires number { disk.old.snapshots.number + sum_by call_count streams.items < 2 ^ 64 }
     ensures { OnOk result
-        (AnswersStreams 0 (map calls_of streams.items) journal.old journal.new disk.old disk.new) }
+        (AnswersEach 0 (map calls_of streams.items) journal.old journal.new disk.old disk.new) }
 {
     let mut number = 0;
     for stream in streams {
@@ -39,7 +39,7 @@ pub(crate) fn answer_streams(
     Ok(())
 }
 
-/// Answers the calls of the stream of this number.
+/// AnswersCalls the calls of the stream of this number.
 fn answer_stream(
     alloc: Global,
     number: u8,
@@ -50,7 +50,7 @@ fn answer_stream(
     requires calls { IsOfCalls stream }
     requires ready { IsReady (spot_of journal.old disk.old) }
     requires number { disk.old.snapshots.number + call_count stream < 2 ^ 64 }
-    ensures { OnOk result (Answers number 0 (calls_of stream) journal.old journal.new disk.old disk.new) }
+    ensures { OnOk result (AnswersCalls number 0 (calls_of stream) journal.old journal.new disk.old disk.new) }
 {
     match stream {
         Stream::Frames(frames) => answer_frames(alloc, number, frames.into_vec(), journal, disk),
@@ -71,7 +71,7 @@ fn answer_frames(
     requires ready { IsReady (spot_of journal.old disk.old) }
     requires number { disk.old.snapshots.number + length frames.items < 2 ^ 64 }
     ensures { OnOk result
-        (Answers stream 0 (map call_of frames.items) journal.old journal.new disk.old disk.new) }
+        (AnswersCalls stream 0 (map call_of frames.items) journal.old journal.new disk.old disk.new) }
 {
     journal.reserve(frames.len() as u64)?;
     let mut index = 0;
@@ -93,7 +93,7 @@ fn answer_commands(
     requires ready { IsReady (spot_of journal.old disk.old) }
     requires number { disk.old.snapshots.number + length commands.items < 2 ^ 64 }
     ensures { OnOk result
-        (Answers stream 0 (map call.Command commands.items) journal.old journal.new disk.old disk.new) }
+        (AnswersCalls stream 0 (map call.Command commands.items) journal.old journal.new disk.old disk.new) }
 {
     journal.reserve(commands.len() as u64)?;
     let mut index = 0;
@@ -104,7 +104,7 @@ fn answer_commands(
     Ok(())
 }
 
-/// Answers the call of a stream that has this index there.
+/// AnswersCalls the call of a stream that has this index there.
 fn answer(
     alloc: Global,
     stream: u8,
@@ -117,7 +117,7 @@ fn answer(
     requires ready { IsReady (spot_of journal.old disk.old) }
     requires number { disk.old.snapshots.number + 1 < 2 ^ 64 }
     ensures { OnOk result
-        (Answers stream index (call ∷ []) journal.old journal.new disk.old disk.new) }
+        (AnswersCalls stream index (call ∷ []) journal.old journal.new disk.old disk.new) }
 {
     let saw = journal.len();
     make_marks(&call, journal, disk)?;

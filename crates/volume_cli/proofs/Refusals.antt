@@ -15,7 +15,7 @@ use Rattle.volume_cli.specs.declared.status.Status.{Status}
 use Rattle.volume_cli.specs.declared.status.Status.TheVariants as status
 use Rattle.volume_cli.specs.declared.stop.Stop.{Stop}
 use Rattle.volume_cli.specs.declared.stop.Stop.TheVariants.{BadScript, WriteFault}
-use Rattle.volume_cli.specs.Headline.{IsAnswered}
+use Rattle.volume_cli.specs.Headline.{IsStatus}
 use Rattle.volume_cli.specs.Stops.{stop_of, IsRun, RunLeaves, StopLeaves, PrintsFront, HadNoScript}
 
 -- what is asked is a run: there is nothing else yet
@@ -54,21 +54,21 @@ not_both input script place why is bad = apart (one_truth input (Ok script) (bad
 
 -- what a run has read is refused nowhere
 pub no_refusal : (left : Option (List ℕ)) (script : Script) (journal : List Entry) (answer : Status) → IsRun left script journal
-    → IfSome left (λ input. (place : ℕ) (why : What) → IsNoScript input place why → IsAnswered answer (status.Script place why))
+    → IfSome left (λ input. (place : ℕ) (why : What) → IsNoScript input place why → IsStatus answer (status.Script place why))
 no_refusal None script journal answer run = tt
 no_refusal (Some told) script journal answer run =
     λ place why bad. absurd (not_both run.read.0 script place why run.read.1 (subst (λ input. IsNoScript input place why) run.read.2 bad))
 
 -- what is refused is refused for one reason at one place
 pub one_refusal : (left : Option (List ℕ)) (place : ℕ) (why : What) → HadNoScript left place why
-    → IfSome left (λ input. (p : ℕ) (w : What) → IsNoScript input p w → IsAnswered (status.Script place why) (status.Script p w))
+    → IfSome left (λ input. (p : ℕ) (w : What) → IsNoScript input p w → IsStatus (status.Script place why) (status.Script p w))
 one_refusal None place why had = tt
 one_refusal (Some told) place why had =
     λ p w bad. inl (ap status_of (one_truth told (bad_at place why) (bad_at p w) (no_memory place why) (no_memory p w) had bad))
 
 -- and is no script
 pub no_completion : (left : Option (List ℕ)) (place : ℕ) (why : What) (answer : Status) → HadNoScript left place why
-    → IfSome left (λ input. (script : Script) → IsScript input script → IsAnswered answer status.Done)
+    → IfSome left (λ input. (script : Script) → IsScript input script → IsStatus answer status.Done)
 no_completion None place why answer had = tt
 no_completion (Some told) place why answer had = λ script is. absurd (not_both told script place why is had)
 

@@ -1,5 +1,5 @@
 -- What a run has read, and what it leaves in its sink.
-use Rattle.std.proofs.Common.{◌≡◌, ℕ, ◌≤◌, List, [], ◌∷◌, ◌++◌, length, Option, Some, None, Result, Ok, Err, refl, sym, ap, subst, ◌∙◌, inl, inr, OnOk, lit<, arith, length-append}
+use Rattle.std.proofs.Common.{◌≡◌, ℕ, ◌<◌, ◌≤◌, List, [], ◌∷◌, ◌++◌, length, Option, Some, None, Result, Ok, Err, refl, sym, ap, subst, ◌∙◌, inl, inr, OnOk, arith, length-append}
 use Rattle.std.specs.Io.KnownBytes.{Consumes, IsAtEnd, Appends}
 use Rattle.std.proofs.KnownBytes.{Consumes-whole}
 use Rattle.frame_wire.specs.declared.head.Head.{Head}
@@ -12,20 +12,21 @@ use Rattle.script_text.specs.declared.what.What.TheVariants as what
 use Rattle.script_text.specs.Script.{IsScript, IsNoScript}
 use Rattle.volume_model.specs.declared.entry.Entry.{Entry}
 use Rattle.volume_model.specs.declared.mode.Mode.{Mode}
-use Rattle.volume_model.specs.declared.mode.Mode.TheVariants.{Rw}
-use Rattle.volume_model.specs.Modes.{HasSource}
-use Rattle.volume_model.specs.PlainState.{PlainState}
+use Rattle.journal_book.specs.Book.{modes_of}
+use Rattle.volume_model.specs.Modes.{modes_after}
+use Rattle.volume_model.specs.PlainState.{Volume}
+use Rattle.volume_model.specs.Replay.{replay}
 use Rattle.volume_model.specs.History.{IsHistory}
-use Rattle.volume_model.specs.OneWorker.{stream_of}
-use Rattle.volume_model.proofs.OneWorkerLemmas.{served_is_history}
-use Rattle.volume_model.proofs.StepLemmas.{modes_after-same}
+use Rattle.volume_model.specs.OneWorker.{served, stream_of}
+use Rattle.volume_model.proofs.OneWorkerLemmas.{served_is_history, length-modes_after}
 use Rattle.solo_worker.specs.declared.solo.Served.{Served}
 use Rattle.volume_cli.specs.declared.stop.Stop.{Stop}
 use Rattle.volume_cli.specs.declared.stop.Stop.TheVariants.{BadScript, ReadFault, WriteFault, NoMemory}
-use Rattle.solo_worker.specs.Volume.{opening_of, calls_in}
+use Rattle.solo_worker.specs.Volume.{opening_of, calls_in, heads_in}
 use Rattle.solo_worker.specs.Serving.{IsServed}
 use Rattle.volume_cli.specs.Stops.{WriteCounts, Counts, IsRun, report_text, RunLeaves, HadNoScript, no_faults}
-use Rattle.solo_worker.proofs.ScriptLemmas.{one_replica}
+use Rattle.solo_worker.proofs.ScriptLemmas.{one_replica, all_calls, all_proper}
+use Rattle.solo_worker.proofs.AnswerLemmas.{call_count-in}
 
 -- an input that was read is all that the source had, or too long
 abbrev IsWhole : Option (List ℕ) → List ℕ → Type 0
@@ -56,29 +57,36 @@ had_no_script left rest input place what.Calls given end (inr is) =
 had_no_script left rest input place what.Frame given end is =
     Consumes-whole left rest input (λ told. IsNoScript told place what.Frame) given (end is.3.cut.most) is
 
-has_source : (modes : List Mode) → modes ≡ Rw ∷ [] → HasSource modes
-has_source modes is = subst HasSource (sym is) (0, lit< tt, refl)
+-- the calls are as one worker may have them
+history : (input : List ℕ) (script : Script) → IsScript input script
+    → IsHistory (opening_of script) no_faults (stream_of (calls_in script)) (served (opening_of script) (calls_in script))
+history input script is = served_is_history (opening_of script) no_faults (calls_in script)
+    (all_proper (length (opening_of script).modes) script.streams (all_calls input script is)) (λ number low most. refl)
+    (omega (arith, call_count-in script.streams, is.calls))
 
 -- a script that was read, and its journal
 pub is_run : (left rest : Option (List ℕ)) (input : List ℕ) (script : Script) (s : Served) → Consumes left rest input → IsWhole rest input
     → IsScript input script → IsServed script s → IsRun left script s.journal.entries
-is_run left rest input script s given end is served = record {
+is_run left rest input script s given end is done = record {
   read = (input, is, Consumes-whole left rest input (λ told. told ≡ input) given (end is.headed.cut.most) refl);
-  history = subst (IsHistory (opening_of script) no_faults (stream_of (calls_in script))) (sym served.journal)
-      (served_is_history (opening_of script) no_faults (calls_in script) (has_source _ (one_replica input script is)));
-  turns = served.journal;
+  history = subst (IsHistory (opening_of script) no_faults (stream_of (calls_in script))) (sym done.journal) (history input script is);
+  turns = done.journal;
 }
 
+-- it has one replica
+pub few_replicas : (input : List ℕ) (script : Script) (s : Served) → IsScript input script → IsServed script s → length (modes_of s.journal) < 256
+few_replicas input script s is done =
+    omega (arith, length-modes_after s.journal.opening.modes s.journal.entries, ap (λ (ms : List Mode). length ms) (done.modes ∙ one_replica input script is))
+
 -- the text that is written is the report of the run
-pub written_is : (input : List ℕ) (script : Script) (s : Served) → IsScript input script → IsServed script s
-    → written_text s.heads.items s.journal.entries s.disk ≡ report_text script s.journal.entries
-written_is input script s is served =
-    let modes = modes_after-same (opening_of script).modes s.journal.entries ∙ one_replica input script is in
-    same_text _ _ s.journal.entries _ _ _ _ served.heads (sym modes) served.disk
+pub written_is : (script : Script) (s : Served) → IsServed script s → written_text s.heads.items s.journal s.disk ≡ report_text script s.journal.entries
+written_is script s done =
+    same_text s.heads.items (heads_in script) s.journal.entries (modes_of s.journal) (modes_after (opening_of script).modes s.journal.entries) s.disk
+    (replay (opening_of script).state s.journal.entries).volume done.heads (ap (λ ms. modes_after ms s.journal.entries) done.modes) done.disk
   where
-    same_text : (hs gs : List (List Head)) (es : List Entry) (ms ns : List Mode) (s t : PlainState) → hs ≡ gs → ms ≡ ns → s ≡ t
-        → call_lines hs es ++ end_lines ms s ≡ call_lines gs es ++ end_lines ns t
-    same_text hs gs es ms ns s t p q r = cc
+    same_text : (hs gs : List (List Head)) (es : List Entry) (ms ns : List Mode) (v w : Volume) → hs ≡ gs → ms ≡ ns → v ≡ w
+        → call_lines hs es ++ end_lines ms v ≡ call_lines gs es ++ end_lines ns w
+    same_text hs gs es ms ns v w p q r = cc
 
 -- what is written of the report of a run
 pub leaves : {T : Type 0} (result : Result T Stop) (same : Type 0) (left old new : Option (List ℕ)) (script : Script) (journal : List Entry) (text : List ℕ) (before now : ℕ)

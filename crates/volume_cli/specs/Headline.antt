@@ -16,12 +16,12 @@ abbrev pub AskNothing : {A : Type 0} → List (String A) → Type 0
 AskNothing words = asked_by (map string_bytes words) ≡ None
 
 -- it is the answer, unless memory ran out
-abbrev pub IsAnswered : Status → Status → Type 0
-IsAnswered answer status = (answer ≡ status) ⊎ (answer ≡ NoMemory)
+abbrev pub IsStatus : Status → Status → Type 0
+IsStatus answer status = (answer ≡ status) ⊎ (answer ≡ NoMemory)
 
 -- The status comes only where the fact holds, and wherever it holds, unless memory ran out.
 abbrev pub ExactlyWhere : Status → Status → Type 0 → Type 0
-ExactlyWhere answer status P = (answer ≡ status → P) × (P → IsAnswered answer status)
+ExactlyWhere answer status P = (answer ≡ status → P) × (P → IsStatus answer status)
 
 -- A script is refused only where the words ask for a run, and the input is none, for this reason first, at this place.
 abbrev pub ScriptRefusal : {A : Type 0} → Status → List (String A) → Option (List ℕ) → Type 0

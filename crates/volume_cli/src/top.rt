@@ -4,7 +4,7 @@ ghost use Rattle.outer_flow.specs.Passing.{GivesAtMost};
 ghost use Rattle.script_text.specs.Script.{IsScript, IsNoScript};
 ghost use Rattle.script_text.specs.declared.script.Script.{Script};
 ghost use Rattle.script_text.specs.declared.what.What.{What};
-ghost use Rattle.volume_cli.specs.Headline.{AskRun, AskNothing, ExactlyWhere, ScriptRefusal, Leaves, IsAnswered};
+ghost use Rattle.volume_cli.specs.Headline.{AskRun, AskNothing, ExactlyWhere, ScriptRefusal, Leaves, IsStatus};
 ghost use Rattle.volume_cli.specs.Stops.{Counts, RunLeaves};
 
 use crate::edge::{read_input, write_output};
@@ -27,21 +27,21 @@ pub fn longhorn<S: Source, K: Sink>(
     requires source_count { S.faults source.old < 2 ^ 64 - 1 }
     requires sink_count { K.faults sink.old < 2 ^ 64 - 1 }
 
-    // When each status comes. Want of memory alone is free, but that a fault of the source is told in any case.
+    // When each status comes. Want of memory alone is free, but that a fault of source or sink is told in any case.
     ensures usage { ExactlyWhere result Status.Usage (AskNothing words.now) }
     ensures read_fault { result ≡ Status.ReadFault ↔ S.faults source.old < S.faults source.new }
-    ensures write_fault { ExactlyWhere result Status.WriteFault (K.faults sink.old < K.faults sink.new) }
+    ensures write_fault { result ≡ Status.WriteFault ↔ K.faults sink.old < K.faults sink.new }
     ensures script_only { ScriptRefusal result words.now (S.left source.old) }
     ensures script { AskRun words.now → S.faults source.new ≡ S.faults source.old
         → IfSome (S.left source.old) (λ input. (place : ℕ) (what : What)
-        → IsNoScript input place what → IsAnswered result (Status.Script place what)) }
+        → IsNoScript input place what → IsStatus result (Status.Script place what)) }
     ensures done { result ≡ Status.Done → AskRun words.now × IsAtEnd (S.left source.new)
         × (S.faults source.new ≡ S.faults source.old) × (K.faults sink.new ≡ K.faults sink.old) }
 
     // Where a run is asked for, the input is a script and nothing fails, the run is done.
     ensures complete { AskRun words.now → S.faults source.new ≡ S.faults source.old
         → K.faults sink.new ≡ K.faults sink.old → IfSome (S.left source.old) (λ input. (script : Script)
-        → IsScript input script → IsAnswered result Status.Done) }
+        → IsScript input script → IsStatus result Status.Done) }
 
     // Words that ask for nothing leave the source. Else at most one byte more is read than an input may have.
     ensures unread { result ≡ Status.Usage → source.new ≡ source.old }

@@ -25,7 +25,7 @@ use Rattle.volume_model.specs.PlainStep.{refusal_of, after_call, step_unless}
 use Rattle.volume_model.specs.Replay.{is_refusal, after_entry, replay}
 use Rattle.volume_model.specs.Modes.{modes_after}
 use Rattle.volume_model.specs.Names.{NamesOnce, AreNamed}
-use Rattle.volume_model.specs.Copies.{has_copy, IsWhole}
+use Rattle.volume_model.specs.Copies.{has_copy, HasCopies}
 use Rattle.volume_model.specs.Rebuilds.{added_by}
 use Rattle.volume_model.specs.History.{Spot, says_no_replica, IsAnswered, IsEnded, MayStand, LegalAfter, IsLegal}
 use Rattle.volume_model.proofs.StepLemmas.{says_refusal}
@@ -34,12 +34,12 @@ use Rattle.volume_model.proofs.NamesLemmas.{stands, next, named_entry, is_live-m
 -- ---- what each change leaves
 
 -- a write within the disk
-whole_written : (size : ℕ) (volume : Volume) (offset : ℤ) (bytes : List ℕ) → place_of offset + length bytes ≤ length volume.disk → IsWhole size volume → IsWhole size (written volume offset bytes)
+whole_written : (size : ℕ) (volume : Volume) (offset : ℤ) (bytes : List ℕ) → place_of offset + length bytes ≤ length volume.disk → HasCopies size volume → HasCopies size (written volume offset bytes)
 whole_written size volume offset bytes inside whole =
     record { disk = length-with_bytes_at volume.disk (place_of offset) bytes inside ∙ whole.disk; there = whole.there; copy = whole.copy }
 
 -- a snapshot
-whole_snapped : (size : ℕ) (volume : Volume) (name : List ℕ) → IsWhole size volume → IsWhole size (snapped volume name)
+whole_snapped : (size : ℕ) (volume : Volume) (name : List ℕ) → HasCopies size volume → HasCopies size (snapped volume name)
 whole_snapped size volume name whole = record {
   disk = whole.disk;
   there = λ q live. there (bytes_eq q name) q live;
@@ -55,7 +55,7 @@ whole_snapped size volume name whole = record {
     copied false q live = whole.copy q live
 
 -- a snapshot is put back that can be used
-whole_reverted : (size : ℕ) (volume : Volume) (name : List ℕ) → is_live volume.snapshots.tree name ≡ true → IsWhole size volume → IsWhole size (reverted volume name)
+whole_reverted : (size : ℕ) (volume : Volume) (name : List ℕ) → is_live volume.snapshots.tree name ≡ true → HasCopies size volume → HasCopies size (reverted volume name)
 whole_reverted size volume name live whole = record { disk = whole.copy name live; there = whole.there; copy = whole.copy }
 
 -- the copies under other names are as they were
@@ -78,7 +78,7 @@ copy_of-without (c ∷ cs) name q apart = one (bytes_eq name c.name) refl (copy_
     one false is more = ap (cond (bytes_eq q c.name) c.disk) more
 
 -- a snapshot is to be removed: its copy goes, and it can be used no longer
-whole_removed : (size : ℕ) (volume : Volume) (name : List ℕ) → IsWhole size volume → IsWhole size (removed volume name)
+whole_removed : (size : ℕ) (volume : Volume) (name : List ℕ) → HasCopies size volume → HasCopies size (removed volume name)
 whole_removed size volume name whole = record {
   disk = whole.disk;
   there = λ q live. let x = other q live in has_copy-without volume.copies name q x.0 ∙ whole.there q x.1;
@@ -99,7 +99,7 @@ whole_removed size volume name whole = record {
         apart (inr other) none = other
 
 -- a part of a purge
-whole_purged : (size : ℕ) (volume : Volume) (f : FoldOrDrop) → NamesOnce volume.snapshots.tree → CanBeDone volume.snapshots.tree volume.snapshots.on f → IsWhole size volume → IsWhole size (purged volume f)
+whole_purged : (size : ℕ) (volume : Volume) (f : FoldOrDrop) → NamesOnce volume.snapshots.tree → CanBeDone volume.snapshots.tree volume.snapshots.on f → HasCopies size volume → HasCopies size (purged volume f)
 whole_purged size volume f once can whole = record {
   disk = whole.disk;
   there = λ q live. whole.there q (sym (is_live-part volume.snapshots f q once can) ∙ live);
@@ -136,7 +136,7 @@ live_when : (live : Bool) → cond live None (Some NoSuchSnapshot) ≡ None → 
 live_when true is = refl
 live_when false is = absurd cc
 
-whole_called : (size : ℕ) (modes : List Mode) (state : PlainState) (c : Call) → (added_by c ≡ None → refusal_of modes state c ≡ None) → IsWhole size state.volume → IsWhole size (after_call state c).volume
+whole_called : (size : ℕ) (modes : List Mode) (state : PlainState) (c : Call) → (added_by c ≡ None → refusal_of modes state c ≡ None) → HasCopies size state.volume → HasCopies size (after_call state c).volume
 whole_called size modes state (call.Read offset n) clear whole = whole
 whole_called size modes state (call.Write offset bytes) clear whole = whole_written size state.volume offset bytes (good_inside (length state.volume.disk) offset (length bytes) (good_when (is_good (length state.volume.disk) offset (length bytes)) (clear refl))) whole
 whole_called size modes state call.Ping clear whole = whole
@@ -151,13 +151,13 @@ whole_called size modes state (call.Command (command.Fail r)) clear whole = whol
 whole_called size modes state (call.Command (command.Add r)) clear whole = whole
 
 whole_unless : (refused : Bool) (size : ℕ) (modes : List Mode) (state : PlainState) (c : Call) → (added_by c ≡ None → refused ≡ false → refusal_of modes state c ≡ None)
-    → IsWhole size state.volume → IsWhole size (cond refused state (after_call state c)).volume
+    → HasCopies size state.volume → HasCopies size (cond refused state (after_call state c)).volume
 whole_unless true size modes state c clear whole = whole
 whole_unless false size modes state c clear whole = whole_called size modes state c (λ none. clear none refl) whole
 
 -- one entry that may stand behind a journal
 whole_entry : (size : ℕ) (opening : Spot) (before : List Entry) (e : Entry) (after : List Entry) → MayStand opening before e after → AreNamed (replay opening.state before)
-    → IsWhole size (replay opening.state before).volume → IsWhole size (after_entry (replay opening.state before) e).volume
+    → HasCopies size (replay opening.state before).volume → HasCopies size (after_entry (replay opening.state before) e).volume
 whole_entry size opening before (entry.Answer a) after may named whole =
     whole_unless (is_refusal a.reply) size (modes_after opening.modes before) (replay opening.state before) a.call
     (λ none done. clear_of before (replay opening.state before) (modes_after opening.modes before) a none may done) whole
@@ -170,15 +170,15 @@ whole_entry size opening before (entry.Mark (mark.Aborted r)) after may named wh
 
 -- entries behind a journal
 whole_behind : (size : ℕ) (opening : Spot) (before : List Entry) (state : PlainState) (journal : List Entry) → replay opening.state before ≡ state → LegalAfter opening before journal
-    → AreNamed state → IsWhole size state.volume → IsWhole size (replay state journal).volume
+    → AreNamed state → HasCopies size state.volume → HasCopies size (replay state journal).volume
 whole_behind size opening before state [] at legal named whole = whole
 whole_behind size opening before state (e ∷ es) at legal named whole =
     whole_behind size opening (before ++ e ∷ []) (after_entry state e) es (next opening before state e at) legal.1
     (named_entry state e (stands opening before state e es at legal.0) named)
-    (subst (λ (s : PlainState). IsWhole size (after_entry s e).volume) at
-    (whole_entry size opening before e es legal.0 (subst AreNamed (sym at) named) (subst (λ (s : PlainState). IsWhole size s.volume) (sym at) whole)))
+    (subst (λ (s : PlainState). HasCopies size (after_entry s e).volume) at
+    (whole_entry size opening before e es legal.0 (subst AreNamed (sym at) named) (subst (λ (s : PlainState). HasCopies size s.volume) (sym at) whole)))
 
 -- a journal
-pub stay_whole : (opening : Spot) (size : ℕ) (journal : List Entry) → IsLegal opening journal → AreNamed opening.state → IsWhole size opening.state.volume
-    → IsWhole size (replay opening.state journal).volume
+pub stay_whole : (opening : Spot) (size : ℕ) (journal : List Entry) → IsLegal opening journal → AreNamed opening.state → HasCopies size opening.state.volume
+    → HasCopies size (replay opening.state journal).volume
 stay_whole opening size journal legal named whole = whole_behind size opening [] opening.state journal refl legal named whole

@@ -58,7 +58,7 @@ pub record Goes (opening : Spot) (before : List Entry) (spot : Spot) (es : List 
   pub raise : (replay spot.state es).volume.snapshots.number ≤ spot.state.volume.snapshots.number + 1
   pub faults : (stream replica : ℕ) → fault_counts stream replica es ≡ []
 
-length-modes_after : (modes : List Mode) (es : List Entry) → length (modes_after modes es) ≡ length modes
+pub length-modes_after : (modes : List Mode) (es : List Entry) → length (modes_after modes es) ≡ length modes
 length-modes_after modes [] = refl
 length-modes_after modes (entry.Answer a ∷ es) = length-modes_after modes es
 length-modes_after modes (entry.Mark (mark.Purged p) ∷ es) = length-modes_after modes es

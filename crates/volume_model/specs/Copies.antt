@@ -10,7 +10,7 @@ abbrev pub has_copy : List Copy → List ℕ → Bool
 has_copy copies name = list_any (λ c. bytes_eq name c.name) copies
 
 -- the disk has that many bytes, and each snapshot that can be used has a copy with as many
-pub record IsWhole (size : ℕ) (volume : Volume) : Type 0 where
+pub record HasCopies (size : ℕ) (volume : Volume) : Type 0 where
   pub disk : length volume.disk ≡ size
   pub there : (name : List ℕ) → is_live volume.snapshots.tree name ≡ true → has_copy volume.copies name ≡ true
   pub copy : (name : List ℕ) → is_live volume.snapshots.tree name ≡ true → length (copy_of volume.copies name) ≡ size

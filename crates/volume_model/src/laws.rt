@@ -18,7 +18,7 @@ ghost use Rattle.volume_model.specs.Replay.{replay};
 ghost use Rattle.volume_model.specs.Modes.{HasSource};
 ghost use Rattle.volume_model.specs.History.{Spot, IsLegal, IsHistory};
 ghost use Rattle.volume_model.specs.OneWorker.{served, after_streams, stream_of, AllProper, call_count, behind_entries};
-ghost use Rattle.volume_model.specs.Copies.{IsWhole};
+ghost use Rattle.volume_model.specs.Copies.{HasCopies};
 ghost use Rattle.volume_model.specs.Names.{AreOwnFree, TellOf, AreNamed, names_after, layers_after};
 
 /// A write within the disk keeps its size, is read back, and leaves all bytes before and behind it.
@@ -100,5 +100,5 @@ pub fn a_journal_tells_of_its_snapshots()
 /// A legal journal keeps the size of the disk, and has a copy of that size for each snapshot that can be used.
 pub fn a_legal_journal_keeps_the_copies()
     ensures { (opening : Spot) (size : ℕ) (journal : List Entry) → IsLegal opening journal → AreNamed opening.state
-        → IsWhole size opening.state.volume → IsWhole size (replay opening.state journal).volume }
+        → HasCopies size opening.state.volume → HasCopies size (replay opening.state journal).volume }
 {}

@@ -1,7 +1,7 @@
 use Rattle.std.proofs.Common.{subst, ◌≡◌, ◌++◌, ◌∷◌, []}
 use Rattle.std.proofs.lemmas.Result.{on_ok_weaker}
 use Rattle.std.specs.Io.KnownBytes.{Appends}
-use Rattle.volume_model.specs.declared.mode.Mode.TheVariants.{Rw}
+use Rattle.journal_book.specs.Book.{modes_of}
 use Rattle.run_report.specs.Report.{journal_lines, replies_from, end_lines}
 use Rattle.outer_flow.specs.Passing.{WritesFront}
 use Rattle.outer_flow.proofs.Passing.{Passes-trans, WritesFront-after, WritesFront-passed, Appends-last, WritesFront-last}
@@ -11,7 +11,7 @@ use Rattle.report_writer.proofs.report.write_report.Goals as goal
 pub returns-in_err-pass_entries-clause-front : goal.returns-in_err-pass_entries-clause-front
 returns-in_err-pass_entries-clause-front g c =
     let entries = c.args.journal.now.entries in
-    front_of_entries _ _ c.new-buffer.result.items (journal_lines 0 entries) (replies_from 0 c.args.heads.now entries) (end_lines (Rw ∷ []) c.args.disk.now)
+    front_of_entries _ _ c.new-buffer.result.items (journal_lines 0 entries) (replies_from 0 c.args.heads.now entries) (end_lines (modes_of c.args.journal.now) c.args.disk.now)
     c.new-buffer.ensures.items c.in_err-pass_entries.ensures.front
 
 pub returns-in_err-pass_streams-clause-front : goal.returns-in_err-pass_streams-clause-front
@@ -20,7 +20,7 @@ returns-in_err-pass_streams-clause-front g c =
     let lines = journal_lines 0 entries in
     let replies = replies_from 0 c.args.heads.now entries in
     let front = WritesFront-after _ _ _ c.new-buffer.result.items _ lines replies c.in_ok-pass_entries.ensures.passed c.in_err-pass_streams.ensures.front in
-    front_of_calls _ _ c.new-buffer.result.items lines replies (end_lines (Rw ∷ []) c.args.disk.now) c.new-buffer.ensures.items front
+    front_of_calls _ _ c.new-buffer.result.items lines replies (end_lines (modes_of c.args.journal.now) c.args.disk.now) c.new-buffer.ensures.items front
 
 pub returns-in_err-print_end-clause-front : goal.returns-in_err-print_end-clause-front
 returns-in_err-print_end-clause-front g c =
@@ -28,7 +28,7 @@ returns-in_err-print_end-clause-front g c =
     let lines = journal_lines 0 entries in
     let replies = replies_from 0 c.args.heads.now entries in
     let passed = Passes-trans _ _ _ c.new-buffer.result.items _ _ lines replies c.in_ok-pass_entries.ensures.passed c.in_ok-pass_streams.ensures.passed in
-    front_of_calls _ _ c.new-buffer.result.items lines replies (end_lines (Rw ∷ []) c.args.disk.now) c.new-buffer.ensures.items
+    front_of_calls _ _ c.new-buffer.result.items lines replies (end_lines (modes_of c.args.journal.now) c.args.disk.now) c.new-buffer.ensures.items
     (WritesFront-passed _ _ c.new-buffer.result.items _ (lines ++ replies) passed)
 
 pub returns-clause-whole : goal.returns-clause-whole
@@ -37,7 +37,7 @@ returns-clause-whole g c =
     let lines = journal_lines 0 entries in
     let replies = replies_from 0 c.args.heads.now entries in
     let calls = Passes-trans _ _ _ c.new-buffer.result.items _ _ lines replies c.in_ok-pass_entries.ensures.passed c.in_ok-pass_streams.ensures.passed in
-    let passed = whole_passes _ _ c.new-buffer.result.items _ _ lines replies (end_lines (Rw ∷ []) c.args.disk.now) c.new-buffer.ensures.items c.in_ok-print_end.ensures calls in
+    let passed = whole_passes _ _ c.new-buffer.result.items _ _ lines replies (end_lines (modes_of c.args.journal.now) c.args.disk.now) c.new-buffer.ensures.items c.in_ok-print_end.ensures calls in
     let rest : c.deref.result.now ≡ c.print_end.new.into.items = c.deref.ensures.value in
     on_ok_weaker c.write_all.result (λ e. Appends-last _ _ _ _ _ passed (subst (Appends _ _) rest e)) c.write_all.ensures.whole
 
@@ -47,5 +47,5 @@ returns-clause-front g c =
     let lines = journal_lines 0 entries in
     let replies = replies_from 0 c.args.heads.now entries in
     let calls = Passes-trans _ _ _ c.new-buffer.result.items _ _ lines replies c.in_ok-pass_entries.ensures.passed c.in_ok-pass_streams.ensures.passed in
-    let passed = whole_passes _ _ c.new-buffer.result.items _ _ lines replies (end_lines (Rw ∷ []) c.args.disk.now) c.new-buffer.ensures.items c.in_ok-print_end.ensures calls in
+    let passed = whole_passes _ _ c.new-buffer.result.items _ _ lines replies (end_lines (modes_of c.args.journal.now) c.args.disk.now) c.new-buffer.ensures.items c.in_ok-print_end.ensures calls in
     WritesFront-last _ _ _ _ _ passed (subst (WritesFront _ _) c.deref.ensures.value c.write_all.ensures.front)
