@@ -13,7 +13,7 @@ use std::marker::Model;
 
 /// The name of a layer below the head: a snapshot that a user took, or one of the engine's own, as `sys-7`.
 /// A contract sees it as the list of its bytes.
-#[derive(Clone, Copy, PartialEq, Eq, PartialOrd, Ord)]
+#[derive(Clone, Copy, PartialEq, Eq, PartialOrd, Ord, Hash)]
 pub struct LayerName {
     chars: Chars,
 }
