@@ -106,7 +106,7 @@ left_by spot c state is =
     ∙ ap (λ s. replay s (answer_for (refused_at spot c) spot 0 0 0 c ∷ [])) is
 
 -- which marks leave the state
-unmarked : (why : Option Refusal) (spot : Spot) (c : Call) → call_marks spot c ≡ [] → replay spot.state (marks_unless why spot c) ≡ spot.state
+pub unmarked : (why : Option Refusal) (spot : Spot) (c : Call) → call_marks spot c ≡ [] → replay spot.state (marks_unless why spot c) ≡ spot.state
 unmarked (Some why) spot c e = refl
 unmarked None spot c e = ap (replay spot.state) e
 
@@ -127,7 +127,7 @@ plain_raises : (spot : Spot) (c : Call) → call_marks spot c ≡ [] → (after_
 plain_raises spot c none = by_marks spot c (ap (λ (s : PlainState). s.volume.snapshots.number) (unmarked (refused_at spot c) spot c none))
 
 -- those of a purge do
-purge_keeps : (why : Option Refusal) (spot : Spot) → (replay spot.state (marks_unless why spot (call.Command command.Purge))).volume.snapshots.number ≡ spot.state.volume.snapshots.number
+pub purge_keeps : (why : Option Refusal) (spot : Spot) → (replay spot.state (marks_unless why spot (call.Command command.Purge))).volume.snapshots.number ≡ spot.state.volume.snapshots.number
 purge_keeps (Some why) spot = refl
 purge_keeps None spot =
     ap (λ (s : PlainState). s.volume.snapshots.number) (replay-marks spot.state (parts_of spot.state.volume.snapshots))
@@ -207,7 +207,7 @@ named_plainly spot c keeps named =
 named_unmarked : (spot : Spot) (c : Call) → call_marks spot c ≡ [] → AreNamed spot.state → AreNamed (after_done spot c).state
 named_unmarked spot c none named = named_plainly spot c (unmarked (refused_at spot c) spot c none) named
 
-named_parts : (state : PlainState) (parts : List FoldOrDrop) → AreNamed state → AreNamed (replay state (marks_of parts))
+pub named_parts : (state : PlainState) (parts : List FoldOrDrop) → AreNamed state → AreNamed (replay state (marks_of parts))
 named_parts state [] named = named
 named_parts state (f ∷ fs) named = named_parts (after_mark state (mark.Purged f)) fs (named_part state f named)
 
