@@ -1,0 +1,2 @@
+pub mod VolumeLemmas
+pub mod PurgeLemmas
