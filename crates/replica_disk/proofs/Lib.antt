@@ -1,4 +1,3 @@
-pub mod StateLemmas
-pub mod PurgeLemmas
+pub mod CommandLemmas
 pub mod MergedLemmas
-pub mod UsedLemmas
+pub mod NameLemmas

@@ -1,12 +1,12 @@
 -- Bytes that are written over a part of a disk, block by block.
-use Rattle.std.proofs.Common.{◌≡◌, ℕ, ◌+◌, ◌-◌, ◌*◌, ◌<◌, ◌≤◌, min, max, Bool, false, eqb, List, [], ◌∷◌, ◌++◌, length, take, drop, slice_range, sym, ap, ◌∙◌, arith, append_assoc, append-nil, Option, Some, length-append, length-drop, inl, inr, ◌⊎◌, ⊎_elim, refl}
+use Rattle.std.proofs.Common.{◌≡◌, ℕ, ◌+◌, ◌-◌, ◌*◌, ◌≤◌, min, max, List, [], ◌∷◌, ◌++◌, length, take, drop, slice_range, sym, ap, ◌∙◌, arith, append_assoc, append-nil, Option, Some, length-append, length-drop, inl, inr, ◌⊎◌, ⊎_elim, refl}
 use Rattle.std.proofs.lemmas.List.{take_all, length-take-le, take-append-le, drop-append-le, take-append-drop, take-take, drop-drop, drop-take}
 use Rattle.std.proofs.Math.Seq.{drop-append-add}
 use Rattle.std.proofs.lemmas.Grind.{flat_map-append}
 use Rattle.sparse_image.specs.Disk.{bytes_of}
 use Rattle.replica_node.specs.Room.{bytes_in}
 use Rattle.vol_units.specs.Bytes.{bytes_at, with_bytes_at}
-use Rattle.std.proofs.lemmas.Bool.{cases_lt, eqb-false}
+use Rattle.std.proofs.lemmas.Bool.{cases_lt}
 use Rattle.vol_units.specs.declared.range.BlockRange.{BlockRange}
 use Rattle.replica_disk.specs.Merged.{Touches, AreBlocksOf}
 use Rattle.vol_units.proofs.BytesLemmas.{take-slice, bytes_at-append, length-with_bytes_at}
@@ -152,13 +152,12 @@ pub either_min : (a b m : ℕ) → m ≡ min a b → (m ≡ b) ⊎ (m ≡ a)
 either_min a b m is = ⊎_elim (λ lower. inr (omega (arith, is))) (λ higher. inl (omega (arith, is))) (cases_lt a b)
 
 -- the blocks of a range that has all bytes, put over the disk, leave what the write leaves
-pub put_range : (disk old bytes : List ℕ) (at : ℕ) (range : BlockRange) (blocks : List (Option (List ℕ))) → old ≡ disk → at + length bytes ≤ length disk
+pub put_range : (disk bytes : List ℕ) (at : ℕ) (range : BlockRange) (blocks : List (Option (List ℕ))) → at + length bytes ≤ length disk
     → Touches range at (length bytes) → range.end * 4096 ≤ length disk → AreBlocksOf (with_bytes_at disk at bytes) range blocks
-    → with_bytes_at old (range.first * 4096) (bytes_in blocks) ≡ with_bytes_at disk at bytes
-put_range disk old bytes at range blocks same inside t within are =
+    → with_bytes_at disk (range.first * 4096) (bytes_in blocks) ≡ with_bytes_at disk at bytes
+put_range disk bytes at range blocks inside t within are =
     let end : range.first * 4096 + length blocks * 4096 ≡ range.end * 4096 = omega (arith, are.count) in
-    ap (λ d. with_bytes_at d (range.first * 4096) (bytes_in blocks)) same
-    ∙ ap (with_bytes_at disk (range.first * 4096)) are.bytes
+    ap (with_bytes_at disk (range.first * 4096)) are.bytes
     ∙ range_after disk bytes at (range.first * 4096) (length blocks * 4096) inside t.first (omega (arith, end, t.end)) (omega (arith, end, within))
 
 -- bytes written into one block of the disk are written into the disk
@@ -184,10 +183,3 @@ within_block disk bytes at first start inside here room whole =
   where
     no_drop : drop 0 bytes ≡ bytes
     no_drop = refl
-
--- bytes that are some
-pub some_bytes : (n : ℕ) (empty : Bool) → empty ≡ eqb n 0 → empty ≡ false → 0 < n
-some_bytes n empty is not_empty = ⊎_elim
-    (λ some. some)
-    (λ none. absurd (eqb-false n 0 (sym is ∙ not_empty) (omega arith)))
-    (cases_lt 0 n)

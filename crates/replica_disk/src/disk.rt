@@ -1,53 +1,45 @@
 ghost use Rattle.std.specs.Prelude.{◌≡◌, ◌+◌, ◌*◌, ◌^◌, ◌<◌, ◌≤◌, List, length, IfOk, OnOk, OnErr, true, false, pos};
 ghost use Rattle.volume_model.specs.Disk.{zeros, bytes_at};
 ghost use Rattle.volume_model.specs.Snapshots.{chain_of};
-ghost use Rattle.volume_model.specs.PlainState.{state_of, written};
-ghost use Rattle.volume_model.specs.PlainStep.{plain_step};
-ghost use Rattle.volume_model.specs.Marks.{after_mark};
+ghost use Rattle.volume_model.specs.PlainState.{volume_of, written, purged};
 ghost use Rattle.volume_model.specs.Purge.{CanBeDone, next_of};
-ghost use Rattle.volume_model.specs.declared.mark.Mark.TheVariants as mark;
 ghost use Rattle.volume_model.specs.declared.mode.Mode.{Mode};
+ghost use Rattle.replica_disk.specs.Step.{IsNew, volume_step};
 
 use crate::commands;
 use crate::merge::merged_blocks;
-use crate::purge::take_out;
-use crate::used::UsedNames;
 use replica_node::{BLOCK_BYTES, BlockRange, ReplicaNode};
+use replica_state::take_out;
 use std::alloc::{AllocError, Global};
 use std::marker::Model;
 use vol_units::{LayerName, VolumeSize, place_within};
-use volume_model::{Bytes, Call, FoldOrDrop, Mode, Refusal, Reply};
+use volume_model::{Call, FoldOrDrop, Mode, Refusal, Reply, Sequence};
 
 /// The most bytes that one call reads.
 const LONGEST_CALL: u32 = 1_048_576;
 
-/// The volume that one replica is. Contracts see a plain state.
+/// The volume that one replica is. The names that were taken, its owner keeps.
 #[derive(Drop)]
 pub struct ReplicaDisk {
     node: ReplicaNode,
-    /// Also those of snapshots that a purge took out.
-    used: UsedNames,
 }
 
 impl Model for ReplicaDisk {
-    ghost use Rattle.volume_model.specs.PlainState.{PlainState};
-    ghost use Rattle.replica_disk.specs.State.{AreTaken, state_of_node};
+    ghost use Rattle.volume_model.specs.PlainState.{Volume};
+    ghost use Rattle.replica_state.specs.Volume.{volume_of_node};
 
-    ghost Value = { PlainState };
+    ghost Value = { Volume };
 
-    ghost view = { λ d. state_of_node d.used d.node };
-
-    ghost invariant = { λ d. AreTaken d.used d.node };
+    ghost view = { λ d. volume_of_node d.node };
 }
 
 impl ReplicaDisk {
     /// A disk of so many zeros, on a blank replica.
     pub fn zeros(alloc: Global, size: VolumeSize) -> Result<ReplicaDisk, AllocError>
-        ensures { IfOk result (λ disk. disk ≡ state_of (zeros size)) }
+        ensures { IfOk result (λ disk. disk ≡ volume_of (zeros size)) }
     {
         Ok(ReplicaDisk {
             node: ReplicaNode::blank(alloc, size)?,
-            used: UsedNames::none(alloc),
         })
     }
 
@@ -84,7 +76,8 @@ impl ReplicaDisk {
     /// Answers a call on replicas of these modes, and is then what the call leaves.
     pub fn step(&mut self, alloc: Global, modes: &[Mode], call: &Call) -> Result<Reply, AllocError>
         requires number { self.old.snapshots.number + 1 < 2 ^ 64 }
-        ensures step { IfOk result (λ reply. plain_step modes.now self.old call.now ≡ (self.new, reply)) }
+        requires new { IsNew self.old call.now }
+        ensures step { IfOk result (λ reply. volume_step modes.now self.old call.now ≡ (self.new, reply)) }
         ensures err { OnErr result (self.new ≡ self.old) }
     {
         match call {
@@ -92,9 +85,7 @@ impl ReplicaDisk {
             Call::Write { offset, bytes } => self.write(alloc, *offset, bytes.as_slice()),
             Call::Ping => Ok(Reply::Done),
             Call::Other(_) => Ok(Reply::Refused(Refusal::Unsupported)),
-            Call::Command(command) => {
-                commands::answer(&mut self.node, &mut self.used, alloc, modes, command)
-            }
+            Call::Command(command) => commands::answer(&mut self.node, alloc, modes, command),
         }
     }
 
@@ -108,14 +99,14 @@ impl ReplicaDisk {
     /// Takes out a layer that can go: neither the disk nor a copy changes. It takes no memory.
     pub fn take_out(&mut self, part: &FoldOrDrop)
         requires { CanBeDone self.old.snapshots.tree self.old.snapshots.on part.now }
-        ensures { self.new ≡ after_mark self.old (mark.Purged part.now) }
+        ensures { self.new ≡ purged self.old part.now }
     {
-        take_out(&mut self.node, &self.used, part);
+        take_out(&mut self.node, part);
     }
 
     fn read(&self, alloc: Global, offset: i64, length: u32) -> Result<Reply, AllocError>
         ensures { IfOk result (λ reply. (modes : List Mode)
-            → plain_step modes self.now (Call.Read offset length) ≡ (self.now, reply)) }
+            → volume_step modes self.now (Call.Read offset length) ≡ (self.now, reply)) }
     {
         if length > LONGEST_CALL {
             return Ok(Reply::Refused(Refusal::TooLong));
@@ -126,12 +117,12 @@ impl ReplicaDisk {
         };
         let mut bytes = vec![in alloc; 0; length]?;
         self.node.read_bytes(None, at, &mut bytes);
-        Ok(Reply::Read(Bytes::from_vec(bytes)?))
+        Ok(Reply::Read(Sequence::of(bytes)))
     }
 
     fn write(&mut self, alloc: Global, offset: i64, bytes: &[u8]) -> Result<Reply, AllocError>
         ensures step { IfOk result (λ reply. (modes : List Mode)
-            → plain_step modes self.old (Call.Write offset bytes.now) ≡ (self.new, reply)) }
+            → volume_step modes self.old (Call.Write offset bytes.now) ≡ (self.new, reply)) }
         ensures err { OnErr result (self.new ≡ self.old) }
     {
         let Some(at) = place_within(offset, bytes.len(), self.node.size()) else {

@@ -3,9 +3,8 @@
 
 mod commands;
 mod disk;
+pub mod laws;
 mod merge;
-mod purge;
-mod used;
 
 pub use disk::ReplicaDisk;
 pub use volume_model::{

@@ -1,18 +1,21 @@
-use Rattle.std.proofs.Common.{sym, ap, ◌∙◌}
-use Rattle.std.proofs.lemmas.Result.{IfOk-weaker}
-use Rattle.volume_model.specs.declared.call.Call.TheVariants as call
-use Rattle.volume_model.specs.declared.Command.TheVariants as command
-use Rattle.volume_model.specs.PlainStep.{plain_step}
-use Rattle.replica_disk.specs.State.{state_of_node}
-use Rattle.replica_disk.proofs.StateLemmas.{step_told}
+use Rattle.replica_disk.proofs.CommandLemmas.{free_for, kept_for_mark, kept_for_revert, removed_step, reverted_step}
 use Rattle.replica_disk.proofs.commands.answer.Goals as goal
 
-pub returns-in-Snapshot-clause-step : goal.returns-in-Snapshot-clause-step
-returns-in-Snapshot-clause-step c =
-    step_told c.args.used.now c.snapshot.new.used c.args.node.now c.snapshot.new.node c.args.modes.now c.args.command.now
-    (command.Snapshot c.from.result) c.snapshot.result (c.in-Snapshot.is ∙ ap command.Snapshot (sym c.from.ensures)) c.snapshot.ensures.step
+pub snapshot-requires-clause-free : goal.snapshot-requires-clause-free
+snapshot-requires-clause-free c =
+    free_for c.args.node.now c.args.command.now c.in-Snapshot.name c.from.result c.requires.new c.in-Snapshot.is c.from.ensures
 
-pub returns-in-Status-clause-step : goal.returns-in-Status-clause-step
-returns-in-Status-clause-step c = IfOk-weaker c.status.result _ _
-    (λ reply is. ap (λ d. plain_step c.args.modes.now (state_of_node c.args.used.now c.args.node.now) (call.Command d)) c.in-Status.is ∙ is c.args.used.now)
-    c.status.ensures
+pub mark-requires : goal.mark-requires
+mark-requires c = kept_for_mark c.args.modes.now c.args.node.now c.args.command.now c.in-Remove.name c.in_default.ensures c.in-Remove.is
+
+pub revert-requires-clause-kept : goal.revert-requires-clause-kept
+revert-requires-clause-kept c =
+    kept_for_revert c.args.modes.now c.args.node.now c.args.command.now c.in-Revert.name c.in_default.ensures c.in-Revert.is
+
+pub returns-in-Remove-clause-step : goal.returns-in-Remove-clause-step
+returns-in-Remove-clause-step c =
+    removed_step c.args.modes.now c.args.node.now c.mark.new.self c.args.command.now c.in-Remove.name c.in_default.ensures c.in-Remove.is c.mark.ensures
+
+pub returns-in_ok-spare-in-Revert-clause-step : goal.returns-in_ok-spare-in-Revert-clause-step
+returns-in_ok-spare-in-Revert-clause-step c =
+    reverted_step c.args.modes.now c.args.node.now c.revert.new.self c.args.command.now c.in-Revert.name c.in_default.ensures c.in-Revert.is c.revert.ensures
