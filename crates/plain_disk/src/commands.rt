@@ -1,7 +1,8 @@
 ghost use Rattle.std.specs.Prelude.{◌≡◌, ◌+◌, ◌^◌, ◌<◌, List, IfOk, OnOk, OnErr};
 ghost use Rattle.volume_model.specs.declared.mode.Mode.{Mode};
-ghost use Rattle.volume_model.specs.PlainState.{snapped, reverted};
-ghost use Rattle.volume_model.specs.PlainStep.{plain_step};
+ghost use Rattle.volume_model.specs.Modes.{mode_of};
+ghost use Rattle.volume_model.specs.PlainState.{taken, reverted};
+ghost use Rattle.volume_model.specs.PlainStep.{plain_step, room_refusal};
 
 use crate::copies::{WholeCopy, copied_bytes, drop_copies};
 use crate::disk::PlainDisk;
@@ -20,7 +21,7 @@ impl PlainDisk {
         modes: &[Mode],
         command: &Command,
     ) -> Result<Reply, AllocError>
-        requires number { self.old.snapshots.number + 1 < 2 ^ 64 }
+        requires number { self.old.volume.snapshots.number + 1 < 2 ^ 64 }
         ensures step { IfOk result
             (λ reply. plain_step modes.now self.old (Call.Command command.now) ≡ (self.new, reply)) }
         ensures err { OnErr result (self.new ≡ self.old) }
@@ -29,14 +30,15 @@ impl PlainDisk {
             Command::Snapshot(name) => self.snapshot(alloc, LayerName::from(*name)),
             Command::Remove(name) => Ok(self.remove(name)),
             Command::Revert(name) => self.revert(alloc, name),
-            // What a purge takes out is told by its marks, which `follow` takes.
-            Command::Purge => Ok(Reply::Done),
+            // What these change beside the modes is told by their marks, which `follow` takes.
+            Command::Purge | Command::Fail(_) => Ok(Reply::Done),
+            Command::Add(replica) => Ok(self.add(modes, *replica)),
             Command::Status => self.status(alloc, modes),
         }
     }
 
     fn snapshot(&mut self, alloc: Global, name: LayerName) -> Result<Reply, AllocError>
-        requires number { self.old.snapshots.number + 1 < 2 ^ 64 }
+        requires number { self.old.volume.snapshots.number + 1 < 2 ^ 64 }
         ensures step { IfOk result (λ reply. (modes : List Mode)
             → plain_step modes self.old (Call.Command (Command.Snapshot name)) ≡ (self.new, reply)) }
         ensures err { OnErr result (self.new ≡ self.old) }
@@ -44,17 +46,17 @@ impl PlainDisk {
         if is_used(&self.used, &name) {
             return Ok(Reply::Refused(Refusal::NameUsed));
         }
-        if self.snapshots.len() + 1 >= MOST_LAYERS {
-            return Ok(Reply::Refused(Refusal::ChainFull));
+        if let Some(why) = self.room_refusal() {
+            return Ok(Reply::Refused(why));
         }
         self.take(alloc, name)?;
         Ok(Reply::Done)
     }
 
     /// Copies the disk under the name.
-    fn take(&mut self, alloc: Global, name: LayerName) -> Result<(), AllocError>
-        requires number { self.old.snapshots.number + 1 < 2 ^ 64 }
-        ensures ok { OnOk result (self.new ≡ snapped self.old name) }
+    pub(crate) fn take(&mut self, alloc: Global, name: LayerName) -> Result<(), AllocError>
+        requires number { self.old.volume.snapshots.number + 1 < 2 ^ 64 }
+        ensures ok { OnOk result (self.new ≡ taken self.old name) }
         ensures err { OnErr result (self.new ≡ self.old) }
     {
         // All memory is taken first: from here on the snapshot cannot fail.
@@ -69,10 +71,19 @@ impl PlainDisk {
         };
         self.copies.insert(0, WholeCopy { name, bytes }).unwrap();
         self.snapshots.insert(0, snapshot).unwrap();
-        self.used.insert(0, name).unwrap();
+        if !is_used(&self.used, &name) {
+            self.used.insert(0, name).unwrap();
+        }
         self.on = Some(name);
         self.number += 1;
         Ok(())
+    }
+
+    /// Why there is no room for one layer more, where there is none.
+    fn room_refusal(&self) -> Option<Refusal>
+        ensures { result ≡ room_refusal self.now.volume }
+    {
+        (self.snapshots.len() + 1 >= MOST_LAYERS).then_some(Refusal::ChainFull)
     }
 
     fn remove(&mut self, name: &LayerName) -> Reply
@@ -88,7 +99,7 @@ impl PlainDisk {
     }
 
     fn revert(&mut self, alloc: Global, name: &LayerName) -> Result<Reply, AllocError>
-        requires number { self.old.snapshots.number + 1 < 2 ^ 64 }
+        requires number { self.old.volume.snapshots.number + 1 < 2 ^ 64 }
         ensures step { IfOk result (λ reply. (modes : List Mode)
             → plain_step modes self.old (Call.Command (Command.Revert name.now)) ≡ (self.new, reply)) }
         ensures err { OnErr result (self.new ≡ self.old) }
@@ -102,14 +113,27 @@ impl PlainDisk {
 
     /// Copies what was copied under the name back.
     fn put_back(&mut self, alloc: Global, name: LayerName) -> Result<(), AllocError>
-        requires number { self.old.snapshots.number + 1 < 2 ^ 64 }
-        ensures ok { OnOk result (self.new ≡ reverted self.old name) }
+        requires number { self.old.volume.snapshots.number + 1 < 2 ^ 64 }
+        ensures ok { OnOk result (self.new ≡ record self.old { volume = reverted self.old.volume name }) }
         ensures err { OnErr result (self.new ≡ self.old) }
     {
         self.bytes = Vec::from_slice(alloc, copied_bytes(&self.copies, &name))?;
         self.on = Some(name);
         self.number += 1;
         Ok(())
+    }
+
+    fn add(&self, modes: &[Mode], replica: u8) -> Reply
+        ensures { plain_step modes.now self.now (Call.Command (Command.Add replica)) ≡ (self.now, result) }
+    {
+        let why = match mode_of(modes, replica) {
+            Mode::Rw | Mode::Wo => Some(Refusal::InUse),
+            Mode::Err => self.room_refusal(),
+        };
+        match why {
+            Some(why) => Reply::Refused(why),
+            None => Reply::Done,
+        }
     }
 
     fn status(&self, alloc: Global, modes: &[Mode]) -> Result<Reply, AllocError>
@@ -121,4 +145,14 @@ impl PlainDisk {
             modes: Sequence::of(Vec::from_slice(alloc, modes)?),
         })
     }
+}
+
+/// The mode of a replica; one that is not there has failed.
+fn mode_of(modes: &[Mode], replica: u8) -> Mode
+    ensures { result ≡ mode_of modes.now replica }
+{
+    modes
+        .get(usize::from(replica))
+        .copied()
+        .unwrap_or(Mode::Err)
 }

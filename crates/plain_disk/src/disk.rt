@@ -9,7 +9,7 @@ use crate::snapshots::TakenSnapshot;
 use std::alloc::{AllocError, Global};
 use std::marker::Model;
 use vol_units::place_within;
-use volume_model::{Bytes, Call, LayerName, Mode, Refusal, Reply};
+use volume_model::{Call, LayerName, Mode, Refusal, Reply, Sequence};
 
 /// The most bytes that one call reads.
 const LONGEST_CALL: u32 = 1_048_576;
@@ -25,6 +25,7 @@ pub struct PlainDisk {
     pub(crate) on: Option<LayerName>,
     /// The head's number.
     pub(crate) number: u64,
+    /// All names that snapshots were taken under.
     pub(crate) used: Vec<LayerName>,
 }
 
@@ -34,9 +35,12 @@ impl Model for PlainDisk {
     ghost Value = { PlainState };
 
     ghost view = { λ d. record {
-      disk = d.bytes.items;
-      copies = d.copies.items;
-      snapshots = record { tree = d.snapshots.items; on = d.on; number = d.number; used = d.used.items };
+      volume = record {
+        disk = d.bytes.items;
+        copies = d.copies.items;
+        snapshots = record { tree = d.snapshots.items; on = d.on; number = d.number };
+      };
+      used = d.used.items;
     } };
 }
 
@@ -58,20 +62,20 @@ impl PlainDisk {
 
     /// The bytes of the disk.
     pub fn bytes(&self) -> &[u8]
-        ensures { result.now ≡ self.now.disk }
+        ensures { result.now ≡ self.now.volume.disk }
     {
         &self.bytes
     }
 
     pub fn head_number(&self) -> u64
-        ensures { result ≡ self.now.snapshots.number }
+        ensures { result ≡ self.now.volume.snapshots.number }
     {
         self.number
     }
 
     /// Answers a call on replicas of these modes, and is then what the call leaves.
     pub fn step(&mut self, alloc: Global, modes: &[Mode], call: &Call) -> Result<Reply, AllocError>
-        requires number { self.old.snapshots.number + 1 < 2 ^ 64 }
+        requires number { self.old.volume.snapshots.number + 1 < 2 ^ 64 }
         ensures step { IfOk result (λ reply. plain_step modes.now self.old call.now ≡ (self.new, reply)) }
         ensures err { OnErr result (self.new ≡ self.old) }
     {
@@ -96,7 +100,7 @@ impl PlainDisk {
             return Ok(Reply::Refused(Refusal::OutOfRange));
         };
         let bytes = Vec::from_slice(alloc, &self.bytes[at..at + length])?;
-        Ok(Reply::Read(Bytes::from_vec(bytes)?))
+        Ok(Reply::Read(Sequence::of(bytes)))
     }
 
     fn write(&mut self, offset: i64, bytes: &[u8]) -> Reply

@@ -4,7 +4,7 @@
 mod commands;
 mod copies;
 mod disk;
-mod purge;
+mod marks;
 mod snapshots;
 
 pub use disk::PlainDisk;
