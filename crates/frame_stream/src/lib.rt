@@ -8,6 +8,3 @@ pub use asked::{Asked, of_frame};
 pub use frame::{CLOSE, Frame, PING, READ, WRITE};
 pub use frame_wire::Head;
 pub use volume_model::{Bytes, Call};
-
-#[cfg(test)]
-mod tests;
