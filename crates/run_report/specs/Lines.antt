@@ -19,11 +19,19 @@ use Rattle.volume_model.specs.declared.mark.Mark.{Mark}
 use Rattle.volume_model.specs.declared.mark.Mark.TheVariants as mark
 use Rattle.volume_model.specs.declared.mode.Mode.{Mode}
 use Rattle.volume_model.specs.declared.mode.Mode.TheVariants as mode
+use Rattle.volume_model.specs.Replay.{is_refusal}
 use Rattle.volume_model.specs.Texts.{refusal_text}
 
 -- a word of a line, and the space behind it
 abbrev pub word : List ℕ → List ℕ
 word text = text ++ 32 ∷ []
+
+-- a replica, and the same with the space behind it
+abbrev pub replica_text : ℕ → List ℕ
+replica_text r = codes "r" ++ decimal r
+
+abbrev pub replica_word : ℕ → List ℕ
+replica_word r = word (replica_text r)
 
 -- a mode, in longhorn-engine's words
 abbrev pub mode_text : Mode → List ℕ
@@ -45,12 +53,18 @@ call_text call.Ping = codes "ping"
 call_text (call.Other kind) = codes "other " ++ decimal kind
 call_text (call.Command c) = command_text c
 
+-- why a call was not done, and nothing where it was: a rebuild ended with the mark at that place
+abbrev pub error_text : Reply → List ℕ
+error_text (reply.Refused why) = refusal_text why
+error_text (reply.Aborted place) = codes "aborted " ++ decimal place
+error_text r = []
+
 -- what is answered
 abbrev pub reply_text : Reply → List ℕ
 reply_text reply.Done = codes "ok"
 reply_text (reply.Read bytes) = codes "ok " ++ runs_text bytes
 reply_text (reply.Status layers modes) = codes "ok layers " ++ word (decimal layers) ++ codes "modes " ++ modes_text modes
-reply_text (reply.Refused why) = codes "error " ++ refusal_text why
+reply_text r = codes "error " ++ error_text r
 
 -- place, saw, stream and index
 abbrev pub place_words : ℕ → Answer → List ℕ
@@ -65,9 +79,15 @@ abbrev pub part_text : FoldOrDrop → List ℕ
 part_text (part.Fold p c) = codes "folded " ++ word p ++ c
 part_text (part.Drop p) = codes "dropped " ++ p
 
--- what a mark tells
+-- what a mark tells: of a fault the stream, the replica and the line's count; of a rebuild the replica, its source and
+-- the snapshot that was taken
 abbrev pub mark_text : Mark → List ℕ
 mark_text (mark.Purged part) = part_text part
+mark_text (mark.Fault stream r count) = codes "fault " ++ word (decimal stream) ++ replica_word r ++ decimal count
+mark_text (mark.Failed r) = codes "failed " ++ replica_text r
+mark_text (mark.Added r source name) = codes "added " ++ replica_word r ++ replica_word source ++ name
+mark_text (mark.Promoted r) = codes "promoted " ++ replica_text r
+mark_text (mark.Aborted r) = codes "aborted " ++ replica_text r
 
 -- the place, and what the mark tells
 abbrev pub mark_line : ℕ → Mark → List ℕ
@@ -80,32 +100,22 @@ entry_line place (entry.Mark m) = mark_line place m
 
 -- the type of the frame that replies: 2 is a response, 3 an error
 abbrev pub reply_kind : Reply → ℕ
-reply_kind reply.Done = 2
-reply_kind (reply.Read bytes) = 2
-reply_kind (reply.Status layers modes) = 2
-reply_kind (reply.Refused why) = 3
+reply_kind r = if is_refusal r then 3 else 2
 
 -- the data of that frame
 abbrev pub reply_body : Reply → List ℕ
-reply_body reply.Done = []
 reply_body (reply.Read bytes) = bytes
-reply_body (reply.Status layers modes) = []
-reply_body (reply.Refused why) = refusal_text why
+reply_body r = error_text r
 
 -- how many bytes a call that was done has put
 abbrev pub put_count : Call → ℕ
-put_count (call.Read offset n) = 0
 put_count (call.Write offset bytes) = length bytes
-put_count call.Ping = 0
-put_count (call.Other kind) = 0
-put_count (call.Command c) = 0
+put_count c = 0
 
 -- what the size of that frame says: the bytes put by a write, and else the length of its data
 abbrev pub reply_size : Call → Reply → ℕ
 reply_size asked reply.Done = put_count asked
-reply_size asked (reply.Read bytes) = length bytes
-reply_size asked (reply.Status layers modes) = 0
-reply_size asked (reply.Refused why) = length (refusal_text why)
+reply_size asked r = length (reply_body r)
 
 -- the header of the frame that replies: seq and offset of the frame that asked, its own type and size
 abbrev pub header_words : Head → Answer → List ℕ
@@ -116,10 +126,6 @@ header_words asked a = word (decimal asked.seq) ++ word (decimal (reply_kind a.r
 abbrev pub reply_line : Head → Answer → List ℕ
 reply_line asked a = codes "reply " ++ word (decimal a.stream) ++ word (decimal a.index) ++ header_words asked a
     ++ runs_text (reply_body a.reply) ++ 10 ∷ []
-
--- a replica, and the space behind it
-abbrev pub replica_word : ℕ → List ℕ
-replica_word r = word (codes "r" ++ decimal r)
 
 -- a replica's mode
 abbrev pub mode_line : ℕ → Mode → List ℕ

@@ -9,7 +9,7 @@ use Rattle.volume_model.specs.PlainState.{PlainState}
 use Rattle.volume_model.specs.Snapshots.{chain_of}
 use Rattle.volume_model.specs.Replay.{replay}
 use Rattle.volume_model.specs.Modes.{modes_after}
-use Rattle.volume_model.specs.History.{Opening, answers_of}
+use Rattle.volume_model.specs.History.{Spot, answers_of}
 use Rattle.run_report.specs.Digest.{digest_text}
 use Rattle.run_report.specs.Lines.{entry_line, reply_line, mode_line, chain_line, head_line}
 
@@ -46,10 +46,10 @@ source_lines line r (m ∷ ms) = source_lines line (suc r) ms
 
 -- what a run leaves: modes, chains, and the digests of the heads
 abbrev pub end_lines : List Mode → PlainState → List ℕ
-end_lines modes state = mode_lines 0 modes ++ source_lines (λ r. chain_line (Some r) (chain_of state.snapshots)) 0 modes
-    ++ source_lines (λ r. head_line r (digest_text state.disk)) 0 modes
+end_lines modes state = mode_lines 0 modes ++ source_lines (λ r. chain_line (Some r) (chain_of state.volume.snapshots)) 0 modes
+    ++ source_lines (λ r. head_line r (digest_text state.volume.disk)) 0 modes
 
 -- the whole report of a journal, for streams whose frames have these headers
-abbrev pub report_of : List (List Head) → Opening → List Entry → List ℕ
+abbrev pub report_of : List (List Head) → Spot → List Entry → List ℕ
 report_of streams opening journal =
     call_lines streams journal ++ end_lines (modes_after opening.modes journal) (replay opening.state journal)

@@ -1,7 +1,7 @@
 ghost use Rattle.std.specs.Prelude.{◌≡◌, ◌++◌, ◌∷◌, [], OnOk, OnErr, take, length, flat_map};
-ghost use Rattle.run_report.specs.Lines.{mode_line, replica_word, chain_line, chain_owner, layer_word, head_line};
+ghost use Rattle.run_report.specs.Lines.{mode_line, chain_line, chain_owner, layer_word, head_line};
 
-use crate::words::{append_number, text_of_mode};
+use crate::words::{append_replica_word, text_of_mode};
 use std::alloc::AllocError;
 use vol_units::LayerName;
 use volume_model::Mode;
@@ -58,7 +58,7 @@ fn append_mode(r: u8, mode: Mode, into: &mut Vec<u8>) -> Result<(), AllocError>
     ensures kept { take (length into.old.items) into.new.items ≡ into.old.items }
 {
     into.extend_from_slice(b"mode ")?;
-    append_replica(r, into)?;
+    append_replica_word(r, into)?;
     into.extend_from_slice(text_of_mode(mode).as_bytes())?;
     into.push(b'\n')?;
     Ok(())
@@ -85,18 +85,10 @@ fn append_head(r: u8, digest: &[u8; 64], into: &mut Vec<u8>) -> Result<(), Alloc
     ensures kept { take (length into.old.items) into.new.items ≡ into.old.items }
 {
     into.extend_from_slice(b"head ")?;
-    append_replica(r, into)?;
+    append_replica_word(r, into)?;
     into.extend_from_slice(digest)?;
     into.push(b'\n')?;
     Ok(())
-}
-
-fn append_replica(r: u8, into: &mut Vec<u8>) -> Result<(), AllocError>
-    ensures ok { OnOk result (into.new.items ≡ into.old.items ++ replica_word r) }
-    ensures kept { take (length into.old.items) into.new.items ≡ into.old.items }
-{
-    into.push(b'r')?;
-    append_number(u64::from(r), into)
 }
 
 fn append_owner(r: Option<u8>, into: &mut Vec<u8>) -> Result<(), AllocError>
@@ -105,7 +97,7 @@ fn append_owner(r: Option<u8>, into: &mut Vec<u8>) -> Result<(), AllocError>
 {
     match r {
         None => Ok(()),
-        Some(r) => append_replica(r, into),
+        Some(r) => append_replica_word(r, into),
     }
 }
 

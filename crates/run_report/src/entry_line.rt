@@ -1,12 +1,11 @@
-ghost use Rattle.std.specs.Prelude.{◌≡◌, ◌++◌, ◌∷◌, [], OnOk, OnErr, take, length};
-ghost use Rattle.std.specs.Fmt.{decimal};
-ghost use Rattle.run_report.specs.Lines.{entry_line, answer_line, mark_line, part_text, place_words, call_text, reply_text, word};
+ghost use Rattle.std.specs.Prelude.{◌≡◌, ◌++◌, OnOk, OnErr, take, length};
+ghost use Rattle.run_report.specs.Lines.{entry_line, answer_line, place_words, call_text, reply_text};
 
-use crate::words::{append_modes, append_number, append_offset};
+use crate::mark_line::append_mark;
+use crate::words::{append_decimal, append_error, append_modes, append_number, append_offset};
 use image_runs::print_runs;
-use itoa::Buffer;
 use std::alloc::AllocError;
-use volume_model::{Answer, Call, Entry, FoldOrDrop, Mark, Mode, Reply};
+use volume_model::{Answer, Call, Entry, Mode, Reply};
 
 /// Appends the line of the entry at a place of the journal.
 pub fn print_entry(place: u64, entry: &Entry, into: &mut Vec<u8>) -> Result<(), AllocError>
@@ -37,37 +36,6 @@ fn append_answer(place: u64, answer: &Answer, into: &mut Vec<u8>) -> Result<(), 
     Ok(())
 }
 
-fn append_mark(place: u64, mark: &Mark, into: &mut Vec<u8>) -> Result<(), AllocError>
-    ensures ok { OnOk result (into.new.items ≡ into.old.items ++ mark_line place mark.now) }
-    ensures kept { take (length into.old.items) into.new.items ≡ into.old.items }
-{
-    let Mark::Purged(part) = mark;
-    append_number(place, into)?;
-    into.extend_from_slice(b"mark ")?;
-    append_part(part, into)?;
-    into.push(b'\n')?;
-    Ok(())
-}
-
-/// Appends how a layer went.
-fn append_part(part: &FoldOrDrop, into: &mut Vec<u8>) -> Result<(), AllocError>
-    ensures ok { OnOk result (into.new.items ≡ into.old.items ++ part_text part.now) }
-    ensures kept { take (length into.old.items) into.new.items ≡ into.old.items }
-{
-    match part {
-        FoldOrDrop::Fold { parent, child } => {
-            into.extend_from_slice(b"folded ")?;
-            into.extend_from_slice(parent.as_bytes())?;
-            into.push(b' ')?;
-            into.extend_from_slice(child.as_bytes())
-        }
-        FoldOrDrop::Drop(name) => {
-            into.extend_from_slice(b"dropped ")?;
-            into.extend_from_slice(name.as_bytes())
-        }
-    }
-}
-
 fn append_place(place: u64, answer: &Answer, into: &mut Vec<u8>) -> Result<(), AllocError>
     ensures ok { OnOk result (into.new.items ≡ into.old.items ++ place_words place answer.now) }
     ensures kept { take (length into.old.items) into.new.items ≡ into.old.items }
@@ -86,8 +54,7 @@ fn append_call(call: &Call, into: &mut Vec<u8>) -> Result<(), AllocError>
         Call::Read { offset, length } => {
             into.extend_from_slice(b"read ")?;
             append_offset(*offset, into)?;
-            let mut buffer = Buffer::new();
-            into.extend_from_slice(buffer.format(*length).as_bytes())
+            append_decimal(u64::from(*length), into)
         }
         Call::Write { offset, bytes } => {
             into.extend_from_slice(b"write ")?;
@@ -98,8 +65,7 @@ fn append_call(call: &Call, into: &mut Vec<u8>) -> Result<(), AllocError>
         Call::Ping => into.extend_from_slice(b"ping"),
         Call::Other(kind) => {
             into.extend_from_slice(b"other ")?;
-            let mut buffer = Buffer::new();
-            into.extend_from_slice(buffer.format(*kind).as_bytes())
+            append_decimal(u64::from(*kind), into)
         }
         Call::Command(command) => command.append_to(into),
     }
@@ -116,9 +82,9 @@ fn append_reply(reply: &Reply, into: &mut Vec<u8>) -> Result<(), AllocError>
             print_runs(bytes.as_slice(), into)
         }
         Reply::Status { layers, modes } => append_status(*layers, modes.as_slice(), into),
-        Reply::Refused(why) => {
+        Reply::Refused(_) | Reply::Aborted(_) => {
             into.extend_from_slice(b"error ")?;
-            into.extend_from_slice(why.text().as_bytes())
+            append_error(reply, into)
         }
     }
 }

@@ -4,6 +4,7 @@
 mod digest;
 mod end_lines;
 mod entry_line;
+mod mark_line;
 mod reply_line;
 pub mod rows;
 mod told;

@@ -1,8 +1,7 @@
-ghost use Rattle.std.specs.Prelude.{◌≡◌, ◌++◌, ◌∷◌, [], OnOk, OnErr, take, length};
-ghost use Rattle.image_runs.specs.Runs.{runs_text};
-ghost use Rattle.run_report.specs.Lines.{reply_line, header_words, reply_kind, reply_size, reply_body};
+ghost use Rattle.std.specs.Prelude.{◌≡◌, ◌++◌, OnOk, OnErr, take, length};
+ghost use Rattle.run_report.specs.Lines.{reply_line, header_words, reply_kind, reply_size, reply_body, error_text};
 
-use crate::words::{append_number, append_offset};
+use crate::words::{append_error, append_number, append_offset};
 use frame_wire::Head;
 use image_runs::print_runs;
 use std::alloc::AllocError;
@@ -32,23 +31,33 @@ fn append_frame(asked: &Head, answer: &Answer, into: &mut Vec<u8>) -> Result<(),
     ensures ok { OnOk result (into.new.items ≡ into.old.items ++ reply_line asked.now answer.now) }
     ensures kept { take (length into.old.items) into.new.items ≡ into.old.items }
 {
+    // An error's text is made aside, since it is printed as runs. There is none in most replies.
+    let mut error = Vec::new(*into.allocator());
+    append_error(&answer.reply, &mut error)?;
+    let body = body_of(&answer.reply, &error);
     into.extend_from_slice(b"reply ")?;
     append_number(u64::from(answer.stream), into)?;
     append_number(answer.index, into)?;
-    append_header(asked, answer, into)?;
-    append_body(&answer.reply, into)?;
+    append_header(asked, answer, body, into)?;
+    print_runs(body, into)?;
     into.push(b'\n')?;
     Ok(())
 }
 
-fn append_header(asked: &Head, answer: &Answer, into: &mut Vec<u8>) -> Result<(), AllocError>
+fn append_header(
+    asked: &Head,
+    answer: &Answer,
+    body: &[u8],
+    into: &mut Vec<u8>,
+) -> Result<(), AllocError>
+    requires { body.now ≡ reply_body answer.now.reply }
     ensures ok { OnOk result (into.new.items ≡ into.old.items ++ header_words asked.now answer.now) }
     ensures kept { take (length into.old.items) into.new.items ≡ into.old.items }
 {
     append_number(u64::from(asked.seq), into)?;
     append_number(kind_of(&answer.reply), into)?;
     append_offset(asked.offset, into)?;
-    append_number(size_of(&answer.call, &answer.reply), into)
+    append_number(size_of(answer, body), into)
 }
 
 fn kind_of(reply: &Reply) -> u64
@@ -56,32 +65,28 @@ fn kind_of(reply: &Reply) -> u64
 {
     match reply {
         Reply::Done | Reply::Read(_) | Reply::Status { .. } => RESPONSE,
-        Reply::Refused(_) => ERROR,
+        Reply::Refused(_) | Reply::Aborted(_) => ERROR,
     }
 }
 
 /// What the size of the frame says: the bytes that a write put, and else the length of its data.
-fn size_of(call: &Call, reply: &Reply) -> u64
-    ensures { result ≡ reply_size call.now reply.now }
+fn size_of(answer: &Answer, body: &[u8]) -> u64
+    requires { body.now ≡ reply_body answer.now.reply }
+    ensures { result ≡ reply_size answer.now.call answer.now.reply }
 {
-    match reply {
-        Reply::Done => match call {
-            Call::Write { bytes, .. } => bytes.len() as u64,
-            _ => 0,
-        },
-        Reply::Read(bytes) => bytes.len() as u64,
-        Reply::Status { .. } => 0,
-        Reply::Refused(why) => why.text().len() as u64,
+    match (&answer.call, &answer.reply) {
+        (Call::Write { bytes, .. }, Reply::Done) => bytes.len() as u64,
+        _ => body.len() as u64,
     }
 }
 
-fn append_body(reply: &Reply, into: &mut Vec<u8>) -> Result<(), AllocError>
-    ensures ok { OnOk result (into.new.items ≡ into.old.items ++ runs_text (reply_body reply.now)) }
-    ensures err { OnErr result (into.new.items ≡ into.old.items) }
+/// The data of the frame, the text of an error being at hand.
+fn body_of<'a>(reply: &'a Reply, error: &'a [u8]) -> &'a [u8]
+    requires { error.now ≡ error_text reply.now }
+    ensures { result.now ≡ reply_body reply.now }
 {
     match reply {
-        Reply::Done | Reply::Status { .. } => print_runs(&[], into),
-        Reply::Read(bytes) => print_runs(bytes.as_slice(), into),
-        Reply::Refused(why) => print_runs(why.text().as_bytes(), into),
+        Reply::Read(bytes) => bytes.as_slice(),
+        _ => error,
     }
 }

@@ -12,8 +12,8 @@ ghost use Rattle.volume_model.specs.declared.entry.Entry.TheVariants as entry;
 ghost use Rattle.volume_model.specs.declared.mark.FoldOrDrop.TheVariants as part;
 ghost use Rattle.volume_model.specs.declared.mark.Mark.TheVariants as mark;
 ghost use Rattle.volume_model.specs.declared.mode.Mode.TheVariants as mode;
-ghost use Rattle.run_report.specs.Lines.{entry_line, reply_text, mode_line, chain_line};
-ghost use Rattle.run_report.specs.Report.{call_lines};
+ghost use Rattle.run_report.specs.Lines.{reply_text, reply_line, mode_line, chain_line};
+ghost use Rattle.run_report.specs.Report.{journal_lines, call_lines};
 
 /// What is printed of a write that was done, of a read, of a read past the end, and of a ping.
 pub fn the_report_reads()
@@ -40,13 +40,22 @@ pub fn the_commands_read()
         ≡ codes "0 0 0 0 write 0 1 62*1 ok\n1 1 1 0 snapshot s ok\n2 2 1 1 status ok layers 2 modes RW,ERR\n3 3 1 2 revert s ok\n4 4 1 3 remove t error no such snapshot\n5 5 2 0 read 0 1 ok 62*1\nreply 0 0 5 2 0 1 -\nreply 2 0 6 2 0 1 62*1\n" }
 {}
 
-/// What is printed of the marks of a purge, and of a purge that leaves nothing to fold or to drop.
+/// What is printed of marks, and of a purge that leaves nothing to fold or to drop.
 pub fn the_marks_read()
-    ensures folded { entry_line 4 (entry.Mark (mark.Purged (part.Fold (codes "s") (codes "t")))) ≡ codes "4 mark folded s t\n" }
-    ensures dropped { entry_line 4 (entry.Mark (mark.Purged (part.Drop (codes "b")))) ≡ codes "4 mark dropped b\n" }
+    ensures each { journal_lines 0 (map entry.Mark (mark.Fault 3 1 12 ∷ mark.Failed 1 ∷ mark.Added 1 0 (codes "sys-7") ∷ mark.Promoted 1
+        ∷ mark.Aborted 1 ∷ mark.Purged (part.Fold (codes "s") (codes "t")) ∷ mark.Purged (part.Drop (codes "b")) ∷ []))
+        ≡ codes "0 mark fault 3 r1 12\n1 mark failed r1\n2 mark added r1 r0 sys-7\n3 mark promoted r1\n4 mark aborted r1\n5 mark folded s t\n6 mark dropped b\n" }
     ensures purge { call_lines ([] ∷ []) (served (record { state = state_of (97 ∷ []); modes = mode.Rw ∷ [] })
         (map call.Command (command.Snapshot (codes "s") ∷ command.Remove (codes "s") ∷ command.Snapshot (codes "t") ∷ command.Purge ∷ []) ∷ []))
         ≡ codes "0 0 0 0 snapshot s ok\n1 1 0 1 remove s ok\n2 2 0 2 snapshot t ok\n3 mark folded s t\n4 3 0 3 purge ok\n" }
+{}
+
+/// What is printed of a rebuild that the mark at 5 ended, as a call's line and as a frame.
+pub fn an_aborted_rebuild_reads()
+    ensures call { reply_text (reply.Aborted 5) ≡ codes "error aborted 5" }
+    ensures frame { reply_line (record { seq = 9; kind = 6; offset = pos 0; size = 0; len = 0 })
+        (record { call = call.Ping; reply = reply.Aborted 5; index = 1; saw = 2; stream = 3 })
+        ≡ codes "reply 3 1 9 3 0 9 61*1,62*1,6f*1,72*1,74*1,65*1,64*1,20*1,35*1\n" }
 {}
 
 /// What a status reads as.
@@ -65,7 +74,7 @@ pub fn the_end_reads()
     ensures marked { chain_line (Some 0) (chain_of (replay (state_of (97 ∷ []))
         (served (record { state = state_of (97 ∷ []); modes = mode.Rw ∷ [] })
         (map call.Command (command.Snapshot (codes "a") ∷ command.Snapshot (codes "b") ∷ command.Revert (codes "a")
-        ∷ command.Snapshot (codes "c") ∷ command.Remove (codes "a") ∷ []) ∷ []))).snapshots)
+        ∷ command.Snapshot (codes "c") ∷ command.Remove (codes "a") ∷ []) ∷ []))).volume.snapshots)
         ≡ codes "chain r0 head c a*\n" }
     ensures unsaid { chain_line None [] ≡ codes "chain head\n" }
 {}

@@ -1,24 +1,31 @@
 ghost use Rattle.std.specs.Prelude.{◌≡◌, ◌++◌, ◌∷◌, OnOk, take, length, flat_map};
 ghost use Rattle.std.specs.Fmt.{decimal, signed_decimal};
-ghost use Rattle.run_report.specs.Lines.{word, mode_text, modes_text};
+ghost use Rattle.run_report.specs.Lines.{word, replica_text, replica_word, mode_text, modes_text, error_text};
 
 use itoa::Buffer;
 use std::alloc::AllocError;
-use volume_model::Mode;
+use volume_model::{Mode, Reply};
+
+/// Appends a number.
+pub fn append_decimal(n: u64, into: &mut Vec<u8>) -> Result<(), AllocError>
+    ensures ok { OnOk result (into.new.items ≡ into.old.items ++ decimal n) }
+    ensures kept { take (length into.old.items) into.new.items ≡ into.old.items }
+{
+    // Most numbers have one digit.
+    if n < 10 {
+        into.push(b'0' + n as u8)?;
+        return Ok(());
+    }
+    let mut buffer = Buffer::new();
+    into.extend_from_slice(buffer.format(n).as_bytes())
+}
 
 /// Appends a number and a space.
 pub fn append_number(n: u64, into: &mut Vec<u8>) -> Result<(), AllocError>
     ensures ok { OnOk result (into.new.items ≡ into.old.items ++ word (decimal n)) }
     ensures kept { take (length into.old.items) into.new.items ≡ into.old.items }
 {
-    // Most numbers have one digit.
-    if n < 10 {
-        into.push(b'0' + n as u8)?;
-        into.push(b' ')?;
-        return Ok(());
-    }
-    let mut buffer = Buffer::new();
-    into.extend_from_slice(buffer.format(n).as_bytes())?;
+    append_decimal(n, into)?;
     into.push(b' ')?;
     Ok(())
 }
@@ -30,6 +37,25 @@ pub fn append_offset(offset: i64, into: &mut Vec<u8>) -> Result<(), AllocError>
 {
     let mut buffer = Buffer::new();
     into.extend_from_slice(buffer.format(offset).as_bytes())?;
+    into.push(b' ')?;
+    Ok(())
+}
+
+/// Appends a replica's number behind its letter.
+pub fn append_replica(r: u8, into: &mut Vec<u8>) -> Result<(), AllocError>
+    ensures ok { OnOk result (into.new.items ≡ into.old.items ++ replica_text r) }
+    ensures kept { take (length into.old.items) into.new.items ≡ into.old.items }
+{
+    into.push(b'r')?;
+    append_decimal(u64::from(r), into)
+}
+
+/// Appends a replica and a space.
+pub fn append_replica_word(r: u8, into: &mut Vec<u8>) -> Result<(), AllocError>
+    ensures ok { OnOk result (into.new.items ≡ into.old.items ++ replica_word r) }
+    ensures kept { take (length into.old.items) into.new.items ≡ into.old.items }
+{
+    append_replica(r, into)?;
     into.push(b' ')?;
     Ok(())
 }
@@ -73,5 +99,20 @@ pub fn text_of_mode(mode: Mode) -> &'static str
         Mode::Rw => "RW",
         Mode::Wo => "WO",
         Mode::Err => "ERR",
+    }
+}
+
+/// Appends why a call was not done, and nothing where it was.
+pub fn append_error(reply: &Reply, into: &mut Vec<u8>) -> Result<(), AllocError>
+    ensures ok { OnOk result (into.new.items ≡ into.old.items ++ error_text reply.now) }
+    ensures kept { take (length into.old.items) into.new.items ≡ into.old.items }
+{
+    match reply {
+        Reply::Done | Reply::Read(_) | Reply::Status { .. } => Ok(()),
+        Reply::Refused(why) => into.extend_from_slice(why.text().as_bytes()),
+        Reply::Aborted(place) => {
+            into.extend_from_slice(b"aborted ")?;
+            append_decimal(*place, into)
+        }
     }
 }

@@ -2,13 +2,9 @@ use Rattle.std.proofs.Common.{refl}
 use Rattle.std.specs.Fmt.{digits}
 use Rattle.run_report.proofs.rows.the_marks_read.Goals as goal
 
-pub returns-clause-folded : goal.returns-clause-folded
+pub returns-clause-each : goal.returns-clause-each
 unfolding digits
-returns-clause-folded c = refl
-
-pub returns-clause-dropped : goal.returns-clause-dropped
-unfolding digits
-returns-clause-dropped c = refl
+returns-clause-each c = refl
 
 pub returns-clause-purge : goal.returns-clause-purge
 unfolding digits
