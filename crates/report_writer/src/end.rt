@@ -53,10 +53,13 @@ fn print_chains(
     let [mode, rest @ ..] = modes else {
         return Ok(());
     };
-    if *mode == Mode::Rw {
-        print_chain(Some(r), layers, into)?;
+    match mode {
+        Mode::Rw => {
+            print_chain(Some(r), layers, into)?;
+            print_chains(r + 1, rest, layers, into)
+        }
+        Mode::Wo | Mode::Err => print_chains(r + 1, rest, layers, into),
     }
-    print_chains(r + 1, rest, layers, into)
 }
 
 /// The digest of the head of each that is read and written.
@@ -73,10 +76,13 @@ fn print_heads(
     let [mode, rest @ ..] = modes else {
         return Ok(());
     };
-    if *mode == Mode::Rw {
-        print_head(r, digest, into)?;
+    match mode {
+        Mode::Rw => {
+            print_head(r, digest, into)?;
+            print_heads(r + 1, rest, digest, into)
+        }
+        Mode::Wo | Mode::Err => print_heads(r + 1, rest, digest, into),
     }
-    print_heads(r + 1, rest, digest, into)
 }
 
 /// The digest of all bytes of a disk. Each is hashed once, and none is made for a block that was never

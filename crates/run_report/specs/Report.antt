@@ -5,7 +5,7 @@ use Rattle.volume_model.specs.declared.entry.Answer.{Answer}
 use Rattle.volume_model.specs.declared.entry.Entry.{Entry}
 use Rattle.volume_model.specs.declared.mode.Mode.{Mode}
 use Rattle.volume_model.specs.declared.mode.Mode.TheVariants as mode
-use Rattle.volume_model.specs.PlainState.{PlainState}
+use Rattle.volume_model.specs.PlainState.{Volume}
 use Rattle.volume_model.specs.Snapshots.{chain_of}
 use Rattle.volume_model.specs.Replay.{replay}
 use Rattle.volume_model.specs.Modes.{modes_after}
@@ -45,11 +45,11 @@ source_lines line r (mode.Rw ∷ ms) = line r ++ source_lines line (suc r) ms
 source_lines line r (m ∷ ms) = source_lines line (suc r) ms
 
 -- what a run leaves: modes, chains, and the digests of the heads
-abbrev pub end_lines : List Mode → PlainState → List ℕ
-end_lines modes state = mode_lines 0 modes ++ source_lines (λ r. chain_line (Some r) (chain_of state.volume.snapshots)) 0 modes
-    ++ source_lines (λ r. head_line r (digest_text state.volume.disk)) 0 modes
+abbrev pub end_lines : List Mode → Volume → List ℕ
+end_lines modes volume = mode_lines 0 modes ++ source_lines (λ r. chain_line (Some r) (chain_of volume.snapshots)) 0 modes
+    ++ source_lines (λ r. head_line r (digest_text volume.disk)) 0 modes
 
 -- the whole report of a journal, for streams whose frames have these headers
 abbrev pub report_of : List (List Head) → Spot → List Entry → List ℕ
 report_of streams opening journal =
-    call_lines streams journal ++ end_lines (modes_after opening.modes journal) (replay opening.state journal)
+    call_lines streams journal ++ end_lines (modes_after opening.modes journal) (replay opening.state journal).volume

@@ -21,11 +21,11 @@ use Rattle.volume_model.specs.Modes.{modes_after, HasSource}
 use Rattle.volume_model.specs.Names.{names_after, names_in, AreNamed}
 use Rattle.volume_model.specs.Rebuilds.{added_by}
 use Rattle.volume_model.specs.History.{Spot}
-use Rattle.volume_model.specs.OneWorker.{behind_entries, refused_at, call_marks, marks_unless, answer_for, after_done, after_calls}
+use Rattle.volume_model.specs.OneWorker.{behind_entries, refused_at, call_marks, marks_unless, marks_before, answer_for, after_done, after_calls}
 use Rattle.volume_model.proofs.StepLemmas.{replay-append, modes_after-append}
 use Rattle.volume_model.proofs.NamesLemmas.{names_in-after, names_after-append}
 use Rattle.volume_model.proofs.OneWorkerLemmas.{marks_keep_modes}
-use Rattle.volume_model.proofs.ServedLemmas.{named_done}
+use Rattle.volume_model.proofs.ServedLemmas.{named_done, named_parts, purge_keeps, unmarked as leave_state}
 use Rattle.solo_worker.specs.Serving.{spot_of, IsReady, Adds}
 use Rattle.solo_worker.specs.Volume.{LeavesReplicas}
 
@@ -70,6 +70,11 @@ adds_append xs ys a b d s t u first then = record {
 
 pub adds_same : (xs ys : List Entry) (a b : Book) (s t : Volume) → xs ≡ ys → Adds xs a b s t → Adds ys a b s t
 adds_same xs ys a b s t is adds = subst (λ es. Adds es a b s t) is adds
+
+-- places more in the journal change nothing
+pub adds_reserved : (es : List Entry) (a b d : Book) (n : ℕ) (s t : Volume) → Adds es a b s t → d ≡ record b { spare = n } → Adds es a d s t
+adds_reserved es a b d n s t adds same =
+    subst (λ x. Adds es a x s t) (sym same) (record { opening = adds.opening; entries = adds.entries; volume = adds.volume })
 
 -- ---- calls that leave the replicas
 
@@ -124,3 +129,47 @@ pub ready_calls : (spot : Spot) (cs : List Call) → All LeavesReplicas cs → I
 ready_calls spot [] leave ready = ready
 ready_calls spot (c ∷ cs) leave ready =
     ready_calls (after_done spot c) cs (All-tail LeavesReplicas c cs leave) (ready_done spot c (All-head LeavesReplicas c cs leave) ready)
+
+-- ---- behind the marks of a call
+
+-- a call that makes none leaves the state
+same : (spot : Spot) (c : Call) → call_marks spot c ≡ [] → AreNamed spot.state → AreNamed (replay spot.state (marks_unless (refused_at spot c) spot c))
+same spot c none named = subst AreNamed (sym (leave_state (refused_at spot c) spot c none)) named
+
+named_marks : (spot : Spot) (c : Call) → LeavesReplicas c → AreNamed spot.state → AreNamed (replay spot.state (marks_unless (refused_at spot c) spot c))
+named_marks spot (call.Read offset n) leaves named = same spot (call.Read offset n) refl named
+named_marks spot (call.Write offset bytes) leaves named = same spot (call.Write offset bytes) refl named
+named_marks spot call.Ping leaves named = named
+named_marks spot (call.Other kind) leaves named = named
+named_marks spot (call.Command (command.Snapshot name)) leaves named = same spot (call.Command (command.Snapshot name)) refl named
+named_marks spot (call.Command (command.Remove name)) leaves named = same spot (call.Command (command.Remove name)) refl named
+named_marks spot (call.Command (command.Revert name)) leaves named = same spot (call.Command (command.Revert name)) refl named
+named_marks spot (call.Command command.Purge) leaves named = parts (refused_at spot (call.Command command.Purge))
+  where
+    parts : (why : Option Refusal) → AreNamed (replay spot.state (marks_unless why spot (call.Command command.Purge)))
+    parts (Some why) = named
+    parts None = named_parts spot.state (parts_of spot.state.volume.snapshots) named
+named_marks spot (call.Command command.Status) leaves named = named
+named_marks spot (call.Command (command.Fail r)) leaves named = absurd leaves
+named_marks spot (call.Command (command.Add r)) leaves named = absurd leaves
+
+pub ready_marks : (spot : Spot) (c : Call) → LeavesReplicas c → IsReady spot → IsReady (behind_entries spot (marks_before spot c))
+ready_marks spot c leaves ready =
+    record { source = subst HasSource (sym (marks_leave spot c leaves)) ready.source; named = named_marks spot c leaves ready.named }
+
+-- the head's number stays
+number_same : (spot : Spot) (c : Call) → call_marks spot c ≡ [] → (replay spot.state (marks_unless (refused_at spot c) spot c)).volume.snapshots.number ≡ spot.state.volume.snapshots.number
+number_same spot c none = ap (λ (x : PlainState). x.volume.snapshots.number) (leave_state (refused_at spot c) spot c none)
+
+pub number_marks : (spot : Spot) (c : Call) → LeavesReplicas c → (replay spot.state (marks_before spot c)).volume.snapshots.number ≡ spot.state.volume.snapshots.number
+number_marks spot (call.Read offset n) leaves = number_same spot (call.Read offset n) refl
+number_marks spot (call.Write offset bytes) leaves = number_same spot (call.Write offset bytes) refl
+number_marks spot call.Ping leaves = refl
+number_marks spot (call.Other kind) leaves = refl
+number_marks spot (call.Command (command.Snapshot name)) leaves = number_same spot (call.Command (command.Snapshot name)) refl
+number_marks spot (call.Command (command.Remove name)) leaves = number_same spot (call.Command (command.Remove name)) refl
+number_marks spot (call.Command (command.Revert name)) leaves = number_same spot (call.Command (command.Revert name)) refl
+number_marks spot (call.Command command.Purge) leaves = purge_keeps (refused_at spot (call.Command command.Purge)) spot
+number_marks spot (call.Command command.Status) leaves = refl
+number_marks spot (call.Command (command.Fail r)) leaves = absurd leaves
+number_marks spot (call.Command (command.Add r)) leaves = absurd leaves

@@ -159,7 +159,16 @@ fn is_taken(call: &Call, journal: &Journal) -> bool
     ensures { result ≡ is_some (name_refusal (names_in (names_of journal.now)) call.now) }
 {
     match call {
-        Call::Command(Command::Snapshot(name)) => journal.used(&LayerName::from(*name)),
+        Call::Command(command) => asks_taken(command, journal),
+        Call::Read { .. } | Call::Write { .. } | Call::Ping | Call::Other(_) => false,
+    }
+}
+
+fn asks_taken(command: &Command, journal: &Journal) -> bool
+    ensures { result ≡ is_some (name_refusal (names_in (names_of journal.now)) (call.Command command.now)) }
+{
+    match command {
+        Command::Snapshot(name) => journal.used(&LayerName::from(*name)),
         _ => false,
     }
 }

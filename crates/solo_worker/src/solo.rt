@@ -1,4 +1,4 @@
-ghost use Rattle.std.specs.Prelude.{◌≡◌, map, replicate, IfOk};
+ghost use Rattle.std.specs.Prelude.{◌≡◌, [], map, replicate, IfOk};
 ghost use Rattle.volume_model.specs.declared.mode.Mode.TheVariants.{Rw};
 ghost use Rattle.solo_worker.specs.Serving.{IsRead, IsServed};
 ghost use Rattle.solo_worker.specs.Volume.{heads_of};
@@ -6,7 +6,7 @@ ghost use Rattle.solo_worker.specs.Volume.{heads_of};
 use crate::answer::answer_streams;
 use frame_stream::Frame;
 use frame_wire::Head;
-use journal_book::{Journal, Mode, Opening};
+use journal_book::{Journal, Mode, Opening, TakenNames};
 use replica_disk::ReplicaDisk;
 use script_text::{Script, Sequence, Stream};
 use std::alloc::{AllocError, Global};
@@ -39,12 +39,13 @@ pub fn serve(alloc: Global, script: Script) -> Result<Served, AllocError>
 
 /// How the journal of a new volume begins: each replica is read and written, and is its head alone.
 fn opening(alloc: Global, replicas: u8) -> Result<Opening, AllocError>
-    ensures { IfOk result (λ o. o.modes ≡ replicate replicas Rw) }
+    ensures modes { IfOk result (λ o. o.modes ≡ replicate replicas Rw) }
+    ensures names { IfOk result (λ o. o.names ≡ []) }
 {
     Ok(Opening {
         modes: Sequence::of(vec![in alloc; Mode::Rw; replicas as usize]?),
         layers: 1,
-        names: Sequence::of(Vec::new(alloc)),
+        names: TakenNames::none(alloc),
     })
 }
 

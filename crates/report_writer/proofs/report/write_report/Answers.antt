@@ -1,4 +1,4 @@
-use Rattle.std.proofs.Common.{subst, ◌≡◌, ◌++◌, ◌∷◌, []}
+use Rattle.std.proofs.Common.{subst, ◌≡◌, ◌++◌, ◌∷◌, [], ap, ◌∙◌}
 use Rattle.std.proofs.lemmas.Result.{on_ok_weaker}
 use Rattle.std.specs.Io.KnownBytes.{Appends}
 use Rattle.journal_book.specs.Book.{modes_of}
@@ -37,7 +37,8 @@ returns-clause-whole g c =
     let lines = journal_lines 0 entries in
     let replies = replies_from 0 c.args.heads.now entries in
     let calls = Passes-trans _ _ _ c.new-buffer.result.items _ _ lines replies c.in_ok-pass_entries.ensures.passed c.in_ok-pass_streams.ensures.passed in
-    let passed = whole_passes _ _ c.new-buffer.result.items _ _ lines replies (end_lines (modes_of c.args.journal.now) c.args.disk.now) c.new-buffer.ensures.items c.in_ok-print_end.ensures calls in
+    let passed = whole_passes _ _ c.new-buffer.result.items _ _ lines replies (end_lines (modes_of c.args.journal.now) c.args.disk.now) c.new-buffer.ensures.items
+    (c.in_ok-print_end.ensures ∙ ap (λ ms. c.pass_streams.new.buffer.items ++ end_lines ms c.args.disk.now) c.modes.ensures) calls in
     let rest : c.deref.result.now ≡ c.print_end.new.into.items = c.deref.ensures.value in
     on_ok_weaker c.write_all.result (λ e. Appends-last _ _ _ _ _ passed (subst (Appends _ _) rest e)) c.write_all.ensures.whole
 
@@ -47,5 +48,6 @@ returns-clause-front g c =
     let lines = journal_lines 0 entries in
     let replies = replies_from 0 c.args.heads.now entries in
     let calls = Passes-trans _ _ _ c.new-buffer.result.items _ _ lines replies c.in_ok-pass_entries.ensures.passed c.in_ok-pass_streams.ensures.passed in
-    let passed = whole_passes _ _ c.new-buffer.result.items _ _ lines replies (end_lines (modes_of c.args.journal.now) c.args.disk.now) c.new-buffer.ensures.items c.in_ok-print_end.ensures calls in
+    let passed = whole_passes _ _ c.new-buffer.result.items _ _ lines replies (end_lines (modes_of c.args.journal.now) c.args.disk.now) c.new-buffer.ensures.items
+    (c.in_ok-print_end.ensures ∙ ap (λ ms. c.pass_streams.new.buffer.items ++ end_lines ms c.args.disk.now) c.modes.ensures) calls in
     WritesFront-last _ _ _ _ _ passed (subst (WritesFront _ _) c.deref.ensures.value c.write_all.ensures.front)

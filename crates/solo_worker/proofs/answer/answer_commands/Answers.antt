@@ -1,14 +1,11 @@
-use Rattle.std.proofs.Common.{◌≡◌, ◌+◌, ◌^◌, ◌∷◌, length, refl, ap, subst, sym}
+use Rattle.std.proofs.Common.{All, ◌≡◌, ◌+◌, ◌^◌, ◌∷◌, length, refl, ap, subst, sym}
 use Rattle.std.specs.Vec.Iter.{into_iter_items}
 use Rattle.std.proofs.lemmas.List.Elements.{All-rest, All-head}
 use Rattle.command_text.specs.Commands.{HasGoodName}
 use Rattle.volume_model.specs.declared.call.Call.TheVariants as call
-use Rattle.solo_worker.proofs.AnswerLemmas.{CallsSoFar, no_calls, calls_more, calls_number, one_number}
+use Rattle.solo_worker.proofs.AnswerLemmas.{CallsSoFar, calls_more, calls_number, one_number}
 use Rattle.solo_worker.proofs.ScriptLemmas.{command_leaves}
 use Rattle.solo_worker.proofs.answer.answer_commands.Goals as goal
-
-pub loop-command-init : goal.loop-command-init
-loop-command-init c = ?
 
 pub answer-requires : goal.answer-requires
 answer-requires c =
