@@ -1,6 +1,5 @@
 use sparse_image::Image;
-use time_text::TimeText;
-use vol_units::LayerName;
+use vol_units::{LayerName, TimeText};
 
 /// What is told of a layer beside its blocks, as its `.meta` file tells it.
 #[derive(Drop)]

@@ -2,8 +2,7 @@ use super::*;
 use sparse_image::{BLOCK_BYTES, Block, Image};
 use std::alloc::Global;
 use std::test::Fail;
-use time_text::TimeText;
-use vol_units::LayerName;
+use vol_units::{LayerName, TimeText};
 
 fn name(text: &[u8]) -> Result<LayerName, Fail> {
     Ok(LayerName::read(text).ok().ok_or("no name")?)

@@ -12,7 +12,7 @@ use Rattle.script_head.specs.declared.head.StreamHead.TheVariants as stream
 use Rattle.script_head.specs.declared.limits.TheConstants.{MOST_REPLICAS, MOST_STREAMS, MOST_STREAM_BYTES, MOST_COMMANDS, MOST_LINES, MAY_OPEN, MAY_SAVE}
 use Rattle.script_head.specs.declared.member.Member.{Member}
 use Rattle.script_head.specs.declared.member.Member.TheVariants.{Volume, Size, Replicas, Open, Save, Now, Streams, Lines}
-use Rattle.time_text.specs.Time.{IsTimeText}
+use Rattle.vol_units.specs.Time.{IsTimeText}
 use Rattle.script_head.specs.Values.{whole, item_count, member, member_or, HasItems}
 
 -- `volume`: the name of the volume

@@ -10,8 +10,7 @@ use crate::members;
 use command_text::Command;
 use serde_json::Value;
 use std::alloc::Global;
-use time_text::TimeText;
-use vol_units::{PlainName, VolumeSize};
+use vol_units::{PlainName, TimeText, VolumeSize};
 use volume_model::Sequence;
 
 /// What the first line says of one stream.

@@ -12,7 +12,7 @@ pub use command_text::Command;
 pub use error::HeadError;
 pub use head::{ScriptHead, StreamHead, read_head};
 pub use member::Member;
-pub use time_text::TimeText;
+pub use vol_units::TimeText;
 pub use volume_model::Sequence;
 
 #[cfg(test)]

@@ -11,8 +11,7 @@ use crate::member::Member;
 use crate::streams::streams_from;
 use serde_json::Value;
 use std::alloc::Global;
-use time_text::TimeText;
-use vol_units::{PlainName, VolumeSize};
+use vol_units::{PlainName, TimeText, VolumeSize};
 use volume_model::Sequence;
 
 pub(crate) fn volume_in(line: &Value) -> Result<PlainName, HeadError>

@@ -3,3 +3,4 @@ pub mod Chars
 pub mod Name
 pub mod Range
 pub mod Size
+pub mod Time

@@ -1,7 +1,6 @@
 -- Ranges of bytes, as calls name them, and the blocks that they lie in.
 use Rattle.std.specs.Prelude.{◌≡◌, ℕ, ◌+◌, ◌-◌, ◌/◌, ◌<◌, ◌≤◌, ℤ, pos, negsuc, ◌+ℤ◌, ◌<ℤ◌, ◌≤ℤ◌, Bool, false, nat_le, ◌==◌, if◌then◌else◌}
 use Rattle.vol_units.specs.declared.range.BlockRange.{BlockRange}
-use Rattle.vol_units.specs.declared.size.TheConstants.{BLOCK_BYTES}
 
 -- whether n bytes from the offset on lie within `size` bytes
 abbrev pub is_good : ℕ → ℤ → ℕ → Bool
@@ -21,20 +20,24 @@ HasByte offset length byte = (offset ≤ℤ pos byte) × (pos byte <ℤ (offset 
 abbrev pub HasBlock : BlockRange → ℕ → Type 0
 HasBlock r block = (r.first ≤ block) × (block < r.end)
 
+-- the block that a byte lies in: blocks of 4 KiB, as Longhorn's volumes have them
+abbrev pub block_of : ℕ → ℕ
+block_of byte = byte / 4096
+
 -- every byte lies in one of the blocks
 abbrev pub Covers : BlockRange → ℤ → ℕ → Type 0
-Covers r offset length = (byte : ℕ) → HasByte offset length byte → HasBlock r (byte / BLOCK_BYTES)
+Covers r offset length = (byte : ℕ) → HasByte offset length byte → HasBlock r (block_of byte)
 
 -- in each of the blocks lies one of the bytes
 abbrev pub EachBlockHasByte : BlockRange → ℤ → ℕ → Type 0
 EachBlockHasByte r offset length =
-    (block : ℕ) → HasBlock r block → (byte : ℕ) × HasByte offset length byte × (byte / BLOCK_BYTES ≡ block)
+    (block : ℕ) → HasBlock r block → (byte : ℕ) × HasByte offset length byte × (block_of byte ≡ block)
 
 -- the blocks from that of the first byte to that of the last; of no bytes none, at the offset's block
 abbrev pub blocks_around : ℕ → ℕ → BlockRange
 blocks_around at length = record {
-  first = at / BLOCK_BYTES;
-  end = (if length == 0 then at / BLOCK_BYTES else (at + length - 1) / BLOCK_BYTES + 1);
+  first = block_of at;
+  end = (if length == 0 then block_of at else block_of (at + length - 1) + 1);
 }
 
 -- some block is one of both

@@ -1,4 +1,4 @@
-//! The sizes, block ranges and names that every crate of the volume speaks in, each checked once where it is made.
+//! The sizes, block ranges, names and texts of time that every crate of the volume speaks in, each checked once where it is made.
 #![tactic(auto)]
 
 mod chars;
@@ -9,6 +9,7 @@ mod plain_name;
 mod range;
 mod size;
 mod snap_name;
+mod time_text;
 
 pub use error::{BadName, BadSize};
 pub use layer_name::LayerName;
@@ -17,6 +18,7 @@ pub use plain_name::PlainName;
 pub use range::BlockRange;
 pub use size::{BLOCK_BYTES, LARGEST_SIZE, PAGE_BYTES, VolumeSize};
 pub use snap_name::SnapName;
+pub use time_text::TimeText;
 
 #[cfg(test)]
 mod tests;

@@ -1,13 +1,12 @@
 -- The text of a run's time.
 use Rattle.std.specs.Prelude.{◌≡◌, ℕ, ◌≤◌, Bool, true, ◌&&◌, nat_le, List, length}
 use Rattle.std.specs.List.{list_all}
-use Rattle.time_text.specs.declared.time_text.TheConstants.{LONGEST_TIME}
 
 -- a character of ASCII that is printed, blanks among them
 abbrev pub is_printed : ℕ → Bool
 is_printed byte = nat_le 0x20 byte && nat_le byte 0x7e
 
--- a short text of such characters
+-- at most 40 such characters
 pub record IsTimeText (text : List ℕ) : Type 0 where
-  pub most : length text ≤ LONGEST_TIME
+  pub most : length text ≤ 40
   pub bytes : list_all is_printed text ≡ true

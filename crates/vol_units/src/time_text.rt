@@ -1,13 +1,13 @@
 ghost use Rattle.std.specs.Prelude.{◌≡◌, IfOk};
 ghost use Rattle.std.specs.List.{list_all};
 ghost use Rattle.std.specs.Option.{SomeIff};
-ghost use Rattle.time_text.specs.Time.{is_printed, IsTimeText};
+ghost use Rattle.vol_units.specs.Time.{is_printed, IsTimeText};
 
 use std::alloc::{AllocError, Global};
 use std::marker::Model;
 
 /// The most bytes of a text of time.
-pub const LONGEST_TIME: usize = 40;
+const LONGEST_TIME: usize = 40;
 
 /// The text that a run writes as its time: at most 40 printed characters, and maybe none.
 /// A contract sees it as the list of its bytes.
@@ -18,7 +18,7 @@ pub struct TimeText {
 
 impl Model for TimeText {
     ghost use Rattle.std.specs.Prelude.{List, ℕ, string_bytes};
-    ghost use Rattle.time_text.specs.Time.{IsTimeText};
+    ghost use Rattle.vol_units.specs.Time.{IsTimeText};
 
     ghost Value = { List ℕ };
 
