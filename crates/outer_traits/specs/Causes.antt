@@ -3,19 +3,23 @@ use Rattle.std.specs.Prelude.{◌≡◌, ℕ, ◌+◌, ◌-◌, ◌^◌, ◌≤�
 use Rattle.outer_traits.specs.declared.error.OuterError.{OuterError}
 use Rattle.outer_traits.specs.declared.error.OuterError.TheVariants.{Failed, NoMemory}
 
+-- the count with one fault more: it stands still at its type's end
+abbrev pub one_more : ℕ → ℕ
+one_more count = min (count + 1) (2 ^ 64 - 1)
+
 -- A count of faults rose between two moments. One that stands at its type's end cannot show it.
 abbrev pub Rose : ℕ → ℕ → Type 0
-Rose before now = min (before + 1) (2 ^ 64 - 1) ≤ now
+Rose before now = one_more before ≤ now
 
--- A failure shows in the count, and no other answer moves it.
+-- A failure is one fault, which is counted once, and no other answer moves the count.
 pub record HasCause {T E : Type 0} (before now : ℕ) (result : Result T E) : Type 0 where
   pub later : before ≤ now
-  pub failed : OnErr result (Rose before now)
+  pub failed : OnErr result (now ≡ one_more before)
   pub done : OnOk result (now ≡ before)
 
 -- what an error says of the count
 abbrev pub ErrorCause : ℕ → ℕ → OuterError → Type 0
-ErrorCause before now Failed = Rose before now
+ErrorCause before now Failed = now ≡ one_more before
 ErrorCause before now NoMemory = now ≡ before
 
 -- The same of a call that may want memory.

@@ -1,7 +1,7 @@
 -- The three parts of the written text, behind a buffer that was empty: the entries, the replies and the end.
 use Rattle.std.proofs.Common.{◌≡◌, ℕ, List, [], ◌++◌, sym, ap, subst, ◌∙◌, append_assoc, Option}
-use Rattle.outer_flow.specs.Passing.{WritesFront, Passes}
-use Rattle.outer_flow.proofs.Passing.{WritesFront-more}
+use Rattle.outer_traits.specs.Passing.{WritesFront, Passes}
+use Rattle.outer_traits.proofs.Passing.{WritesFront-more}
 
 -- a front of the lines of the calls is one of the whole text
 pub front_of_calls : (s t : Option (List ℕ)) (had entries replies end : List ℕ) → had ≡ []

@@ -3,7 +3,7 @@ use Rattle.std.proofs.Common.{◌≡◌, ℕ, ◌<◌, ◌≤◌, List, [], ◌�
 use Rattle.std.specs.Io.KnownBytes.{Consumes, IsAtEnd, Appends}
 use Rattle.std.proofs.KnownBytes.{Consumes-whole}
 use Rattle.frame_wire.specs.declared.head.Head.{Head}
-use Rattle.outer_flow.specs.Passing.{WritesFront}
+use Rattle.outer_traits.specs.Passing.{WritesFront}
 use Rattle.report_writer.specs.Written.{written_text}
 use Rattle.run_report.specs.Report.{call_lines, end_lines}
 use Rattle.script_text.specs.declared.script.Script.{Script}

@@ -1,14 +1,13 @@
 ghost use Rattle.std.specs.Prelude.{◌≡◌, ◌<◌, ◌≤◌, length, IfOk, OnOk};
 ghost use Rattle.std.specs.Io.KnownBytes.{Appends, Consumes, IsAtEnd};
-ghost use Rattle.outer_flow.specs.Passing.{GivesAtMost, WritesFront};
 ghost use Rattle.journal_book.specs.Book.{modes_of};
+ghost use Rattle.outer_traits.specs.Passing.{GivesAtMost, WritesFront};
 ghost use Rattle.report_writer.specs.Written.{written_text};
 ghost use Rattle.volume_cli.specs.Stops.{ReadCounts, WriteCounts};
 
 use crate::stop::Stop;
 use journal_book::Bytes;
-use outer_flow::read_whole;
-use outer_traits::{OuterError, Sink, Source};
+use outer_traits::{OuterError, Sink, Source, read_whole};
 use report_writer::write_report;
 use script_text::MOST_INPUT;
 use solo_worker::Served;

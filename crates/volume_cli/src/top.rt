@@ -1,6 +1,6 @@
 ghost use Rattle.std.specs.Prelude.{◌≡◌, ◌<◌, ◌-◌, ◌^◌, ◌↔◌, ℕ, IfSome, OnOk};
 ghost use Rattle.std.specs.Io.KnownBytes.{IsAtEnd};
-ghost use Rattle.outer_flow.specs.Passing.{GivesAtMost};
+ghost use Rattle.outer_traits.specs.Passing.{GivesAtMost};
 ghost use Rattle.script_text.specs.Script.{IsScript, IsNoScript};
 ghost use Rattle.script_text.specs.declared.script.Script.{Script};
 ghost use Rattle.script_text.specs.declared.what.What.{What};

@@ -3,8 +3,8 @@ use Rattle.std.proofs.lemmas.Option.{get_or_from_slice_get}
 use Rattle.run_report.specs.Lines.{entry_line}
 use Rattle.run_report.specs.Report.{journal_lines}
 use Rattle.run_report.proofs.ReportLemmas.{next_line}
-use Rattle.outer_flow.specs.Passing.{WritesFront}
-use Rattle.outer_flow.proofs.Passing.{Passes-trans, WritesFront-after, WritesFront-more}
+use Rattle.outer_traits.specs.Passing.{WritesFront}
+use Rattle.outer_traits.proofs.Passing.{Passes-trans, WritesFront-after, WritesFront-more}
 use Rattle.report_writer.proofs.report.pass_entries.Goals as goal
 
 pub loop-place-preserved : goal.loop-place-preserved

@@ -1,6 +1,6 @@
 use Rattle.std.proofs.Common.{◌≡◌, List, ℕ, ◌++◌, drop}
 use Rattle.run_report.specs.Report.{journal_lines}
-use Rattle.outer_flow.specs.Passing.{Passes}
+use Rattle.outer_traits.specs.Passing.{Passes}
 use Rattle.report_writer.proofs.report.pass_entries.Given as goal
 
 -- what is printed, and then the lines of the entries left, is the whole text; no fault so far

@@ -5,8 +5,8 @@ use Rattle.volume_model.specs.declared.entry.Entry.TheVariants as entry
 use Rattle.run_report.specs.Lines.{reply_line}
 use Rattle.run_report.specs.Report.{reply_lines}
 use Rattle.run_report.proofs.ReportLemmas.{next_reply, skip_mark, skip_other, skip_past, no_reply}
-use Rattle.outer_flow.specs.Passing.{WritesFront, Passes}
-use Rattle.outer_flow.proofs.Passing.{Passes-trans, WritesFront-after, WritesFront-more, WritesFront-passed}
+use Rattle.outer_traits.specs.Passing.{WritesFront, Passes}
+use Rattle.outer_traits.proofs.Passing.{Passes-trans, WritesFront-after, WritesFront-more, WritesFront-passed}
 use Rattle.report_writer.proofs.report.pass_replies.Goals as goal
 use Rattle.report_writer.proofs.report.pass_replies.Goals.{in-Some-head_for+in_ok-pass_reply, in_default-head_for}
 

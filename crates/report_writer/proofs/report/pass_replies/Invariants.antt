@@ -1,7 +1,7 @@
 use Rattle.std.proofs.Common.{◌≡◌, List, ℕ, ◌++◌, drop}
 use Rattle.volume_model.specs.History.{answers_from}
 use Rattle.run_report.specs.Report.{reply_lines}
-use Rattle.outer_flow.specs.Passing.{Passes}
+use Rattle.outer_traits.specs.Passing.{Passes}
 use Rattle.report_writer.proofs.report.pass_replies.Given as goal
 
 -- what is printed, and then the replies to the headers left, is the whole text; no fault so far

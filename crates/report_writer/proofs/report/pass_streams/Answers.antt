@@ -3,8 +3,8 @@ use Rattle.frame_wire.specs.declared.head.Head.{Head}
 use Rattle.volume_model.specs.History.{answers_of}
 use Rattle.run_report.specs.Report.{reply_lines, replies_from}
 use Rattle.run_report.proofs.ReportLemmas.{next_stream}
-use Rattle.outer_flow.specs.Passing.{WritesFront}
-use Rattle.outer_flow.proofs.Passing.{Passes-trans, WritesFront-after, WritesFront-more}
+use Rattle.outer_traits.specs.Passing.{WritesFront}
+use Rattle.outer_traits.proofs.Passing.{Passes-trans, WritesFront-after, WritesFront-more}
 use Rattle.report_writer.proofs.report.pass_streams.Goals as goal
 
 pub loop-stream-preserved : goal.loop-stream-preserved

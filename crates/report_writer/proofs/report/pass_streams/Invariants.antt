@@ -1,6 +1,6 @@
 use Rattle.std.proofs.Common.{◌≡◌, List, ℕ, ◌++◌, drop}
 use Rattle.run_report.specs.Report.{replies_from}
-use Rattle.outer_flow.specs.Passing.{Passes}
+use Rattle.outer_traits.specs.Passing.{Passes}
 use Rattle.report_writer.proofs.report.pass_streams.Given as goal
 
 -- what is printed, and then the replies of the streams left, is the whole text; no fault so far

@@ -3,8 +3,8 @@ use Rattle.std.proofs.lemmas.Result.{on_ok_weaker}
 use Rattle.std.specs.Io.KnownBytes.{Appends}
 use Rattle.journal_book.specs.Book.{modes_of}
 use Rattle.run_report.specs.Report.{journal_lines, replies_from, end_lines}
-use Rattle.outer_flow.specs.Passing.{WritesFront}
-use Rattle.outer_flow.proofs.Passing.{Passes-trans, WritesFront-after, WritesFront-passed, Appends-last, WritesFront-last}
+use Rattle.outer_traits.specs.Passing.{WritesFront}
+use Rattle.outer_traits.proofs.Passing.{Passes-trans, WritesFront-after, WritesFront-passed, Appends-last, WritesFront-last}
 use Rattle.report_writer.proofs.Written.{front_of_entries, front_of_calls, whole_passes}
 use Rattle.report_writer.proofs.report.write_report.Goals as goal
 

@@ -1,6 +1,6 @@
 use Rattle.std.proofs.Common.{◌≡◌, ℕ, List, ◌++◌, length}
 use Rattle.std.specs.Io.KnownBytes.{Appends}
-use Rattle.outer_flow.proofs.output.write_all.Given as goal
+use Rattle.outer_traits.proofs.output.write_all.Given as goal
 
 -- the sink has taken the front of the bytes, and has not failed
 abbrev pub invariant-loop-rest : goal.invariant-loop-rest

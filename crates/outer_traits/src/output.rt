@@ -1,10 +1,11 @@
 ghost use Rattle.std.specs.Io.KnownBytes.{Appends};
-ghost use Rattle.std.specs.Prelude.{◌<◌, OnOk, [], vec_len};
+ghost use Rattle.std.specs.Prelude.{◌≡◌, ◌<◌, ◌≤◌, Ok, OnOk, [], vec_len};
 ghost use Rattle.outer_traits.specs.Causes.{HasOuterCause};
-ghost use Rattle.outer_flow.specs.Passing.{WritesFront, Passes};
-ghost use Rattle.outer_flow.specs.declared.output.TheConstants.{PIECE};
+ghost use Rattle.outer_traits.specs.Passing.{WritesFront, Passes};
+ghost use Rattle.outer_traits.specs.declared.output.TheConstants.{PIECE};
 
-use outer_traits::{Outer, Sink};
+use crate::error::Outer;
+use crate::sink::Sink;
 
 /// How many bytes a buffer gathers before they are passed on.
 pub const PIECE: usize = 131_072;
@@ -24,11 +25,13 @@ pub fn write_all<K: Sink>(sink: &mut K, bytes: &[u8]) -> Outer<()>
     Ok(())
 }
 
-/// Passes on what a buffer has gathered, where it is a large piece by now.
+/// Passes on what a buffer has gathered, where it is a large piece by now. A smaller one waits for more.
 pub fn pass_on<K: Sink>(sink: &mut K, buffer: &mut Vec<u8>) -> Outer<()>
     ensures passed { OnOk result (Passes (K.contents sink.old) (K.contents sink.new)
         buffer.old.items buffer.new.items []) }
     ensures small { OnOk result (vec_len buffer.new < PIECE) }
+    ensures kept { vec_len buffer.old < PIECE → (result ≡ Ok tt) × (sink.new ≡ sink.old) × (buffer.new ≡ buffer.old) }
+    ensures emptied { PIECE ≤ vec_len buffer.old → OnOk result (buffer.new.items ≡ []) }
     ensures front { WritesFront (K.contents sink.old) (K.contents sink.new) buffer.old.items }
     ensures cause { HasOuterCause (K.faults sink.old) (K.faults sink.new) result }
 {

@@ -1,7 +1,7 @@
 use Rattle.std.proofs.Common.{◌≡◌, ◌++◌, take, sym, ap, ◌∙◌, append_assoc}
 use Rattle.std.proofs.lemmas.List.{take-append-drop}
 use Rattle.std.proofs.KnownBytes.{Appends-trans}
-use Rattle.outer_flow.proofs.output.write_all.Goals as goal
+use Rattle.outer_traits.proofs.output.write_all.Goals as goal
 
 pub loop-rest-preserved : goal.loop-rest-preserved
 loop-rest-preserved g c =

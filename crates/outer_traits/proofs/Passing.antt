@@ -2,7 +2,7 @@
 use Rattle.std.proofs.Common.{◌≡◌, ℕ, List, [], ◌++◌, sym, ap, subst, ◌∙◌, append_assoc, Option}
 use Rattle.std.specs.Io.KnownBytes.{Appends}
 use Rattle.std.proofs.KnownBytes.{Appends-trans}
-use Rattle.outer_flow.specs.Passing.{WritesFront, Passes}
+use Rattle.outer_traits.specs.Passing.{WritesFront, Passes}
 
 -- one text after another
 pub Passes-trans : (s t u : Option (List ℕ)) (had mid has x y : List ℕ) → Passes s t had mid x → Passes t u mid has y → Passes s u had has (x ++ y)

@@ -1,6 +1,6 @@
 use Rattle.std.proofs.Common.{◌≡◌, ◌+◌, ◌-◌, ◌<◌, ◌≤◌, vec_len}
 use Rattle.std.specs.Io.KnownBytes.{Consumes}
-use Rattle.outer_flow.proofs.input.gather.Given as goal
+use Rattle.outer_traits.proofs.input.gather.Given as goal
 
 -- the input so far is what the source has given, and it has not failed
 abbrev pub invariant-loop-piece : goal.invariant-loop-piece

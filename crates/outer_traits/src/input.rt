@@ -1,10 +1,11 @@
 ghost use Rattle.std.specs.Prelude.{◌≡◌, ◌+◌, ◌^◌, ◌<◌, ◌≤◌, length, IfOk, vec_len};
 ghost use Rattle.std.specs.Io.KnownBytes.{Consumes, IsAtEnd};
 ghost use Rattle.outer_traits.specs.Causes.{HasOuterCause};
-ghost use Rattle.outer_flow.specs.Passing.{GivesAtMost, ReadsMore};
+ghost use Rattle.outer_traits.specs.Passing.{GivesAtMost, ReadsMore};
 
+use crate::error::Outer;
+use crate::source::Source;
 use bytes::Bytes;
-use outer_traits::{Outer, Source};
 use std::alloc::{AllocError, Global};
 
 /// How many bytes are asked for at once.
