@@ -7,8 +7,8 @@ pub record Pieces : Type 0 where
   pub most : ℕ
 
 -- how many bytes a read gives, where there is room for so many
-abbrev pub given : Pieces → ℕ → ℕ
-given source room = min (min (length source.bytes) room) source.most
+abbrev pub read_length : Pieces → ℕ → ℕ
+read_length source room = min (min (length source.bytes) room) source.most
 
 -- what a sink with an end holds, how many bytes more it takes, and how often it has failed
 pub record Limited : Type 0 where

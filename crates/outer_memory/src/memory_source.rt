@@ -2,7 +2,7 @@ ghost use Rattle.std.specs.Prelude.{◌≡◌, ◌<◌, Some, length, IfOk, IsEr
 ghost use Rattle.std.specs.Io.{ReadsAtMost};
 ghost use Rattle.std.specs.Io.KnownBytes.{ReadConsumes};
 ghost use Rattle.outer_traits.specs.Causes.{HasCause};
-ghost use Rattle.outer_memory.specs.Held.{given};
+ghost use Rattle.outer_memory.specs.Held.{read_length};
 ghost use Rattle.outer_memory.specs.Plan.{FollowsPlan};
 
 use crate::fault_plan::FaultPlan;
@@ -56,7 +56,7 @@ impl Source for MemorySource {
 
         // When it fails, and how much it gives else.
         ensures plan { FollowsPlan self.old.plan self.new.plan (IsErr result) }
-        ensures count { IfOk result (λ n. n ≡ given self.old.source (length into.old)) }
+        ensures count { IfOk result (λ n. n ≡ read_length self.old.source (length into.old)) }
         ensures most { self.new.source.most ≡ self.old.source.most }
     {
         if self.plan.next_fails() {

@@ -2,7 +2,7 @@ ghost use Rattle.std.specs.Prelude.{◌≡◌, ◌<◌, ◌≤◌, Some, Ok, min
 ghost use Rattle.std.specs.Io.{ReadsAtMost};
 ghost use Rattle.std.specs.Io.KnownBytes.{ReadConsumes};
 ghost use Rattle.outer_traits.specs.Causes.{HasCause};
-ghost use Rattle.outer_memory.specs.Held.{Pieces, given};
+ghost use Rattle.outer_memory.specs.Held.{Pieces, read_length};
 
 use outer_traits::{Failed, Source};
 use std::marker::Model;
@@ -53,7 +53,7 @@ impl Source for NoFaultSource {
         ensures cause { HasCause 0 0 result }
 
         // How much it gives.
-        ensures count { result ≡ Ok (given self.old (length into.old)) }
+        ensures count { result ≡ Ok (read_length self.old (length into.old)) }
         ensures most { self.new.most ≡ self.old.most }
     {
         let count = copy_front(self.left(), into, self.most);

@@ -1,69 +1,57 @@
-ghost use Rattle.std.specs.Prelude.{◌-◌, ◌^◌, ◌<◌};
-
 use super::*;
-use outer_traits::{Failed, Outer, OuterError, Sink, Source};
-use std::process::Abort;
+use outer_traits::{Outer, OuterError, PIECE, pass_on, read_whole, write_all};
+use std::alloc::{AllocError, Global};
 use std::test::Fail;
 
-const FAILED: Outer<usize> = Err(OuterError::Failed);
-
-/// Reads four times, as code that knows the trait alone.
-fn gives<S: Source>(rt: &impl Abort, source: &mut S, answers: [Result<usize, Failed>; 4])
-    requires { S.faults source.old < 2 ^ 64 - 1 }
-{
-    let mut into = [0u8; 8];
-    for answer in answers {
-        assert_eq!(rt; source.read(&mut into), answer);
-    }
-}
-
-/// Writes three times, as code that knows the trait alone.
-fn takes<K: Sink>(rt: &impl Abort, sink: &mut K, answers: [Outer<usize>; 3])
-    requires { K.faults sink.old < 2 ^ 64 - 1 }
-{
-    let [first, second, third] = answers;
-    assert_eq!(rt; sink.write(b"0 0 0 0 read"), first);
-    assert_eq!(rt; sink.write(b"ab"), second);
-    assert_eq!(rt; sink.write(b"c"), third);
+/// A plan in which one call fails.
+fn fails_at(alloc: Global, call: u64) -> Result<FaultPlan, AllocError> {
+    Ok(FaultPlan::new([call].to_vec(alloc)?))
 }
 
 #[test]
-fn a_source_gives_pieces_and_fails_where_told(rt: HostRuntime) -> Result<(), Fail> {
+fn a_source_fails_at_each_read_in_turn(rt: HostRuntime) -> Result<(), Fail> {
     let alloc = rt.alloc();
-    let plan = FaultPlan::new([2].to_vec(alloc)?);
-    let mut source = MemorySource::new([1, 2, 3].to_vec(alloc)?, 2, plan);
-    gives(&rt, &mut source, [Ok(2), Err(Failed), Ok(1), Ok(0)]);
-    assert_eq!(rt; source.left(), [].as_slice());
+    let failed: Outer<usize> = Err(OuterError::Failed);
+    // Three bytes, two at a time: two reads give them, and a third finds the end.
+    for (call, answer, left) in [
+        (1, failed, 3),
+        (2, failed, 1),
+        (3, failed, 0),
+        (4, Ok(3), 0),
+    ] {
+        let mut source = MemorySource::new(b"abc".to_vec(alloc)?, 2, fails_at(alloc, call)?);
+        let read = read_whole(alloc, &mut source, 9).map(|input| input.len());
+        assert_eq!(rt; (read, source.left().len()), (answer, left), "at {call}");
+    }
+    let mut source = NoFaultSource::new(b"abc".to_vec(alloc)?, 2);
+    let read = read_whole(alloc, &mut source, 9).map(|input| input.len());
+    assert_eq!(rt; read, Ok(3));
     Ok(())
 }
 
 #[test]
-fn a_source_without_faults_gives_all(rt: HostRuntime) -> Result<(), Fail> {
-    let mut source = NoFaultSource::new([1, 2, 3].to_vec(rt.alloc())?, 2);
-    gives(&rt, &mut source, [Ok(2), Ok(1), Ok(0), Ok(0)]);
-    assert_eq!(rt; source.left(), [].as_slice());
+fn a_sink_fails_at_each_write_in_turn(rt: HostRuntime) -> Result<(), Fail> {
+    let alloc = rt.alloc();
+    let failed: Outer<()> = Err(OuterError::Failed);
+    for (call, answer, taken) in [(1, failed, ""), (2, failed, "ab"), (3, Ok(()), "abc")] {
+        let mut sink = MemorySink::new(alloc, 2, fails_at(alloc, call)?);
+        assert_eq!(rt; write_all(&mut sink, b"abc"), answer);
+        assert_eq!(rt; sink.bytes(), taken.as_bytes(), "at {call}");
+    }
+    let mut sink = LimitedSink::new(alloc, 2);
+    assert_eq!(rt; write_all(&mut sink, b"abc"), failed);
+    assert_eq!(rt; sink.bytes(), b"ab".as_slice());
     Ok(())
 }
 
 #[test]
-fn a_sink_keeps_what_it_took_and_fails_where_told(rt: HostRuntime) -> Result<(), Fail> {
-    let plan = FaultPlan::new([2].to_vec(rt.alloc())?);
-    let mut sink = MemorySink::new(rt.alloc(), 5, plan);
-    takes(&rt, &mut sink, [Ok(5), FAILED, Ok(1)]);
-    assert_eq!(rt; sink.bytes(), b"0 0 0c".as_slice());
+fn a_buffer_is_passed_on_when_it_is_large(rt: HostRuntime) -> Result<(), Fail> {
+    let mut sink = NoFaultSink::new(rt.alloc(), 100_000);
+    let mut buffer = vec![in rt.alloc(); b'a'; PIECE - 1]?;
+    assert_eq!(rt; pass_on(&mut sink, &mut buffer), Ok(()));
+    assert_eq!(rt; (buffer.len(), sink.bytes().len()), (PIECE - 1, 0));
+    buffer.push(b'b')?;
+    assert_eq!(rt; pass_on(&mut sink, &mut buffer), Ok(()));
+    assert_eq!(rt; (buffer.len(), sink.bytes().len()), (0, PIECE));
     Ok(())
-}
-
-#[test]
-fn a_sink_takes_ten_bytes_and_then_fails(rt: HostRuntime) {
-    let mut sink = LimitedSink::new(rt.alloc(), 10);
-    takes(&rt, &mut sink, [Ok(10), FAILED, FAILED]);
-    assert_eq!(rt; sink.bytes(), b"0 0 0 0 re".as_slice());
-}
-
-#[test]
-fn a_sink_without_faults_takes_all(rt: HostRuntime) {
-    let mut sink = NoFaultSink::new(rt.alloc(), 5);
-    takes(&rt, &mut sink, [Ok(5), Ok(2), Ok(1)]);
-    assert_eq!(rt; sink.bytes(), b"0 0 0abc".as_slice());
 }
