@@ -8,22 +8,22 @@ use Rattle.frame_wire.specs.Spelling.{magic, header, IsHead}
 use Rattle.frame_wire.specs.Decoding.{BeginsWith, HasNoOtherMagic}
 
 -- so many bytes from a place on
-abbrev pub bytes_at : List ℕ → ℕ → ℕ → List ℕ
-bytes_at b i zero = []
-bytes_at b i (suc n) = get_or b i 0 ∷ bytes_at b (suc i) n
+abbrev pub bytes_from : List ℕ → ℕ → ℕ → List ℕ
+bytes_from b i zero = []
+bytes_from b i (suc n) = get_or b i 0 ∷ bytes_from b (suc i) n
 
 -- these are the bytes of the header's fields
 pub record HasFields (b : List ℕ) (h : Head) : Type 0 where
-  pub seq : to_le_bytes w32 h.seq ≡ bytes_at b 2 4
-  pub kind : to_le_bytes w32 h.kind ≡ bytes_at b 6 4
-  pub offset : to_le_bytes w64 (cast_unsigned w64 h.offset) ≡ bytes_at b 10 8
-  pub size : to_le_bytes w32 h.size ≡ bytes_at b 18 4
-  pub len : to_le_bytes w32 h.len ≡ bytes_at b 22 4
+  pub seq : to_le_bytes w32 h.seq ≡ bytes_from b 2 4
+  pub kind : to_le_bytes w32 h.kind ≡ bytes_from b 6 4
+  pub offset : to_le_bytes w64 (cast_unsigned w64 h.offset) ≡ bytes_from b 10 8
+  pub size : to_le_bytes w32 h.size ≡ bytes_from b 18 4
+  pub len : to_le_bytes w32 h.len ≡ bytes_from b 22 4
 
 -- 26 bytes, the magic first, are the header of the fields whose bytes they are.
 spelled : (b : List ℕ) (h : Head) → length b ≡ 26 → take 2 b ≡ magic → HasFields b h → b ≡ header h
 spelled b h len known fields =
-    let all : b ≡ bytes_at b 0 26 = text_from_reads b (bytes_at b 0 26) len (search rules) in
+    let all : b ≡ bytes_from b 0 26 = text_from_reads b (bytes_from b 0 26) len (search rules) in
     let front = ap (take 2) all in
     cc
 

@@ -10,6 +10,3 @@ mod wire;
 pub use decoded::Decoded;
 pub use head::Head;
 pub use wire::{HEADER_LENGTH, decode, encode_header};
-
-#[cfg(test)]
-mod tests;
