@@ -1,65 +1,61 @@
-ghost use Rattle.std.specs.Prelude.{◌≡◌, ◌+◌, ◌<◌, [], ◌∷◌, ◌++◌, length, max, ◌==◌, slice_get, Some, OnOk, OnErr};
-ghost use Rattle.volume_model.specs.Modes.{modes_after_entry};
-ghost use Rattle.volume_model.specs.Names.{is_used_in, is_live_in, names_after_entry, layers_after_entry};
+ghost use Rattle.std.specs.Prelude.{◌≡◌, ◌+◌, ◌<◌, ◌≤◌, ◌^◌, [], ◌∷◌, ◌++◌, length, max, ◌==◌, slice_get, Some, OnOk, OnErr, IfSome, MatchOption};
+ghost use Rattle.volume_model.specs.Faults.{last_count};
+ghost use Rattle.volume_model.specs.Modes.{mode_of, source_of, HasNoSource, IsSource};
+ghost use Rattle.volume_model.specs.Names.{is_used_in, is_live_in};
+ghost use Rattle.journal_book.specs.Book.{modes_of, layers_of, names_of};
 
+use crate::begun::Begun;
+use crate::faults::{LastCount, count_in, follow_faults};
 use crate::layers::layers_after;
-use crate::names::{follow_entry, is_live, is_used};
+use crate::modes::follow_modes;
+use crate::names::follow_names;
+use crate::opening::Opening;
+use crate::taken::{NameMap, is_live, is_used};
+use mode_table::ModeTable;
 use std::alloc::{AllocError, Global};
 use std::marker::Model;
-use volume_model::{Entry, LayerName, Mode, Sequence, UsedName};
+use volume_model::{Entry, LayerName, Mode};
 
-/// How a run begins.
-#[derive(Debug, Drop)]
-pub struct Opening {
-    /// The mode of each replica.
-    pub modes: Sequence<Mode>,
-    /// How many layers there are, the head counted.
-    pub layers: u32,
-    /// The names that snapshots were taken under, the newest first.
-    pub names: Sequence<UsedName>,
-}
-
-/// The entries of a run in their order. Contracts see the list, how many places are made beyond it, and what
-/// the entries leave of modes, layers and names.
-#[derive(Debug, Drop)]
+/// The entries of a run in their order. Contracts see how it began, the list, and how many places are made beyond it.
+#[derive(Drop)]
 pub struct Journal {
+    opening: Begun,
     entries: Vec<Entry>,
     spare: u64,
-    modes: Sequence<Mode>,
+    modes: ModeTable,
     layers: u64,
-    /// The newest last, so that one more takes a push.
-    names: Vec<UsedName>,
+    names: NameMap,
+    /// One for each line that has shown a fault.
+    lines: Vec<LastCount>,
 }
 
 impl Model for Journal {
-    ghost use Rattle.std.specs.Prelude.{reverse, vec_len, vec_capacity, ◌+◌, ◌^◌, ◌<◌, ◌≤◌};
     ghost use Rattle.journal_book.specs.Book.{Book};
 
     ghost Value = { Book };
 
-    ghost view = { λ j. record { entries = j.entries.items; spare = j.spare; modes = j.modes; layers = j.layers; names = reverse j.names.items } };
+    ghost view = { λ j. record { opening = j.opening.value; entries = j.entries.items; spare = j.spare } };
 
-    ghost invariant = { λ j. (vec_len j.entries + j.spare ≤ vec_capacity j.entries)
-        × (vec_len j.names + j.spare ≤ vec_capacity j.names) × (j.layers < 2 ^ 32 + vec_len j.entries) };
+    ghost use Rattle.journal_book.specs.Kept.{IsLeft, IsRoomy};
+
+    ghost invariant = { λ j. IsLeft j × IsRoomy j };
 }
 
 impl Journal {
     /// An empty journal of a run that begins so, with no place made. It takes no memory.
     pub fn new(alloc: Global, opening: Opening) -> Self
+        ensures opening { result.opening ≡ opening }
         ensures entries { result.entries ≡ [] }
         ensures spare { result.spare ≡ 0 }
-        ensures modes { result.modes ≡ opening.modes }
-        ensures layers { result.layers ≡ opening.layers }
-        ensures names { result.names ≡ opening.names }
     {
-        let mut names = opening.names.into_vec();
-        names.reverse();
         Journal {
+            opening: Begun::with(&opening),
             entries: Vec::new(alloc),
             spare: 0,
             modes: opening.modes,
             layers: u64::from(opening.layers),
-            names,
+            names: opening.names.map,
+            lines: Vec::new(alloc),
         }
     }
 
@@ -72,6 +68,7 @@ impl Journal {
         if self.spare < additional {
             self.entries.reserve(additional as usize)?;
             self.names.reserve(additional as usize)?;
+            self.lines.reserve(additional as usize)?;
             self.spare = additional;
         }
         Ok(())
@@ -79,7 +76,8 @@ impl Journal {
 
     /// How many entries can be pushed before places are made again.
     pub fn spare(&self) -> u64
-        ensures { result ≡ self.now.spare }
+        ensures value { result ≡ self.now.spare }
+        ensures most { result < 2 ^ 63 }
     {
         self.spare
     }
@@ -87,49 +85,82 @@ impl Journal {
     /// Puts an entry at the end, in a place that was made before. It takes no memory.
     pub fn push_reserved(&mut self, entry: Entry)
         requires { 0 < self.old.spare }
+        ensures opening { self.new.opening ≡ self.old.opening }
         ensures entries { self.new.entries ≡ self.old.entries ++ entry ∷ [] }
         ensures spare { self.new.spare + 1 ≡ self.old.spare }
-        ensures modes { self.new.modes ≡ modes_after_entry self.old.modes entry }
-        ensures layers { self.new.layers ≡ layers_after_entry self.old.layers entry }
-        ensures names { self.new.names ≡ names_after_entry self.old.names entry }
     {
+        follow_modes(&mut self.modes, &entry);
         self.layers = layers_after(self.layers, &entry);
-        follow_entry(&mut self.names, &entry);
+        follow_names(&mut self.names, &entry);
+        follow_faults(&mut self.lines, &entry);
         self.entries.push(entry).unwrap();
         self.spare -= 1;
     }
 
     /// The mode of each replica, after all entries.
     pub fn modes(&self) -> &[Mode]
-        ensures { result.now ≡ self.now.modes }
+        ensures { result.now ≡ modes_of self.now }
     {
         self.modes.as_slice()
     }
 
+    /// The mode of a replica, after all entries; one that is not there has failed.
+    pub fn mode(&self, replica: u8) -> Mode
+        ensures { result ≡ mode_of (modes_of self.now) replica }
+    {
+        self.modes.mode(replica)
+    }
+
+    /// The lowest replica that is read and written, after all entries.
+    pub fn source(&self) -> Option<u8>
+        ensures value { result ≡ source_of (modes_of self.now) }
+        ensures found { MatchOption result
+            (HasNoSource (modes_of self.now)) (IsSource (modes_of self.now)) }
+        ensures within { IfSome result (λ replica. replica < length (modes_of self.now)) }
+    {
+        self.modes.source()
+    }
+
+    /// How many replicas there are, failed ones among them.
+    pub fn replica_count(&self) -> u8
+        ensures value { result ≡ length (modes_of self.now) }
+        ensures most { result ≤ 8 }
+    {
+        self.modes.replica_count()
+    }
+
+    /// The count that the last fault mark of a stream's line to a replica tells, and 0 where there is none.
+    pub fn last_count(&self, stream: u8, replica: u8) -> u64
+        ensures { result ≡ last_count stream replica self.now.entries }
+    {
+        count_in(&self.lines, stream, replica)
+    }
+
     /// How many layers there are after all entries, the head counted.
     pub fn layers(&self) -> u64
-        ensures { result ≡ self.now.layers }
+        ensures { result ≡ layers_of self.now }
     {
         self.layers
     }
 
     /// Whether a snapshot was taken under the name.
     pub fn used(&self, name: &LayerName) -> bool
-        ensures { result ≡ is_used_in self.now.names name.now }
+        ensures { result ≡ is_used_in (names_of self.now) name.now }
     {
         is_used(&self.names, name)
     }
 
     /// Whether the snapshot of the name can be used.
     pub fn live(&self, name: &LayerName) -> bool
-        ensures { result ≡ is_live_in self.now.names name.now }
+        ensures { result ≡ is_live_in (names_of self.now) name.now }
     {
         is_live(&self.names, name)
     }
 
     /// How many entries there are.
     pub fn len(&self) -> u64
-        ensures { result ≡ length self.now.entries }
+        ensures value { result ≡ length self.now.entries }
+        ensures most { result < 2 ^ 63 }
     {
         self.entries.len() as u64
     }

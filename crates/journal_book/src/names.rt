@@ -1,89 +1,53 @@
-//! The names that snapshots were taken under, and what the entries of a run leave of them. Here the newest name is the
-//! last, so that one more is pushed at the end; contracts see the newest first.
+//! What the entries of a run leave of the names that snapshots were taken under.
 
-ghost use Rattle.std.specs.Prelude.{◌≡◌, ◌+◌, ◌<◌, ◌≤◌, map, reverse, vec_len, vec_capacity};
-ghost use Rattle.std.specs.Str.{bytes_eq};
-ghost use Rattle.volume_model.specs.Names.{is_used_in, is_live_in, name_marked, names_after_command, names_after_call, names_after_entry};
+ghost use Rattle.std.specs.Prelude.{◌≡◌, ◌+◌, ◌<◌, ◌≤◌};
+ghost use Rattle.indexmap.specs.IndexMap.{spare};
+ghost use Rattle.volume_model.specs.Names.{names_after_call, names_after_mark, names_after_entry};
+ghost use Rattle.journal_book.specs.Taken.{taken_of};
 
-use volume_model::{Call, Command, Entry, LayerName, Reply, UsedName};
+use crate::taken::{NameMap, mark, take_reserved};
+use volume_model::{Call, Command, Entry, LayerName, Mark, Reply};
 
-fn is_named(used: &UsedName, name: &LayerName) -> bool
-    ensures { result ≡ bytes_eq name.now used.now.name }
-{
-    name.as_bytes() == used.name.as_bytes()
-}
-
-pub(crate) fn is_used(names: &[UsedName], name: &LayerName) -> bool
-    ensures { result ≡ is_used_in (reverse names.now) name.now }
-{
-    names.iter().rev().any(|used| is_named(used, name))
-}
-
-pub(crate) fn is_live(names: &[UsedName], name: &LayerName) -> bool
-    ensures { result ≡ is_live_in (reverse names.now) name.now }
-{
-    for used in names.iter().rev() {
-        if is_named(used, name) {
-            return !used.marked;
-        }
-    }
-    false
-}
-
-/// Makes the names what they are after the entry. No memory is taken.
-pub(crate) fn follow_entry(names: &mut Vec<UsedName>, entry: &Entry)
-    requires { vec_len names.old < vec_capacity names.old }
-    ensures names { reverse names.new.items ≡ names_after_entry (reverse names.old.items) entry.now }
-    ensures one_more { vec_len names.new ≤ vec_len names.old + 1 }
-    ensures capacity { vec_capacity names.old ≤ vec_capacity names.new }
+/// Makes the names what they are after the entry. It takes no memory.
+pub(crate) fn follow_names(names: &mut NameMap, entry: &Entry)
+    requires { 0 < spare names.old }
+    ensures names { taken_of names.new.entries
+        ≡ names_after_entry (taken_of names.old.entries) entry.now }
+    ensures spare { spare names.old ≤ spare names.new + 1 }
 {
     match entry {
         Entry::Answer(answer) => match &answer.reply {
-            Reply::Refused(_) => {}
+            Reply::Refused(_) | Reply::Aborted(_) => {}
             _ => follow_call(names, &answer.call),
         },
-        // A snapshot that went stays used, and marked.
-        Entry::Mark(_) => {}
+        Entry::Mark(mark) => follow_mark(names, mark),
     }
 }
 
-fn follow_call(names: &mut Vec<UsedName>, call: &Call)
-    requires { vec_len names.old < vec_capacity names.old }
-    ensures names { reverse names.new.items ≡ names_after_call (reverse names.old.items) call.now }
-    ensures one_more { vec_len names.new ≤ vec_len names.old + 1 }
-    ensures capacity { vec_capacity names.old ≤ vec_capacity names.new }
+fn follow_call(names: &mut NameMap, call: &Call)
+    requires { 0 < spare names.old }
+    ensures names { taken_of names.new.entries
+        ≡ names_after_call (taken_of names.old.entries) call.now }
+    ensures spare { spare names.old ≤ spare names.new + 1 }
 {
     match call {
-        Call::Command(command) => follow_command(names, command),
-        Call::Read { .. } | Call::Write { .. } | Call::Ping | Call::Other(_) => {}
+        Call::Command(Command::Snapshot(name)) => take_reserved(names, LayerName::from(*name)),
+        Call::Command(Command::Remove(name)) => mark(names, name),
+        _ => {}
     }
 }
 
-fn follow_command(names: &mut Vec<UsedName>, command: &Command)
-    requires { vec_len names.old < vec_capacity names.old }
-    ensures names { reverse names.new.items ≡ names_after_command (reverse names.old.items) command.now }
-    ensures one_more { vec_len names.new ≤ vec_len names.old + 1 }
-    ensures capacity { vec_capacity names.old ≤ vec_capacity names.new }
+fn follow_mark(names: &mut NameMap, mark: &Mark)
+    requires { 0 < spare names.old }
+    ensures names { taken_of names.new.entries
+        ≡ names_after_mark (taken_of names.old.entries) mark.now }
+    ensures spare { spare names.old ≤ spare names.new + 1 }
 {
-    match command {
-        Command::Snapshot(name) => {
-            let used = UsedName {
-                name: LayerName::from(*name),
-                marked: false,
-            };
-            names.push(used).unwrap();
-        }
-        Command::Remove(name) => mark(names, name),
-        Command::Revert(_) | Command::Purge | Command::Status => {}
-    }
-}
-
-fn mark(names: &mut [UsedName], name: &LayerName)
-    ensures { names.new ≡ map (name_marked name.now) names.old }
-{
-    for used in names.iter_mut() {
-        if is_named(used, name) {
-            used.marked = true;
-        }
+    match mark {
+        // A rebuild begins with the engine's own snapshot.
+        Mark::Added { name, .. } => take_reserved(names, *name),
+        // A name whose layer went stays taken.
+        Mark::Purged(_) => {}
+        Mark::Fault { .. } | Mark::Failed(_) | Mark::Promoted(_) | Mark::Aborted(_) => {}
     }
 }

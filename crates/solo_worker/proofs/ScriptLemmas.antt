@@ -26,15 +26,16 @@ use Rattle.volume_model.specs.OneWorker.{IsProper, AreProper, AllProper}
 use Rattle.solo_worker.specs.Volume.{opening_of, calls_of, IsOfCalls, LeavesReplicas}
 
 -- one replica, which is read and written
-pub one_replica : (input : List ℕ) (script : Script) → IsScript input script → (opening_of script).modes ≡ Rw ∷ []
-one_replica input script is =
-    let head = is.head in
+pub replica_count : (input : List ℕ) (script : Script) → IsScript input script → script.replicas ≡ 1
+replica_count input script is =
     let r = is.headed.says.2.replicas in
-    let one : script.replicas ≡ 1 = ap (λ s. s.replicas) is.members ∙ only head.replicas r.1 r.2 in
-    ap (λ n. replicate n Rw) one
+    ap (λ s. s.replicas) is.members ∙ only is.head.replicas r.1 r.2
   where
     only : (n : ℕ) → 1 ≤ n → n ≤ 1 → n ≡ 1
     only n low high = omega arith
+
+pub one_replica : (input : List ℕ) (script : Script) → IsScript input script → (opening_of script).modes ≡ Rw ∷ []
+one_replica input script is = ap (λ n. replicate n Rw) (replica_count input script is)
 
 -- as many streams as the first line says
 as_many : (heads : List StreamHead) (bytes : List ℕ) (streams : List Stream) → AreStreams heads bytes streams → length streams ≡ length heads

@@ -1,4 +1,4 @@
-ghost use Rattle.std.specs.Prelude.{◌≡◌, [], map, replicate, IfOk};
+ghost use Rattle.std.specs.Prelude.{◌≡◌, ◌≤◌, [], map, replicate, IfOk};
 ghost use Rattle.volume_model.specs.declared.mode.Mode.TheVariants.{Rw};
 ghost use Rattle.solo_worker.specs.Serving.{IsRead, IsServed};
 ghost use Rattle.solo_worker.specs.Volume.{heads_of};
@@ -6,7 +6,7 @@ ghost use Rattle.solo_worker.specs.Volume.{heads_of};
 use crate::answer::answer_streams;
 use frame_stream::Frame;
 use frame_wire::Head;
-use journal_book::{Journal, Mode, Opening, TakenNames};
+use journal_book::{Journal, ModeTable, Opening, TakenNames};
 use replica_disk::ReplicaDisk;
 use script_text::{Script, Sequence, Stream};
 use std::alloc::{AllocError, Global};
@@ -28,7 +28,7 @@ pub fn serve(alloc: Global, script: Script) -> Result<Served, AllocError>
 {
     let heads = heads_in(alloc, script.streams.as_slice())?;
     let mut disk = ReplicaDisk::zeros(alloc, script.size)?;
-    let mut journal = Journal::new(alloc, opening(alloc, script.replicas)?);
+    let mut journal = Journal::new(alloc, opening(alloc, script.replicas));
     answer_streams(alloc, script.streams.into_vec(), &mut journal, &mut disk)?;
     Ok(Served {
         heads,
@@ -38,15 +38,16 @@ pub fn serve(alloc: Global, script: Script) -> Result<Served, AllocError>
 }
 
 /// How the journal of a new volume begins: each replica is read and written, and is its head alone.
-fn opening(alloc: Global, replicas: u8) -> Result<Opening, AllocError>
-    ensures modes { IfOk result (λ o. o.modes ≡ replicate replicas Rw) }
-    ensures names { IfOk result (λ o. o.names ≡ []) }
+fn opening(alloc: Global, replicas: u8) -> Opening
+    requires { replicas ≤ 8 }
+    ensures modes { result.modes ≡ replicate replicas Rw }
+    ensures names { result.names ≡ [] }
 {
-    Ok(Opening {
-        modes: Sequence::of(vec![in alloc; Mode::Rw; replicas as usize]?),
+    Opening {
+        modes: ModeTable::new(replicas),
         layers: 1,
         names: TakenNames::none(alloc),
-    })
+    }
 }
 
 /// The headers of the frames of each stream.

@@ -1,0 +1,25 @@
+use Rattle.std.proofs.Common.{◌≡◌, [], ◌∷◌, ◌++◌, cond, ap, ◌∙◌, arith}
+use Rattle.std.specs.Result.{is_ok}
+use Rattle.journal_book.proofs.LeftLemmas.{modes_left, layers_left, names_left, lines_left}
+use Rattle.journal_book.proofs.journal.Journal.push_reserved.Goals as goal
+
+pub invariant_of-self : goal.invariant_of-self
+invariant_of-self c =
+    let j = c.self.inside in
+    let left = c.self.invariant.0 in
+    let es = j.entries.items in
+    let e = c.args.entry in
+    let pushed : c.push.new.self.items ≡ es ++ e ∷ [] = c.push.ensures.items ∙ ap (λ o. cond (is_ok o) (es ++ e ∷ []) es) c.unwrap.ensures in (
+      record {
+        modes = modes_left j.opening.value.modes j.modes _ es _ e left.modes c.follow_modes.ensures pushed;
+        layers = layers_left j.opening.value.layers j.layers _ es _ e left.layers c.layers_after-self-inside.ensures.layers pushed;
+        names = names_left j.opening.value.names _ _ es _ e left.names c.follow_names.ensures.names pushed;
+        lines = lines_left j.lines.items _ es _ e left.lines c.follow_faults.ensures.counts pushed;
+      },
+      record {
+        entries = omega arith;
+        names = omega arith;
+        lines = omega arith;
+        layers = omega (arith, rw c.unwrap.ensures at c.push.ensures.len);
+      },
+    )
