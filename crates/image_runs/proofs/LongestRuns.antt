@@ -4,20 +4,20 @@ use Rattle.std.specs.Prelude.{replicate}
 use Rattle.std.specs.List.{All, AllByRecursion}
 use Rattle.std.proofs.lemmas.Bool.{eqb-true, eqb-false}
 use Rattle.std.proofs.lemmas.List.Elements.{All-from_recursion}
-use Rattle.image_runs.specs.Runs.{ByteRun, run_of, put_byte, runs, bytes_of, AreApart}
+use Rattle.image_runs.specs.Runs.{ByteRun, run_of, put_byte, runs, run_bytes, AreApart}
 
 -- one byte more
-bytes_of-put_byte : (b : ℕ) (rs : List ByteRun) → bytes_of (put_byte b rs) ≡ b ∷ bytes_of rs
-bytes_of-put_byte b [] = refl
-bytes_of-put_byte b (r ∷ rs) = by_test (eqb r.byte b) (λ e. eqb-true r.byte b e)
+run_bytes-put_byte : (b : ℕ) (rs : List ByteRun) → run_bytes (put_byte b rs) ≡ b ∷ run_bytes rs
+run_bytes-put_byte b [] = refl
+run_bytes-put_byte b (r ∷ rs) = by_test (eqb r.byte b) (λ e. eqb-true r.byte b e)
   where
-    by_test : (t : Bool) → (t ≡ true → r.byte ≡ b) → bytes_of (cond t (run_of b (suc r.count) ∷ rs) (run_of b 1 ∷ r ∷ rs)) ≡ b ∷ bytes_of (r ∷ rs)
-    by_test true same = ap (λ x. b ∷ (replicate r.count x ++ bytes_of rs)) (sym (same refl))
+    by_test : (t : Bool) → (t ≡ true → r.byte ≡ b) → run_bytes (cond t (run_of b (suc r.count) ∷ rs) (run_of b 1 ∷ r ∷ rs)) ≡ b ∷ run_bytes (r ∷ rs)
+    by_test true same = ap (λ x. b ∷ (replicate r.count x ++ run_bytes rs)) (sym (same refl))
     by_test false same = refl
 
-pub bytes_of-runs : (bytes : List ℕ) → bytes_of (runs bytes) ≡ bytes
-bytes_of-runs [] = refl
-bytes_of-runs (b ∷ bs) = bytes_of-put_byte b (runs bs) ∙ ap (λ l. b ∷ l) (bytes_of-runs bs)
+pub run_bytes-runs : (bytes : List ℕ) → run_bytes (runs bytes) ≡ bytes
+run_bytes-runs [] = refl
+run_bytes-runs (b ∷ bs) = run_bytes-put_byte b (runs bs) ∙ ap (λ l. b ∷ l) (run_bytes-runs bs)
 
 -- no run is empty
 abbrev AreFilled : List ByteRun → Type 0

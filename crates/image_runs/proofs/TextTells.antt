@@ -11,8 +11,8 @@ use Rattle.std.proofs.lemmas.Fmt.{decimal_is_IsNumeral}
 use Rattle.std.proofs.lemmas.List.Elements.{All-cons, All-head, All-tail, All-from_get_or}
 use Rattle.std.proofs.lemmas.List.Splits.{slice_split_at, slice_split_none}
 use Rattle.std.proofs.lemmas.Str.Parse.{digit_at}
-use Rattle.image_runs.specs.Runs.{ByteRun, run_of, put_byte, runs, run_text, runs_text, bytes_of}
-use Rattle.image_runs.proofs.LongestRuns.{bytes_of-runs}
+use Rattle.image_runs.specs.Runs.{ByteRun, run_of, put_byte, runs, run_text, runs_text, run_bytes}
+use Rattle.image_runs.proofs.LongestRuns.{run_bytes-runs}
 
 -- runs of bytes, of lengths that a text shows
 abbrev AreRuns : List ByteRun → Type 0
@@ -80,7 +80,7 @@ run_text_no_comma r small short =
     All-cons P (digit_glyph false (r.byte / 16)) (low ∷ 42 ∷ decimal r.count) (glyph_no_comma (r.byte / 16) (omega arith))
     (All-cons P low (42 ∷ decimal r.count) (glyph_no_comma (r.byte % 16) (omega arith)) behind)
 
-read_runs-joined : (r : ByteRun) (rs : List ByteRun) → AreRuns (r ∷ rs) → read_runs (join_with_byte 44 (map run_text (r ∷ rs))) ≡ bytes_of (r ∷ rs)
+read_runs-joined : (r : ByteRun) (rs : List ByteRun) → AreRuns (r ∷ rs) → read_runs (join_with_byte 44 (map run_text (r ∷ rs))) ≡ run_bytes (r ∷ rs)
 read_runs-joined r [] ok =
     ap (flat_map read_run) (slice_split_none (λ b. eqb b 44) (run_text r) (run_text_no_comma r ok.0.0 ok.0.1))
     ∙ ap (λ l. l ++ []) (read_run-run_text r ok.0.0 ok.0.1)
@@ -92,9 +92,9 @@ read_runs-joined r (q ∷ qs) ok =
 -- What is read from the text of bytes is these bytes.
 read_runs-runs_text : (bytes : List ℕ) → All (λ b. b < 256) bytes → length bytes < 2 ^ 64 → read_runs (runs_text bytes) ≡ bytes
 read_runs-runs_text [] ok short = refl
-read_runs-runs_text (b ∷ bs) ok short = of_runs (runs (b ∷ bs)) (runs_small (b ∷ bs) ok short).0 (bytes_of-runs (b ∷ bs))
+read_runs-runs_text (b ∷ bs) ok short = of_runs (runs (b ∷ bs)) (runs_small (b ∷ bs) ok short).0 (run_bytes-runs (b ∷ bs))
   where
-    of_runs : (rs : List ByteRun) → AreRuns rs → bytes_of rs ≡ b ∷ bs → read_runs (join_with_byte 44 (map run_text rs)) ≡ b ∷ bs
+    of_runs : (rs : List ByteRun) → AreRuns rs → run_bytes rs ≡ b ∷ bs → read_runs (join_with_byte 44 (map run_text rs)) ≡ b ∷ bs
     of_runs [] small same = cc
     of_runs (r ∷ rs) small same = read_runs-joined r rs small ∙ same
 

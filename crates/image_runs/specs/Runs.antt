@@ -32,9 +32,9 @@ abbrev pub runs_text : List ℕ → List ℕ
 runs_text [] = codes "-"
 runs_text (b ∷ bs) = join_with_byte 44 (map run_text (runs (b ∷ bs)))
 
--- the bytes of some runs
-abbrev pub bytes_of : List ByteRun → List ℕ
-bytes_of rs = flat_map (λ r. replicate r.count r.byte) rs
+-- the bytes that some runs are
+abbrev pub run_bytes : List ByteRun → List ℕ
+run_bytes rs = flat_map (λ r. replicate r.count r.byte) rs
 
 -- neighbours are of different bytes
 abbrev pub AreApart : List ByteRun → Type 0

@@ -1,8 +1,8 @@
-use Rattle.image_runs.proofs.LongestRuns.{bytes_of-runs, All_runs_filled, runs_apart}
+use Rattle.image_runs.proofs.LongestRuns.{run_bytes-runs, All_runs_filled, runs_apart}
 use Rattle.image_runs.proofs.laws.runs_are_as_long_as_can_be.Goals as goal
 
 pub returns-clause-spelled : goal.returns-clause-spelled
-returns-clause-spelled c = bytes_of-runs
+returns-clause-spelled c = run_bytes-runs
 
 pub returns-clause-filled : goal.returns-clause-filled
 returns-clause-filled c = All_runs_filled
