@@ -27,12 +27,12 @@ abbrev pub asked_at : Text → List Row → Option Words
 asked_at name rows = if bytes_eq name (codes "run") then option_map Run (workers_of (first_of (codes "workers") rows)) else None
 
 -- the same of the subcommand that is named, if one is
-abbrev pub asked_of : Option (Text × List Row) → Option Words
-asked_of = option_and_then (λ named. asked_at named.0 named.1)
+abbrev pub asked_named : Option (Text × List Row) → Option Words
+asked_named = option_and_then (λ named. asked_at named.0 named.1)
 
 -- what the words ask for, if `clap` takes them and each value is one that the program knows
 abbrev pub asked_by : List Text → Option Words
-asked_by words = if takes program words then asked_of (subcommand_of program words) else None
+asked_by words = if takes program words then asked_named (subcommand_of program words) else None
 
 -- the error that a refusal of this kind is
 abbrev pub IsErrorOf : ErrorKind → WordsError → Type 0

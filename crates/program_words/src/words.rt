@@ -1,6 +1,6 @@
 ghost use Rattle.std.specs.Prelude.{◌≡◌, None, Some, map, IfOk, IsErrOf, codes, string_bytes};
 ghost use Rattle.clap.specs.Words.{first_of, found_of, kind_of, rows_of, subcommand_rows_of};
-ghost use Rattle.program_words.specs.Asked.{asked_at, asked_by, asked_of, workers_named, workers_of, IsErrorOf};
+ghost use Rattle.program_words.specs.Asked.{asked_at, asked_by, asked_named, workers_named, workers_of, IsErrorOf};
 ghost use Rattle.program_words.specs.declared.words.WordsError.TheVariants.{NoMemory};
 
 use crate::program::command;
@@ -66,7 +66,7 @@ pub fn read_words(alloc: Global, words: &[String]) -> Result<Words, WordsError>
 
 /// What the matches of the program ask for.
 fn words_in(matches: &ArgMatches<'_>) -> Option<Words>
-    ensures { result ≡ asked_of (subcommand_rows_of matches.now) }
+    ensures { result ≡ asked_named (subcommand_rows_of matches.now) }
 {
     let (name, options) = matches.subcommand()?;
     asked_at(name, options)
