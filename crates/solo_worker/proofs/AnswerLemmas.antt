@@ -2,14 +2,14 @@
 use Rattle.std.proofs.Common.{◌≡◌, ℕ, suc, ◌+◌, ◌<◌, ◌≤◌, List, [], ◌∷◌, ◌++◌, length, map, All, refl, sym, ap, subst, ◌∙◌, arith}
 use Rattle.std.specs.List.{sum_by}
 use Rattle.std.proofs.lemmas.List.{append-nil, append_assoc, length-append, length-map, map-append}
-use Rattle.std.proofs.lemmas.List.Elements.{All-head, All-tail, All-map}
+use Rattle.std.proofs.lemmas.List.Elements.{All-head, All-tail}
 use Rattle.std.proofs.lemmas.List.Sums.{sum_by-cons, sum_by-append}
 use Rattle.journal_book.specs.Book.{Book}
 use Rattle.volume_model.specs.declared.call.Call.{Call}
 use Rattle.volume_model.specs.declared.call.Call.TheVariants as call
 use Rattle.volume_model.specs.PlainState.{Volume}
 use Rattle.volume_model.specs.History.{Spot}
-use Rattle.volume_model.specs.OneWorker.{behind_entries, behind, served_from, served_streams, after_calls, after_streams, call_count}
+use Rattle.volume_model.specs.OneWorker.{behind, served_from, served_streams, after_calls, after_streams, call_count}
 use Rattle.volume_model.proofs.ServedLemmas.{behind-calls, behind-streams, served_from-append, served_streams-push, calls_raise, streams_raise}
 use Rattle.frame_stream.specs.Asked.{call_of}
 use Rattle.script_text.specs.declared.script.Stream.{Stream}
@@ -43,8 +43,8 @@ answers_push stream index cs c a b d s t u done at more =
     let last = served_from (spot_of b t) stream (length b.entries) index (c ∷ []) in
     adds_same (front ++ last) (served_from (spot_of a s) stream (length a.entries) 0 (cs ++ c ∷ [])) a d s u
     (ap (λ es. front ++ es) (moved (spot_of b t) (after_calls (spot_of a s) cs) stream stream (length b.entries) (behind (length a.entries) front) index (0 + length cs) (c ∷ [])
-            (behind_answers stream 0 cs a b s t done) refl (ap length done.entries ∙ length-append a.entries front) (from_none index (length cs) at))
-        ∙ sym (served_from-append (spot_of a s) stream (length a.entries) 0 cs (c ∷ [])))
+    (behind_answers stream 0 cs a b s t done) refl (ap length done.entries ∙ length-append a.entries front) (from_none index (length cs) at))
+    ∙ sym (served_from-append (spot_of a s) stream (length a.entries) 0 cs (c ∷ [])))
     (adds_append front last a b d s t u done more)
 
 -- one stream more
@@ -55,8 +55,8 @@ streams_push number css cs a b d s t u done at more =
     let last = served_from (spot_of b t) number (length b.entries) 0 cs in
     adds_same (front ++ last) (served_streams (spot_of a s) 0 (length a.entries) (css ++ cs ∷ [])) a d s u
     (ap (λ es. front ++ es) (moved (spot_of b t) (after_streams (spot_of a s) css) number (0 + length css) (length b.entries) (behind (length a.entries) front) 0 0 cs
-            (behind_all css a b s t done) (from_none number (length css) at) (ap length done.entries ∙ length-append a.entries front) refl)
-        ∙ sym (served_streams-push (spot_of a s) 0 (length a.entries) css cs))
+    (behind_all css a b s t done) (from_none number (length css) at) (ap length done.entries ∙ length-append a.entries front) refl)
+    ∙ sym (served_streams-push (spot_of a s) 0 (length a.entries) css cs))
     (adds_append front last a b d s t u done more)
 
 -- what is left of the numbers is enough for one call more, and for the calls of one stream more

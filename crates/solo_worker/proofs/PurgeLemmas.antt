@@ -7,7 +7,7 @@ use Rattle.volume_model.specs.declared.call.Call.TheVariants as call
 use Rattle.volume_model.specs.declared.entry.Entry.TheVariants as entry
 use Rattle.volume_model.specs.declared.mark.FoldOrDrop.{FoldOrDrop}
 use Rattle.volume_model.specs.declared.mark.Mark.TheVariants as mark
-use Rattle.volume_model.specs.PlainState.{Volume, PlainState, purged}
+use Rattle.volume_model.specs.PlainState.{Volume, purged}
 use Rattle.volume_model.specs.Purge.{next_of, with_part, parts_of}
 use Rattle.volume_model.specs.Marks.{marks_of}
 use Rattle.volume_model.specs.Modes.{HasSource}
@@ -43,7 +43,7 @@ pub all_parts : (a b : Book) (s t : Volume) → HasSource (spot_of a s).modes �
 all_parts a b s t source far none =
     adds_same (marks_of far.done) (marks_before (spot_of a s) (call.Command command.Purge)) a b s t
     (ap marks_of (sym (far.cut ∙ ap (λ fs. far.done ++ fs) (parts-none t.snapshots none) ∙ append-nil far.done))
-        ∙ ap (λ x. marks_unless x (spot_of a s) (call.Command command.Purge)) (sym (with_source (spot_of a s) (call.Command command.Purge) source)))
+    ∙ ap (λ x. marks_unless x (spot_of a s) (call.Command command.Purge)) (sym (with_source (spot_of a s) (call.Command command.Purge) source)))
     far.adds
 
 -- each part leaves one snapshot less

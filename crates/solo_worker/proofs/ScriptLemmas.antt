@@ -1,8 +1,7 @@
 -- What a script is, as far as the serving needs it: few streams of calls that leave the replicas, on one replica.
-use Rattle.std.proofs.Common.{◌≡◌, ℕ, ◌≤◌, ◌==◌, Bool, true, false, cond, List, [], ◌∷◌, length, map, replicate, All, refl, ap, subst, sym, ◌∙◌, arith, suc, Some, Option}
+use Rattle.std.proofs.Common.{◌≡◌, ℕ, ◌≤◌, ◌==◌, Bool, true, false, cond, List, [], ◌∷◌, length, map, replicate, All, refl, ap, subst, sym, ◌∙◌, arith, suc}
 use Rattle.std.proofs.lemmas.List.Elements.{All-nil, All-cons, All-head, All-tail, All-map, All-weaker}
-use Rattle.vol_units.specs.Name.{IsSnapName}
-use Rattle.command_text.specs.Commands.{HasGoodName, IsCommand}
+use Rattle.command_text.specs.Commands.{HasGoodName}
 use Rattle.command_text.specs.declared.command.Command.{Command}
 use Rattle.command_text.specs.declared.command.Command.TheVariants as command
 use Rattle.frame_stream.specs.Asked.{call_of}
@@ -19,7 +18,6 @@ use Rattle.script_text.specs.declared.script.Stream.TheVariants as stream
 use Rattle.script_text.specs.Script.{IsScript}
 use Rattle.script_text.specs.Streams.{AreStreams, IsStreamOf}
 use Rattle.script_text.proofs.StreamLemmas.{All-asked}
-use Rattle.volume_model.specs.declared.call.Call.{Call}
 use Rattle.volume_model.specs.declared.call.Call.TheVariants as call
 use Rattle.volume_model.specs.declared.mode.Mode.TheVariants.{Rw}
 use Rattle.volume_model.specs.OneWorker.{IsProper, AreProper, AllProper}

@@ -1,12 +1,10 @@
 -- What the serving of all streams of a script leaves.
-use Rattle.std.proofs.Common.{◌≡◌, ℕ, List, [], ◌∷◌, ◌++◌, map, length, replicate, refl, sym, ap, subst, ◌∙◌, arith, lit<}
+use Rattle.std.proofs.Common.{◌≡◌, ℕ, List, [], ◌++◌, map, length, replicate, refl, sym, ap, subst, ◌∙◌, lit<}
 use Rattle.journal_book.specs.Book.{Book}
-use Rattle.journal_book.specs.declared.opening.Opening.{Opening}
 use Rattle.volume_model.specs.declared.call.Call.{Call}
 use Rattle.volume_model.specs.declared.entry.Entry.{Entry}
 use Rattle.volume_model.specs.declared.mode.Mode.{Mode}
 use Rattle.volume_model.specs.declared.mode.Mode.TheVariants.{Rw}
-use Rattle.volume_model.specs.declared.names.UsedName.{UsedName}
 use Rattle.volume_model.specs.Disk.{zeros}
 use Rattle.volume_model.specs.PlainState.{Volume, volume_of}
 use Rattle.volume_model.specs.Modes.{modes_after, HasSource}

@@ -1,5 +1,5 @@
 -- One call is answered as the plain volume answers it.
-use Rattle.std.proofs.Common.{◌≡◌, ℕ, inl, inr, Bool, true, false, cond, List, [], ◌∷◌, ◌++◌, length, refl, sym, ap, subst, ◌∙◌}
+use Rattle.std.proofs.Common.{◌≡◌, ℕ, inl, inr, Bool, true, false, cond, List, [], ◌∷◌, ◌++◌, length, refl, sym, ap, ◌∙◌}
 use Rattle.std.specs.Prelude.{Option, None, Some, is_some}
 use Rattle.std.proofs.lemmas.Bool.{cases_Bool, true≢false}
 use Rattle.std.proofs.lemmas.List.{append-nil}
@@ -12,7 +12,6 @@ use Rattle.volume_model.specs.declared.call.Refusal.TheVariants.{NameUsed}
 use Rattle.volume_model.specs.declared.call.Reply.{Reply}
 use Rattle.volume_model.specs.declared.call.Reply.TheVariants as reply
 use Rattle.volume_model.specs.declared.entry.Answer.{Answer}
-use Rattle.volume_model.specs.declared.entry.Entry.{Entry}
 use Rattle.volume_model.specs.declared.entry.Entry.TheVariants as entry
 use Rattle.volume_model.specs.declared.mode.Mode.{Mode}
 use Rattle.volume_model.specs.PlainState.{Volume, PlainState, is_used}
@@ -21,7 +20,7 @@ use Rattle.volume_model.specs.Replay.{is_refusal, replay}
 use Rattle.volume_model.specs.Modes.{HasSource}
 use Rattle.volume_model.specs.Names.{has_name, AreNamed}
 use Rattle.volume_model.specs.History.{Spot}
-use Rattle.volume_model.specs.OneWorker.{behind_entries, refused_at, call_marks, marks_unless, marks_before, reply_for, answer_for, entries_at, served_from}
+use Rattle.volume_model.specs.OneWorker.{behind_entries, refused_at, call_marks, marks_unless, marks_before, reply_for, entries_at, served_from}
 use Rattle.volume_model.proofs.OnlyServed.{with_source}
 use Rattle.replica_disk.specs.Step.{IsNew, volume_step, volume_step_unless}
 use Rattle.solo_worker.specs.Serving.{spot_of, Adds, AnswersCalls}
@@ -146,7 +145,7 @@ pub call_answered : (c : Call) (r : Reply) (stream index : ℕ) (a b d : Book) (
 call_answered c r stream index a b d s t u leaves source marks opening entries said left =
     adds_same (marks_before spot c ++ entry.Answer answer ∷ []) (served_from spot stream (length a.entries) index (c ∷ [])) a d s u
     (ap (λ q. marks_before spot c ++ entry.Answer (record { call = c; reply = q; index = index; saw = length a.entries; stream = stream }) ∷ []) known
-        ∙ sym (append-nil (entries_at spot stream (length a.entries) index c)))
+    ∙ sym (append-nil (entries_at spot stream (length a.entries) index c)))
     (adds_append (marks_before spot c) (entry.Answer answer ∷ []) a b d s t u marks (record { opening = opening; entries = entries; volume = follows }))
   where
     spot : Spot

@@ -1,4 +1,4 @@
-use Rattle.std.proofs.Common.{◌≡◌, ◌++◌, ◌∷◌, [], sym, ap, subst, ◌∙◌, arith}
+use Rattle.std.proofs.Common.{◌++◌, ◌∷◌, [], sym, ap, subst, ◌∙◌, arith}
 use Rattle.journal_book.specs.Book.{Book}
 use Rattle.volume_model.specs.declared.entry.Entry.TheVariants as entry
 use Rattle.volume_model.specs.PlainState.{Volume}
@@ -35,5 +35,5 @@ returns c =
     (adds_reserved (marks_before (spot_of a s) c.args.call) a c.make_marks.new.journal b b.spare s t c.in_ok-make_marks.ensures c.in_ok-reserve.ensures.same)
     c.push_reserved.ensures.opening
     (c.push_reserved.ensures.entries
-        ∙ ap (λ saw. b.entries ++ entry.Answer (record { call = c.args.call; reply = c.in_ok-reply.reply; index = c.args.index; saw = saw; stream = c.args.stream }) ∷ []) c.len-saw.ensures.value)
+    ∙ ap (λ saw. b.entries ++ entry.Answer (record { call = c.args.call; reply = c.in_ok-reply.reply; index = c.args.index; saw = saw; stream = c.args.stream }) ∷ []) c.len-saw.ensures.value)
     c.in_ok-reply.ensures.reply c.in_ok-reply.ensures.volume

@@ -1,4 +1,4 @@
-use Rattle.std.proofs.Common.{All, ◌≡◌, ◌+◌, ◌^◌, ◌∷◌, length, refl, ap, subst, sym}
+use Rattle.std.proofs.Common.{All, ◌≡◌, ◌+◌, ◌^◌, ◌∷◌, length, refl, ap, subst}
 use Rattle.std.specs.Vec.Iter.{into_iter_items}
 use Rattle.std.proofs.lemmas.List.Elements.{All-rest, All-head}
 use Rattle.command_text.specs.Commands.{HasGoodName}

@@ -5,7 +5,7 @@ use Rattle.frame_stream.specs.Asked.{asked_of, call_of}
 use Rattle.frame_stream.specs.declared.asked.Asked.TheVariants as asked
 use Rattle.frame_stream.specs.declared.frame.Frame.{Frame}
 use Rattle.solo_worker.specs.Volume.{LeavesReplicas}
-use Rattle.solo_worker.proofs.AnswerLemmas.{CallsSoFar, no_calls, calls_more, calls_number, one_number}
+use Rattle.solo_worker.proofs.AnswerLemmas.{CallsSoFar, calls_more, calls_number, one_number}
 use Rattle.solo_worker.proofs.ScriptLemmas.{frame_leaves}
 use Rattle.solo_worker.proofs.answer.answer_frames.Goals as goal
 

@@ -1,8 +1,8 @@
-use Rattle.std.proofs.Common.{◌≡◌, ◌≤◌, ◌∙◌, length, map, sym, ap, List, All, subst, arith}
+use Rattle.std.proofs.Common.{◌≤◌, ◌∙◌, length, map, sym, ap, List, All, subst, arith}
 use Rattle.journal_book.specs.declared.opening.Opening.{Opening}
 use Rattle.script_text.specs.declared.script.Stream.{Stream}
 use Rattle.solo_worker.specs.Serving.{spot_of}
-use Rattle.solo_worker.specs.Volume.{heads_of, opening_of, IsOfCalls}
+use Rattle.solo_worker.specs.Volume.{heads_of, IsOfCalls}
 use Rattle.solo_worker.proofs.ScriptLemmas.{replica_count, few_streams, all_calls}
 use Rattle.solo_worker.proofs.SoloLemmas.{at_start, ready_at_start, serves}
 use Rattle.solo_worker.proofs.solo.serve.Goals as goal
@@ -23,9 +23,9 @@ answer_streams-requires-clause-ready c =
     let book = c.new-journal.result in
     ready_at_start c.requires.0 c.args.script (spot_of book c.in_ok-disk.disk) c.requires.1
     (at_start c.args.script book c.in_ok-disk.disk
-        (ap (λ (o : Opening). o.modes) c.new-journal.ensures.opening ∙ c.opening.ensures.modes)
-        (ap (λ (o : Opening). o.names) c.new-journal.ensures.opening ∙ c.opening.ensures.names)
-        c.new-journal.ensures.entries c.in_ok-disk.ensures)
+    (ap (λ (o : Opening). o.modes) c.new-journal.ensures.opening ∙ c.opening.ensures.modes)
+    (ap (λ (o : Opening). o.names) c.new-journal.ensures.opening ∙ c.opening.ensures.names)
+    c.new-journal.ensures.entries c.in_ok-disk.ensures)
 
 pub returns : goal.returns
 returns c =
