@@ -1,38 +1,92 @@
 #!/usr/bin/env python3
 """layers.py PROGRAM [REPEATS]
 
-Times a built chain_race: a read of 64 MiB, each block of which is in the lowest of 1, 16 and 249 layers, and the ratio to one
-layer, as medians with the least and the greatest; and then what a snapshot takes of time and memory, on a volume of 1 GiB of
-which 64 MiB were written, and on one of 2 MiB, as medians with the middle half of five times as many turns, since the writes
-take more time than all snapshots. All by turns, in time of the processor. To a snapshot belong here the test of its name, and
-that it is dropped at the end. Peak memory is what GNU time tells, where it is there.
+Times a built longhorn on scripts, each with and without the calls that are measured: a read of one byte whose block is in the
+lowest of 1, 16 and 249 layers, and its ratio to one layer; and a revert, which makes a new head, on a volume of 1 GiB and on
+one of 2 MiB. By turns, in time of the processor, as medians with the least and the greatest. And the memory of one snapshot of
+247, on both volumes, where GNU time is there.
 """
+import json
 import os
 import shutil
 import statistics
+import struct
 import subprocess
 import sys
+import tempfile
 
+PAGE = 2 << 20
+MIB = 1 << 20
+BLOCK = 4096
 LAYERS = (1, 16, 249)
-READS = 8
+# The volume that is read, and how often each of its blocks is.
+SIZE = 16 * MIB
+READS = 12
+REVERTS = 60_000
+# As many as stand on a first one below the head.
+SNAPSHOTS = 247
+VOLUMES = ((512 * PAGE, '1 GiB'), (PAGE, '2 MiB'))
 GNU_TIME = shutil.which('time')
 
 
-def timed(program, layers, reads, pages):
-    """The seconds that a run keeps a processor busy."""
-    run = subprocess.Popen([program, str(layers), str(reads), str(pages)], stdout=subprocess.DEVNULL)
-    _, status, usage = os.wait4(run.pid, 0)
-    run.returncode = os.waitstatus_to_exitcode(status)
-    if run.returncode != 0:
-        sys.exit('%s ended with %d' % (program, run.returncode))
-    return usage.ru_utime + usage.ru_stime
+def frame(seq, kind, offset, size, data=b''):
+    return struct.pack('<HIIqII', 0x1b01, seq, kind, offset, size, len(data)) + data
 
 
-def peak(program, layers, pages):
-    """The most memory that a run without reads has, in KiB."""
-    run = subprocess.run([GNU_TIME, '-f', '%M', program, str(layers), '0', str(pages)],
-                         stdout=subprocess.DEVNULL, stderr=subprocess.PIPE, text=True, check=True)
-    return int(run.stderr.split()[-1])
+def script(size, streams):
+    """A script of these streams: a list of commands, or the bytes of frames."""
+    heads = [{'frames': len(stream)} if isinstance(stream, bytes) else {'control': stream} for stream in streams]
+    head = json.dumps({'volume': 'v', 'size': size, 'replicas': 1, 'streams': heads}, separators=(',', ':'))
+    return head.encode() + b'\n' + b''.join(stream for stream in streams if isinstance(stream, bytes))
+
+
+def snapshots(count):
+    return ['snapshot n%d' % number for number in range(count)]
+
+
+def layered(layers):
+    """The streams that fill a volume and put so many layers less one on top of what was written."""
+    writes = b''.join(frame(number, 1, number * MIB, MIB, b'a' * MIB) for number in range(SIZE // MIB))
+    return [writes, snapshots(layers - 1)]
+
+
+def reads():
+    blocks = SIZE // BLOCK
+    return b''.join(frame(number, 0, number % blocks * BLOCK, 1) for number in range(READS * blocks))
+
+
+class Bench:
+    def __init__(self, program, folder, repeats):
+        self.program, self.folder, self.repeats = program, folder, repeats
+
+    def kept(self, name, given):
+        path = os.path.join(self.folder, name)
+        with open(path, 'wb') as file:
+            file.write(given)
+        return path
+
+    def timed(self, path):
+        """The seconds that a run of a script keeps a processor busy."""
+        with open(path, 'rb') as given:
+            run = subprocess.Popen([self.program, 'run'], stdin=given, stdout=subprocess.DEVNULL)
+        _, status, usage = os.wait4(run.pid, 0)
+        run.returncode = os.waitstatus_to_exitcode(status)
+        if run.returncode != 0:
+            sys.exit('%s ended with %d' % (self.program, run.returncode))
+        return usage.ru_utime + usage.ru_stime
+
+    def peak(self, path):
+        """The most memory that a run of a script has, in KiB."""
+        with open(path, 'rb') as given:
+            run = subprocess.run([GNU_TIME, '-f', '%M', self.program, 'run'], stdin=given,
+                                 stdout=subprocess.DEVNULL, stderr=subprocess.PIPE, text=True, check=True)
+        return int(run.stderr.split()[-1])
+
+    def added(self, measure, size, streams, more, count):
+        """What each of the calls that stand in a script besides adds to a run of it, at each turn."""
+        without = self.kept('without', script(size, streams))
+        besides = self.kept('with', script(size, streams + [more]))
+        return [(measure(besides) - measure(without)) / count for _ in range(self.repeats)]
 
 
 def spread(values):
@@ -40,44 +94,24 @@ def spread(values):
     return '%.2f (%.2f to %.2f)' % (statistics.median(values), min(values), max(values))
 
 
-def middle(values):
-    """The median, with the borders of the middle half."""
-    low, median, high = statistics.quantiles(values, n=4)
-    return '%.2f (%.2f to %.2f)' % (median, low, high)
-
-
-def reads(program, repeats):
-    """Of each turn and number of layers the seconds that one read of 64 MiB takes."""
-    turns = []
-    for _ in range(repeats):
-        turn = {}
-        for layers in LAYERS:
-            without = timed(program, layers, 0, 32)
-            turn[layers] = (timed(program, layers, READS, 32) - without) / READS
-        turns.append(turn)
-    return turns
-
-
-def snapshot(program, repeats, pages):
-    """The microseconds and the KiB of one snapshot, of 248."""
-    count = LAYERS[-1] - 1
-    times = [(timed(program, LAYERS[-1], 0, pages), timed(program, 1, 0, pages)) for _ in range(5 * repeats)]
-    micros = middle([(many - none) / count * 1e6 for many, none in times])
-    if GNU_TIME is None:
-        return micros + ' microseconds'
-    sizes = [(peak(program, LAYERS[-1], pages), peak(program, 1, pages)) for _ in range(5 * repeats)]
-    return '%s microseconds, %s KiB' % (micros, middle([(many - none) / count for many, none in sizes]))
-
-
 def main():
     program, repeats = sys.argv[1], int(sys.argv[2]) if len(sys.argv) > 2 else 5
-    turns = reads(program, repeats)
-    for layers in LAYERS:
-        millis = spread([turn[layers] * 1e3 for turn in turns])
-        ratio = spread([turn[layers] / turn[1] for turn in turns])
-        print('64 MiB from the lowest of %d: %s ms, against one layer: %s' % (layers, millis, ratio))
-    for pages, volume in ((512, '1 GiB'), (1, '2 MiB')):
-        print('a snapshot of %s: %s' % (volume, snapshot(program, repeats, pages)))
+    with tempfile.TemporaryDirectory() as folder:
+        bench = Bench(program, folder, repeats)
+        all_reads = reads()
+        one = None
+        for layers in LAYERS:
+            taken = bench.added(bench.timed, SIZE, layered(layers), all_reads, READS * SIZE // BLOCK)
+            one = one or statistics.median(taken)
+            print('a read from the lowest of %d: %s nanoseconds, against one layer: %s'
+                  % (layers, spread([time * 1e9 for time in taken]), spread([time / one for time in taken])))
+        first = [['snapshot s']]
+        for size, volume in VOLUMES:
+            taken = bench.added(bench.timed, size, first, ['revert s'] * REVERTS, REVERTS)
+            print('a new head of %s: %s microseconds' % (volume, spread([time * 1e6 for time in taken])))
+            if GNU_TIME is not None:
+                taken = bench.added(bench.peak, size, first, snapshots(SNAPSHOTS), SNAPSHOTS)
+                print('a snapshot of %s: %s KiB' % (volume, spread(taken)))
 
 
 main()
