@@ -24,8 +24,8 @@ returns c =
     let heads = λ (digest : List ℕ). source_lines (λ s. head_line s digest) 0 modes in
     on_ok_weaker c.print_heads.result
     (λ put. put
-        ∙ ap (λ l. l ++ heads c.digest_of_head-digest.result) (c.in_ok-print_chains.ensures ∙ ap (λ l. l ++ chains c.deref.result.now) c.in_ok-print_modes.ensures)
-        ∙ ap (λ layers. ((start ++ first) ++ chains layers) ++ heads c.digest_of_head-digest.result) (c.deref.ensures.value ∙ c.in_ok-layers.ensures)
-        ∙ ap (λ digest. ((start ++ first) ++ chains (chain_of c.args.disk.now.snapshots)) ++ heads digest) c.digest_of_head-digest.ensures
-        ∙ three start first (chains (chain_of c.args.disk.now.snapshots)) (heads (digest_text c.args.disk.now.disk)))
+    ∙ ap (λ l. l ++ heads c.digest_of_head-digest.result) (c.in_ok-print_chains.ensures ∙ ap (λ l. l ++ chains c.deref.result.now) c.in_ok-print_modes.ensures)
+    ∙ ap (λ layers. ((start ++ first) ++ chains layers) ++ heads c.digest_of_head-digest.result) (c.deref.ensures.value ∙ c.in_ok-layers.ensures)
+    ∙ ap (λ digest. ((start ++ first) ++ chains (chain_of c.args.disk.now.snapshots)) ++ heads digest) c.digest_of_head-digest.ensures
+    ∙ three start first (chains (chain_of c.args.disk.now.snapshots)) (heads (digest_text c.args.disk.now.disk)))
     c.print_heads.ensures
