@@ -9,10 +9,10 @@ use Rattle.command_text.specs.Commands.{IsCommand}
 use Rattle.command_text.specs.declared.command.Command.{Command}
 use Rattle.script_head.specs.declared.head.StreamHead.{StreamHead}
 use Rattle.script_head.specs.declared.head.StreamHead.TheVariants as stream
-use Rattle.script_head.specs.declared.limits.TheConstants.{MOST_REPLICAS, MOST_STREAMS, MOST_STREAM_BYTES, MOST_COMMANDS, MOST_LINES, MAY_OPEN, MAY_SAVE}
 use Rattle.script_head.specs.declared.member.Member.{Member}
 use Rattle.script_head.specs.declared.member.Member.TheVariants.{Volume, Size, Replicas, Open, Save, Now, Streams, Lines}
 use Rattle.vol_units.specs.Time.{IsTimeText}
+use Rattle.script_head.specs.Limits.{most_replicas, most_streams, most_commands, most_stream_bytes, most_lines, may_open, may_save}
 use Rattle.script_head.specs.Values.{whole, item_count, member, member_or, HasItems}
 
 -- `volume`: the name of the volume
@@ -26,7 +26,7 @@ HasSize line size = (member whole (codes "size") line ≡ Some size) × IsVolume
 -- `replicas`: how many there are
 abbrev pub HasReplicas : Data → ℕ → Type 0
 HasReplicas line count = (member whole (codes "replicas") line ≡ Some count)
-    × (1 ≤ count) × (count ≤ MOST_REPLICAS)
+    × (1 ≤ count) × (count ≤ most_replicas)
 
 -- `open` and `save`: false where it is missing, and true only where it may be
 abbrev pub HasFlag : Data → List ℕ → Bool → Bool → Type 0
@@ -43,26 +43,26 @@ IsCommandItem d c = (text : List ℕ) × (as_str d ≡ Some text) × IsCommand t
 -- An item of `streams`: a number of bytes under `frames`, or a list of commands under `control`, and one of them alone.
 abbrev pub IsStreamItem : Data → StreamHead → Type 0
 IsStreamItem d (stream.Frames count) = (member whole (codes "frames") d ≡ Some count)
-    × (count ≤ MOST_STREAM_BYTES) × (get (codes "control") d ≡ None)
+    × (count ≤ most_stream_bytes) × (get (codes "control") d ≡ None)
 IsStreamItem d (stream.Control commands) = HasItems IsCommandItem (get (codes "control") d) commands
-    × (length commands ≤ MOST_COMMANDS) × (get (codes "frames") d ≡ None)
+    × (length commands ≤ most_commands) × (get (codes "frames") d ≡ None)
 
 -- `streams`: what each of them is
 abbrev pub HasStreams : Data → List StreamHead → Type 0
 HasStreams line streams = HasItems IsStreamItem (get (codes "streams") line) streams
-    × (1 ≤ length streams) × (length streams ≤ MOST_STREAMS)
+    × (1 ≤ length streams) × (length streams ≤ most_streams)
 
 -- `lines`: how many lines have failures planned
 abbrev pub HasLines : Data → ℕ → Type 0
-HasLines line count = (member_or 0 item_count (codes "lines") line ≡ Some count) × (count ≤ MOST_LINES)
+HasLines line count = (member_or 0 item_count (codes "lines") line ≡ Some count) × (count ≤ most_lines)
 
 -- the member has a value that it may have, or may be missing and is
 abbrev pub IsGood : Data → Member → Type 0
 IsGood line Volume = (name : List ℕ) × HasVolume line name
 IsGood line Size = (size : ℕ) × HasSize line size
 IsGood line Replicas = (count : ℕ) × HasReplicas line count
-IsGood line Open = (flag : Bool) × HasFlag line (codes "open") MAY_OPEN flag
-IsGood line Save = (flag : Bool) × HasFlag line (codes "save") MAY_SAVE flag
+IsGood line Open = (flag : Bool) × HasFlag line (codes "open") may_open flag
+IsGood line Save = (flag : Bool) × HasFlag line (codes "save") may_save flag
 IsGood line Now = (text : List ℕ) × HasNow line text
 IsGood line Streams = (streams : List StreamHead) × HasStreams line streams
 IsGood line Lines = (count : ℕ) × HasLines line count

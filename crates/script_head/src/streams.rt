@@ -3,6 +3,7 @@
 ghost use Rattle.std.specs.Prelude.{◌≡◌, ◌≤◌, Some, length};
 ghost use Rattle.serde_json.specs.View.{view, items_view};
 ghost use Rattle.script_head.specs.Refusals.{Reads};
+ghost use Rattle.script_head.specs.Limits.{most_commands, most_stream_bytes};
 ghost use Rattle.script_head.specs.Members.{IsCommandItem, IsStreamItem};
 ghost use Rattle.script_head.specs.Values.{whole, AreItems, HasItems};
 
@@ -43,7 +44,7 @@ fn stream_of(alloc: Global, item: &Value) -> Result<StreamHead, HeadError>
 /// How many bytes of frames.
 fn bytes_of(frames: &Value) -> Result<u64, HeadError>
     ensures { Reads Member.Streams
-        (λ count. (whole (view frames.now) ≡ Some count) × (count ≤ MOST_STREAM_BYTES)) result }
+        (λ count. (whole (view frames.now) ≡ Some count) × (count ≤ most_stream_bytes)) result }
 {
     match frames.as_u64() {
         Some(count) if count <= MOST_STREAM_BYTES => Ok(count),
@@ -54,7 +55,7 @@ fn bytes_of(frames: &Value) -> Result<u64, HeadError>
 fn commands_in(alloc: Global, control: &Value) -> Result<Sequence<Command>, HeadError>
     ensures { Reads Member.Streams
         (λ commands. HasItems IsCommandItem (Some (view control.now)) commands
-        × (length commands ≤ MOST_COMMANDS)) result }
+        × (length commands ≤ most_commands)) result }
 {
     let items = control.as_array().ok_or(BAD)?;
     // Too long a list is refused before memory is taken for it.

@@ -6,7 +6,7 @@ use Rattle.std.proofs.lemmas.List.{get_or-take, get_or_at, length-take, take-app
 use Rattle.std.proofs.lemmas.List.Elements.{All-head, All-tail, All-get_or, All-from_get_or}
 use Rattle.std.proofs.lemmas.List.Quantifiers.{position-Some}
 use Rattle.std.proofs.lemmas.List.Sums.{fails_before_first}
-use Rattle.script_text.specs.declared.limits.TheConstants.{LONGEST_LINE, MOST_INPUT}
+use Rattle.script_text.specs.Limits.{longest_line, most_input}
 use Rattle.script_text.specs.Line.{IsCut, HasNoLine}
 
 abbrev IsOther : ℕ → Type 0
@@ -44,7 +44,7 @@ one_cut input l r m s p q = cut_alike l m r s p.first q.first (sym p.whole ∙ q
 
 -- and none where its front has no line feed
 pub no_cut : (input line body : List ℕ) → HasNoLine input → IsCut input line body → ⊥
-no_cut input line body none cut = not_there LONGEST_LINE input line body none cut.short cut.whole
+no_cut input line body none cut = not_there longest_line input line body none cut.short cut.whole
   where
     not_there : (most : ℕ) (input line body : List ℕ) → All IsOther (take most input) → length line < most → input ≡ line ++ 10 ∷ body → ⊥
     not_there most input line body all short whole =
@@ -93,13 +93,13 @@ no_line front none = All-from_get_or IsOther front 0 (λ k below. eqb-false _ _ 
         found h = cc
 
 -- what the search finds none of
-pub HasNoLine-from_position : (input : List ℕ) (found : Option ℕ) → found ≡ position IsFeed (take LONGEST_LINE input) → IfNone found (HasNoLine input)
-HasNoLine-from_position input None is = no_line (take LONGEST_LINE input) (sym is)
+pub HasNoLine-from_position : (input : List ℕ) (found : Option ℕ) → found ≡ position IsFeed (take longest_line input) → IfNone found (HasNoLine input)
+HasNoLine-from_position input None is = no_line (take longest_line input) (sym is)
 HasNoLine-from_position input (Some n) is = tt
 
 -- and what it finds
-pub IsCut-from_position : (input : List ℕ) (found : Option ℕ) → length input ≤ MOST_INPUT → found ≡ position IsFeed (take LONGEST_LINE input)
+pub IsCut-from_position : (input : List ℕ) (found : Option ℕ) → length input ≤ most_input → found ≡ position IsFeed (take longest_line input)
     → IfSome found (λ n. IsCut input (take n input) (drop (n + 1) input)) × IfSome found (λ n. n < length input)
 IsCut-from_position input None most is = (tt, tt)
 IsCut-from_position input (Some n) most is =
-    let cut = cut_at LONGEST_LINE input n (sym is) in (record { most = most; whole = cut.0; first = cut.1; short = cut.3 }, cut.2)
+    let cut = cut_at longest_line input n (sym is) in (record { most = most; whole = cut.0; first = cut.1; short = cut.3 }, cut.2)

@@ -10,7 +10,7 @@ use Rattle.script_head.specs.Head as first
 use Rattle.script_head.proofs.OneAnswer as first_line
 use Rattle.script_text.specs.declared.error.ScriptError.{ScriptError}
 use Rattle.script_text.specs.declared.error.ScriptError.TheVariants.{Bad, NoMemory}
-use Rattle.script_text.specs.declared.limits.TheConstants.{MOST_CALLS, MOST_INPUT}
+use Rattle.script_text.specs.Limits.{most_calls, most_input}
 use Rattle.script_text.specs.declared.script.Script.{Script}
 use Rattle.script_text.specs.declared.script.Stream.{Stream}
 use Rattle.script_text.specs.declared.what.What.{What}
@@ -32,17 +32,17 @@ body_refusal place heads body bad what.Rest other = inl (other, refl)
 body_refusal place heads body bad why none = inr none
 
 -- streams are not bad, and not for two reasons
-streams_or_bad : (place : ℕ) (heads : List StreamHead) (body : List ℕ) (ss : List Stream) (bad : ℕ) (why : What) → AreStreams heads body ss → sum_by call_count ss ≤ MOST_CALLS
+streams_or_bad : (place : ℕ) (heads : List StreamHead) (body : List ℕ) (ss : List Stream) (bad : ℕ) (why : What) → AreStreams heads body ss → sum_by call_count ss ≤ most_calls
     → AreBad place heads body bad why → ⊥
 streams_or_bad place heads body ss bad why are few (inl (many, at, is)) = absurd (omega (arith, calls_of_all heads body ss are))
 streams_or_bad place heads body ss bad why are few (inr (most, none)) =
-    list_or_none heads (MOST_CALLS - sum_by command_count heads) place body ss bad why are (omega (arith, calls_of_all heads body ss are)) none
+    list_or_none heads (most_calls - sum_by command_count heads) place body ss bad why are (omega (arith, calls_of_all heads body ss are)) none
 
 one_badness : (place : ℕ) (heads : List StreamHead) (body : List ℕ) (p q : ℕ) (v w : What) → AreBad place heads body p v → AreBad place heads body q w → (p ≡ q) × (v ≡ w)
 one_badness place heads body p q v w (inl (many, at, is)) (inl (more, to, too)) = (at ∙ sym to, is ∙ sym too)
 one_badness place heads body p q v w (inl (many, at, is)) (inr (most, none)) = absurd (omega arith)
 one_badness place heads body p q v w (inr (most, none)) (inl (many, at, is)) = absurd (omega arith)
-one_badness place heads body p q v w (inr (most, none)) (inr (few, other)) = one_reason_of_all heads (MOST_CALLS - sum_by command_count heads) place body p q v w none other
+one_badness place heads body p q v w (inr (most, none)) (inr (few, other)) = one_reason_of_all heads (most_calls - sum_by command_count heads) place body p q v w none other
 
 same_refusal : (p q : ℕ) (v w : What) → p ≡ q → v ≡ w → Bad p v ≡ Bad q w
 same_refusal p q v w x y = cc
@@ -87,8 +87,8 @@ Follows line body (Err e) a = a ≡ Err (refusal_of e)
 
 -- where an answer comes from
 data Comes (input : List ℕ) (a : Result Script ScriptError) : Type 0 where
-  too_long : MOST_INPUT < length input → a ≡ Err (Bad MOST_INPUT what.Input) → Comes input a
-  no_line : length input ≤ MOST_INPUT → HasNoLine input → a ≡ Err (Bad 0 what.Line) → Comes input a
+  too_long : most_input < length input → a ≡ Err (Bad most_input what.Input) → Comes input a
+  no_line : length input ≤ most_input → HasNoLine input → a ≡ Err (Bad 0 what.Line) → Comes input a
   from_line : (line body : List ℕ) (h : Result ScriptHead HeadError) → IsCut input line body → h ≢ Err fault.NoMemory → first.Answers line h → Follows line body h a → Comes input a
 
 length-cut : (input line body : List ℕ) → IsCut input line body → length input ≡ length line + 1 + length body
@@ -170,7 +170,7 @@ one_answer input (Err NoMemory) is = λ b told too. inr refl
 -- ---- a refusal of the bytes behind the first line, as one of the input
 
 bad_streams : (input line body : List ℕ) (head : ScriptHead) (place : ℕ) (why : What) → IsHeaded input line body head → bytes_of head ≡ length body
-    → commands_of head ≤ MOST_CALLS → AreNoStreams (MOST_CALLS - commands_of head) (length line + 1) head.streams body place why
+    → commands_of head ≤ most_calls → AreNoStreams (most_calls - commands_of head) (length line + 1) head.streams body place why
     → (why ≡ what.Calls) ⊎ (why ≡ what.Frame) → IsNoScript input place why
 bad_streams input line body head place why headed whole few none (inl calls) =
     subst (IsNoScript input place) (sym calls) (inr (subst (HasBadStream input place) calls (line, body, head, headed, whole, few, none)))
@@ -183,7 +183,7 @@ bad_body input line body head place why headed whole (inl (many, at, calls)) =
     subst (IsNoScript input place) (sym calls) (inl ((line, body, head, headed, whole, many), at))
 bad_body input line body head place why headed whole (inr (few, none)) =
     bad_streams input line body head place why headed whole few none
-    (calls_or_frame head.streams (MOST_CALLS - commands_of head) (length line + 1) body place why none)
+    (calls_or_frame head.streams (most_calls - commands_of head) (length line + 1) body place why none)
 
 pub refused_behind : (input line body : List ℕ) (head : ScriptHead) (e : ScriptError) → IsCut input line body → first.Says line head
     → AnswersBody (length line + 1) head.streams body (Err e) → Answers input (Err e)

@@ -5,10 +5,9 @@ use Rattle.std.specs.List.{All}
 use Rattle.std.proofs.lemmas.List.Elements.{All-weaker}
 use Rattle.frame_stream.specs.declared.asked.Asked.TheVariants.{Call, End}
 use Rattle.frame_stream.specs.declared.frame.Frame.{Frame}
-use Rattle.frame_stream.specs.declared.frame.TheConstants.{CLOSE}
 use Rattle.script_text.specs.declared.what.What.TheVariants as what
 use Rattle.script_text.specs.Frames.{spelled, spellings, IsClose, IsCall, BeginsWithFrame, BeginWithCalls}
-use Rattle.frame_stream.specs.Asked.{asked_of, call_of}
+use Rattle.frame_stream.specs.Asked.{close_kind, asked_of, call_of}
 use Rattle.script_text.specs.Streams.{IsNoStream}
 
 -- some bytes are no empty list
@@ -34,4 +33,4 @@ module _ (room place end : ℕ) (bytes : List ℕ) (frames : List Frame) (rest :
 pub All-asked : (frames : List Frame) → All IsCall frames → All (λ f. asked_of f ≡ Call (call_of f)) frames
 All-asked frames calls =
     All-weaker IsCall (λ f. asked_of f ≡ Call (call_of f))
-    (λ f call. ap (λ (b : Bool). cond b End (Call (call_of f))) (ne_eqb f.head.kind CLOSE call.1)) frames calls
+    (λ f call. ap (λ (b : Bool). cond b End (Call (call_of f))) (ne_eqb f.head.kind close_kind call.1)) frames calls

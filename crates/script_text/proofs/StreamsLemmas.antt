@@ -7,7 +7,7 @@ use Rattle.script_head.specs.declared.head.StreamHead.TheVariants as head
 use Rattle.script_head.specs.Head.{byte_count, command_count}
 use Rattle.script_text.specs.declared.error.ScriptError.{ScriptError}
 use Rattle.script_text.specs.declared.error.ScriptError.TheVariants.{Bad, NoMemory}
-use Rattle.script_text.specs.declared.limits.TheConstants.{MOST_CALLS}
+use Rattle.script_text.specs.Limits.{most_calls}
 use Rattle.script_text.specs.declared.script.Stream.{Stream}
 use Rattle.script_text.specs.declared.script.Stream.TheVariants as stream
 use Rattle.script_text.specs.declared.what.What.{What}
@@ -104,7 +104,7 @@ rest_is_neither (inr e) = cc
 
 -- the streams beside few enough commands
 pub answers_body : (place : ℕ) (heads : List StreamHead) (body : List ℕ) (room : ℕ) (r : Result (List Stream) ScriptError) → sum_by byte_count heads ≡ length body
-    → sum_by command_count heads ≤ MOST_CALLS → room ≡ MOST_CALLS - sum_by command_count heads → AnswersStreams room place heads body r → AnswersBody place heads body r
+    → sum_by command_count heads ≤ most_calls → room ≡ most_calls - sum_by command_count heads → AnswersStreams room place heads body r → AnswersBody place heads body r
 answers_body place heads body room (Ok streams) whole few is (are, most) = (whole, are, omega (arith, calls_of_all heads body streams are, few, is, most))
 answers_body place heads body room (Err (Bad bad what.Rest)) whole few is none = absurd (rest_is_neither (calls_or_frame heads room place body bad what.Rest none))
 answers_body place heads body room (Err (Bad bad why)) whole few is none = (whole, inr (few, subst (λ n. AreNoStreams n place heads body bad why) is none))

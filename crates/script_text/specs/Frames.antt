@@ -3,8 +3,8 @@ use Rattle.std.specs.Prelude.{◌≡◌, ℕ, ◌≤◌, List, ◌++◌, length,
 use Rattle.std.specs.List.{flat_map}
 use Rattle.frame_wire.specs.Spelling.{frame, IsHead}
 use Rattle.frame_stream.specs.declared.frame.Frame.{Frame}
-use Rattle.frame_stream.specs.declared.frame.TheConstants.{CLOSE}
-use Rattle.script_text.specs.declared.limits.TheConstants.{MOST_DATA}
+use Rattle.frame_stream.specs.Asked.{close_kind}
+use Rattle.script_text.specs.Limits.{most_data}
 
 -- a frame as bytes
 abbrev pub spelled : Frame → List ℕ
@@ -18,11 +18,11 @@ spellings frames = flat_map spelled frames
 pub record IsWhole (f : Frame) : Type 0 where
   pub head : IsHead f.head
   pub body : length f.body ≡ f.head.len
-  pub most : f.head.len ≤ MOST_DATA
+  pub most : f.head.len ≤ most_data
 
 -- it ends its stream
 abbrev pub IsClose : Frame → Type 0
-IsClose f = f.head.kind ≡ CLOSE
+IsClose f = f.head.kind ≡ close_kind
 
 -- a whole frame that is a call
 abbrev pub IsCall : Frame → Type 0

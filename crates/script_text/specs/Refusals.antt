@@ -7,7 +7,7 @@ use Rattle.script_head.specs.Head.{byte_count, command_count}
 use Rattle.script_text.specs.declared.error.ScriptError.{ScriptError}
 use Rattle.script_text.specs.declared.error.ScriptError.TheVariants.{Bad, NoMemory}
 use Rattle.frame_stream.specs.declared.frame.Frame.{Frame}
-use Rattle.script_text.specs.declared.limits.TheConstants.{MOST_CALLS}
+use Rattle.script_text.specs.Limits.{most_calls}
 use Rattle.script_text.specs.declared.script.Stream.{Stream}
 use Rattle.script_text.specs.declared.what.What.{What}
 use Rattle.script_text.specs.declared.what.What.TheVariants as what
@@ -45,15 +45,15 @@ IsOtherEnd bytes place len end = (bytes ≢ len) × (end ≡ min (place + len) (
 -- there are more commands than there may be calls, or one of the streams is bad beside the commands
 abbrev pub AreBad : ℕ → List StreamHead → List ℕ → ℕ → What → Type 0
 AreBad place heads body bad why =
-    ((MOST_CALLS < sum_by command_count heads) × (bad ≡ 0) × (why ≡ what.Calls))
-    ⊎ ((sum_by command_count heads ≤ MOST_CALLS)
-    × AreNoStreams (MOST_CALLS - sum_by command_count heads) place heads body bad why)
+    ((most_calls < sum_by command_count heads) × (bad ≡ 0) × (why ≡ what.Calls))
+    ⊎ ((sum_by command_count heads ≤ most_calls)
+    × AreNoStreams (most_calls - sum_by command_count heads) place heads body bad why)
 
 -- the answer is true of the bytes behind the first line
 abbrev pub AnswersBody : ℕ → List StreamHead → List ℕ → Result (List Stream) ScriptError → Type 0
 AnswersBody place heads body (Ok streams) =
     (sum_by byte_count heads ≡ length body) × AreStreams heads body streams
-    × (sum_by call_count streams ≤ MOST_CALLS)
+    × (sum_by call_count streams ≤ most_calls)
 AnswersBody place heads body (Err (Bad bad what.Rest)) =
     IsOtherEnd (sum_by byte_count heads) place (length body) bad
 AnswersBody place heads body (Err (Bad bad why)) =

@@ -4,7 +4,7 @@ use Rattle.script_head.specs.declared.head.ScriptHead.{ScriptHead}
 use Rattle.script_head.specs.Head.{byte_count, command_count, Says, HasFirstBad, IsNoObject}
 use Rattle.script_text.specs.declared.error.ScriptError.{ScriptError}
 use Rattle.script_text.specs.declared.error.ScriptError.TheVariants.{Bad, NoMemory}
-use Rattle.script_text.specs.declared.limits.TheConstants.{MOST_CALLS, MOST_INPUT}
+use Rattle.script_text.specs.Limits.{most_calls, most_input}
 use Rattle.script_text.specs.declared.script.Script.{Script}
 use Rattle.script_text.specs.declared.script.Stream.{Stream}
 use Rattle.script_text.specs.declared.what.What.{What}
@@ -44,7 +44,7 @@ pub record IsScript (input : List ℕ) (script : Script) : Type 0 where
   pub members : script ≡ script_of head script.streams
   pub whole : bytes_of head ≡ length body
   pub streams : AreStreams head.streams body script.streams
-  pub calls : sum_by call_count script.streams ≤ MOST_CALLS
+  pub calls : sum_by call_count script.streams ≤ most_calls
 
 -- the first line is good, but the streams do not end where the input ends: the lesser of both ends
 abbrev pub HasOtherEnd : List ℕ → ℕ → Type 0
@@ -56,18 +56,18 @@ HasOtherEnd input place = (line : List ℕ) × (body : List ℕ) × (head : Scri
 abbrev pub HasBadStream : List ℕ → ℕ → What → Type 0
 HasBadStream input place why = (line : List ℕ) × (body : List ℕ) × (head : ScriptHead)
     × IsHeaded input line body head × (bytes_of head ≡ length body)
-    × (commands_of head ≤ MOST_CALLS)
-    × AreNoStreams (MOST_CALLS - commands_of head) (length line + 1) head.streams body place why
+    × (commands_of head ≤ most_calls)
+    × AreNoStreams (most_calls - commands_of head) (length line + 1) head.streams body place why
 
 -- the streams have all bytes behind the first line, and there are more commands than there may be calls
 abbrev pub HasTooManyCommands : List ℕ → Type 0
 HasTooManyCommands input = (line : List ℕ) × (body : List ℕ) × (head : ScriptHead)
-    × IsHeaded input line body head × (bytes_of head ≡ length body) × (MOST_CALLS < commands_of head)
+    × IsHeaded input line body head × (bytes_of head ≡ length body) × (most_calls < commands_of head)
 
 -- the input is no script: what is wrong with it first, and where
 abbrev pub IsNoScript : List ℕ → ℕ → What → Type 0
-IsNoScript input place what.Input = (MOST_INPUT < length input) × (place ≡ MOST_INPUT)
-IsNoScript input place what.Line = (length input ≤ MOST_INPUT) × HasNoLine input × (place ≡ 0)
+IsNoScript input place what.Input = (most_input < length input) × (place ≡ most_input)
+IsNoScript input place what.Line = (length input ≤ most_input) × HasNoLine input × (place ≡ 0)
 IsNoScript input place what.Json =
     (line : List ℕ) × (body : List ℕ) × IsCut input line body × IsNoObject line × (place ≡ 0)
 IsNoScript input place (what.Member m) =

@@ -2,7 +2,7 @@ ghost use Rattle.std.specs.Prelude.{◌≡◌, ◌+◌, ◌-◌, ◌^◌, ◌<�
 ghost use Rattle.std.specs.Option.{SomeIff};
 ghost use Rattle.script_head.specs.Head.{byte_count, command_count};
 ghost use Rattle.script_text.specs.Refusals.{IsOtherEnd, AnswersStreamOf, AnswersStreams};
-ghost use Rattle.script_text.specs.declared.limits.TheConstants.{MOST_CALLS};
+ghost use Rattle.script_text.specs.Limits.{most_calls};
 
 use crate::error::ScriptError;
 use crate::limits::MOST_CALLS;
@@ -43,8 +43,8 @@ pub(crate) fn other_end(heads: &[StreamHead], place: u64, len: usize) -> Option<
 
 /// How many frames may be calls beside the commands, if these are not too many.
 pub(crate) fn room_beside(heads: &[StreamHead]) -> Option<usize>
-    ensures { SomeIff result (sum_by command_count heads.now ≤ MOST_CALLS)
-        (MOST_CALLS - sum_by command_count heads.now) }
+    ensures { SomeIff result (sum_by command_count heads.now ≤ most_calls)
+        (most_calls - sum_by command_count heads.now) }
 {
     let mut left = MOST_CALLS as u64;
     for head in heads {
