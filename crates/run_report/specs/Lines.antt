@@ -53,7 +53,7 @@ call_text call.Ping = codes "ping"
 call_text (call.Other kind) = codes "other " ++ decimal kind
 call_text (call.Command c) = command_text c
 
--- why a call was not done, and nothing where it was: a rebuild ended with the mark at that place
+-- why a call was not done, and nothing where it was: of an aborted rebuild the place of the mark that ended it
 abbrev pub error_text : Reply → List ℕ
 error_text (reply.Refused why) = refusal_text why
 error_text (reply.Aborted place) = codes "aborted " ++ decimal place
