@@ -107,7 +107,12 @@ impl Draft {
 }
 
 /// A script of one stream of frames.
-pub(crate) fn script(alloc: Global, heads: &[Head], byte: u8, more: &[u8]) -> Result<Vec<u8>, AllocError> {
+pub(crate) fn script(
+    alloc: Global,
+    heads: &[Head],
+    byte: u8,
+    more: &[u8],
+) -> Result<Vec<u8>, AllocError> {
     let mut draft = Draft::new(alloc)?;
     draft.frames(alloc, heads, byte, more)?;
     draft.input()

@@ -1,6 +1,8 @@
 //! The worked rows, as runs of the top call.
 
-use super::draft::{Draft, HEAD_OF_ZEROS, ZEROS, answers, head, is_done, read, runs, script, write};
+use super::draft::{
+    Draft, HEAD_OF_ZEROS, ZEROS, answers, head, is_done, read, runs, script, write,
+};
 use crate::status::Status;
 use frame_wire::encode_header;
 use script_text::{Member, What};
