@@ -1,4 +1,5 @@
 pub mod Bytes
+pub mod Chain
 pub mod Chars
 pub mod Name
 pub mod Range
