@@ -1,5 +1,5 @@
 -- Lemmas on specs/Disk.antt: what a block that changes does to the disk.
-use Rattle.std.proofs.Common.{◌≡◌, ◌≢◌, ⊎_elim, ℕ, zero, suc, ◌+◌, ◌-◌, ◌*◌, ◌/◌, ◌%◌, ◌<◌, ◌≤◌, List, ◌++◌, length, take, drop, replicate, Option, Some, None, is_some, true, sym, refl, ap, ◌∙◌, subst, arith, zero-mul, append_assoc, append-nil, length-append, slice_range}
+use Rattle.std.proofs.Common.{◌≡◌, ◌≢◌, ⊎_elim, ℕ, zero, suc, ◌+◌, ◌-◌, ◌*◌, ◌/◌, ◌%◌, ◌<◌, ◌≤◌, List, ◌++◌, length, take, drop, replicate, Option, Some, None, is_some, Bool, true, Result, Ok, Err, OnOk, OnErr, sym, refl, ap, ◌∙◌, subst, arith, zero-mul, append_assoc, append-nil, length-append, slice_range}
 use Rattle.std.proofs.lemmas.Bool.{cases_eq, false≢true}
 use Rattle.std.specs.Option.{option_map}
 use Rattle.std.proofs.lemmas.List.{take-append-le, drop-append-le, drop_all, replicate-append-replicate, length-take-le}
@@ -7,7 +7,7 @@ use Rattle.std.proofs.Math.Seq.{take-append_seam, take-append-add, drop-append-a
 use Rattle.vol_units.specs.Bytes.{zeros, with_bytes_at}
 use Rattle.vol_units.proofs.BytesLemmas.{length-zeros}
 use Rattle.sparse_image.specs.Disk.{bytes_of, joined, disk_of}
-use Rattle.sparse_image.specs.Image.{Tables, block_at, IsEmpty, ChangesBlock}
+use Rattle.sparse_image.specs.Image.{Tables, block_at, IsEmpty, MakesPages, ChangesBlock}
 use Rattle.sparse_image.specs.Whole.{IsImage}
 
 pub joined-same : (f g : ℕ → List ℕ) (n : ℕ) → ((k : ℕ) → k < n → g k ≡ f k) → joined g n ≡ joined f n
@@ -89,6 +89,11 @@ unfolding disk_of
 disk_of-same old new count same =
     ap (λ n. joined (λ block. bytes_of (block_at new block)) (n * 512)) count
     ∙ joined-same (λ block. bytes_of (block_at old block)) (λ block. bytes_of (block_at new block)) (length old * 512) (λ block h. ap bytes_of (same block))
+
+-- whether pages are made or memory ran out, the disk stays
+pub disk_of-makes : {T E : Type 0} (r : Result T E) (old new : Tables) (wanted : ℕ → Bool) → OnOk r (MakesPages old new wanted) → OnErr r (new ≡ old) → disk_of new ≡ disk_of old
+disk_of-makes (Ok x) old new wanted makes same = disk_of-same old new makes.count makes.blocks
+disk_of-makes (Err e) old new wanted makes same = ap disk_of same
 
 -- where a block changes, just its bytes do
 disk_of-changes : (old new : Tables) (block : ℕ) (after : Option (List ℕ)) → IsImage old → ChangesBlock old new block after → block / 512 < length old → disk_of new ≡ take (block * 4096) (disk_of old) ++ bytes_of after ++ drop (block * 4096 + 4096) (disk_of old)

@@ -1,10 +1,11 @@
 -- Lemmas on specs/Image.antt: what a table that is set in an image changes.
-use Rattle.std.proofs.Common.{◌≡◌, ◌≢◌, ⊎_elim, ℕ, ◌/◌, ◌%◌, ◌<◌, ◌≤◌, Bool, true, false, ◌||◌, eqb, List, [], ◌∷◌, length, replicate, set, get_or-set_same, get_or-set_other, length-set, Option, None, sym, refl, ap, ◌∙◌, subst, arith}
+use Rattle.std.proofs.Common.{◌≡◌, ◌≢◌, ⊎_elim, ℕ, ◌+◌, ◌/◌, ◌%◌, ◌<◌, ◌≤◌, Bool, true, false, ◌||◌, ◌&&◌, nat_le, nat_lt, eqb, List, [], ◌∷◌, length, replicate, set, get_or-set_same, get_or-set_other, length-set, Option, None, sym, refl, ap, ◌∙◌, subst, arith}
 use Rattle.std.specs.Option.{option_map, option_or}
 use Rattle.std.proofs.lemmas.List.{set_past, get_or-replicate, get_or_past, length-replicate}
-use Rattle.std.proofs.lemmas.Bool.{cases_eq, cases_lt}
+use Rattle.std.proofs.lemmas.Bool.{cases_eq, cases_lt, eq-eqb, ne_eqb, false≢true}
+use Rattle.std.proofs.Math.Bool.{or-true}
 use Rattle.std.proofs.lemmas.Bool.Decides.{nat_tests}
-use Rattle.sparse_image.specs.Image.{Table, Tables, place_at, table_at, block_at, has_page, IsEmpty, MakesPage, ChangesBlock, EmptiesPage, LaysPageOver, page_over}
+use Rattle.sparse_image.specs.Image.{Table, Tables, place_at, table_at, block_at, has_page, IsEmpty, MakesPages, ChangesBlock, EmptiesPage, LaysPageOver, page_over}
 use Rattle.sparse_image.specs.Whole.{IsTable, IsImage}
 use Rattle.sparse_image.proofs.TableLemmas.{place_at-page_over, length-page_over}
 
@@ -68,9 +69,31 @@ module _ (old new : Tables) (page : ℕ) (table : Table) (s : SetsTable old new 
         (cases_eq p page);
   }
 
+-- ---- pages that are made
+
+-- the pages from the first up to the end
+abbrev pub from_to : ℕ → ℕ → ℕ → Bool
+from_to first end page = nat_le first page && nat_lt page end
+
+from_first : (first end page : ℕ) → first < end → page ≡ first → from_to first end page ≡ true
+from_first first end page some is = grind (arith, nat_tests)
+
+from_later : (first end page : ℕ) → first < end → page ≢ first → from_to first end page ≡ from_to (first + 1) end page
+from_later first end page some other = grind (arith, nat_tests)
+
+-- a table that is not made has no places
+unmade_none : (table : Table) → IsTable table → eqb (length table) 512 ≡ false → table ≡ []
+unmade_none [] whole unmade = refl
+unmade_none (p ∷ table) whole unmade = absurd (false≢true (sym unmade ∙ eq-eqb (length (p ∷ table)) 512 (whole.size (omega arith))))
+
+-- whether a page is made, by its table
+pub has_page-read : (image : Tables) (page : ℕ) (table : Table) → table ≡ table_at image page → has_page image page ≡ eqb (length table) 512
+unfolding has_page
+has_page-read image page table read = ap (λ t. eqb (length t) 512) (sym read)
+
 -- a new table for a page that was not made
-pub MakesPage-set : (image : Tables) (page places : ℕ) (table : Table) → page < length image → table ≡ replicate places None → places ≡ 512 → table_at image page ≡ [] → MakesPage image (set image page table) page
-MakesPage-set image page places table inside new whole none =
+pub MakesPages-set : (image : Tables) (page places : ℕ) (table : Table) → page < length image → table ≡ replicate places None → places ≡ 512 → table_at image page ≡ [] → MakesPages image (set image page table) (λ p. eqb p page)
+MakesPages-set image page places table inside new whole none =
     let s = SetsTable-set image page table inside in
     record {
       count = s.count;
@@ -83,10 +106,15 @@ MakesPage-set image page places table inside new whole none =
           ∙ sym (block_of_none image block (ap (table_at image) here ∙ none)))
           (block_elsewhere image (set image page table) page table s block)
           (cases_eq (block / 512) page);
-      made =
-          page_here image (set image page table) page table s
-          ∙ ap (λ n. eqb n 512) (ap length new ∙ length-replicate places None ∙ whole);
-      others = page_elsewhere image (set image page table) page table s;
+      pages = λ p.
+          ⊎_elim
+          (λ here. ap (has_page (set image page table)) here
+          ∙ page_here image (set image page table) page table s
+          ∙ ap (λ n. eqb n 512) (ap length new ∙ length-replicate places None ∙ whole)
+          ∙ sym (ap (λ b. b || has_page image p) (eq-eqb p page here)))
+          (λ other. page_elsewhere image (set image page table) page table s p other
+          ∙ sym (ap (λ b. b || has_page image p) (ne_eqb p page other)))
+          (cases_eq p page);
     }
   where
     none_at : (i : ℕ) → place_at (replicate places None) i ≡ None
@@ -97,14 +125,51 @@ MakesPage-set image page places table inside new whole none =
         (cases_lt i places)
 
 -- a page that is there already
-pub MakesPage-made : (image : Tables) (page : ℕ) (table : Table) → table ≡ table_at image page → eqb (length table) 512 ≡ true → MakesPage image image page
-unfolding has_page
-MakesPage-made image page table read made = record {
+pub MakesPages-made : (image : Tables) (page : ℕ) → has_page image page ≡ true → MakesPages image image (λ p. eqb p page)
+MakesPages-made image page made = record {
   count = refl;
   blocks = λ _. refl;
-  made = sym (ap (λ t. eqb (length t) 512) read) ∙ made;
-  others = λ _ _. refl;
+  pages = λ p.
+      ⊎_elim
+      (λ here. ap (has_page image) here ∙ made ∙ sym (ap (λ b. b || has_page image p) (eq-eqb p page here)))
+      (λ other. sym (ap (λ b. b || has_page image p) (ne_eqb p page other)))
+      (cases_eq p page);
 }
+
+-- the pages behind the first are made, and the first was there
+pub MakesPages-there : (old new : Tables) (first end : ℕ) → first < end → has_page old first ≡ true → MakesPages old new (from_to (first + 1) end) → MakesPages old new (from_to first end)
+MakesPages-there old new first end some there makes = record {
+  count = makes.count;
+  blocks = makes.blocks;
+  pages = λ page. makes.pages page ∙ ⊎_elim
+      (λ here. ap (λ b. from_to (first + 1) end page || b) (ap (has_page old) here ∙ there) ∙ or-true (from_to (first + 1) end page)
+      ∙ sym (ap (λ b. b || has_page old page) (from_first first end page some here)))
+      (λ other. sym (ap (λ b. b || has_page old page) (from_later first end page some other)))
+      (cases_eq page first);
+}
+
+-- the pages behind the first are made, and then the first
+pub MakesPages-first : (old mid new : Tables) (first end : ℕ) → first < end → MakesPages old mid (from_to (first + 1) end) → MakesPages mid new (λ p. eqb p first) → MakesPages old new (from_to first end)
+MakesPages-first old mid new first end some later makes = record {
+  count = makes.count ∙ later.count;
+  blocks = λ block. makes.blocks block ∙ later.blocks block;
+  pages = λ page. makes.pages page ∙ ⊎_elim
+      (λ here. ap (λ b. b || has_page mid page) (eq-eqb page first here)
+      ∙ sym (ap (λ b. b || has_page old page) (from_first first end page some here)))
+      (λ other. ap (λ b. b || has_page mid page) (ne_eqb page first other) ∙ later.pages page
+      ∙ sym (ap (λ b. b || has_page old page) (from_later first end page some other)))
+      (cases_eq page first);
+}
+
+-- a page that was not made is none once those behind it are
+pub still_unmade : (old mid : Tables) (first end : ℕ) → MakesPages old mid (from_to (first + 1) end) → IsImage mid → table_at old first ≡ [] → table_at mid first ≡ []
+unfolding has_page
+still_unmade old mid first end later whole none =
+    unmade_none (table_at mid first) (whole.tables first)
+    (later.pages first ∙ ap (λ b. b || has_page old first) (from_before first end) ∙ ap (λ t. eqb (length t) 512) none)
+  where
+    from_before : (first end : ℕ) → from_to (first + 1) end first ≡ false
+    from_before first end = grind (arith, nat_tests)
 
 -- the image that is made
 pub IsEmpty-replicate : (page_count : ℕ) → IsEmpty (replicate page_count []) page_count

@@ -1,6 +1,7 @@
 -- The blocks of an image, by their numbers, and its pages.
-use Rattle.std.specs.Prelude.{◌≡◌, ◌≢◌, ℕ, ◌/◌, ◌%◌, Bool, true, false, ◌||◌, ◌==◌, List, [], ◌∷◌, length, Option, None, slice_index_or}
+use Rattle.std.specs.Prelude.{◌≡◌, ◌≢◌, ℕ, ◌+◌, ◌*◌, ◌/◌, ◌%◌, max, min, nat_lt, Bool, false, ◌||◌, ◌==◌, List, [], ◌∷◌, length, Option, None, slice_index_or}
 use Rattle.std.specs.Option.{option_or}
+use Rattle.vol_units.specs.declared.range.BlockRange.{BlockRange}
 use Rattle.sparse_image.specs.declared.block.TheConstants.{PAGE_BLOCKS}
 
 -- the places of a page: at each the bytes of a block, or none. Where the page is not made it has no places
@@ -33,12 +34,16 @@ pub record IsEmpty (image : Tables) (page_count : ℕ) : Type 0 where
   pub blocks : (block : ℕ) → block_at image block ≡ None
   pub pages : (page : ℕ) → has_page image page ≡ false
 
--- the page is made after it, and no block changes
-pub record MakesPage (old new : Tables) (page : ℕ) : Type 0 where
+-- the page has a block of the range
+abbrev pub is_page_of : BlockRange → ℕ → Bool
+is_page_of range page =
+    nat_lt (max range.first (page * PAGE_BLOCKS)) (min range.end (page * PAGE_BLOCKS + PAGE_BLOCKS))
+
+-- the wanted pages are made besides those that were, no other page is, and no block changes
+pub record MakesPages (old new : Tables) (wanted : ℕ → Bool) : Type 0 where
   pub count : length new ≡ length old
   pub blocks : (block : ℕ) → block_at new block ≡ block_at old block
-  pub made : has_page new page ≡ true
-  pub others : (other : ℕ) → other ≢ page → has_page new other ≡ has_page old other
+  pub pages : (page : ℕ) → has_page new page ≡ (wanted page || has_page old page)
 
 -- that stands for the block after it, and no other block and no page changes
 pub record ChangesBlock (old new : Tables) (block : ℕ) (after : Option (List ℕ)) : Type 0 where

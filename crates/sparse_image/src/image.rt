@@ -1,13 +1,14 @@
-ghost use Rattle.std.specs.Prelude.{◌≡◌, ◌+◌, ◌*◌, ◌/◌, ◌<◌, ◌≤◌, length, Some, IfOk, IfSome, OnOk, OnErr, IsTrue, false, is_some, slice_range};
+ghost use Rattle.std.specs.Prelude.{◌≡◌, ◌==◌, ◌&&◌, nat_le, nat_lt, ◌+◌, ◌*◌, ◌/◌, ◌<◌, ◌≤◌, length, Some, IfOk, IfSome, OnOk, OnErr, IsTrue, false, is_some, slice_range};
 ghost use Rattle.std.specs.Option.{option_map, option_copied};
 ghost use Rattle.vol_units.specs.Bytes.{with_bytes_at, zeros};
 ghost use Rattle.sparse_image.specs.Disk.{bytes_of, disk_of};
-ghost use Rattle.sparse_image.specs.Image.{block_at, has_page, IsEmpty, MakesPage, ChangesBlock, EmptiesPage, LaysPageOver};
+ghost use Rattle.sparse_image.specs.Image.{block_at, has_page, IsEmpty, MakesPages, is_page_of, ChangesBlock, EmptiesPage, LaysPageOver};
 
 use crate::block::{BLOCK_BYTES, Block, PAGE_BLOCKS};
 use crate::page::Page;
 use std::alloc::{AllocError, Global};
 use std::marker::Model;
+use vol_units::BlockRange;
 
 /// The blocks of one layer.
 #[derive(Drop)]
@@ -59,13 +60,46 @@ impl Image {
     /// Makes the table of a page, if it is not there. No block changes.
     pub fn ensure_page(&mut self, alloc: Global, page: u32) -> Result<(), AllocError>
         requires { page < length self.old }
-        ensures ok { OnOk result (MakesPage self.old self.new page) }
+        ensures ok { OnOk result (MakesPages self.old self.new (λ p. p == page)) }
         ensures err { OnErr result (self.new ≡ self.old) }
         ensures disk { disk_of self.new ≡ disk_of self.old }
     {
         if !self.pages[page as usize].is_made() {
             self.pages[page as usize] = Page::made(alloc)?;
         }
+        Ok(())
+    }
+
+    /// Makes the tables of the pages of a range, wherever one is not there. No block changes.
+    pub fn make_room(&mut self, alloc: Global, range: BlockRange) -> Result<(), AllocError>
+        requires { range.end ≤ length self.old * PAGE_BLOCKS }
+        ensures ok { OnOk result (MakesPages self.old self.new (is_page_of range)) }
+        ensures err { OnErr result (self.new ≡ self.old) }
+        ensures disk { disk_of self.new ≡ disk_of self.old }
+    {
+        if range.first >= range.end {
+            return Ok(());
+        }
+        let last = (range.end - 1) / PAGE_BLOCKS;
+        self.make_pages(alloc, range.first / PAGE_BLOCKS, last + 1)
+    }
+
+    /// The same of the pages from the first up to the end.
+    fn make_pages(&mut self, alloc: Global, first: u32, end: u32) -> Result<(), AllocError>
+        requires { end ≤ length self.old }
+        ensures ok { OnOk result (MakesPages self.old self.new (λ p. nat_le first p && nat_lt p end)) }
+        ensures err { OnErr result (self.new ≡ self.old) }
+    {
+        if first >= end {
+            return Ok(());
+        }
+        if self.pages[first as usize].is_made() {
+            return self.make_pages(alloc, first + 1, end);
+        }
+        // The memory of all tables is taken before one of them is put in, so that want of it changes nothing.
+        let table = Page::made(alloc)?;
+        self.make_pages(alloc, first + 1, end)?;
+        self.pages[first as usize] = table;
         Ok(())
     }
 
