@@ -7,14 +7,13 @@ use Rattle.std.proofs.lemmas.List.Edits.{get_or-remove_below, length-remove}
 use Rattle.std.proofs.lemmas.Grind.{elements}
 use Rattle.sparse_image.specs.Image.{Tables, block_at, EmptiesPage, LaysPageOver}
 use Rattle.layer_chain.specs.Tree.{Tree, name_of, parent_of, layer_at, reads, IsLayers, IsThere, IsWhole, IsChild}
-use Rattle.layer_chain.specs.Changes.{with_layers, with_image, with_images, MovesPage, without, in_place_of, replaced}
-use Rattle.layer_chain.specs.Children.{Stands, IsLeaf, IsOnlyChild}
+use Rattle.layer_chain.specs.Changes.{with_layers, with_image, with_images, MovesPage, taken_out, in_place_of, replaced}
+use Rattle.layer_chain.specs.Children.{IsLeaf, IsOnlyChild}
 use Rattle.layer_chain.specs.declared.layer.Layer.{Layer}
-use Rattle.layer_chain.specs.declared.children.Child.{Child}
 use Rattle.layer_chain.specs.declared.children.Child.TheVariants as child
 use Rattle.layer_chain.proofs.Cuts.{set_then_remove}
 use Rattle.layer_chain.proofs.FoldLaws.{fold_at, replace_at, replace_tree, replace_on, delete_at, delete_tree, delete_on, alike_tree, alike_on}
-use Rattle.layer_chain.proofs.TreeLemmas.{layer_read, layer_got, layer_is, child_newer}
+use Rattle.layer_chain.proofs.TreeLemmas.{layer_read, layer_got, child_newer}
 
 -- ---- two layers with other blocks
 
@@ -110,10 +109,10 @@ module _ (t : Tree) (p : ℕ) (in_p : p < length t.layers) (leaf : IsLeaf t p) w
   pub leaf_head : t.on ≢ Some (name_of (layer_at t.layers p))
   leaf_head e = leaf child.Head e
 
-  pub without_reads : (block : ℕ) (want : Option (List ℕ)) → want ≢ Some (name_of (layer_at t.layers p)) → reads (without t p).layers want block ≡ reads t.layers want block
+  pub without_reads : (block : ℕ) (want : Option (List ℕ)) → want ≢ Some (name_of (layer_at t.layers p)) → reads (taken_out t p).layers want block ≡ reads t.layers want block
   without_reads block = delete_at name_of parent_of (λ l. block_at l.image block) t.layers p (layer_at t.layers p) in_p (layer_read t.layers p in_p) leaf_elsewhere
 
-  pub without_whole : IsWhole t → IsWhole (without t p)
+  pub without_whole : IsWhole t → IsWhole (taken_out t p)
   without_whole w = record {
     layers = delete_tree name_of parent_of (λ l. block_at l.image 0) t.layers p (layer_at t.layers p) in_p (layer_read t.layers p in_p) leaf_elsewhere w.layers;
     head = delete_on name_of parent_of (λ l. block_at l.image 0) t.layers p (layer_at t.layers p) in_p (layer_read t.layers p in_p) leaf_elsewhere t.on leaf_head w.head;

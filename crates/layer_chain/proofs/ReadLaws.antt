@@ -6,7 +6,8 @@ use Rattle.std.specs.Option.{option_or}
 use Rattle.std.specs.Str.{bytes_eq}
 use Rattle.std.proofs.lemmas.Slice.Eq.{bytes_eq-Decides}
 use Rattle.std.proofs.lemmas.Bool.{cases_Bool, false_from_ne_true, false≢true}
-use Rattle.layer_chain.specs.Layers.{is_named, HasNo, IsAbove, StandsOn, HasNoChild, IsTree, read_layers}
+use Rattle.vol_units.specs.Chain.{is_named}
+use Rattle.layer_chain.specs.Layers.{HasNo, IsAbove, StandsOn, HasNoChild, IsTree, read_layers}
 
 -- the test for a name
 pub is_named-same : (want : Option (List ℕ)) (name : List ℕ) → want ≡ Some name → is_named want name ≡ true

@@ -1,13 +1,16 @@
 -- One layer of a walk from the newest layer on: of a reading, and of a chain.
-use Rattle.std.proofs.Common.{◌≡◌, ℕ, ◌+◌, ◌<◌, ◌≤◌, suc, cond, List, [], ◌∷◌, ◌++◌, length, get_or, drop, Option, None, Some, true, false, sym, refl, ap, ◌∙◌, arith}
+use Rattle.std.proofs.Common.{◌≡◌, ℕ, ◌+◌, ◌<◌, ◌≤◌, suc, Bool, cond, List, [], ◌∷◌, ◌++◌, length, map, get_or, take, drop, Option, None, Some, true, false, sym, refl, ap, ◌∙◌, arith}
 use Rattle.std.proofs.Math.Seq.{drop-cons}
-use Rattle.std.proofs.lemmas.List.{drop_all, append_assoc}
+use Rattle.std.proofs.lemmas.List.{drop_all, append_assoc, map-append}
+use Rattle.std.specs.List.{filter}
+use Rattle.std.proofs.lemmas.List.Elements.{filter_more}
 use Rattle.std.specs.Option.{option_or}
 use Rattle.std.specs.Str.{bytes_eq}
 use Rattle.sparse_image.specs.Image.{block_at}
 use Rattle.layer_chain.proofs.ReadLaws.{read-at_same, read-at_other, read-end, read-none}
-use Rattle.layer_chain.specs.Layers.{is_named, chain_from}
-use Rattle.layer_chain.specs.Tree.{Tree, name_of, parent_of, reads, head_reads}
+use Rattle.vol_units.specs.Chain.{is_named, chain_from}
+use Rattle.layer_chain.specs.Children.{children_named}
+use Rattle.layer_chain.specs.Tree.{Tree, name_of, parent_of, reads, head_reads, name_and_mark, marked_chain}
 use Rattle.layer_chain.specs.declared.layer.Layer.{Layer}
 
 module _ (xs : List Layer) (i : ℕ) (x : Layer) (want : List ℕ) (within : i < length xs) (is : x ≡ get_or xs i x) where
@@ -35,29 +38,49 @@ head_root t k none root =
 pub step-end : (xs : List Layer) (i k : ℕ) (want : List ℕ) → length xs ≤ i → reads (drop i xs) (Some want) k ≡ None
 step-end xs i k want h = read-end name_of parent_of (λ l. block_at l.image k) xs i want h
 
-abbrev pub chain : List Layer → Option (List ℕ) → ℕ → List ℕ
-chain = chain_from name_of parent_of
+-- ---- a chain
 
-chain-cons : (x : Layer) (older : List Layer) (want : Option (List ℕ)) (i : ℕ) → chain (x ∷ older) want i ≡ cond (is_named want (name_of x)) (i ∷ chain older (parent_of x) (i + 1)) (chain older want (i + 1))
-unfolding chain_from
-chain-cons x older want i = refl
+map_either : (on : Bool) (x : Layer) (xs ys : List Layer)
+    → map name_and_mark (cond on (x ∷ xs) ys) ≡ cond on (name_and_mark x ∷ map name_and_mark xs) (map name_and_mark ys)
+map_either true x xs ys = refl
+map_either false x xs ys = refl
 
-chain-step : (xs : List Layer) (i : ℕ) (x : Layer) (want : Option (List ℕ)) → i < length xs → x ≡ get_or xs i x → chain (drop i xs) want i ≡ cond (is_named want (name_of x)) (i ∷ chain (drop (i + 1) xs) (parent_of x) (i + 1)) (chain (drop (i + 1) xs) want (i + 1))
+chain-step : (xs : List Layer) (i : ℕ) (x : Layer) (want : Option (List ℕ)) → i < length xs → x ≡ get_or xs i x
+    → marked_chain (drop i xs) want ≡ cond (is_named want (name_of x)) (name_and_mark x ∷ marked_chain (drop (i + 1) xs) (parent_of x)) (marked_chain (drop (i + 1) xs) want)
 chain-step xs i x want within is =
-    ap (λ (ys : List Layer). chain ys want i) (drop-cons xs i x within ∙ ap (λ (y : Layer). y ∷ drop (suc i) xs) (sym is))
-    ∙ chain-cons x (drop (suc i) xs) want i
-    ∙ (let e : suc i ≡ i + 1 = omega arith in ap (λ (n : ℕ). cond (is_named want (name_of x)) (i ∷ chain (drop n xs) (parent_of x) (i + 1)) (chain (drop n xs) want (i + 1))) e)
+    let more : suc i ≡ i + 1 = omega arith in
+    ap (λ (ys : List Layer). marked_chain ys want) (drop-cons xs i x within ∙ ap (λ (y : Layer). y ∷ drop (suc i) xs) (sym is))
+    ∙ map_either (is_named want (name_of x)) x (chain_from name_of parent_of (drop (suc i) xs) (parent_of x)) (chain_from name_of parent_of (drop (suc i) xs) want)
+    ∙ ap (λ (n : ℕ). cond (is_named want (name_of x)) (name_and_mark x ∷ marked_chain (drop n xs) (parent_of x)) (marked_chain (drop n xs) want)) more
 
 module _ (xs : List Layer) (i : ℕ) (x : Layer) (want : Option (List ℕ)) (within : i < length xs) (is : x ≡ get_or xs i x) where
-  pub chain-here : (places : List ℕ) → is_named want (name_of x) ≡ true → (places ++ (i ∷ [])) ++ chain (drop (i + 1) xs) (parent_of x) (i + 1) ≡ places ++ chain (drop i xs) want i
-  chain-here places named =
-      append_assoc places (i ∷ []) (chain (drop (i + 1) xs) (parent_of x) (i + 1))
-      ∙ ap (λ (ps : List ℕ). places ++ ps) (sym (chain-step xs i x want within is ∙ ap (λ t. cond t (i ∷ chain (drop (i + 1) xs) (parent_of x) (i + 1)) (chain (drop (i + 1) xs) want (i + 1))) named))
+  pub chain-here : (front : List (List ℕ × Bool)) → is_named want (name_of x) ≡ true
+      → (front ++ (name_and_mark x ∷ [])) ++ marked_chain (drop (i + 1) xs) (parent_of x) ≡ front ++ marked_chain (drop i xs) want
+  chain-here front named =
+      append_assoc front (name_and_mark x ∷ []) (marked_chain (drop (i + 1) xs) (parent_of x))
+      ∙ ap (λ (cs : List (List ℕ × Bool)). front ++ cs) (sym (chain-step xs i x want within is
+      ∙ ap (λ t. cond t (name_and_mark x ∷ marked_chain (drop (i + 1) xs) (parent_of x)) (marked_chain (drop (i + 1) xs) want)) named))
 
-  pub chain-other : (places : List ℕ) → is_named want (name_of x) ≡ false → places ++ chain (drop (i + 1) xs) want (i + 1) ≡ places ++ chain (drop i xs) want i
-  chain-other places named =
-      ap (λ (ps : List ℕ). places ++ ps) (sym (chain-step xs i x want within is ∙ ap (λ t. cond t (i ∷ chain (drop (i + 1) xs) (parent_of x) (i + 1)) (chain (drop (i + 1) xs) want (i + 1))) named))
+  pub chain-other : (front : List (List ℕ × Bool)) → is_named want (name_of x) ≡ false
+      → front ++ marked_chain (drop (i + 1) xs) want ≡ front ++ marked_chain (drop i xs) want
+  chain-other front named =
+      ap (λ (cs : List (List ℕ × Bool)). front ++ cs) (sym (chain-step xs i x want within is
+      ∙ ap (λ t. cond t (name_and_mark x ∷ marked_chain (drop (i + 1) xs) (parent_of x)) (marked_chain (drop (i + 1) xs) want)) named))
 
-pub chain-end : (xs : List Layer) (i : ℕ) (want : Option (List ℕ)) → length xs ≤ i → chain (drop i xs) want i ≡ []
-unfolding chain_from
-chain-end xs i want h = ap (λ (ys : List Layer). chain ys want i) (drop_all i xs h)
+pub chain-end : (xs : List Layer) (i : ℕ) (want : Option (List ℕ)) → length xs ≤ i → marked_chain (drop i xs) want ≡ []
+chain-end xs i want h = ap (λ (ys : List Layer). marked_chain ys want) (drop_all i xs h)
+
+-- ---- the layers that stand on one
+
+-- of one layer more
+pub children-more : (xs : List Layer) (name : List ℕ) (i : ℕ) (x : Layer) → i < length xs → x ≡ get_or xs i x
+    → children_named (take (i + 1) xs) name ≡ children_named (take i xs) name ++ cond (is_named (parent_of x) name) (name_of x ∷ []) []
+children-more xs name i x within is =
+    ap (map name_of) (filter_more (λ l. is_named (parent_of l) name) xs i x within)
+    ∙ ap (λ (y : Layer). map name_of (filter (λ l. is_named (parent_of l) name) (take i xs) ++ cond (is_named (parent_of y) name) (y ∷ []) [])) (sym is)
+    ∙ map-append name_of (filter (λ l. is_named (parent_of l) name) (take i xs)) (cond (is_named (parent_of x) name) (x ∷ []) [])
+    ∙ ap (λ ns. children_named (take i xs) name ++ ns) (one (is_named (parent_of x) name))
+  where
+    one : (on : Bool) → map name_of (cond on (x ∷ []) []) ≡ cond on (name_of x ∷ []) []
+    one true = refl
+    one false = refl

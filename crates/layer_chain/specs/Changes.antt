@@ -68,8 +68,8 @@ pub record MovesPage (old new : List Layer) (p c page : ℕ) : Type 0 where
   pub rest : new ≡ with_images old p c (layer_at new p).image (layer_at new c).image
 
 -- the layer at p is taken out
-abbrev pub without : Tree → ℕ → Tree
-without t p = with_layers t (remove t.layers p)
+abbrev pub taken_out : Tree → ℕ → Tree
+taken_out t p = with_layers t (remove t.layers p)
 
 -- the layer on the parent of another, and with that one's blocks
 abbrev pub in_place_of : Layer → Layer → Layer

@@ -1,11 +1,17 @@
 -- What stands on a layer.
-use Rattle.std.specs.Prelude.{◌≡◌, ◌≢◌, ℕ, ◌<◌, List, length, Option, Some}
-use Rattle.layer_chain.specs.Tree.{Tree, name_of, layer_at, IsChild}
+use Rattle.std.specs.Prelude.{◌≡◌, ◌≢◌, ℕ, ◌<◌, List, length, map, Option, Some}
+use Rattle.std.specs.List.{filter}
+use Rattle.vol_units.specs.Chain.{is_named}
+use Rattle.layer_chain.specs.Tree.{Tree, name_of, parent_of, layer_at, IsChild}
 use Rattle.layer_chain.specs.declared.layer.Layer.{Layer}
 use Rattle.layer_chain.specs.declared.children.Child.{Child}
 use Rattle.layer_chain.specs.declared.children.Child.TheVariants as child
 use Rattle.layer_chain.specs.declared.children.Children.{Children}
 use Rattle.layer_chain.specs.declared.children.Children.TheVariants as children
+
+-- the names of the layers that stand on that of the name, the newest first
+abbrev pub children_named : List Layer → List ℕ → List (List ℕ)
+children_named layers name = map name_of (filter (λ l. is_named (parent_of l) name) layers)
 
 -- the head, or one of the first layers, as many as `count`, stands on the layer at p
 abbrev pub Stands : List Layer → Option (List ℕ) → ℕ → ℕ → Child → Type 0

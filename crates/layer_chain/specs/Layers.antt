@@ -1,14 +1,9 @@
 -- A tree of layers, the newest first, and what a block reads as from each of them. A parent is told by its
 -- name and stands further on, so that each walk is a recursion on the list.
-use Rattle.std.specs.Prelude.{◌≡◌, ◌≢◌, ◌⊎◌, ℕ, ◌+◌, Bool, false, cond, List, [], ◌∷◌, Option, None, Some}
+use Rattle.std.specs.Prelude.{◌≡◌, ◌≢◌, ◌⊎◌, ℕ, cond, List, [], ◌∷◌, Option, None, Some}
 use Rattle.std.specs.List.{AllByRecursion}
 use Rattle.std.specs.Option.{option_or}
-use Rattle.std.specs.Str.{bytes_eq}
-
--- whether the name is the one that is looked for
-abbrev pub is_named : Option (List ℕ) → List ℕ → Bool
-is_named None name = false
-is_named (Some want) name = bytes_eq want name
+use Rattle.vol_units.specs.Chain.{is_named}
 
 -- a layer of any type X has a name and a parent's name
 module _ {X : Type 0} (name_of : X → List ℕ) (parent_of : X → Option (List ℕ)) where
@@ -39,14 +34,6 @@ module _ {X : Type 0} (name_of : X → List ℕ) (parent_of : X → Option (List
   abbrev pub IsTree : List X → Type 0
   IsTree [] = Unit {0}
   IsTree (x ∷ older) = HasNo (name_of x) older × StandsOn (parent_of x) older × IsTree older
-
-  -- the places of the named layer, of its parent, and so on down, where the first layer has that place
-  unfoldable pub chain_from : List X → Option (List ℕ) → ℕ → List ℕ
-  chain_from [] want place = []
-  chain_from (x ∷ older) want place =
-      cond (is_named want (name_of x))
-      (place ∷ chain_from older (parent_of x) (place + 1))
-      (chain_from older want (place + 1))
 
   module _ {B : Type 0} (block_of : X → Option B) where
     -- what the named layer reads as: its own block, or else what its parent reads as. None where no layer

@@ -1,10 +1,10 @@
 -- The layers of a replica, the newest first, and its head, which stands on one of them or on none.
-use Rattle.std.specs.Prelude.{◌≡◌, ℕ, ◌+◌, ◌<◌, ◌≤◌, false, List, [], length, Option, None, Some, slice_index_or}
+use Rattle.std.specs.Prelude.{◌≡◌, ℕ, ◌+◌, ◌<◌, ◌≤◌, Bool, false, List, [], length, map, Option, None, Some, slice_index_or}
 use Rattle.std.specs.Option.{option_or}
+use Rattle.vol_units.specs.Chain.{chain_from}
 use Rattle.sparse_image.specs.Image.{Tables, block_at, IsEmpty}
-use Rattle.layer_chain.specs.Layers.{HasNo, StandsOn, IsTree, chain_from, read_layers}
+use Rattle.layer_chain.specs.Layers.{HasNo, StandsOn, IsTree, read_layers}
 use Rattle.layer_chain.specs.declared.layer.Layer.{Layer}
-use Rattle.layer_chain.specs.declared.layer_tree.TheConstants.{MOST_LAYERS}
 
 -- a tree, as contracts see it: its layers, the head's blocks, the layer on which the head stands, if there is
 -- one, and the head's number
@@ -40,9 +40,13 @@ reads layers name block = read_layers name_of parent_of (λ l. block_at l.image 
 abbrev pub head_reads : Tree → ℕ → Option (List ℕ)
 head_reads t block = option_or (block_at t.head block) (reads t.layers t.on block)
 
--- the places of the layers below the head, from its parent down
-abbrev pub head_chain : Tree → List ℕ
-head_chain t = chain_from name_of parent_of t.layers t.on 0
+-- a layer's name, and whether it is to be removed
+abbrev pub name_and_mark : Layer → List ℕ × Bool
+name_and_mark l = (name_of l, l.meta.marked)
+
+-- of the named layer, of its parent, and so on down, the name and the mark
+abbrev pub marked_chain : List Layer → Option (List ℕ) → List (List ℕ × Bool)
+marked_chain layers name = map name_and_mark (chain_from name_of parent_of layers name)
 
 -- the layer at a place, the newest at 0
 abbrev pub layer_at : List Layer → ℕ → Layer
@@ -66,16 +70,16 @@ pub record IsParent (layers : List Layer) (p c : ℕ) : Type 0 where
   pub older : c < p
   pub child : IsChild layers c p
 
--- what every tree keeps: names once, parents older, the head on a layer or on none, and not too many
+-- what every tree keeps: names once, parents older, the head on a layer or on none, and at most 250 with the head
 pub record IsWhole (t : Tree) : Type 0 where
   pub layers : IsLayers t.layers
   pub head : IsThere t.on t.layers
-  pub few : length t.layers + 1 ≤ MOST_LAYERS
+  pub few : length t.layers + 1 ≤ 250
 
 -- and so many layers have room, so that none is refused for want of memory
 pub record IsRoomy (t : Tree) (capacity : ℕ) : Type 0 where
   pub whole : IsWhole t
-  pub room : MOST_LAYERS ≤ capacity
+  pub room : 250 ≤ capacity
 
 -- no layer, and a head without blocks on none
 pub record IsBlank (t : Tree) (page_count : ℕ) : Type 0 where

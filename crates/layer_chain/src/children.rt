@@ -1,9 +1,10 @@
-ghost use Rattle.std.specs.Prelude.{◌≡◌, ◌↔◌, ℕ, ◌<◌, List, length, Some, IsTrue};
+ghost use Rattle.std.specs.Prelude.{◌≡◌, ◌↔◌, ℕ, ◌<◌, List, length, Some, IsTrue, IfOk};
 ghost use Rattle.layer_chain.specs.Tree.{name_of, layer_at, IsChild};
-ghost use Rattle.layer_chain.specs.Children.{Tells, with_child};
+ghost use Rattle.layer_chain.specs.Children.{Tells, with_child, children_named};
 
 use crate::layer::Layer;
-use crate::reading::is_named;
+use crate::reading::{is_named, is_wanted};
+use std::alloc::{AllocError, Global};
 use vol_units::LayerName;
 
 /// What stands on a layer: the head, or a layer by its place.
@@ -21,8 +22,25 @@ pub enum Children {
     More,
 }
 
+/// The names of the layers that stand on that of the name.
+pub(crate) fn children_in(
+    alloc: Global,
+    layers: &[Layer],
+    name: &LayerName,
+) -> Result<Vec<LayerName>, AllocError>
+    ensures { IfOk result (λ names. names.items ≡ children_named layers.now name.now) }
+{
+    let mut names = Vec::new(alloc);
+    for layer in layers {
+        if is_wanted(&layer.meta.parent, name) {
+            names.push(layer.meta.name)?;
+        }
+    }
+    Ok(names)
+}
+
 /// What stands on the layer at a place.
-pub(crate) fn children_in(layers: &[Layer], on: &Option<LayerName>, place: usize) -> Children
+pub(crate) fn standing_in(layers: &[Layer], on: &Option<LayerName>, place: usize) -> Children
     requires { place < length layers.now }
     ensures { Tells layers.now on.now (length layers.now) place result }
 {

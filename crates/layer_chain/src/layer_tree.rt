@@ -2,13 +2,13 @@ ghost use Rattle.std.specs.Prelude.{◌≡◌, ℕ, ◌+◌, ◌*◌, ◌/◌, �
 ghost use Rattle.std.specs.Option.{option_copied, option_map};
 ghost use Rattle.vol_units.specs.Bytes.{with_bytes_at};
 ghost use Rattle.sparse_image.specs.Disk.{disk_of};
-ghost use Rattle.sparse_image.specs.Image.{block_at, has_page, MakesPage, ChangesBlock};
-ghost use Rattle.layer_chain.specs.Tree.{IsBlank, IsWhole, IsNew, IsThere, IsAt, IsChild, IsParent, reads, head_reads, head_chain, layer_at, name_of, parent_of};
-ghost use Rattle.layer_chain.specs.Changes.{pushed, with_head, headed, snapped, reverted, marked_at, with_layers, MovesPage, without, replaced};
-ghost use Rattle.layer_chain.specs.Children.{Tells, IsLeaf, IsOnlyChild};
+ghost use Rattle.sparse_image.specs.Image.{block_at, has_page, MakesPages, is_page_of, ChangesBlock};
+ghost use Rattle.layer_chain.specs.Tree.{IsBlank, IsWhole, IsNew, IsThere, IsAt, IsChild, IsParent, reads, head_reads, marked_chain, layer_at, name_of, parent_of};
+ghost use Rattle.layer_chain.specs.Changes.{pushed, with_head, headed, snapped, reverted, marked_at, with_layers, MovesPage, taken_out, replaced};
+ghost use Rattle.layer_chain.specs.Children.{Tells, IsLeaf, IsOnlyChild, children_named};
 
 use crate::chain::chain_in;
-use crate::children::{Children, children_in};
+use crate::children::{Children, children_in, standing_in};
 use crate::layer::{Layer, LayerMeta};
 use crate::moving::move_page_in;
 use crate::reading::{index_in, read_in};
@@ -16,7 +16,7 @@ use sparse_image::{BLOCK_BYTES, Block, Image, PAGE_BLOCKS};
 use std::alloc::{AllocError, Global};
 use std::marker::Model;
 use std::mem;
-use vol_units::LayerName;
+use vol_units::{BlockRange, LayerName};
 
 /// The most layers of a replica, its head among them.
 pub const MOST_LAYERS: usize = 250;
@@ -141,21 +141,33 @@ impl LayerTree {
         }
     }
 
-    /// The places of the layers below the head, from its parent down.
-    pub fn head_chain(&self, alloc: Global) -> Result<Vec<usize>, AllocError>
-        ensures { IfOk result (λ places. places.items ≡ head_chain self.now) }
+    /// The names of a layer, of its parent, and so on down to the lowest, each with its mark. Of none there are none.
+    pub fn chain_of(
+        &self,
+        alloc: Global,
+        layer: Option<LayerName>,
+    ) -> Result<Vec<(LayerName, bool)>, AllocError>
+        ensures { IfOk result (λ chain. chain.items ≡ marked_chain self.now.layers layer) }
     {
-        chain_in(alloc, &self.layers, self.on)
+        chain_in(alloc, &self.layers, layer)
+    }
+
+    /// The names of the layers that stand on that of the name, the newest first. That the head may stand on it too,
+    /// `head_parent` tells.
+    pub fn children(&self, alloc: Global, name: &LayerName) -> Result<Vec<LayerName>, AllocError>
+        ensures { IfOk result (λ names. names.items ≡ children_named self.now.layers name.now) }
+    {
+        children_in(alloc, &self.layers, name)
     }
 
     /// What stands on the layer at a place. A layer that does is newer.
-    pub fn children(&self, place: usize) -> Children
+    pub fn standing_on(&self, place: usize) -> Children
         requires { place < length self.now.layers }
         ensures told { Tells self.now.layers self.now.on (length self.now.layers) place result }
         ensures newer { (c : ℕ) → c < length self.now.layers
             → IsChild self.now.layers c place → c < place }
     {
-        children_in(&self.layers, &self.on, place)
+        standing_in(&self.layers, &self.on, place)
     }
 
     /// One more layer, newer than the others.
@@ -245,20 +257,20 @@ impl LayerTree {
     pub fn take_out(&mut self, place: usize)
         requires within { place < length self.old.layers }
         requires leaf { IsLeaf self.old place }
-        ensures { self.new ≡ without self.old place }
+        ensures { self.new ≡ taken_out self.old place }
     {
         let _ = self.layers.remove(place);
     }
 
-    /// Makes the table of a page of the head, if it is not there. No block changes.
-    pub fn ensure_page(&mut self, alloc: Global, page: u32) -> Result<(), AllocError>
-        requires { page < length self.old.head }
-        ensures ok { OnOk result (MakesPage self.old.head self.new.head page) }
+    /// Makes the tables of the pages of a range in the head, wherever one is not there. No block changes.
+    pub fn make_room(&mut self, alloc: Global, range: BlockRange) -> Result<(), AllocError>
+        requires { range.end ≤ length self.old.head * PAGE_BLOCKS }
+        ensures ok { OnOk result (MakesPages self.old.head self.new.head (is_page_of range)) }
         ensures err { OnErr result (self.new ≡ self.old) }
         ensures disk { disk_of self.new.head ≡ disk_of self.old.head }
         ensures rest { self.new ≡ with_head self.old self.new.head }
     {
-        self.head.ensure_page(alloc, page)
+        self.head.make_room(alloc, range)
     }
 
     /// Puts a block into the head, and gives back the one that was there.

@@ -1,6 +1,7 @@
 ghost use Rattle.std.specs.Prelude.{◌≡◌, ℕ, ◌<◌, List, length, None, Some, MatchOption, IfSome};
 ghost use Rattle.std.specs.Option.{option_copied};
 ghost use Rattle.std.specs.Str.{bytes_eq};
+ghost use Rattle.vol_units.specs.Chain.{is_named};
 ghost use Rattle.layer_chain.specs.Tree.{reads, name_of, layer_at, IsNew, IsAt};
 
 use crate::layer::Layer;
@@ -11,6 +12,16 @@ pub(crate) fn is_named(layer: &Layer, name: &LayerName) -> bool
     ensures { result ≡ bytes_eq name.now (name_of layer.now) }
 {
     name.as_bytes() == layer.meta.name.as_bytes()
+}
+
+/// Whether that name is wanted.
+pub(crate) fn is_wanted(wanted: &Option<LayerName>, name: &LayerName) -> bool
+    ensures { result ≡ is_named wanted.now name.now }
+{
+    match wanted {
+        Some(wanted) => wanted.as_bytes() == name.as_bytes(),
+        None => false,
+    }
 }
 
 /// What the named layer reads as at a block, in one pass from the newest layer to the oldest.

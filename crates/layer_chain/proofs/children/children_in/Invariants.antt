@@ -1,5 +1,6 @@
-use Rattle.layer_chain.specs.Children.{Tells}
+use Rattle.std.proofs.Common.{◌≡◌, take}
+use Rattle.layer_chain.specs.Children.{children_named}
 use Rattle.layer_chain.proofs.children.children_in.Given as goal
 
-abbrev pub invariant-loop-child : goal.invariant-loop-child
-invariant-loop-child l = Tells l.layers l.on l.child l.place l.found
+abbrev pub invariant-loop-layer : goal.invariant-loop-layer
+invariant-loop-layer l = l.names.items ≡ children_named (take l.layer-index l.layers) l.name

@@ -2,7 +2,6 @@ use Rattle.std.proofs.Common.{◌≡◌, ◌<◌, ◌≤◌, List, length, get_o
 use Rattle.std.specs.List.{remove}
 use Rattle.layer_chain.specs.Tree.{Tree, IsWhole}
 use Rattle.layer_chain.specs.Changes.{replaced, in_place_of, with_layers}
-use Rattle.layer_chain.specs.Children.{IsOnlyChild}
 use Rattle.layer_chain.specs.declared.layer.Layer.{Layer}
 use Rattle.layer_chain.proofs.FoldLemmas.{child_above, replaced_whole, replaced_is}
 use Rattle.layer_chain.proofs.layer_tree.LayerTree.replace.Goals as goal

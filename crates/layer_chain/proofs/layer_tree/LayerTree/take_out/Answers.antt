@@ -1,5 +1,4 @@
 use Rattle.std.proofs.Common.{◌<◌, ◌≤◌, List, length, sym, ap, subst, arith}
-use Rattle.std.specs.List.{remove}
 use Rattle.layer_chain.specs.Tree.{Tree, IsWhole}
 use Rattle.layer_chain.specs.Children.{IsLeaf}
 use Rattle.layer_chain.specs.declared.layer.Layer.{Layer}

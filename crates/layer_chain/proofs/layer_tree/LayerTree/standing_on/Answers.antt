@@ -1,7 +1,7 @@
 use Rattle.std.proofs.Common.{subst}
 use Rattle.layer_chain.specs.Tree.{Tree, IsWhole}
 use Rattle.layer_chain.proofs.TreeLemmas.{child_newer}
-use Rattle.layer_chain.proofs.layer_tree.LayerTree.children.Goals as goal
+use Rattle.layer_chain.proofs.layer_tree.LayerTree.standing_on.Goals as goal
 
 pub returns-clause-newer : goal.returns-clause-newer
 returns-clause-newer c = λ child h is.

@@ -4,8 +4,8 @@ use Rattle.layer_chain.specs.Children.{Tells}
 use Rattle.layer_chain.specs.declared.children.Children.{Children}
 use Rattle.layer_chain.proofs.ChildLemmas.{tells_child, tells_other}
 use Rattle.layer_chain.proofs.TreeLemmas.{layer_got}
-use Rattle.layer_chain.proofs.children.children_in.Goals as goal
-use Rattle.layer_chain.proofs.children.children_in.Goals.{then-is_on-2, else-is_on-2}
+use Rattle.layer_chain.proofs.children.standing_in.Goals as goal
+use Rattle.layer_chain.proofs.children.standing_in.Goals.{then-is_on-2, else-is_on-2}
 
 pub loop-child-preserved : goal.loop-child-preserved
 loop-child-preserved c = elim c.if-is_on-2.branch [
