@@ -6,7 +6,8 @@ use Rattle.std.proofs.lemmas.Slice.Eq.{bytes_eq-Decides}
 use Rattle.layer_chain.specs.Tree.{name_of, parent_of, layer_at}
 use Rattle.layer_chain.specs.declared.layer.Layer.{Layer}
 use Rattle.volume_model.specs.Purge.{children_of}
-use Rattle.volume_model.specs.Snapshots.{Snapshot, is_named}
+use Rattle.vol_units.specs.Chain.{is_named}
+use Rattle.volume_model.specs.Snapshots.{Snapshot}
 use Rattle.coalesce.specs.Folding.{snapshot_of}
 
 -- the snapshots of these layers

@@ -9,9 +9,8 @@ use Rattle.layer_chain.specs.declared.children.Child.{Child}
 use Rattle.layer_chain.specs.declared.children.Child.TheVariants as child
 use Rattle.layer_chain.specs.declared.children.Children.TheVariants as children
 use Rattle.layer_chain.proofs.TreeLemmas.{one_place}
-use Rattle.volume_model.proofs.PurgeLemmas.{before_trans, before_itself}
+use Rattle.volume_model.proofs.PurgeLemmas.{before_trans, before_itself, is_marked, no_head}
 use Rattle.volume_model.specs.Purge.{IsMarked, CanFold, CanBeDone, IsPurged, gone, is_before, first_of, IsFirst}
-use Rattle.volume_model.specs.Snapshots.{Snapshot}
 use Rattle.volume_model.specs.declared.mark.FoldOrDrop.{FoldOrDrop}
 use Rattle.volume_model.specs.declared.mark.FoldOrDrop.TheVariants as part
 use Rattle.coalesce.specs.Folding.{snapshots_in}
@@ -20,14 +19,6 @@ use Rattle.coalesce.proofs.ChildLemmas.{child_only, children_none, children_one}
 use Rattle.coalesce.proofs.PlaceLemmas.{any_at, at_any, drop_leaf}
 
 -- ---- what goes, and what stays
-
-is_marked : (ms : List Snapshot) (on : Option (List ℕ)) (f : FoldOrDrop) → CanBeDone ms on f → IsMarked ms (gone f)
-is_marked ms on (part.Fold p c) can = can.marked
-is_marked ms on (part.Drop p) can = can.marked
-
-no_head : (ms : List Snapshot) (on : Option (List ℕ)) (f : FoldOrDrop) → CanBeDone ms on f → on ≢ Some (gone f)
-no_head ms on (part.Fold p c) can = can.head
-no_head ms on (part.Drop p) can = can.head
 
 -- what can go stands somewhere
 goes_somewhere : (t : Tree) (f : FoldOrDrop) → CanBeDone (snapshots_in t) t.on f → (i : ℕ) × (i < length t.layers) × GoesAt t i f

@@ -1,12 +1,12 @@
 -- What each change keeps of what the other layers and the head read as.
-use Rattle.std.proofs.Common.{◌≡◌, ◌≢◌, ⊎_elim, ℕ, ◌/◌, ◌<◌, false, List, [], map, set, Option, None, Some, sym, refl, ap, ◌∙◌, subst, arith}
+use Rattle.std.proofs.Common.{◌≡◌, ◌≢◌, ⊎_elim, ℕ, ◌/◌, ◌<◌, false, List, [], length, map, get_or, set, Option, None, Some, sym, refl, ap, ◌∙◌, subst, arith}
 use Rattle.std.specs.Option.{option_or}
 use Rattle.std.proofs.lemmas.Bool.{cases_eq}
-use Rattle.std.proofs.lemmas.List.{get_or-set_other}
+use Rattle.std.proofs.lemmas.List.{get_or-set_other, get_or-map, length-map}
 use Rattle.std.proofs.Math.Seq.{map-set_same}
 use Rattle.sparse_image.specs.Image.{Tables, block_at, EmptiesPage, LaysPageOver}
 use Rattle.sparse_image.specs.declared.block.TheConstants.{PAGE_BLOCKS}
-use Rattle.layer_chain.specs.Changes.{with_layers, with_image, with_images, MovesPage, without, replaced}
+use Rattle.layer_chain.specs.Changes.{with_layers, with_image, with_images, MovesPage, taken_out, replaced}
 use Rattle.layer_chain.specs.Tree.{Tree, name_of, layer_at, reads, head_reads, IsAt, IsWhole}
 use Rattle.layer_chain.specs.declared.layer.Layer.{Layer}
 use Rattle.layer_chain.proofs.FoldLemmas.{images_reads, replaced_reads, without_reads, child_above}
@@ -66,9 +66,9 @@ replaced_keeps t new p c i j w at can empty is =
     keeps_others t new (replaced t i j).layers p can.head is (λ other block n.
     replaced_reads t i j w at.parent.within (fold_only t p c i j w at can) block (empty j _ at.child.within at.child.named block) other (other_than t p i other at.parent n))
 
-pub dropped_keeps : (t new : Tree) (p : List ℕ) (i : ℕ) → IsAt t.layers p i → CanDrop (snapshots_in t) t.on p → new ≡ without t i → KeepsOthers t new p
+pub dropped_keeps : (t new : Tree) (p : List ℕ) (i : ℕ) → IsAt t.layers p i → CanDrop (snapshots_in t) t.on p → new ≡ taken_out t i → KeepsOthers t new p
 dropped_keeps t new p i at can is =
-    keeps_others t new (without t i).layers p can.head is (λ other block n.
+    keeps_others t new (taken_out t i).layers p can.head is (λ other block n.
     without_reads t i at.within (drop_leaf t p i at can) block other (other_than t p i other at n))
 
 -- ---- and of what is told of the layers
@@ -91,6 +91,25 @@ page_snapshots t new p c i j page w at can moves =
     ap told moves.rest
     ∙ images_snapshots t.layers i j (layer_at new.layers i).image (layer_at new.layers j).image (child_above t i j w at.parent.within (fold_only t p c i j w at can))
 
+-- where the snapshots stay, each name stays at its place
+name_kept : (t new : Tree) (name : List ℕ) (i : ℕ) → snapshots_in new ≡ snapshots_in t → IsAt t.layers name i → IsAt new.layers name i
+name_kept t new name i same at =
+    let f : Layer → Snapshot = λ l. snapshot_of l.meta in
+    let within : i < length new.layers = omega (arith, at.within, length-map t.layers f, length-map new.layers f, ap length same) in
+    let s : Snapshot = f (layer_at t.layers i) in
+    record {
+      within = within;
+      named =
+          ap (λ (x : Snapshot). x.name)
+          (sym (get_or-map f new.layers i _ s within)
+          ∙ ap (λ (ss : List Snapshot). get_or ss i s) same
+          ∙ get_or-map f t.layers i _ s at.within)
+          ∙ at.named;
+    }
+
+pub places_kept : (t new : Tree) (p c : List ℕ) (i j : ℕ) → snapshots_in new ≡ snapshots_in t → AreAt t.layers p c i j → AreAt new.layers p c i j
+places_kept t new p c i j same at = record { parent = name_kept t new p i same at.parent; child = name_kept t new c j same at.child }
+
 pub page_can : (t new : Tree) (p c : List ℕ) → CanFold (snapshots_in t) t.on p c → snapshots_in new ≡ snapshots_in t → new ≡ with_layers t new.layers → CanFold (snapshots_in new) new.on p c
 page_can t new p c can same rest =
     subst (λ (on : Option (List ℕ)). CanFold (snapshots_in new) on p c) (sym (ap (λ (u : Tree). u.on) rest))
@@ -102,5 +121,5 @@ rest t new xs is = is ∙ ap (λ (ys : List Layer). with_layers t ys) (sym (ap (
 pub replaced_rest : (t new : Tree) (i j : ℕ) → new ≡ replaced t i j → new ≡ with_layers t new.layers
 replaced_rest t new i j = rest t new (replaced t i j).layers
 
-pub dropped_rest : (t new : Tree) (i : ℕ) → new ≡ without t i → new ≡ with_layers t new.layers
-dropped_rest t new i = rest t new (without t i).layers
+pub dropped_rest : (t new : Tree) (i : ℕ) → new ≡ taken_out t i → new ≡ with_layers t new.layers
+dropped_rest t new i = rest t new (taken_out t i).layers

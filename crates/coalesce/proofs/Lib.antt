@@ -2,6 +2,5 @@ pub mod ChildLemmas
 pub mod FirstLemmas
 pub mod KeepLemmas
 pub mod NameLemmas
-pub mod PageLemmas
 pub mod PlaceLemmas
 pub mod SnapshotLemmas

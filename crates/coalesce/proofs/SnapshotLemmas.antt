@@ -3,7 +3,7 @@ use Rattle.std.proofs.Common.{◌≡◌, ℕ, ◌<◌, cond, List, [], ◌∷◌
 use Rattle.std.specs.List.{remove}
 use Rattle.std.specs.Str.{bytes_eq}
 use Rattle.std.proofs.lemmas.List.{append_assoc, map-append, get_or_default}
-use Rattle.layer_chain.specs.Changes.{in_place_of, without, replaced}
+use Rattle.layer_chain.specs.Changes.{in_place_of, taken_out, replaced}
 use Rattle.layer_chain.specs.Layers.{HasNo}
 use Rattle.layer_chain.specs.Tree.{Tree, name_of, parent_of, layer_at, IsAt, IsLayers, IsWhole}
 use Rattle.layer_chain.specs.declared.layer.Layer.{Layer}
@@ -108,7 +108,7 @@ dropped_told xs p in_p tree =
     ∙ dropped_two k.before k.after (layer_at xs p) (subst (λ (ys : List Layer). IsLayers ys) is tree)
     ∙ sym (ap (λ (ys : List Layer). dropped (name_of (layer_at xs p)) (told ys)) is)
 
-pub dropped_snapshots : (t new : Tree) (p : List ℕ) (i : ℕ) → IsWhole t → IsAt t.layers p i → new ≡ without t i → snapshots_in new ≡ dropped p (snapshots_in t)
+pub dropped_snapshots : (t new : Tree) (p : List ℕ) (i : ℕ) → IsWhole t → IsAt t.layers p i → new ≡ taken_out t i → snapshots_in new ≡ dropped p (snapshots_in t)
 dropped_snapshots t new p i w at is =
     ap snapshots_in is
     ∙ dropped_told t.layers i at.within w.layers

@@ -1,13 +1,15 @@
 -- What folding and dropping make of the layers of a replica. All layers are told by their names, as snapshots: what can
 -- go, and what that leaves, is told of snapshots alone, in volume_model's specs/Purge.antt.
-use Rattle.std.specs.Prelude.{◌≡◌, ◌≢◌, ℕ, ◌<◌, List, length, map, All, Option, None, Some}
+use Rattle.std.specs.Prelude.{◌≡◌, ◌≢◌, ℕ, List, map, All, Option, None, Some}
 use Rattle.std.specs.Option.{option_or}
 use Rattle.sparse_image.specs.Image.{block_at}
-use Rattle.layer_chain.specs.Changes.{with_layers, with_images, MovesPage, without, replaced}
+use Rattle.layer_chain.specs.Changes.{with_layers, with_images, MovesPage, taken_out, replaced}
 use Rattle.layer_chain.specs.Tree.{Tree, layer_at, reads, head_reads, IsAt}
 use Rattle.layer_chain.specs.declared.layer.Layer.{Layer}
 use Rattle.layer_chain.specs.declared.layer.LayerMeta.{LayerMeta}
+use Rattle.volume_model.specs.Purge.{CanFold}
 use Rattle.volume_model.specs.Snapshots.{Snapshot}
+use Rattle.coalesce.specs.declared.change.FoldPlaces.{FoldPlaces}
 
 -- what is told of a layer, as a snapshot
 abbrev pub snapshot_of : LayerMeta → Snapshot
@@ -25,10 +27,6 @@ pub record KeepsOthers (old new : Tree) (p : List ℕ) : Type 0 where
 
 -- ---- the blocks
 
--- the images of the layers of that name have the page
-abbrev pub HasPage : List Layer → List ℕ → ℕ → Type 0
-HasPage layers name page = All (λ (l : Layer). l.meta.name ≡ name → page < length l.image) layers
-
 -- the layers of that name have no block
 abbrev pub HasNoBlock : List Layer → List ℕ → Type 0
 HasNoBlock layers name =
@@ -38,6 +36,11 @@ HasNoBlock layers name =
 pub record AreAt (layers : List Layer) (p c : List ℕ) (i j : ℕ) : Type 0 where
   pub parent : IsAt layers p i
   pub child : IsAt layers c j
+
+-- p can be folded into c, and these are their places
+pub record CanFoldAt (t : Tree) (p c : List ℕ) (places : FoldPlaces) : Type 0 where
+  pub can : CanFold (snapshots_in t) t.on p c
+  pub at : AreAt t.layers p c places.parent places.child
 
 -- the blocks of that page of c are p's, over p's own, and nothing else is new
 pub record FoldsPage (old new : Tree) (p c : List ℕ) (page : ℕ) : Type 0 where
@@ -72,4 +75,4 @@ pub record Replaces (old new : Tree) (p c : List ℕ) : Type 0 where
 pub record Drops (old new : Tree) (p : List ℕ) : Type 0 where
   pub place : ℕ
   pub at : IsAt old.layers p place
-  pub is : new ≡ without old place
+  pub is : new ≡ taken_out old place

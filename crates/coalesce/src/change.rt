@@ -1,25 +1,43 @@
-ghost use Rattle.std.specs.Prelude.{◌≡◌, Some};
+ghost use Rattle.std.specs.Prelude.{◌≡◌, ◌<◌, ℕ, List, length, Some};
 ghost use Rattle.layer_chain.specs.Changes.{with_layers};
-ghost use Rattle.layer_chain.specs.Tree.{IsAt, IsThere, IsWhole};
+ghost use Rattle.layer_chain.specs.Tree.{IsAt, IsThere, IsWhole, layer_at};
 ghost use Rattle.volume_model.specs.Purge.{CanFold, CanDrop, folded, dropped};
-ghost use Rattle.coalesce.specs.Folding.{snapshots_in, HasPage, HasNoBlock, FoldsPage, Replaces, Drops, KeepsOthers};
+ghost use Rattle.coalesce.specs.Folding.{snapshots_in, CanFoldAt, HasNoBlock, FoldsPage, Replaces, Drops, KeepsOthers};
 
 use layer_chain::LayerTree;
 use vol_units::LayerName;
 
-/// Moves the blocks of a page of the child onto its parent, which is to be removed.
-pub fn fold_page(tree: &mut LayerTree, parent: &LayerName, child: &LayerName, page: u32)
-    requires can { CanFold (snapshots_in tree.old) tree.old.on parent.now child.now }
-    requires own { HasPage tree.old.layers child.now page }
-    requires under { HasPage tree.old.layers parent.now page }
-    ensures folds { FoldsPage tree.old tree.new parent.now child.now page }
-    ensures readings { KeepsOthers tree.old tree.new parent.now }
-    ensures snapshots { snapshots_in tree.new ≡ snapshots_in tree.old }
-    ensures can { CanFold (snapshots_in tree.new) tree.new.on parent.now child.now }
+/// Where a layer that can be folded stands, and the child into which it is folded.
+#[derive(Clone, Copy, PartialEq, Eq, Debug)]
+pub struct FoldPlaces {
+    pub parent: usize,
+    pub child: usize,
+}
+
+/// Finds both, once for all pages.
+pub fn fold_places(tree: &LayerTree, parent: &LayerName, child: &LayerName) -> FoldPlaces
+    requires { CanFold (snapshots_in tree.now) tree.now.on parent.now child.now }
+    ensures { CanFoldAt tree.now parent.now child.now result }
 {
-    let below = place_of(tree, parent);
-    let above = place_of(tree, child);
-    tree.move_page(below, above, page);
+    FoldPlaces {
+        parent: place_of(tree, parent),
+        child: place_of(tree, child),
+    }
+}
+
+/// Moves the blocks of a page of the child onto its parent, which is to be removed.
+pub fn fold_page(tree: &mut LayerTree, places: FoldPlaces, page: u32)
+    requires can { (p : List ℕ) × (c : List ℕ) × CanFoldAt tree.old p c places }
+    requires own { page < length (layer_at tree.old.layers places.child).image }
+    requires under { page < length (layer_at tree.old.layers places.parent).image }
+    ensures folds { (p c : List ℕ) → CanFoldAt tree.old p c places → FoldsPage tree.old tree.new p c page }
+    ensures readings { (p c : List ℕ) → CanFoldAt tree.old p c places → KeepsOthers tree.old tree.new p }
+    ensures can { (p c : List ℕ) → CanFoldAt tree.old p c places → CanFoldAt tree.new p c places }
+    ensures snapshots { snapshots_in tree.new ≡ snapshots_in tree.old }
+{
+    // That the tree is whole, a proof learns here.
+    let _count = tree.count();
+    tree.move_page(places.parent, places.child, page);
 }
 
 /// The parent goes, and the child, all of whose blocks are the parent's by now, stands in its place.

@@ -5,9 +5,6 @@ mod change;
 pub mod laws;
 mod next;
 
-pub use change::{delete_leaf, fold_page, replace};
+pub use change::{FoldPlaces, delete_leaf, fold_page, fold_places, replace};
 pub use next::next_fold;
 pub use volume_model::FoldOrDrop;
-
-#[cfg(test)]
-mod tests;

@@ -31,7 +31,7 @@ fn goes_at(tree: &LayerTree, place: usize) -> Option<FoldOrDrop>
     if !meta.marked {
         return None;
     }
-    match tree.children(place) {
+    match tree.standing_on(place) {
         Children::None => Some(FoldOrDrop::Drop(meta.name)),
         Children::One(Child::Layer(child)) => Some(FoldOrDrop::Fold {
             parent: meta.name,
