@@ -180,7 +180,7 @@ replace_is old new count node p c view n w can replaces rest keeps =
 
 -- ---- a layer is dropped
 
-module _ (old new : Tree) (p : List ℕ) (i : ℕ) (w : IsWhole old) (at : IsAt old.layers p i) (is_new : new ≡ change.without old i) (rest : new ≡ with_layers old new.layers) (keeps : KeepsOthers old new p) (count : ℕ) (n : IsNode old count) where
+module _ (old new : Tree) (p : List ℕ) (i : ℕ) (w : IsWhole old) (at : IsAt old.layers p i) (is_new : new ≡ change.taken_out old i) (rest : new ≡ with_layers old new.layers) (keeps : KeepsOthers old new p) (count : ℕ) (n : IsNode old count) where
   one : Cut old.layers p i
   one = cut old.layers p i w.layers at
 

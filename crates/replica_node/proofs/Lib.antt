@@ -1,5 +1,7 @@
+pub mod AllFolded
 pub mod ChainLemmas
 pub mod CutLemmas
+pub mod FillLemmas
 pub mod FoldLemmas
 pub mod FoldedNode
 pub mod GoneLemmas

@@ -1,11 +1,13 @@
 -- The answers for the numbers below so many, as a list.
-use Rattle.std.proofs.Common.{◌≡◌, ⊎_elim, ℕ, zero, suc, ◌<◌, ◌≤◌, Bool, true, false, List, [], ◌∷◌, ◌++◌, length, get_or, replicate, refl, sym, ap, ◌∙◌, arith, length-append}
+use Rattle.std.proofs.Common.{◌≡◌, ⊎_elim, ℕ, zero, suc, ◌+◌, ◌<◌, ◌≤◌, Bool, true, false, List, [], ◌∷◌, ◌++◌, length, get_or, replicate, refl, sym, ap, ◌∙◌, arith, add-one, length-append}
 use Rattle.std.proofs.lemmas.Bool.{false≢true, cases_eq, cases_lt}
 use Rattle.std.proofs.lemmas.List.{get_or_append_left, get_or_past}
 use Rattle.std.proofs.Math.Seq.{get_or-append_seam}
+use Rattle.std.specs.List.{All}
+use Rattle.std.proofs.lemmas.List.Elements.{All-nil, All-cons, All-append}
 use Rattle.replica_node.specs.Node.{listed}
 
-pub length-listed : (f : ℕ → Bool) (count : ℕ) → length (listed f count) ≡ count
+pub length-listed : {X : Type 0} (f : ℕ → X) (count : ℕ) → length (listed f count) ≡ count
 unfolding listed
 length-listed f zero = refl
 length-listed f (suc count) = omega (arith, length-append (listed f count) (f count ∷ []), length-listed f count)
@@ -33,11 +35,11 @@ listed-within f count k there = ⊎_elim
     (λ past. absurd (false≢true (sym (listed-past f count k past) ∙ there)))
     (cases_lt k count)
 
-one_more : (a b : List Bool) (x y : Bool) → a ≡ b → x ≡ y → a ++ x ∷ [] ≡ b ++ y ∷ []
+one_more : {X : Type 0} (a b : List X) (x y : X) → a ≡ b → x ≡ y → a ++ x ∷ [] ≡ b ++ y ∷ []
 one_more a b x y p q = cc
 
 -- the same answers, the same list
-pub listed-same : (f g : ℕ → Bool) (count : ℕ) → ((k : ℕ) → k < count → f k ≡ g k) → listed f count ≡ listed g count
+pub listed-same : {X : Type 0} (f g : ℕ → X) (count : ℕ) → ((k : ℕ) → k < count → f k ≡ g k) → listed f count ≡ listed g count
 unfolding listed
 listed-same f g zero same = refl
 listed-same f g (suc count) same =
@@ -53,3 +55,19 @@ unfolding listed
 listed-all f zero x same = refl
 listed-all f (suc count) x same =
     one_more (listed f count) (replicate count x) (f count) x (listed-all f count x same) (same count) ∙ replicate-push count x
+
+-- one more answer
+pub listed-more : {X : Type 0} (f : ℕ → X) (count : ℕ) → listed f (count + 1) ≡ listed f count ++ f count ∷ []
+unfolding listed
+listed-more f count = ap (listed f) (add-one count)
+
+pub listed-none : {X : Type 0} (f : ℕ → X) → listed f 0 ≡ []
+unfolding listed
+listed-none f = refl
+
+-- what holds of each answer holds of all
+pub listed-All : {X : Type 0} (P : X → Type 0) (f : ℕ → X) (count : ℕ) → ((k : ℕ) → k < count → P (f k)) → All P (listed f count)
+unfolding listed
+listed-All P f zero each = All-nil P
+listed-All P f (suc count) each =
+    All-append P (listed f count) (f count ∷ []) (listed-All P f count (λ k h. each k (omega arith))) (All-cons P (f count) [] (each count (omega arith)) (All-nil P))

@@ -7,9 +7,9 @@ use Rattle.volume_model.proofs.PurgeLemmas.{next_is_first, next_is_none}
 use Rattle.volume_model.specs.Purge.{CanFold, CanDrop, IsFirst, IsPurged, next_in}
 use Rattle.volume_model.specs.declared.mark.FoldOrDrop.{FoldOrDrop}
 use Rattle.volume_model.specs.Snapshots.{Snapshot}
-use Rattle.layer_chain.specs.Tree.{Tree, IsWhole}
+use Rattle.layer_chain.specs.Tree.{Tree, IsWhole, layer_at}
 use Rattle.layer_chain.specs.declared.layer.Layer.{Layer}
-use Rattle.coalesce.specs.Folding.{snapshot_of, snapshots_in, HasPage}
+use Rattle.coalesce.specs.Folding.{snapshot_of, snapshots_in}
 use Rattle.coalesce.proofs.NameLemmas.{names_once}
 use Rattle.replica_node.specs.Node.{Kept, Node, node_of, kept_in, IsNode}
 use Rattle.replica_node.specs.Fold.{tree_of}
@@ -52,10 +52,11 @@ next_of_node t count node found view told =
     next_is (snapshots_in t) t.on found told ∙ ap (λ ss. next_in ss t.on) (sym (tree_is t count node view)) ∙ ap (λ n. next_in (tree_of node) n.on) view
 
 -- each layer has a place for a page of the volume, and is told of as many blocks
-pub has_page_named : (t : Tree) (count : ℕ) (node : Node) (name : List ℕ) (page : ℕ) → node_of t count ≡ node → IsNode t count
-    → page * 2097152 < length node.disk → HasPage t.layers name page
-has_page_named t count node name page view n inside =
-    λ i l within named. omega (arith, n.images i l within, length-node t count node view n)
+pub page_inside : (t : Tree) (count : ℕ) (node : Node) (place page : ℕ) → node_of t count ≡ node → IsNode t count
+    → page * 2097152 < length node.disk → place < length t.layers → page < length (layer_at t.layers place).image
+page_inside t count node place page view n inside within =
+    let pages : length (layer_at t.layers place).image * 512 ≡ count = n.images place _ within in
+    omega (arith, pages, length-node t count node view n)
 
 own_lengths : (xs layers : List Layer) (count : ℕ) → All (λ (k : Kept). length k.own ≡ count) (map (kept_in layers count) xs)
 own_lengths [] layers count = All-nil (λ (k : Kept). length k.own ≡ count)

@@ -1,5 +1,5 @@
 -- Blocks that are put into the head of a replica.
-use Rattle.std.proofs.Common.{◌≡◌, ◌≢◌, ⊎_elim, ℕ, suc, ◌+◌, ◌*◌, ◌/◌, ◌<◌, ◌≤◌, Bool, true, false, ◌||◌, List, [], ◌∷◌, ◌++◌, length, take, drop, get_or, map, Option, None, Some, is_some, refl, sym, ap, subst, ◌∙◌, arith, append-nil, add-one, length-append, lit<}
+use Rattle.std.proofs.Common.{◌≡◌, ◌≢◌, ⊎_elim, ℕ, suc, ◌+◌, ◌*◌, ◌/◌, ◌<◌, ◌≤◌, Bool, true, false, cond, ◌||◌, List, [], ◌∷◌, ◌++◌, length, take, drop, get_or, map, Option, None, Some, is_some, refl, sym, ap, subst, ◌∙◌, arith, append-nil, add-one, length-append, lit<}
 use Rattle.std.proofs.lemmas.Bool.{false≢true, cases_eq}
 use Rattle.std.proofs.lemmas.Bool.Decides.{nat_tests}
 use Rattle.std.specs.List.{All, flat_map}
@@ -15,9 +15,10 @@ use Rattle.sparse_image.proofs.DiskLemmas.{joined-changed, length-joined}
 use Rattle.layer_chain.specs.Tree.{Tree, reads, head_reads}
 use Rattle.layer_chain.specs.Changes.{with_head}
 use Rattle.replica_node.specs.Node.{Node, node_of, head_disk, listed, has_own, own_in, made_in, kept_in, IsNode}
-use Rattle.replica_node.specs.Room.{PutsBlocks, put_at, bytes_in, is_among, own_with}
+use Rattle.replica_node.specs.Room.{PutsBlocks, put_at, bytes_in, is_among, own_with, head_block, head_blocks}
 use Rattle.replica_node.proofs.ListedLemmas.{listed-at, listed-same}
 use Rattle.replica_node.proofs.NodeLemmas.{HasPages, length-own_in, same_parts}
+use Rattle.replica_node.proofs.OwnLemmas.{own_at}
 use Rattle.replica_node.proofs.ReadLemmas.{node_block, length-node}
 
 -- one block is put
@@ -81,6 +82,16 @@ among_here first i k here = grind (arith, nat_tests)
 among_elsewhere : (first i k : ℕ) → k ≢ first + i → is_among first (i + 1) k ≡ is_among first i k
 among_elsewhere first i k other = grind (arith, nat_tests)
 
+not_among : (first i k : ℕ) → is_among first (i + 1) k ≡ false → k ≢ first + i
+not_among first i k apart here = false≢true (sym apart ∙ among_here first i k here)
+
+not_before : (first i k : ℕ) → is_among first (i + 1) k ≡ false → is_among first i k ≡ false
+not_before first i k apart = sym (among_elsewhere first i k (not_among first i k apart)) ∙ apart
+
+-- the next block is none of those before
+pub among_next : (first i : ℕ) → is_among first i (first + i) ≡ false
+among_next first i = grind (arith, nat_tests)
+
 -- one block more is there, where so many were
 one_own : (old new : Tree) (start : ℕ → Bool) (first i : ℕ) (b : Option (List ℕ)) → PutsBlock old new (first + i) b
     → ((k : ℕ) → is_some (block_at old.head k) ≡ (is_among first i k || start k))
@@ -117,6 +128,7 @@ pub none_put : (t : Tree) (first : ℕ) → IsNode t (length t.head * 512) → P
 none_put t first n = record {
   rest = refl;
   pages = λ page. refl;
+  others = λ k apart. refl;
   own = λ k. sym (ap (λ b. b || is_some (block_at t.head k)) (among_none first k));
   whole = refl;
   node = n;
@@ -140,6 +152,8 @@ one_put start old new first i blocks b so_far inside is room n p =
     record {
       rest = p.rest ∙ ap (λ t. with_head t new.head) so_far.rest;
       pages = λ page. p.changes.pages page ∙ so_far.pages page;
+      others = λ k apart. let a : is_among first (i + 1) k ≡ false = ap (λ m. is_among first m k) (sym after) ∙ apart in
+          p.changes.others k (not_among first i k a) ∙ so_far.others k (ap (λ m. is_among first m k) before ∙ not_before first i k a);
       own = λ k. one_own old new (λ j. is_some (block_at start.head j)) first i b p
           (λ j. so_far.own j ∙ ap (λ m. is_among first m j || is_some (block_at start.head j)) before) k
           ∙ ap (λ m. is_among first m k || is_some (block_at start.head k)) (sym after);
@@ -204,6 +218,26 @@ own_block : (t : Tree) (count : ℕ) (node : Node) (block : ℕ) (b : List ℕ) 
     → block_at t.head block ≡ Some b → b ≡ bytes_at node.disk (block * 4096) 4096
 own_block t count node block b view n inside is =
     sym (ap (λ o. bytes_of (option_or o (reads t.layers t.on block))) is) ∙ node_block t count node None block view n tt inside
+
+-- what the head of the tree has at a block is what the replica tells of it
+pub head_block_is : (t : Tree) (count : ℕ) (node : Node) (block : ℕ) → node_of t count ≡ node → IsNode t count → block < count
+    → block_at t.head block ≡ head_block node block
+head_block_is t count node block view n inside = go (block_at t.head block) refl
+  where
+    own : has_own node.own block ≡ is_some (block_at t.head block)
+    own = ap (λ x. has_own x.own block) (sym view) ∙ own_at t.head count block inside
+
+    go : (o : Option (List ℕ)) → block_at t.head block ≡ o → block_at t.head block ≡ head_block node block
+    go None is = is ∙ sym (ap (λ b. cond b (Some (bytes_at node.disk (block * 4096) 4096)) None) (own ∙ ap is_some is))
+    go (Some b) is = is ∙ ap Some (own_block t count node block b view n (omega (arith, length-node t count node view n)) is)
+        ∙ sym (ap (λ b. cond b (Some (bytes_at node.disk (block * 4096) 4096)) None) (own ∙ ap is_some is))
+
+-- and the same of many
+pub head_blocks_are : (t : Tree) (count : ℕ) (node : Node) (first many : ℕ) → node_of t count ≡ node → IsNode t count → first + many ≤ count
+    → listed (λ i. block_at t.head (first + i)) many ≡ head_blocks node first many
+head_blocks_are t count node first many view n inside =
+    listed-same (λ i. block_at t.head (first + i)) (λ i. head_block node (first + i)) many
+    (λ i h. head_block_is t count node (first + i) view n (omega arith))
 
 -- a part of it is written over
 puts_part : (old new : Tree) (count : ℕ) (block start : ℕ) (bytes b : List ℕ) → IsNode old count → block_at old.head block ≡ Some b

@@ -1,18 +1,24 @@
 -- What folding a page of a child onto its parent, putting the child in the parent's place, and dropping a layer make
 -- of a replica. Which layers can go is told of them as snapshots, in volume_model's specs/Purge.antt.
-use Rattle.std.specs.Prelude.{ℕ, ◌*◌, ◌/◌, Bool, not, ◌&&◌, ◌||◌, ◌==◌, List, [], ◌∷◌, length, map, Option, if◌then◌else◌}
+use Rattle.std.specs.Prelude.{◌≡◌, ℕ, zero, suc, ◌*◌, ◌/◌, Bool, not, ◌&&◌, ◌||◌, ◌==◌, List, [], ◌∷◌, length, map, Option, if◌then◌else◌}
 use Rattle.std.specs.Str.{bytes_eq}
 use Rattle.vol_units.specs.Bytes.{bytes_at, with_bytes_at}
 use Rattle.vol_units.specs.declared.size.TheConstants.{PAGE_BYTES}
 use Rattle.sparse_image.specs.declared.block.TheConstants.{PAGE_BLOCKS}
-use Rattle.volume_model.specs.Snapshots.{Snapshot}
+use Rattle.volume_model.specs.Snapshots.{Snapshot, Snapshots}
 use Rattle.volume_model.specs.Purge.{parent_in}
-use Rattle.coalesce.specs.Folding.{snapshot_of}
-use Rattle.replica_node.specs.Node.{Kept, Node, disk_named, has_own, listed}
+use Rattle.layer_chain.specs.Tree.{Tree}
+use Rattle.coalesce.specs.declared.change.FoldPlaces.{FoldPlaces}
+use Rattle.coalesce.specs.Folding.{snapshot_of, CanFoldAt}
+use Rattle.replica_node.specs.Node.{Kept, Node, node_of, IsNode, disk_named, has_own, listed}
 
 -- the layers of a replica as snapshots, the newest first
 abbrev pub tree_of : Node → List Snapshot
 tree_of node = map (λ k. snapshot_of k.meta) node.layers
+
+-- the same, with that on which the head stands, and the head's number
+abbrev pub snapshots_of : Node → Snapshots
+snapshots_of node = record { tree = tree_of node; on = node.on; number = node.number }
 
 -- of each block whether the layer of the name itself has it, of the first that has the name
 abbrev pub own_named : List Kept → List ℕ → List Bool
@@ -60,6 +66,11 @@ page_folded_in layers p c page k =
 abbrev pub page_folded : Node → List ℕ → List ℕ → ℕ → Node
 page_folded node p c page = record node { layers = map (page_folded_in node.layers p c page) node.layers }
 
+-- so many pages of c, the first ones, are folded onto p, one after another
+unfoldable pub pages_folded : Node → List ℕ → List ℕ → ℕ → Node
+pages_folded node p c zero = node
+pages_folded node p c (suc pages) = page_folded (pages_folded node p c pages) p c pages
+
 -- ---- a layer goes
 
 -- without the layer of the name
@@ -78,6 +89,18 @@ replaced node p c = record node {
   layers = map (put_down c (parent_in p (tree_of node)) (own_named node.layers p)) (without p node.layers);
 }
 
+-- all pages of c are folded onto p, and p is out
+abbrev pub folded_away : Node → List ℕ → List ℕ → Node
+folded_away node p c = replaced (pages_folded node p c (length node.disk / PAGE_BYTES)) p c
+
 -- p is out
 abbrev pub dropped_node : Node → List ℕ → Node
 dropped_node node p = record node { layers = without p node.layers }
+
+-- ---- the same of a tree
+
+-- so many pages are folded in the tree of a replica of so many blocks, and the fold can go on
+pub record FoldsPages (old new : Tree) (p c : List ℕ) (places : FoldPlaces) (count pages : ℕ) : Type 0 where
+  pub can : CanFoldAt new p c places
+  pub node : IsNode new count
+  pub is : node_of new count ≡ pages_folded (node_of old count) p c pages

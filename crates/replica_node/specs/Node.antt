@@ -6,7 +6,6 @@ use Rattle.vol_units.specs.declared.size.TheConstants.{BLOCK_BYTES}
 use Rattle.sparse_image.specs.declared.block.TheConstants.{PAGE_BLOCKS}
 use Rattle.sparse_image.specs.Image.{Tables, IsEmpty, block_at, has_page}
 use Rattle.sparse_image.specs.Disk.{bytes_of, joined}
-use Rattle.layer_chain.specs.Layers.{is_named}
 use Rattle.layer_chain.specs.declared.layer.LayerMeta.{LayerMeta}
 use Rattle.layer_chain.specs.declared.layer.Layer.{Layer}
 use Rattle.snapshot_ops.specs.Ops.{fresh}
@@ -48,7 +47,7 @@ block_in t None block = head_reads t block
 block_in t (Some name) block = reads t.layers (Some name) block
 
 -- the answers for the numbers below so many
-unfoldable pub listed : (ℕ → Bool) → ℕ → List Bool
+unfoldable pub listed : {X : Type 0} → (ℕ → X) → ℕ → List X
 listed answer zero = []
 listed answer (suc count) = listed answer count ++ answer count ∷ []
 
@@ -115,21 +114,6 @@ IsSpareOf node spare = (length spare * PAGE_BLOCKS ≡ length node.room) × IsEm
 -- no layer has the name
 abbrev pub IsFree : Node → List ℕ → Type 0
 IsFree node name = All (λ (k : Kept). k.meta.name ≢ name) node.layers
-
--- the layer of the name is there and not marked: the first that has the name counts
-abbrev pub is_live_in : List Kept → List ℕ → Bool
-is_live_in [] name = false
-is_live_in (k ∷ ks) name = if bytes_eq name k.meta.name then not k.meta.marked else is_live_in ks name
-
--- the layers from the named one down, each with its mark, of layers of which a parent stands behind its child
-abbrev pub chain_in : List Kept → Option (List ℕ) → List (List ℕ × Bool)
-chain_in [] on = []
-chain_in (k ∷ ks) on =
-    if is_named on k.meta.name then (k.meta.name, k.meta.marked) ∷ chain_in ks k.meta.parent else chain_in ks on
-
--- the layers below the head, from its parent down
-abbrev pub chain_of : Node → List (List ℕ × Bool)
-chain_of node = chain_in node.layers node.on
 
 -- ---- what a change makes of a replica
 

@@ -1,12 +1,12 @@
 -- The places that writes find made in the head of a replica, and what a write puts there.
-use Rattle.std.specs.Prelude.{◌≡◌, ℕ, ◌+◌, ◌*◌, ◌/◌, Bool, true, false, ◌&&◌, ◌||◌, nat_le, nat_lt, List, Option, is_some, length, slice_index_or}
+use Rattle.std.specs.Prelude.{◌≡◌, ℕ, ◌+◌, ◌*◌, ◌/◌, Bool, true, false, ◌&&◌, ◌||◌, nat_le, nat_lt, List, Option, None, Some, is_some, length, slice_index_or, if◌then◌else◌}
 use Rattle.std.specs.List.{flat_map}
-use Rattle.vol_units.specs.Bytes.{with_bytes_at}
+use Rattle.vol_units.specs.Bytes.{bytes_at, with_bytes_at}
 use Rattle.vol_units.specs.declared.range.BlockRange.{BlockRange}
 use Rattle.vol_units.specs.Range.{HasBlock}
 use Rattle.sparse_image.specs.declared.block.TheConstants.{BLOCK_BYTES, PAGE_BLOCKS}
 use Rattle.sparse_image.specs.Disk.{bytes_of}
-use Rattle.sparse_image.specs.Image.{Tables, block_at, has_page}
+use Rattle.sparse_image.specs.Image.{Tables, block_at, has_page, is_page_of}
 use Rattle.layer_chain.specs.Tree.{Tree}
 use Rattle.layer_chain.specs.Changes.{with_head}
 use Rattle.replica_node.specs.Node.{Node, IsNode, head_disk, has_own, listed}
@@ -14,6 +14,14 @@ use Rattle.replica_node.specs.Node.{Node, IsNode, head_disk, has_own, listed}
 -- a write of the range finds its places
 abbrev pub HasRoom : Node → BlockRange → Type 0
 HasRoom node range = (block : ℕ) → HasBlock range block → slice_index_or node.room block false ≡ true
+
+-- of each block whether a write finds its place, once the pages of the range are made
+abbrev pub room_with : List Bool → BlockRange → List Bool
+room_with room range = listed (λ block. is_page_of range (block / PAGE_BLOCKS) || has_own room block) (length room)
+
+-- the replica once they are made
+abbrev pub with_room : Node → BlockRange → Node
+with_room node range = record node { room = room_with node.room range }
 
 -- the same replica with other places made
 abbrev pub with_room_of : Node → Node → Node
@@ -31,6 +39,19 @@ blocks_from first count = record { first = first; end = first + count }
 -- the bytes of blocks, one after another
 abbrev pub bytes_in : List (Option (List ℕ)) → List ℕ
 bytes_in blocks = flat_map bytes_of blocks
+
+-- the bytes cut into so many blocks
+abbrev pub blocks_of : List ℕ → ℕ → List (Option (List ℕ))
+blocks_of bytes count = listed (λ i. Some (bytes_at bytes (i * BLOCK_BYTES) BLOCK_BYTES)) count
+
+-- what the head itself has at a block: its bytes, or none
+abbrev pub head_block : Node → ℕ → Option (List ℕ)
+head_block node block =
+    if has_own node.own block then Some (bytes_at node.disk (block * BLOCK_BYTES) BLOCK_BYTES) else None
+
+-- the same of so many blocks from the first on
+abbrev pub head_blocks : Node → ℕ → ℕ → List (Option (List ℕ))
+head_blocks node first count = listed (λ i. head_block node (first + i)) count
 
 -- the block is one of so many from the first on
 abbrev pub is_among : ℕ → ℕ → ℕ → Bool
@@ -53,17 +74,12 @@ put_at node first bytes = record node {
 abbrev pub HasPages : Tables → BlockRange → Type 0
 HasPages image range = (block : ℕ) → HasBlock range block → has_page image (block / PAGE_BLOCKS) ≡ true
 
--- pages are made, and nothing else changes
-pub record MakesPages (old new : Tree) : Type 0 where
-  pub rest : new ≡ with_head old new.head
-  pub count : length new.head ≡ length old.head
-  pub blocks : (block : ℕ) → block_at new.head block ≡ block_at old.head block
-  pub kept : (page : ℕ) → has_page old.head page ≡ true → has_page new.head page ≡ true
-
 -- the blocks are put into the head from the first on, and nothing else changes
 pub record PutsBlocks (old new : Tree) (first : ℕ) (blocks : List (Option (List ℕ))) : Type 0 where
   pub rest : new ≡ with_head old new.head
   pub pages : (page : ℕ) → has_page new.head page ≡ has_page old.head page
+  pub others : (block : ℕ) → is_among first (length blocks) block ≡ false
+      → block_at new.head block ≡ block_at old.head block
   pub own : (block : ℕ) → is_some (block_at new.head block)
       ≡ (is_among first (length blocks) block || is_some (block_at old.head block))
   pub whole : length (bytes_in blocks) ≡ length blocks * BLOCK_BYTES

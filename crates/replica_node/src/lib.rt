@@ -2,9 +2,8 @@
 #![tactic(auto)]
 
 mod blocks;
-mod chain;
+mod fold;
 mod node;
-mod room;
 
 pub use blocks::Blocks;
 pub use layer_chain::{LayerMeta, MOST_LAYERS};

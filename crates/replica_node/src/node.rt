@@ -1,16 +1,16 @@
-ghost use Rattle.std.specs.Prelude.{◌≡◌, ℕ, ◌+◌, ◌*◌, ◌/◌, ◌^◌, ◌<◌, ◌≤◌, length, Some, IfOk, OnOk, All, is_some, true, false};
+ghost use Rattle.std.specs.Prelude.{◌≡◌, ℕ, ◌+◌, ◌*◌, ◌/◌, ◌^◌, ◌<◌, ◌≤◌, length, Some, IfOk, OnOk, OnErr, All, is_some, true, false};
 ghost use Rattle.vol_units.specs.Bytes.{zeros, bytes_at, with_bytes_at};
 ghost use Rattle.vol_units.specs.declared.size.TheConstants.{LARGEST_SIZE, PAGE_BYTES};
 ghost use Rattle.sparse_image.specs.Disk.{bytes_of};
-ghost use Rattle.replica_node.specs.Room.{HasRoom, KeepsRoom, with_room_of, put_at, bytes_in};
+ghost use Rattle.replica_node.specs.Room.{HasRoom, KeepsRoom, with_room, with_room_of, put_at, bytes_in, head_blocks};
 ghost use Rattle.volume_model.specs.Names.{NamesOnce};
 ghost use Rattle.volume_model.specs.Purge.{CanFold, CanDrop, next_in};
-ghost use Rattle.replica_node.specs.Node.{Kept, blank, snapped, reverted, marked, disk_of_layer, block_in, is_live_in, chain_of, has_own, node_of, IsNode, IsKept, IsFree, IsSpareOf};
-ghost use Rattle.replica_node.specs.Fold.{tree_of, own_named, page_folded, replaced, dropped_node};
+ghost use Rattle.volume_model.specs.Snapshots.{is_live, chain_of};
+ghost use Rattle.replica_node.specs.Node.{Kept, blank, snapped, reverted, marked, disk_of_layer, block_in, has_own, node_of, IsNode, IsKept, IsFree, IsSpareOf};
+ghost use Rattle.replica_node.specs.Fold.{tree_of, snapshots_of, own_named, page_folded, replaced, folded_away, dropped_node};
 
 use crate::blocks::Blocks;
-use crate::chain::chain_below;
-use crate::room::make_pages;
+use crate::fold::fold_pages;
 use layer_chain::{LayerTree, MOST_LAYERS};
 use snapshot_ops::Spare;
 use sparse_image::{BLOCK_BYTES, Block};
@@ -108,7 +108,21 @@ impl ReplicaNode {
     {
         // That no name comes twice, a proof learns here.
         let _count = self.tree.count();
-        coalesce::fold_page(&mut self.tree, parent, child, page);
+        let places = coalesce::fold_places(&self.tree, parent, child);
+        coalesce::fold_page(&mut self.tree, places, page);
+    }
+
+    /// Folds all pages of the child onto its parent, and lets the parent go, whose names are looked up once
+    /// for all pages. It takes no memory.
+    pub fn fold(&mut self, parent: &LayerName, child: &LayerName)
+        requires { CanFold (tree_of self.old) self.old.on parent.now child.now }
+        ensures { self.new ≡ folded_away self.old parent.now child.now }
+    {
+        let places = coalesce::fold_places(&self.tree, parent, child);
+        fold_pages(&mut self.tree, places, self.size.page_count());
+        // That no name comes twice, a proof learns here.
+        let _count = self.tree.count();
+        coalesce::replace(&mut self.tree, parent, child);
     }
 
     /// Lets the parent go, once each page of the child is folded onto it, and the child takes its
@@ -136,21 +150,26 @@ impl ReplicaNode {
     /// Makes places in the head for the blocks of a range, so that writing them takes no memory.
     pub fn make_room(&mut self, alloc: Global, range: BlockRange) -> Result<(), AllocError>
         requires { range.end * BLOCK_BYTES ≤ length self.old.disk }
-        ensures ok { OnOk result (HasRoom self.new range) }
-        ensures same { self.new ≡ with_room_of self.old self.new }
+        ensures ok { OnOk result (self.new ≡ with_room self.old range) }
+        ensures err { OnErr result (self.new ≡ self.old) }
+
+        // A write of the range finds its places, and nothing but places is new.
+        ensures room { OnOk result (HasRoom self.new range) }
         ensures kept { KeepsRoom self.old self.new }
+        ensures same { self.new ≡ with_room_of self.old self.new }
     {
-        make_pages(&mut self.tree, alloc, range)
+        self.tree.make_room(alloc, range)
     }
 
-    /// Puts blocks at a range of the head. Each is swapped with the one that was there. It takes no
-    /// memory.
+    /// Puts blocks at a range of the head. Each is swapped with what the head itself had there. It takes
+    /// no memory.
     pub fn write_blocks(&mut self, range: BlockRange, blocks: &mut Blocks)
         requires room { HasRoom self.old range }
         requires full { All (λ b. is_some b ≡ true) blocks.old }
         requires count { range.first + length blocks.old ≡ range.end }
         requires inside { range.end * BLOCK_BYTES ≤ length self.old.disk }
         ensures put { self.new ≡ put_at self.old range.first (bytes_in blocks.old) }
+        ensures back { blocks.new ≡ head_blocks self.old range.first (length blocks.old) }
         ensures count { length blocks.new ≡ length blocks.old }
     {
         blocks.swap_into(&mut self.tree, range.first);
@@ -160,6 +179,7 @@ impl ReplicaNode {
     pub fn overwrite(&mut self, block: u32, start: usize, bytes: &[u8]) -> bool
         requires part { start + length bytes.now ≤ BLOCK_BYTES }
         requires inside { block * BLOCK_BYTES < length self.old.disk }
+        ensures there { result ≡ has_own self.old.own block }
         ensures absent { result ≡ false → self.new ≡ self.old }
         ensures put { result ≡ true → self.new ≡ put_at self.old block
             (with_bytes_at (bytes_at self.old.disk (block * BLOCK_BYTES) BLOCK_BYTES) start bytes.now) }
@@ -191,7 +211,7 @@ impl ReplicaNode {
 
     /// Whether the layer of the name is there and not marked.
     pub fn is_live(&self, name: &LayerName) -> bool
-        ensures { result ≡ is_live_in self.now.layers name.now }
+        ensures { result ≡ is_live (tree_of self.now) name.now }
     {
         // That no name comes twice, a proof learns here.
         let _count = self.tree.count();
@@ -203,9 +223,9 @@ impl ReplicaNode {
 
     /// The layers below the head, from its parent down, each with its mark.
     pub fn chain(&self, alloc: Global) -> Result<Vec<(LayerName, bool)>, AllocError>
-        ensures { IfOk result (λ layers. layers.items ≡ chain_of self.now) }
+        ensures { IfOk result (λ layers. layers.items ≡ chain_of (snapshots_of self.now)) }
     {
-        chain_below(&self.tree, alloc)
+        self.tree.chain_of(alloc, self.tree.head_parent())
     }
 
     /// The bytes of the volume.
