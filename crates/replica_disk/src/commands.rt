@@ -74,7 +74,6 @@ fn room_refusal(node: &ReplicaNode) -> Option<Refusal>
 }
 
 /// What stands against the use of the snapshot of the name.
-#[tactic(auto, using(replica_state::proofs::VolumeLemmas::same_live))]
 fn live_refusal(node: &ReplicaNode, name: &LayerName) -> Option<Refusal>
     ensures { result ≡ live_refusal (volume_of_node node.now) name.now }
 {

@@ -8,12 +8,12 @@ use Rattle.std.proofs.lemmas.List.Elements.{All-nil, All-cons}
 use Rattle.std.proofs.lemmas.Slice.Eq.{bytes_eq-Decides}
 use Rattle.std.proofs.lemmas.Bool.{false≢true}
 use Rattle.vol_units.specs.Bytes.{zeros}
-use Rattle.replica_node.specs.Node.{Kept, Node, names_of, is_live_in, chain_in, disk_named, with_mark, IsKept, IsFree}
+use Rattle.replica_node.specs.Node.{Kept, Node, names_of, disk_named, with_mark, IsKept, IsFree}
 use Rattle.replica_node.specs.Node as node
 use Rattle.replica_node.specs.Fold.{tree_of}
 use Rattle.replica_node.specs.Room.{put_at, with_room_of}
 use Rattle.volume_model.specs.Names.{has_name}
-use Rattle.volume_model.specs.Snapshots.{Snapshot, is_live, marked_if, chain_from, chain_of, layer_count}
+use Rattle.volume_model.specs.Snapshots.{Snapshot, is_live, marked_if, layer_count}
 use Rattle.volume_model.specs.PlainState.{Copy, Volume, volume_of, copy_of, without}
 use Rattle.volume_model.specs.PlainState as plain
 use Rattle.coalesce.specs.Folding.{snapshot_of}
@@ -25,43 +25,22 @@ snap k = snapshot_of k.meta
 
 -- ---- what is asked
 
--- the layers below the head are the snapshots below it
-same_below : (ks : List Kept) (on : Option (List ℕ)) → chain_from (map snap ks) on ≡ chain_in ks on
-same_below [] on = refl
-same_below (k ∷ ks) None = same_below ks None
-same_below (k ∷ ks) (Some name) =
-    both (bytes_eq name k.meta.name) (ap (λ l. (k.meta.name, k.meta.marked) ∷ l) (same_below ks k.meta.parent)) (same_below ks (Some name))
-  where
-    both : {a b c d : List (List ℕ × Bool)} (t : Bool) → a ≡ b → c ≡ d → cond t a c ≡ cond t b d
-    both true p q = p
-    both false p q = q
-
-pub same_chain : (n : Node) → chain_of (volume_of_node n).snapshots ≡ node.chain_of n
-same_chain n = same_below n.layers n.on
-
 pub same_count : (n : Node) → layer_count (volume_of_node n).snapshots ≡ length n.layers + 1
 same_count n = ap (λ k. k + 1) (length-map n.layers snap)
 
-live_in : (ks : List Kept) (name : List ℕ) → is_live (map snap ks) name ≡ is_live_in ks name
-live_in [] name = refl
-live_in (k ∷ ks) name = ap (cond (bytes_eq name k.meta.name) (not k.meta.marked)) (live_in ks name)
-
-pub same_live : (n : Node) (name : List ℕ) → is_live (tree_of n) name ≡ is_live_in n.layers name
-same_live n name = live_in n.layers name
-
 -- a layer that is live is there
-live_at : (ks : List Kept) (name : List ℕ) → is_live_in ks name ≡ true → Contains (names_of ks) name
+live_at : (ks : List Kept) (name : List ℕ) → is_live (map snap ks) name ≡ true → Contains (names_of ks) name
 live_at [] name live = absurd (false≢true live)
 live_at (k ∷ ks) name live = go (λ older. live_at ks name older) (bytes_eq name k.meta.name) refl live
   where
-    go : (is_live_in ks name ≡ true → Contains (names_of ks) name) → (t : Bool) → bytes_eq name k.meta.name ≡ t
-        → cond t (not k.meta.marked) (is_live_in ks name) ≡ true → Contains (names_of (k ∷ ks)) name
+    go : (is_live (map snap ks) name ≡ true → Contains (names_of ks) name) → (t : Bool) → bytes_eq name k.meta.name ≡ t
+        → cond t (not k.meta.marked) (is_live (map snap ks) name) ≡ true → Contains (names_of (k ∷ ks)) name
     go rest true same is = (0, omega arith, sym ((bytes_eq-Decides name k.meta.name).0 same))
     go rest false same is = let older = rest is in (suc older.0, omega (arith, older.1), older.2)
 
 -- a snapshot that can be used is a layer's
 pub kept_of : (n : Node) (name : List ℕ) → is_live (tree_of n) name ≡ true → IsKept n (Some name)
-kept_of n name live = live_at n.layers name (sym (same_live n name) ∙ live)
+kept_of n name live = live_at n.layers name live
 
 free_in : (ks : List Kept) (name : List ℕ) → has_name (map snap ks) name ≡ false → All (λ (k : Kept). k.meta.name ≢ name) ks
 free_in [] name none = All-nil (λ (k : Kept). k.meta.name ≢ name)
@@ -108,12 +87,12 @@ pub snapped_volume : (n : Node) (name : List ℕ) → volume_of_node (node.snapp
 snapped_volume n name = refl
 
 -- the copy of a layer that is live is what it reads as
-copy_of_live : (ks : List Kept) (name : List ℕ) → is_live_in ks name ≡ true → copy_of (copies_in ks) name ≡ disk_named ks name
+copy_of_live : (ks : List Kept) (name : List ℕ) → is_live (map snap ks) name ≡ true → copy_of (copies_in ks) name ≡ disk_named ks name
 copy_of_live [] name live = refl
 copy_of_live (k ∷ ks) name live = go k.meta.marked refl (bytes_eq name k.meta.name) refl (λ older. copy_of_live ks name older) live
   where
     go : (marked : Bool) → k.meta.marked ≡ marked → (t : Bool) → bytes_eq name k.meta.name ≡ t
-        → (is_live_in ks name ≡ true → copy_of (copies_in ks) name ≡ disk_named ks name) → cond t (not k.meta.marked) (is_live_in ks name) ≡ true
+        → (is_live (map snap ks) name ≡ true → copy_of (copies_in ks) name ≡ disk_named ks name) → cond t (not k.meta.marked) (is_live (map snap ks) name) ≡ true
         → copy_of (cond k.meta.marked (copies_in ks) (record { name = k.meta.name; disk = k.disk } ∷ copies_in ks)) name ≡ cond t k.disk (disk_named ks name)
     go true marked true same rest is = absurd (false≢true (sym (ap not marked) ∙ is))
     go true marked false same rest is = rw marked (rest is)
@@ -123,7 +102,7 @@ copy_of_live (k ∷ ks) name live = go k.meta.marked refl (bytes_eq name k.meta.
 pub reverted_volume : (n : Node) (name : List ℕ) → is_live (tree_of n) name ≡ true
     → volume_of_node (node.reverted n name) ≡ plain.reverted (volume_of_node n) name
 reverted_volume n name live =
-    ap (λ d. record (volume_of_node (node.reverted n name)) { disk = d }) (sym (copy_of_live n.layers name (sym (same_live n name) ∙ live)))
+    ap (λ d. record (volume_of_node (node.reverted n name)) { disk = d }) (sym (copy_of_live n.layers name live))
 
 -- a mark drops the copies of the name
 without_marked : (ks : List Kept) (name : List ℕ) → copies_in (map (with_mark name) ks) ≡ without (copies_in ks) name

@@ -3,7 +3,7 @@
 use Rattle.std.specs.Prelude.{List, [], ◌∷◌, if◌then◌else◌}
 use Rattle.volume_model.specs.PlainState.{Copy, Volume}
 use Rattle.replica_node.specs.Node.{Kept, Node}
-use Rattle.replica_node.specs.Fold.{tree_of}
+use Rattle.replica_node.specs.Fold.{snapshots_of}
 
 -- what the layers that are not marked read as
 abbrev pub copies_in : List Kept → List Copy
@@ -16,7 +16,7 @@ abbrev pub volume_of_node : Node → Volume
 volume_of_node node = record {
   disk = node.disk;
   copies = copies_in node.layers;
-  snapshots = record { tree = tree_of node; on = node.on; number = node.number };
+  snapshots = snapshots_of node;
 }
 
 -- the replica with the layers of another: its head is as it was

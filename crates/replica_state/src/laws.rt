@@ -5,7 +5,7 @@ ghost use Rattle.volume_model.specs.Disk.{zeros};
 ghost use Rattle.volume_model.specs.Names.{NamesOnce, has_name};
 ghost use Rattle.volume_model.specs.PlainState as plain;
 ghost use Rattle.volume_model.specs.Purge.{CanFold, CanDrop};
-ghost use Rattle.volume_model.specs.Snapshots.{is_live, layer_count, chain_of};
+ghost use Rattle.volume_model.specs.Snapshots.{is_live, layer_count};
 ghost use Rattle.volume_model.specs.declared.mark.FoldOrDrop.TheVariants as part;
 ghost use Rattle.replica_node.specs.Fold.{tree_of, page_folded, replaced, dropped_node};
 ghost use Rattle.replica_node.specs.Node.{Node, IsKept, IsFree};
@@ -43,9 +43,7 @@ pub fn a_replica_is_purged_as_its_volume()
 
 /// What the volume tells of its snapshots is told of the layers.
 pub fn a_replica_tells_of_its_volume()
-    ensures chain { (n : Node) → chain_of (volume_of_node n).snapshots ≡ node.chain_of n }
     ensures count { (n : Node) → layer_count (volume_of_node n).snapshots ≡ length n.layers + 1 }
-    ensures live { (n : Node) (name : List ℕ) → is_live (tree_of n) name ≡ node.is_live_in n.layers name }
     ensures kept { (n : Node) (name : List ℕ) → is_live (tree_of n) name ≡ true → IsKept n (Some name) }
     ensures free { (n : Node) (name : List ℕ) → has_name (tree_of n) name ≡ false → IsFree n name }
 {}

@@ -1,11 +1,5 @@
-use Rattle.replica_state.proofs.VolumeLemmas.{same_chain, same_live, kept_of, free_of}
+use Rattle.replica_state.proofs.VolumeLemmas.{kept_of, free_of}
 use Rattle.replica_state.proofs.laws.a_replica_tells_of_its_volume.Goals as goal
-
-pub returns-clause-chain : goal.returns-clause-chain
-returns-clause-chain c = same_chain
-
-pub returns-clause-live : goal.returns-clause-live
-returns-clause-live c = same_live
 
 pub returns-clause-kept : goal.returns-clause-kept
 returns-clause-kept c = kept_of
