@@ -106,4 +106,5 @@ def main():
     print('the purge adds: %s ms, the peer: %s ms' % tuple(map(middle, zip(*added))))
 
 
-main()
+if __name__ == '__main__':
+    main()
