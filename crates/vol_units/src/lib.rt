@@ -4,6 +4,7 @@
 mod chars;
 mod error;
 mod layer_name;
+mod limits;
 mod place;
 mod plain_name;
 mod range;
@@ -13,6 +14,7 @@ mod time_text;
 
 pub use error::{BadName, BadSize};
 pub use layer_name::LayerName;
+pub use limits::{LONGEST_CALL, MOST_LAYERS};
 pub use place::place_within;
 pub use plain_name::PlainName;
 pub use range::BlockRange;

@@ -1,8 +1,8 @@
-ghost use Rattle.std.specs.Prelude.{◌≡◌, ◌*◌, ◌≤◌, ◌↔◌, IsTrue, IfSome, is_some};
+ghost use Rattle.std.specs.Prelude.{◌≡◌, ◌+◌, ◌*◌, ◌≤◌, ◌↔◌, IsTrue, IfSome, is_some};
 ghost use Rattle.vol_units.specs.Range.{is_good, place_of, blocks_around, Covers, EachBlockHasByte, HaveCommonBlock};
 
 use crate::place::place_within;
-use crate::size::{BLOCK_BYTES, VolumeSize};
+use crate::size::{BLOCK_BYTES, LARGEST_SIZE, VolumeSize};
 
 /// The blocks from `first` up to `end`, which is not one of them; none where `end` is not above `first`.
 #[derive(Clone, Copy, Debug, PartialEq, Eq)]
@@ -20,16 +20,25 @@ impl BlockRange {
         ensures exact { IfSome result (λ r. r ≡ blocks_around (place_of offset) length) }
         ensures inside { IfSome result (λ r. r.end * BLOCK_BYTES ≤ size) }
     {
-        let start = place_within(offset, length as usize, size.bytes() as usize)? as u64;
-        let end = start + u64::from(length);
-        let first = (start / BLOCK_BYTES) as u32;
+        let length = length as usize;
+        let at = place_within(offset, length, size.bytes() as usize)?;
+        Some(BlockRange::touched(at, length))
+    }
+
+    /// The blocks in which so many bytes from a place on lie.
+    pub fn touched(at: usize, length: usize) -> BlockRange
+        requires { at + length ≤ LARGEST_SIZE }
+        ensures { result ≡ blocks_around at length }
+    {
+        let end = (at + length) as u64;
+        let first = (at as u64 / BLOCK_BYTES) as u32;
         if length == 0 {
-            return Some(BlockRange { first, end: first });
+            return BlockRange { first, end: first };
         }
-        Some(BlockRange {
+        BlockRange {
             first,
             end: ((end - 1) / BLOCK_BYTES + 1) as u32,
-        })
+        }
     }
 
     pub fn overlaps(self, other: BlockRange) -> bool
