@@ -1,5 +1,5 @@
 ghost use Rattle.std.specs.Prelude.{◌≡◌, ◌<◌, ◌≤◌, length, replicate, slice_set, IfSome, MatchOption};
-ghost use Rattle.volume_model.specs.Modes.{mode_of, with_failed, modes_after_mark, source_of, IsSource, HasNoSource};
+ghost use Rattle.volume_model.specs.Modes.{mode_of, modes_after_mark, source_of, IsSource, HasNoSource};
 
 use std::marker::Model;
 use volume_model::{Mark, Mode};
@@ -100,7 +100,7 @@ impl ModeTable {
 
     /// The replica has failed.
     pub fn fault(&mut self, replica: u8)
-        ensures { self.new ≡ with_failed self.old replica }
+        ensures { self.new ≡ slice_set self.old replica Mode.Err }
     {
         self.set(replica, Mode::Err);
     }

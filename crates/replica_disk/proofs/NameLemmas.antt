@@ -1,9 +1,10 @@
 -- The step of a volume, and the names that were taken beside it.
 use Rattle.std.proofs.Common.{◌≡◌, ℕ, Bool, true, false, cond, List, Option, None, Some, refl, sym, ap, ◌∙◌}
+use Rattle.std.specs.Option.{option_or}
 use Rattle.std.proofs.lemmas.Bool.{false≢true}
 use Rattle.volume_model.specs.Names.{AreNamed, has_name}
 use Rattle.volume_model.specs.PlainState.{Volume, PlainState, is_used}
-use Rattle.volume_model.specs.PlainStep.{or_else, name_refusal, volume_refusal, step_unless, plain_step}
+use Rattle.volume_model.specs.PlainStep.{name_refusal, volume_refusal, step_unless, plain_step}
 use Rattle.volume_model.specs.declared.Command.TheVariants as command
 use Rattle.volume_model.specs.declared.call.Call.{Call}
 use Rattle.volume_model.specs.declared.call.Call.TheVariants as call
@@ -26,7 +27,7 @@ pub same_step : (modes : List Mode) (state : PlainState) (c : Call) → name_ref
     → volume_step modes state.volume c ≡ seen (plain_step modes state c)
 same_step modes state c free =
     same_unless (volume_refusal modes state.volume c) modes state c
-    ∙ ap (λ r. seen (step_unless (or_else r (volume_refusal modes state.volume c)) modes state c)) (sym free)
+    ∙ ap (λ r. seen (step_unless (option_or r (volume_refusal modes state.volume c)) modes state c)) (sym free)
 
 -- a name that was not taken is no snapshot's
 none_has : (state : PlainState) (name : List ℕ) → AreNamed state → is_used state.used name ≡ false → has_name state.volume.snapshots.tree name ≡ false

@@ -1,6 +1,7 @@
 -- One call is answered as the plain volume answers it.
 use Rattle.std.proofs.Common.{◌≡◌, ℕ, inl, inr, Bool, true, false, cond, List, [], ◌∷◌, ◌++◌, length, refl, sym, ap, ◌∙◌}
 use Rattle.std.specs.Prelude.{Option, None, Some, is_some}
+use Rattle.std.specs.Option.{option_or}
 use Rattle.std.proofs.lemmas.Bool.{cases_Bool, true≢false}
 use Rattle.std.proofs.lemmas.List.{append-nil}
 use Rattle.command_text.specs.declared.command.Command.TheVariants as command
@@ -15,7 +16,7 @@ use Rattle.volume_model.specs.declared.entry.Answer.{Answer}
 use Rattle.volume_model.specs.declared.entry.Entry.TheVariants as entry
 use Rattle.volume_model.specs.declared.mode.Mode.{Mode}
 use Rattle.volume_model.specs.PlainState.{Volume, PlainState, is_used}
-use Rattle.volume_model.specs.PlainStep.{or_else, refusal_of, name_refusal, volume_refusal, reply_of, after_call, step_unless, plain_step}
+use Rattle.volume_model.specs.PlainStep.{refusal_of, name_refusal, volume_refusal, reply_of, after_call, step_unless, plain_step}
 use Rattle.volume_model.specs.Replay.{is_refusal, replay}
 use Rattle.volume_model.specs.Modes.{HasSource}
 use Rattle.volume_model.specs.Names.{has_name, AreNamed}
@@ -41,7 +42,7 @@ volume_answers modes state c w r new is = one (name_refusal state.used c) refl n
     one : (x : Option Refusal) → name_refusal state.used c ≡ x → is_some x ≡ false → (r ≡ (plain_step modes state c).1) × (w ≡ (plain_step modes state c).0.volume)
     one (Some why) at none = absurd cc
     one None at none =
-        let same : refusal_of modes state c ≡ volume_refusal modes state.volume c = ap (λ x. or_else x (volume_refusal modes state.volume c)) at in
+        let same : refusal_of modes state c ≡ volume_refusal modes state.volume c = ap (λ x. option_or x (volume_refusal modes state.volume c)) at in
         let both = answers_alike (volume_refusal modes state.volume c) modes state c w r is in
         (both.0 ∙ ap (λ x. (step_unless x modes state c).1) (sym same), both.1 ∙ ap (λ x. (step_unless x modes state c).0.volume) (sym same))
 
@@ -55,8 +56,8 @@ taken_answers modes state (call.Other kind) taken = absurd cc
 taken_answers modes state (call.Command (command.Snapshot name)) taken = one (is_used state.used name) (volume_refusal modes state.volume (call.Command (command.Snapshot name))) taken
   where
     one : (used : Bool) (more : Option Refusal) → is_some (cond used (Some NameUsed) None) ≡ true
-        → (reply.Refused NameUsed ≡ (step_unless (or_else (cond used (Some NameUsed) None) more) modes state (call.Command (command.Snapshot name))).1)
-        × (state.volume ≡ (step_unless (or_else (cond used (Some NameUsed) None) more) modes state (call.Command (command.Snapshot name))).0.volume)
+        → (reply.Refused NameUsed ≡ (step_unless (option_or (cond used (Some NameUsed) None) more) modes state (call.Command (command.Snapshot name))).1)
+        × (state.volume ≡ (step_unless (option_or (cond used (Some NameUsed) None) more) modes state (call.Command (command.Snapshot name))).0.volume)
     one true more taken = (refl, refl)
     one false more taken = absurd cc
 taken_answers modes state (call.Command (command.Remove name)) taken = absurd cc

@@ -10,11 +10,11 @@ use Rattle.volume_model.specs.declared.mode.Mode.{Mode}
 use Rattle.volume_model.specs.PlainState.{PlainState}
 use Rattle.volume_model.specs.Replay.{replay}
 use Rattle.volume_model.specs.Modes.{modes_after}
-use Rattle.volume_model.specs.Rebuilds.{BeginsWith, AddComes, MayFall}
+use Rattle.volume_model.specs.Rebuilds.{NextIsMark, AddComes, MayFall}
 use Rattle.volume_model.specs.History.{Spot, FailsNow, FailsNext, CouldBe, LegalAfter, answers_from}
 
 -- what is asked of the entries behind is asked of the first of them, so it stays where more come
-begins_longer : (xs ys : List Entry) (m : Mark) → BeginsWith xs m → BeginsWith (xs ++ ys) m
+begins_longer : (xs ys : List Entry) (m : Mark) → NextIsMark xs m → NextIsMark (xs ++ ys) m
 begins_longer [] ys m b = absurd b
 begins_longer (x ∷ xs) ys m b = b
 

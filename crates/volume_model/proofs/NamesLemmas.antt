@@ -2,6 +2,7 @@
 use Rattle.std.proofs.Common.{◌≡◌, ℕ, suc, ◌+◌, ◌-◌, ◌⊎◌, inl, inr, Bool, true, false, cond, not, ◌||◌, List, [], ◌∷◌, ◌++◌, length, map, refl, sym, ap, subst, ◌∙◌, arith}
 use Rattle.std.specs.Prelude.{Option, Some, None}
 use Rattle.std.specs.Str.{bytes_eq}
+use Rattle.std.specs.Option.{option_or}
 use Rattle.std.proofs.lemmas.Bool.{true≢false, cases_Bool, or_cases, or_parts, or_from, or_left, or_right, cond-true, cond-false}
 use Rattle.std.proofs.lemmas.Slice.Eq.{bytes_eq-Decides}
 use Rattle.command_text.specs.declared.command.Command.TheVariants as command
@@ -23,7 +24,7 @@ use Rattle.volume_model.specs.Snapshots.{Snapshot, Snapshots, layer_count, is_li
 use Rattle.volume_model.specs.Purge.{IsMarked, CanBeDone, dropped, parent_in, given, with_part}
 use Rattle.volume_model.specs.PlainState.{PlainState, is_used, with_used, taken}
 use Rattle.volume_model.specs.Marks.{after_mark}
-use Rattle.volume_model.specs.PlainStep.{or_else, volume_refusal, after_call, step_unless, plain_step}
+use Rattle.volume_model.specs.PlainStep.{volume_refusal, after_call, step_unless, plain_step}
 use Rattle.volume_model.specs.Replay.{is_refusal, after_entry, replay}
 use Rattle.volume_model.specs.Modes.{modes_after}
 use Rattle.volume_model.specs.History.{Spot, says_no_replica, IsAnswered, IsEnded, CouldBe, MayStand, LegalAfter, IsLegal}
@@ -258,7 +259,7 @@ taken_is_new : (modes : List Mode) (state : PlainState) (name : List ℕ)
 taken_is_new modes state name done = one (is_used state.used name) (volume_refusal modes state.volume (call.Command (command.Snapshot name))) done
   where
     one : (used : Bool) (more : Option Refusal)
-        → is_refusal (step_unless (or_else (cond used (Some NameUsed) None) more) modes state (call.Command (command.Snapshot name))).1 ≡ false → used ≡ false
+        → is_refusal (step_unless (option_or (cond used (Some NameUsed) None) more) modes state (call.Command (command.Snapshot name))).1 ≡ false → used ≡ false
     one true more done = done
     one false more done = refl
 

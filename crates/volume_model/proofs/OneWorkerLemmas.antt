@@ -1,6 +1,7 @@
 -- The journal of streams that one worker answers, one stream after another, is a legal history.
 use Rattle.std.proofs.Common.{◌≡◌, ◌≢◌, ℕ, zero, suc, ◌+◌, ◌<◌, ◌≤◌, ◌^◌, ⊎_elim, eqb, Bool, true, false, cond, List, [], ◌∷◌, ◌++◌, length, map, refl, sym, ap, subst, ◌∙◌, arith, set}
 use Rattle.std.specs.Prelude.{Option, None, Some}
+use Rattle.std.specs.Option.{option_or}
 use Rattle.std.proofs.lemmas.Bool.{cases_lt, eq-eqb, ne_eqb, true≢false}
 use Rattle.std.proofs.lemmas.Bool.Decides.{nat_tests}
 use Rattle.std.proofs.lemmas.List.{append-nil, append_assoc, length-append, length-set, get_or-set_same, get_or_past}
@@ -21,7 +22,7 @@ use Rattle.volume_model.specs.declared.mode.Mode.{Mode}
 use Rattle.volume_model.specs.declared.mode.Mode.TheVariants.{Rw, Wo, Err}
 use Rattle.volume_model.specs.Snapshots.{Snapshots, layer_count}
 use Rattle.volume_model.specs.PlainState.{Volume, PlainState}
-use Rattle.volume_model.specs.PlainStep.{or_else, most_layers, room_refusal, add_refusal}
+use Rattle.volume_model.specs.PlainStep.{most_layers, room_refusal, add_refusal}
 use Rattle.volume_model.specs.Purge.{CanBeDone, IsPurged, next_of, with_part, parts_behind, parts_within, parts_of}
 use Rattle.volume_model.specs.Marks.{after_mark, marks_of}
 use Rattle.volume_model.specs.Replay.{is_refusal, replay}
@@ -237,7 +238,7 @@ fail_goes opening before spot stream place index r here up =
 
 -- ---- a replica that is to be rebuilt
 
-clear_parts : (x y : Option Refusal) → or_else x y ≡ None → (x ≡ None) × (y ≡ None)
+clear_parts : (x y : Option Refusal) → option_or x y ≡ None → (x ≡ None) × (y ≡ None)
 clear_parts (Some why) y e = absurd cc
 clear_parts None y e = (refl, e)
 
@@ -320,13 +321,13 @@ module _ (opening : Spot) (before : List Entry) (spot : Spot) (here : Here openi
   plain c user none fails purged empty = quiet opening before spot here fits stream place index c user none (λ r is. absurd (fails r is)) (λ is done. absurd (purged is))
       (marks_unless (refused_at spot c) spot c) (no_marks opening before spot here fits stream place index (refused_at spot c) c empty)
 
-  purge_entries : (source : Option ℕ) → source_of spot.modes ≡ source → Goes opening before spot (entries_for (or_else None (want_of_replica true source)) spot stream place index (call.Command command.Purge))
+  purge_entries : (source : Option ℕ) → source_of spot.modes ≡ source → Goes opening before spot (entries_for (option_or None (want_of_replica true source)) spot stream place index (call.Command command.Purge))
   purge_entries (Some s) is = purge_goes opening before spot stream place index s here is
-  purge_entries None is = subst (λ x. Goes opening before spot (entries_for (or_else None (want_of_replica true x)) spot stream place index (call.Command command.Purge))) is
+  purge_entries None is = subst (λ x. Goes opening before spot (entries_for (option_or None (want_of_replica true x)) spot stream place index (call.Command command.Purge))) is
       (quiet opening before spot here fits stream place index (call.Command command.Purge) (λ name e. absurd cc) refl (λ r e. absurd cc)
-      (λ e done. absurd (not_done (source_of spot.modes) is done)) (marks_unless (refused_at spot (call.Command command.Purge)) spot (call.Command command.Purge)) (ap (λ x. marks_unless (or_else None (want_of_replica true x)) spot (call.Command command.Purge)) is))
+      (λ e done. absurd (not_done (source_of spot.modes) is done)) (marks_unless (refused_at spot (call.Command command.Purge)) spot (call.Command command.Purge)) (ap (λ x. marks_unless (option_or None (want_of_replica true x)) spot (call.Command command.Purge)) is))
     where
-      not_done : (x : Option ℕ) → x ≡ None → is_refusal (reply_for (or_else None (want_of_replica true x)) spot (call.Command command.Purge)) ≡ false → ⊥
+      not_done : (x : Option ℕ) → x ≡ None → is_refusal (reply_for (option_or None (want_of_replica true x)) spot (call.Command command.Purge)) ≡ false → ⊥
       not_done None e done = true≢false done
       not_done (Some s) e done = absurd cc
 

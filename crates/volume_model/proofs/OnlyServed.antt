@@ -1,5 +1,6 @@
 -- A legal history of one stream's calls with no mark is what answering them one after another gives.
 use Rattle.std.proofs.Common.{◌≡◌, ℕ, zero, suc, eqb, inl, inr, subst, Bool, true, false, cond, List, [], ◌∷◌, ◌++◌, map, refl, sym, ap, ◌∙◌, arith}
+use Rattle.std.specs.Option.{option_or}
 use Rattle.std.proofs.lemmas.Bool.{eq-eqb, ne_eqb}
 use Rattle.std.proofs.lemmas.Bool.Decides.{eqb_tells}
 use Rattle.std.proofs.lemmas.List.{append-nil}
@@ -11,7 +12,7 @@ use Rattle.volume_model.specs.declared.entry.Answer.{Answer}
 use Rattle.volume_model.specs.declared.entry.Entry.{Entry}
 use Rattle.volume_model.specs.declared.entry.Entry.TheVariants as entry
 use Rattle.volume_model.specs.declared.mode.Mode.{Mode}
-use Rattle.volume_model.specs.PlainStep.{or_else, refusal_of, plain_step}
+use Rattle.volume_model.specs.PlainStep.{refusal_of, plain_step}
 use Rattle.volume_model.specs.Marks.{marks_of, HasNoMark}
 use Rattle.volume_model.specs.Replay.{is_refusal, after_entry, replay}
 use Rattle.volume_model.specs.Modes.{modes_after, asks_replica, HasSource, source_of}
@@ -39,7 +40,7 @@ source_some modes source = go (source_of modes) refl
     go (Some s) is = (s, is)
 
 -- where a replica is read and written, none is wanting
-none_wanting : (x : Option Refusal) (asks : Bool) (source : Option ℕ) (s : ℕ) → source ≡ Some s → or_else x (want_of_replica asks source) ≡ x
+none_wanting : (x : Option Refusal) (asks : Bool) (source : Option ℕ) (s : ℕ) → source ≡ Some s → option_or x (want_of_replica asks source) ≡ x
 none_wanting (Some why) asks source s is = refl
 none_wanting None false source s is = refl
 none_wanting None true (Some r) s is = refl

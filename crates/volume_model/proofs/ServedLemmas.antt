@@ -1,6 +1,7 @@
 -- Where one worker stands behind the calls that it has answered, and how its journal goes on.
 use Rattle.std.proofs.Common.{◌≡◌, ℕ, suc, ◌+◌, ◌≤◌, Bool, true, false, cond, List, [], ◌∷◌, ◌++◌, length, refl, sym, ap, subst, ◌∙◌, arith}
 use Rattle.std.specs.Prelude.{Option, None, Some}
+use Rattle.std.specs.Option.{option_or}
 use Rattle.std.proofs.lemmas.List.{append-nil, append_assoc, length-append}
 use Rattle.command_text.specs.declared.command.Command.TheVariants as command
 use Rattle.volume_model.specs.declared.call.Call.{Call}
@@ -12,7 +13,7 @@ use Rattle.volume_model.specs.declared.mode.Mode.{Mode}
 use Rattle.volume_model.specs.declared.mode.Mode.TheVariants.{Rw, Wo, Err}
 use Rattle.volume_model.specs.declared.mark.FoldOrDrop.{FoldOrDrop}
 use Rattle.volume_model.specs.PlainState.{PlainState, is_used}
-use Rattle.volume_model.specs.PlainStep.{or_else, volume_refusal}
+use Rattle.volume_model.specs.PlainStep.{volume_refusal}
 use Rattle.volume_model.specs.Purge.{parts_of}
 use Rattle.volume_model.specs.Marks.{marks_of, after_mark}
 use Rattle.volume_model.specs.declared.mark.Mark.TheVariants as mark
@@ -190,7 +191,7 @@ name_was_new spot name done =
     c : Call
     c = call.Command (command.Snapshot name)
 
-    one : (used : Bool) (more wants : Option Refusal) → is_refusal (reply_for (or_else (or_else (cond used (Some NameUsed) None) more) wants) spot c) ≡ false → used ≡ false
+    one : (used : Bool) (more wants : Option Refusal) → is_refusal (reply_for (option_or (option_or (cond used (Some NameUsed) None) more) wants) spot c) ≡ false → used ≡ false
     one true more wants done = done
     one false more wants done = refl
 

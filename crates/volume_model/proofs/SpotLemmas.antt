@@ -1,6 +1,7 @@
 -- What one worker answers a call, and which entries it makes of it.
 use Rattle.std.proofs.Common.{◌≡◌, ◌≢◌, ℕ, zero, suc, ◌<◌, Bool, true, false, List, [], ◌∷◌, length, refl, sym, subst, ◌∙◌, arith}
 use Rattle.std.specs.Prelude.{Option, None, Some}
+use Rattle.std.specs.Option.{option_map, option_or}
 use Rattle.std.proofs.lemmas.Bool.{true≢false}
 use Rattle.std.proofs.lemmas.List.{get_or_default}
 use Rattle.command_text.specs.declared.command.Command.TheVariants as command
@@ -10,10 +11,10 @@ use Rattle.volume_model.specs.declared.call.Refusal.{Refusal}
 use Rattle.volume_model.specs.declared.entry.Answer.{Answer}
 use Rattle.volume_model.specs.declared.mode.Mode.{Mode}
 use Rattle.volume_model.specs.declared.mode.Mode.TheVariants.{Rw, Wo, Err}
-use Rattle.volume_model.specs.PlainStep.{or_else, refusal_of}
+use Rattle.volume_model.specs.PlainStep.{refusal_of}
 use Rattle.volume_model.specs.Purge.{IsPurged}
 use Rattle.volume_model.specs.Replay.{is_refusal}
-use Rattle.volume_model.specs.Modes.{IsSource, mode_of, asks_replica, is_change, HasSource, HasNoSource, source_of, one_on}
+use Rattle.volume_model.specs.Modes.{IsSource, mode_of, asks_replica, is_change, HasSource, HasNoSource, source_of}
 use Rattle.volume_model.specs.History.{Spot, says_no_replica, IsAnswered}
 use Rattle.volume_model.specs.OneWorker.{want_of_replica, refused_at, reply_for}
 use Rattle.volume_model.proofs.StepLemmas.{says_in, says-refusal, says-reply}
@@ -40,7 +41,7 @@ wo_not e = cc
 err_not : Err ≢ Rw
 err_not e = cc
 
-on_some : (x : Option ℕ) (s : ℕ) → one_on x ≡ Some s → (t : ℕ) × (x ≡ Some t) × (s ≡ suc t)
+on_some : (x : Option ℕ) (s : ℕ) → option_map suc x ≡ Some s → (t : ℕ) × (x ≡ Some t) × (s ≡ suc t)
 on_some None s e = absurd cc
 on_some (Some t) s e = (t, refl, cc)
 
@@ -63,7 +64,7 @@ source_first (Err ∷ ms) s e =
 pub source_is : (ms : List Mode) (s : ℕ) → source_of ms ≡ Some s → IsSource ms s
 source_is ms s e = (source_first ms s e).is
 
-on_none : (x : Option ℕ) → one_on x ≡ None → x ≡ None
+on_none : (x : Option ℕ) → option_map suc x ≡ None → x ≡ None
 on_none None e = refl
 on_none (Some t) e = absurd cc
 
@@ -101,21 +102,21 @@ module _ (spot : Spot) (c : Call) where
   answer_by why stream place index = record { call = c; reply = reply_for why spot c; index = index; saw = place; stream = stream }
 
   -- the answer is the volume's where a replica is not wanting
-  same_reply : (x : Option Refusal) (asks : Bool) (source : Option ℕ) → says_no_replica (reply_for (or_else x (want_of_replica asks source)) spot c) ≡ false
-      → reply_for (or_else x (want_of_replica asks source)) spot c ≡ reply_for x spot c
+  same_reply : (x : Option Refusal) (asks : Bool) (source : Option ℕ) → says_no_replica (reply_for (option_or x (want_of_replica asks source)) spot c) ≡ false
+      → reply_for (option_or x (want_of_replica asks source)) spot c ≡ reply_for x spot c
   same_reply (Some why) asks source e = refl
   same_reply None false source e = refl
   same_reply None true None e = absurd cc
   same_reply None true (Some r) e = refl
 
-  says_when : (x : Option Refusal) (asks : Bool) (source : Option ℕ) → says_in x ≡ false → says_no_replica (reply_for (or_else x (want_of_replica asks source)) spot c) ≡ true
+  says_when : (x : Option Refusal) (asks : Bool) (source : Option ℕ) → says_in x ≡ false → says_no_replica (reply_for (option_or x (want_of_replica asks source)) spot c) ≡ true
       → (asks ≡ true) × (x ≡ None) × (source ≡ None)
   says_when (Some why) asks source clear e = absurd (true≢false (sym e ∙ clear))
   says_when None false source clear e = absurd (true≢false (sym e ∙ says-reply spot.modes spot.state.volume c))
   says_when None true None clear e = (refl, refl, refl)
   says_when None true (Some r) clear e = absurd (true≢false (sym e ∙ says-reply spot.modes spot.state.volume c))
 
-  done_when : (x : Option Refusal) (asks : Bool) (source : Option ℕ) → asks ≡ true → is_refusal (reply_for (or_else x (want_of_replica asks source)) spot c) ≡ false → (s : ℕ) × (source ≡ Some s)
+  done_when : (x : Option Refusal) (asks : Bool) (source : Option ℕ) → asks ≡ true → is_refusal (reply_for (option_or x (want_of_replica asks source)) spot c) ≡ false → (s : ℕ) × (source ≡ Some s)
   done_when (Some why) asks source is e = absurd cc
   done_when None false source is e = absurd cc
   done_when None true None is e = absurd cc

@@ -1,6 +1,7 @@
 -- One step of the plain disk, and the replay of it.
 use Rattle.std.proofs.Common.{◌≡◌, ℕ, ◌+◌, ◌≤◌, inl, inr, cond, Bool, true, false, List, [], ◌∷◌, ◌++◌, length, refl, ◌∙◌, arith}
 use Rattle.std.specs.Prelude.{Option, Some, None, ℤ, nat_lt}
+use Rattle.std.specs.Option.{option_or}
 use Rattle.std.proofs.lemmas.Bool.{cases_Bool}
 use Rattle.std.proofs.lemmas.List.{get_or_default}
 use Rattle.command_text.specs.declared.command.Command.{Command}
@@ -21,7 +22,7 @@ use Rattle.volume_model.specs.Snapshots.{layer_count, is_live}
 use Rattle.volume_model.specs.Marks.{HasNoMark}
 use Rattle.volume_model.specs.History.{says_no_replica, IsAnswered}
 use Rattle.volume_model.specs.PlainState.{Volume, PlainState, is_used}
-use Rattle.volume_model.specs.PlainStep.{longest_call, most_layers, range_refusal, room_refusal, live_refusal, add_refusal, command_refusal, volume_refusal, name_refusal, or_else, refusal_of, after_call, reply_of, step_unless, plain_step}
+use Rattle.volume_model.specs.PlainStep.{longest_call, most_layers, range_refusal, room_refusal, live_refusal, add_refusal, command_refusal, volume_refusal, name_refusal, refusal_of, after_call, reply_of, step_unless, plain_step}
 use Rattle.volume_model.specs.Replay.{is_refusal, after_entry, replay}
 use Rattle.volume_model.specs.Modes.{mode_of, modes_after_entry, modes_after, HasSource, HasNoSource}
 
@@ -62,7 +63,7 @@ says-cond : (b : Bool) (x y : Option Refusal) → says_in x ≡ false → says_i
 says-cond true x y e f = e
 says-cond false x y e f = f
 
-says-or : (x y : Option Refusal) → says_in x ≡ false → says_in y ≡ false → says_in (or_else x y) ≡ false
+says-or : (x y : Option Refusal) → says_in x ≡ false → says_in y ≡ false → says_in (option_or x y) ≡ false
 says-or None y e f = f
 says-or (Some why) y e f = e
 

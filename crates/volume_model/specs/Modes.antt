@@ -1,5 +1,6 @@
 -- The modes of the replicas, as Longhorn's documentation of rebuilding names them. Marks alone change them.
 use Rattle.std.specs.Prelude.{◌≡◌, ◌≢◌, ℕ, suc, ◌<◌, List, [], ◌∷◌, Contains, Bool, true, false, Option, Some, None, slice_index_or, slice_set}
+use Rattle.std.specs.Option.{option_map}
 use Rattle.command_text.specs.declared.command.Command.{Command}
 use Rattle.command_text.specs.declared.command.Command.TheVariants as command
 use Rattle.volume_model.specs.declared.call.Call.{Call}
@@ -17,18 +18,14 @@ mode_of modes replica = slice_index_or modes replica Err
 
 -- ---- what marks make of them
 
--- the replica has failed, and the others are as they were
-abbrev pub with_failed : List Mode → ℕ → List Mode
-with_failed modes replica = slice_set modes replica Err
-
 -- the modes after a mark: a purge leaves them
 abbrev pub modes_after_mark : List Mode → Mark → List Mode
 modes_after_mark modes (mark.Purged part) = modes
-modes_after_mark modes (mark.Fault stream replica count) = with_failed modes replica
-modes_after_mark modes (mark.Failed replica) = with_failed modes replica
+modes_after_mark modes (mark.Fault stream replica count) = slice_set modes replica Err
+modes_after_mark modes (mark.Failed replica) = slice_set modes replica Err
 modes_after_mark modes (mark.Added replica source name) = slice_set modes replica Wo
 modes_after_mark modes (mark.Promoted replica) = slice_set modes replica Rw
-modes_after_mark modes (mark.Aborted replica) = with_failed modes replica
+modes_after_mark modes (mark.Aborted replica) = slice_set modes replica Err
 
 -- the modes after one entry: an answer leaves them
 abbrev pub modes_after_entry : List Mode → Entry → List Mode
@@ -55,17 +52,12 @@ pub record IsSource (modes : List Mode) (s : ℕ) : Type 0 where
   pub read : mode_of modes s ≡ Rw
   pub first : (q : ℕ) → q < s → mode_of modes q ≢ Rw
 
--- the number of a replica more
-abbrev pub one_on : Option ℕ → Option ℕ
-one_on None = None
-one_on (Some r) = Some (suc r)
-
 -- the first that is, if one is
 abbrev pub source_of : List Mode → Option ℕ
 source_of [] = None
 source_of (Rw ∷ ms) = Some 0
-source_of (Wo ∷ ms) = one_on (source_of ms)
-source_of (Err ∷ ms) = one_on (source_of ms)
+source_of (Wo ∷ ms) = option_map suc (source_of ms)
+source_of (Err ∷ ms) = option_map suc (source_of ms)
 
 -- ---- which calls want one
 

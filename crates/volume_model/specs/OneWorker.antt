@@ -1,5 +1,6 @@
 -- The journal of streams whose calls one worker answers, one stream after another, while no line fails.
 use Rattle.std.specs.Prelude.{◌≡◌, ℕ, suc, ◌+◌, ◌<◌, Bool, true, false, List, [], ◌∷◌, ◌++◌, length, slice_index_or, Option, None, Some}
+use Rattle.std.specs.Option.{option_or}
 use Rattle.vol_units.specs.Name.{begins_sys, sys_name}
 use Rattle.command_text.specs.declared.command.Command.TheVariants as command
 use Rattle.volume_model.specs.declared.call.Call.{Call}
@@ -12,7 +13,7 @@ use Rattle.volume_model.specs.declared.mark.Mark.TheVariants as mark
 use Rattle.volume_model.specs.declared.mode.Mode.{Mode}
 use Rattle.volume_model.specs.declared.mode.Mode.TheVariants.{Rw, Wo, Err}
 use Rattle.volume_model.specs.PlainState.{PlainState}
-use Rattle.volume_model.specs.PlainStep.{or_else, refusal_of, step_unless}
+use Rattle.volume_model.specs.PlainStep.{refusal_of, step_unless}
 use Rattle.volume_model.specs.Purge.{parts_of}
 use Rattle.volume_model.specs.Marks.{marks_of}
 use Rattle.volume_model.specs.Replay.{replay}
@@ -36,7 +37,7 @@ want_of_replica true (Some r) = None
 
 -- what the volume refuses, and then that there is no replica
 abbrev pub refused_at : Spot → Call → Option Refusal
-refused_at spot c = or_else (refusal_of spot.modes spot.state c) (want_of_replica (asks_replica c) (source_of spot.modes))
+refused_at spot c = option_or (refusal_of spot.modes spot.state c) (want_of_replica (asks_replica c) (source_of spot.modes))
 
 -- ---- the marks of a call before its answer
 

@@ -1,5 +1,6 @@
 -- What one plain disk with whole copies answers to a call, and what the call leaves.
 use Rattle.std.specs.Prelude.{ℕ, ℤ, List, length, nat_lt, if◌then◌else◌, Option, Some, None}
+use Rattle.std.specs.Option.{option_or}
 use Rattle.command_text.specs.declared.command.Command.{Command}
 use Rattle.command_text.specs.declared.command.Command.TheVariants as command
 use Rattle.volume_model.specs.declared.call.Call.{Call}
@@ -65,13 +66,8 @@ abbrev pub name_refusal : List (List ℕ) → Call → Option Refusal
 name_refusal used (call.Command (command.Snapshot name)) = if is_used used name then Some NameUsed else None
 name_refusal used c = None
 
--- the first of two, and where there is none the other
-abbrev pub or_else : Option Refusal → Option Refusal → Option Refusal
-or_else (Some why) other = Some why
-or_else None other = other
-
 abbrev pub refusal_of : List Mode → PlainState → Call → Option Refusal
-refusal_of modes state c = or_else (name_refusal state.used c) (volume_refusal modes state.volume c)
+refusal_of modes state c = option_or (name_refusal state.used c) (volume_refusal modes state.volume c)
 
 -- ---- what a call leaves that nothing stands against: what a purge takes out, its marks tell
 

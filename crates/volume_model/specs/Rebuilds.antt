@@ -57,9 +57,9 @@ abbrev pub EndsWith : List Entry → Mark → Type 0
 EndsWith before m = (front : List Entry) × (before ≡ front ++ entry.Mark m ∷ [])
 
 -- the first of these entries is the mark
-abbrev pub BeginsWith : List Entry → Mark → Type 0
-BeginsWith [] m = ⊥
-BeginsWith (e ∷ es) m = e ≡ entry.Mark m
+abbrev pub NextIsMark : List Entry → Mark → Type 0
+NextIsMark [] m = ⊥
+NextIsMark (e ∷ es) m = e ≡ entry.Mark m
 
 -- the first of these entries answers an add of r
 abbrev pub AddComes : List Entry → ℕ → Type 0
@@ -101,7 +101,7 @@ pub record MayAbort (before : List Entry) (r : ℕ) : Type 0 where
 -- where the source or the target of an open rebuild falls, the rebuild is aborted at once
 pub record MayFall (modes : List Mode) (before after : List Entry) (r : ℕ) : Type 0 where
   pub up : mode_of modes r ≢ Err
-  pub ends : (q s : ℕ) → rebuild_of q before ≡ rebuild.Open s → (r ≡ q) ⊎ (r ≡ s) → BeginsWith after (mark.Aborted q)
+  pub ends : (q s : ℕ) → rebuild_of q before ≡ rebuild.Open s → (r ≡ q) ⊎ (r ≡ s) → NextIsMark after (mark.Aborted q)
 
 -- ---- what a state that knows of its open rebuild keeps
 
