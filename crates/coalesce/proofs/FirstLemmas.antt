@@ -3,7 +3,7 @@ use Rattle.std.proofs.Common.{◌≡◌, ◌≢◌, ◌⊎◌, inl, inr, ⊎_eli
 use Rattle.std.specs.Prelude.{if◌then◌else◌}
 use Rattle.std.proofs.lemmas.Bool.{cases_eq, false_from_ne_true, false≢true}
 use Rattle.layer_chain.specs.Children.{Stands, Tells}
-use Rattle.layer_chain.specs.Tree.{Tree, name_of, layer_at, IsWhole}
+use Rattle.layer_chain.specs.Tree.{Tree, name_of, layer_at, IsWholeTree}
 use Rattle.layer_chain.specs.declared.layer.LayerMeta.{LayerMeta}
 use Rattle.layer_chain.specs.declared.children.Child.{Child}
 use Rattle.layer_chain.specs.declared.children.Child.TheVariants as child
@@ -33,7 +33,7 @@ module _ (t : Tree) (i : ℕ) (m : LayerMeta) (within : i < length t.layers) (m_
   own_mark : m.marked ≡ true → IsMarked (snapshots_in t) m.name
   own_mark marked = at_any (λ l. (l.name ≡ m.name) × (l.marked ≡ true)) t i within (sym (ap (λ (l : LayerMeta). l.name) m_is), sym (ap (λ (l : LayerMeta). l.marked) m_is) ∙ marked)
 
-  pub stays_unmarked : IsWhole t → m.marked ≡ false → StaysAt t i
+  pub stays_unmarked : IsWholeTree t → m.marked ≡ false → StaysAt t i
   stays_unmarked w unmarked = λ f goes.
       let a = any_at (λ l. (l.name ≡ gone f) × (l.marked ≡ true)) t (is_marked (snapshots_in t) t.on f goes.can) in
       let same : a.0 ≡ i = one_place t.layers (gone f) a.0 i w.layers (record { within = a.1; named = a.2.0 }) (record { within = within; named = sym goes.named }) in
@@ -68,7 +68,7 @@ pub stays_head : (t : Tree) (i : ℕ) → t.on ≡ Some (name_of (layer_at t.lay
 stays_head t i on = λ f goes. no_head (snapshots_in t) t.on f goes.can (on ∙ ap (λ (n : List ℕ). Some n) (sym goes.named))
 
 -- one thing that stands on the layer is the one that it is folded into
-only_one : (t : Tree) (i : ℕ) (p c : List ℕ) → IsWhole t → p ≡ name_of (layer_at t.layers i) → CanFold (snapshots_in t) t.on p c → (a b : Child) → Stands t.layers t.on (length t.layers) i a → Stands t.layers t.on (length t.layers) i b → a ≡ b
+only_one : (t : Tree) (i : ℕ) (p c : List ℕ) → IsWholeTree t → p ≡ name_of (layer_at t.layers i) → CanFold (snapshots_in t) t.on p c → (a b : Child) → Stands t.layers t.on (length t.layers) i a → Stands t.layers t.on (length t.layers) i b → a ≡ b
 only_one t i p c w is can child.Head b s u = absurd (can.head (s ∙ ap (λ (n : List ℕ). Some n) (sym is)))
 only_one t i p c w is can (child.Layer j) child.Head s u = absurd (can.head (u ∙ ap (λ (n : List ℕ). Some n) (sym is)))
 only_one t i p c w is can (child.Layer j) (child.Layer k) s u =
@@ -77,11 +77,11 @@ only_one t i p c w is can (child.Layer j) (child.Layer k) s u =
     let named_k : name_of (layer_at t.layers k) ≡ c = child_only t.layers p c can.child k u.0 (u.1 ∙ back) in
     ap (λ (n : ℕ). child.Layer n) (one_place t.layers c j k w.layers (record { within = s.0; named = named_j }) (record { within = u.0; named = named_k }))
 
-stays_under : (t : Tree) (i : ℕ) → i < length t.layers → IsWhole t → (a b : Child) → a ≢ b → Stands t.layers t.on (length t.layers) i a → Stands t.layers t.on (length t.layers) i b → (f : FoldOrDrop) → GoesAt t i f → ⊥
+stays_under : (t : Tree) (i : ℕ) → i < length t.layers → IsWholeTree t → (a b : Child) → a ≢ b → Stands t.layers t.on (length t.layers) i a → Stands t.layers t.on (length t.layers) i b → (f : FoldOrDrop) → GoesAt t i f → ⊥
 stays_under t i within w a b other s u (part.Fold p c) goes = other (only_one t i p c w goes.named goes.can a b s u)
 stays_under t i within w a b other s u (part.Drop p) goes = drop_leaf t p i (record { within = within; named = sym goes.named }) goes.can a s
 
-pub stays_more : (t : Tree) (i : ℕ) → i < length t.layers → IsWhole t → Tells t.layers t.on (length t.layers) i children.More → StaysAt t i
+pub stays_more : (t : Tree) (i : ℕ) → i < length t.layers → IsWholeTree t → Tells t.layers t.on (length t.layers) i children.More → StaysAt t i
 stays_more t i within w told = stays_under t i within w told.0 told.1 told.2 told.3 told.4
 
 -- ---- one place after another

@@ -7,7 +7,7 @@ use Rattle.std.proofs.Math.Seq.{map-set_same}
 use Rattle.sparse_image.specs.Image.{Tables, block_at, EmptiesPage, LaysPageOver}
 use Rattle.sparse_image.specs.declared.block.TheConstants.{PAGE_BLOCKS}
 use Rattle.layer_chain.specs.Changes.{with_layers, with_image, with_images, MovesPage, taken_out, replaced}
-use Rattle.layer_chain.specs.Tree.{Tree, name_of, layer_at, reads, head_reads, IsAt, IsWhole}
+use Rattle.layer_chain.specs.Tree.{Tree, name_of, layer_at, reads, head_reads, IsAt, IsWholeTree}
 use Rattle.layer_chain.specs.declared.layer.Layer.{Layer}
 use Rattle.layer_chain.proofs.FoldLemmas.{images_reads, replaced_reads, without_reads, child_above}
 use Rattle.volume_model.specs.Purge.{CanFold, CanDrop}
@@ -27,7 +27,7 @@ other_than : (t : Tree) (p : List ℕ) (i : ℕ) (other : Option (List ℕ)) →
 other_than t p i other at n e = n (e ∙ ap (λ (m : List ℕ). Some m) at.named)
 
 -- two layers' blocks that together read as before
-images_keep : (t new : Tree) (p c : List ℕ) (i j : ℕ) (under over : Tables) → IsWhole t → AreAt t.layers p c i j → CanFold (snapshots_in t) t.on p c → new ≡ with_layers t (with_images t.layers i j under over) → ((block : ℕ) → option_or (block_at over block) (block_at under block) ≡ option_or (block_at (layer_at t.layers j).image block) (block_at (layer_at t.layers i).image block)) → KeepsOthers t new p
+images_keep : (t new : Tree) (p c : List ℕ) (i j : ℕ) (under over : Tables) → IsWholeTree t → AreAt t.layers p c i j → CanFold (snapshots_in t) t.on p c → new ≡ with_layers t (with_images t.layers i j under over) → ((block : ℕ) → option_or (block_at over block) (block_at under block) ≡ option_or (block_at (layer_at t.layers j).image block) (block_at (layer_at t.layers i).image block)) → KeepsOthers t new p
 images_keep t new p c i j under over w at can is moved =
     keeps_others t new (with_images t.layers i j under over) p can.head is (λ other block n.
     images_reads t i j w at.parent.within (fold_only t p c i j w at can) under over block (moved block) other (other_than t p i other at.parent n))
@@ -39,7 +39,7 @@ page_moved upper lower over under page own below block =
     (λ n. ap (λ (o : Option (List ℕ)). option_or o (block_at under block)) (own.others block n) ∙ ap (option_or (block_at upper block)) (below.others block n))
     (cases_eq (block / PAGE_BLOCKS) page)
 
-pub page_keeps : (t new : Tree) (p c : List ℕ) (i j page : ℕ) → IsWhole t → AreAt t.layers p c i j → CanFold (snapshots_in t) t.on p c → MovesPage t.layers new.layers i j page → new ≡ with_layers t new.layers → KeepsOthers t new p
+pub page_keeps : (t new : Tree) (p c : List ℕ) (i j page : ℕ) → IsWholeTree t → AreAt t.layers p c i j → CanFold (snapshots_in t) t.on p c → MovesPage t.layers new.layers i j page → new ≡ with_layers t new.layers → KeepsOthers t new p
 page_keeps t new p c i j page w at can moves rest =
     images_keep t new p c i j (layer_at new.layers i).image (layer_at new.layers j).image w at can
     (rest ∙ ap (λ (xs : List Layer). with_layers t xs) moves.rest)
@@ -57,11 +57,11 @@ block_moved t new p c block m other =
     (λ n. ap (λ (o : Option (List ℕ)). option_or o (block_at under other)) (m.others other n).0 ∙ ap (option_or (block_at upper other)) (m.others other n).1)
     (cases_eq other block)
 
-pub block_keeps : (t new : Tree) (p c : List ℕ) (block : ℕ) → IsWhole t → CanFold (snapshots_in t) t.on p c → MovesBlock t new p c block → KeepsOthers t new p
+pub block_keeps : (t new : Tree) (p c : List ℕ) (block : ℕ) → IsWholeTree t → CanFold (snapshots_in t) t.on p c → MovesBlock t new p c block → KeepsOthers t new p
 block_keeps t new p c block w can m =
     images_keep t new p c m.parent m.child (layer_at new.layers m.parent).image (layer_at new.layers m.child).image w m.at can m.rest (block_moved t new p c block m)
 
-pub replaced_keeps : (t new : Tree) (p c : List ℕ) (i j : ℕ) → IsWhole t → AreAt t.layers p c i j → CanFold (snapshots_in t) t.on p c → HasNoBlock t.layers c → new ≡ replaced t i j → KeepsOthers t new p
+pub replaced_keeps : (t new : Tree) (p c : List ℕ) (i j : ℕ) → IsWholeTree t → AreAt t.layers p c i j → CanFold (snapshots_in t) t.on p c → HasNoBlock t.layers c → new ≡ replaced t i j → KeepsOthers t new p
 replaced_keeps t new p c i j w at can empty is =
     keeps_others t new (replaced t i j).layers p can.head is (λ other block n.
     replaced_reads t i j w at.parent.within (fold_only t p c i j w at can) block (empty j _ at.child.within at.child.named block) other (other_than t p i other at.parent n))
@@ -86,7 +86,7 @@ images_snapshots xs i j under over h =
     (sym (ap (λ (l : Layer). snapshot_of l.meta) (get_or-set_other xs j i (with_image (layer_at xs j) over) no_layer apart)))
     ∙ map-set_same (λ (l : Layer). snapshot_of l.meta) xs j (with_image (layer_at xs j) over) no_layer refl
 
-pub page_snapshots : (t new : Tree) (p c : List ℕ) (i j page : ℕ) → IsWhole t → AreAt t.layers p c i j → CanFold (snapshots_in t) t.on p c → MovesPage t.layers new.layers i j page → snapshots_in new ≡ snapshots_in t
+pub page_snapshots : (t new : Tree) (p c : List ℕ) (i j page : ℕ) → IsWholeTree t → AreAt t.layers p c i j → CanFold (snapshots_in t) t.on p c → MovesPage t.layers new.layers i j page → snapshots_in new ≡ snapshots_in t
 page_snapshots t new p c i j page w at can moves =
     ap told moves.rest
     ∙ images_snapshots t.layers i j (layer_at new.layers i).image (layer_at new.layers j).image (child_above t i j w at.parent.within (fold_only t p c i j w at can))

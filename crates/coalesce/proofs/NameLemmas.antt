@@ -3,7 +3,7 @@ use Rattle.std.proofs.Common.{◌≡◌, ℕ, ◌<◌, zero, suc, true, false, n
 use Rattle.std.specs.Prelude.{◌||◌, if◌then◌else◌}
 use Rattle.std.specs.Str.{bytes_eq}
 use Rattle.layer_chain.specs.Layers.{HasNo}
-use Rattle.layer_chain.specs.Tree.{Tree, name_of, parent_of, layer_at, IsLayers, IsWhole}
+use Rattle.layer_chain.specs.Tree.{Tree, name_of, parent_of, layer_at, IsLayers, IsWholeTree}
 use Rattle.layer_chain.specs.declared.layer.Layer.{Layer}
 use Rattle.layer_chain.proofs.TreeLemmas.{there_at}
 use Rattle.layer_chain.proofs.TreeShape.{apart}
@@ -24,7 +24,7 @@ told_once [] tree = tt
 told_once (x ∷ xs) tree = (no_name (name_of x) xs tree.0, told_once xs tree.2)
 
 -- no name comes twice in a whole tree
-pub names_once : (t : Tree) → IsWhole t → NamesOnce (snapshots_in t)
+pub names_once : (t : Tree) → IsWholeTree t → NamesOnce (snapshots_in t)
 names_once t w = told_once t.layers w.layers
 
 -- the newest of the name of a layer that is marked is that layer
@@ -39,7 +39,7 @@ marked_not_live (x ∷ xs) p (suc i) h is marked tree =
     ∙ marked_not_live xs p i in_i is marked tree.2
 
 -- a layer that can be folded is not live
-pub folded_not_live : (t : Tree) (p c : List ℕ) → IsWhole t → CanFold (snapshots_in t) t.on p c → is_live (snapshots_in t) p ≡ false
+pub folded_not_live : (t : Tree) (p c : List ℕ) → IsWholeTree t → CanFold (snapshots_in t) t.on p c → is_live (snapshots_in t) p ≡ false
 folded_not_live t p c w can =
     let a = any_at (λ s. (s.name ≡ p) × (s.marked ≡ true)) t can.marked in
     marked_not_live t.layers p a.0 a.1 a.2.0 a.2.1 w.layers

@@ -2,7 +2,7 @@
 use Rattle.std.proofs.Common.{◌≡◌, ℕ, ◌<◌, true, List, length, Some, sym, refl, ap, ◌∙◌, subst, arith}
 use Rattle.std.specs.Prelude.{Any}
 use Rattle.std.proofs.lemmas.List.{get_or-map, length-map}
-use Rattle.layer_chain.specs.Tree.{Tree, name_of, parent_of, layer_at, IsAt, IsChild, IsNew, IsThere, IsWhole, IsParent}
+use Rattle.layer_chain.specs.Tree.{Tree, name_of, parent_of, layer_at, IsAt, IsChild, IsNew, IsThere, IsWholeTree, IsParent}
 use Rattle.layer_chain.specs.Children.{Stands, IsLeaf, IsOnlyChild}
 use Rattle.layer_chain.specs.declared.layer.Layer.{Layer}
 use Rattle.layer_chain.specs.declared.children.Child.{Child}
@@ -42,7 +42,7 @@ parent_there t p c can = let a = any_at (λ m. (m.name ≡ p) × (m.marked ≡ t
 pub child_there : (t : Tree) (p c : List ℕ) → CanFold (snapshots_in t) t.on p c → IsThere (Some c) t.layers
 child_there t p c can = let a = child_named t.layers p c can.child in named_there t c a.place a.within a.named
 
-module _ (t : Tree) (p c : List ℕ) (i j : ℕ) (w : IsWhole t) (at : AreAt t.layers p c i j) (can : CanFold (snapshots_in t) t.on p c) where
+module _ (t : Tree) (p c : List ℕ) (i j : ℕ) (w : IsWholeTree t) (at : AreAt t.layers p c i j) (can : CanFold (snapshots_in t) t.on p c) where
   some_p : Some (name_of (layer_at t.layers i)) ≡ Some p
   some_p = ap (λ (n : List ℕ). Some n) at.parent.named
 

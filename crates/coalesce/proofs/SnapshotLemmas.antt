@@ -5,7 +5,7 @@ use Rattle.std.specs.Str.{bytes_eq}
 use Rattle.std.proofs.lemmas.List.{append_assoc, map-append, get_or_default}
 use Rattle.layer_chain.specs.Changes.{in_place_of, taken_out, replaced}
 use Rattle.layer_chain.specs.Layers.{HasNo}
-use Rattle.layer_chain.specs.Tree.{Tree, name_of, parent_of, layer_at, IsAt, IsLayers, IsWhole}
+use Rattle.layer_chain.specs.Tree.{Tree, name_of, parent_of, layer_at, IsAt, IsLayers, IsWholeTree}
 use Rattle.layer_chain.specs.declared.layer.Layer.{Layer}
 use Rattle.layer_chain.proofs.Cuts.{CutAt, cut_at, CutTwo, cut_two}
 use Rattle.layer_chain.proofs.FoldLemmas.{child_above}
@@ -87,7 +87,7 @@ replaced_told xs p c above in_p tree =
     ∙ folded_two k.before k.between k.after (layer_at xs c) (layer_at xs p) d (subst (λ (ys : List Layer). IsLayers ys) is tree) refl
     ∙ sym (ap (λ (ys : List Layer). folded (name_of (layer_at xs p)) (name_of (layer_at xs c)) (told ys)) is)
 
-pub replaced_snapshots : (t new : Tree) (p c : List ℕ) (i j : ℕ) → IsWhole t → AreAt t.layers p c i j → CanFold (snapshots_in t) t.on p c → new ≡ replaced t i j → snapshots_in new ≡ folded p c (snapshots_in t)
+pub replaced_snapshots : (t new : Tree) (p c : List ℕ) (i j : ℕ) → IsWholeTree t → AreAt t.layers p c i j → CanFold (snapshots_in t) t.on p c → new ≡ replaced t i j → snapshots_in new ≡ folded p c (snapshots_in t)
 replaced_snapshots t new p c i j w at can is =
     ap snapshots_in is
     ∙ replaced_told t.layers i j (child_above t i j w at.parent.within (fold_only t p c i j w at can)) at.parent.within w.layers
@@ -108,7 +108,7 @@ dropped_told xs p in_p tree =
     ∙ dropped_two k.before k.after (layer_at xs p) (subst (λ (ys : List Layer). IsLayers ys) is tree)
     ∙ sym (ap (λ (ys : List Layer). dropped (name_of (layer_at xs p)) (told ys)) is)
 
-pub dropped_snapshots : (t new : Tree) (p : List ℕ) (i : ℕ) → IsWhole t → IsAt t.layers p i → new ≡ taken_out t i → snapshots_in new ≡ dropped p (snapshots_in t)
+pub dropped_snapshots : (t new : Tree) (p : List ℕ) (i : ℕ) → IsWholeTree t → IsAt t.layers p i → new ≡ taken_out t i → snapshots_in new ≡ dropped p (snapshots_in t)
 dropped_snapshots t new p i w at is =
     ap snapshots_in is
     ∙ dropped_told t.layers i at.within w.layers

@@ -1,6 +1,6 @@
 ghost use Rattle.std.specs.Prelude.{◌≡◌, ◌<◌, ℕ, List, length, Some};
 ghost use Rattle.layer_chain.specs.Changes.{with_layers};
-ghost use Rattle.layer_chain.specs.Tree.{IsAt, IsThere, IsWhole, layer_at};
+ghost use Rattle.layer_chain.specs.Tree.{IsAt, IsThere, IsWholeTree, layer_at};
 ghost use Rattle.volume_model.specs.Purge.{CanFold, CanDrop, folded, dropped};
 ghost use Rattle.coalesce.specs.Folding.{snapshots_in, CanFoldAt, HasNoBlock, FoldsPage, Replaces, Drops, KeepsOthers};
 
@@ -69,7 +69,7 @@ pub fn delete_leaf(tree: &mut LayerTree, name: &LayerName)
 fn place_of(tree: &LayerTree, name: &LayerName) -> usize
     requires { IsThere (Some name.now) tree.now.layers }
     ensures at { IsAt tree.now.layers name.now result }
-    ensures whole { IsWhole tree.now }
+    ensures whole { IsWholeTree tree.now }
 {
     // Asking for the count tells that the tree is whole.
     let _ = tree.count();

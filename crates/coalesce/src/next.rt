@@ -1,5 +1,5 @@
 ghost use Rattle.std.specs.Prelude.{◌≡◌, ◌<◌, length, MatchOption};
-ghost use Rattle.layer_chain.specs.Tree.{IsWhole};
+ghost use Rattle.layer_chain.specs.Tree.{IsWholeTree};
 ghost use Rattle.volume_model.specs.Purge.{IsPurged, IsFirst, gone, is_before, first_of};
 ghost use Rattle.coalesce.specs.Folding.{snapshots_in};
 ghost use Rattle.coalesce.specs.Search.{GoesAt, StaysAt};
@@ -24,7 +24,7 @@ pub fn next_fold(tree: &LayerTree) -> Option<FoldOrDrop>
 /// How the layer at a place can go.
 fn goes_at(tree: &LayerTree, place: usize) -> Option<FoldOrDrop>
     requires within { place < length tree.now.layers }
-    requires whole { IsWhole tree.now }
+    requires whole { IsWholeTree tree.now }
     ensures { MatchOption result (StaysAt tree.now place) (λ part. GoesAt tree.now place part) }
 {
     let meta = tree.meta(place);

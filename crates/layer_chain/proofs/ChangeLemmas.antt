@@ -4,23 +4,23 @@ use Rattle.std.specs.Option.{option_or}
 use Rattle.sparse_image.specs.Image.{Tables, block_at}
 use Rattle.layer_chain.proofs.FoldLaws.{alike_at, alike_tree, alike_on}
 use Rattle.layer_chain.proofs.ReadLaws.{read-same, read-other}
-use Rattle.layer_chain.specs.Tree.{Tree, name_of, parent_of, IsWhole, layer_at, reads, head_reads}
-use Rattle.layer_chain.specs.Changes.{with_mark, marked_at, pushed, snapped, reverted, KeepsReadings}
+use Rattle.layer_chain.specs.Tree.{Tree, name_of, parent_of, IsWholeTree, layer_at, reads, head_reads}
+use Rattle.layer_chain.specs.Changes.{marked_layer, marked_at, pushed, snapped_tree, reverted_tree, KeepsReadings}
 use Rattle.layer_chain.specs.declared.layer.Layer.{Layer}
 use Rattle.layer_chain.proofs.TreeLemmas.{layer_is, layer_read}
 
 pub mark_readings : (t : Tree) (i : ℕ) → i < length t.layers → (want : Option (List ℕ)) (k : ℕ) → reads (marked_at t i).layers want k ≡ reads t.layers want k
-mark_readings t i h want k = alike_at name_of parent_of (λ l. block_at l.image k) t.layers i (layer_at t.layers i) (with_mark (layer_at t.layers i)) h (layer_read t.layers i h) refl refl refl want
+mark_readings t i h want k = alike_at name_of parent_of (λ l. block_at l.image k) t.layers i (layer_at t.layers i) (marked_layer (layer_at t.layers i)) h (layer_read t.layers i h) refl refl refl want
 
-pub mark_whole : (t : Tree) (i : ℕ) → i < length t.layers → IsWhole t → IsWhole (marked_at t i)
+pub mark_whole : (t : Tree) (i : ℕ) → i < length t.layers → IsWholeTree t → IsWholeTree (marked_at t i)
 mark_whole t i h w = record {
-  layers = alike_tree name_of parent_of (λ l. block_at l.image 0) t.layers i (layer_at t.layers i) (with_mark (layer_at t.layers i)) h (layer_read t.layers i h) refl refl w.layers;
-  head = alike_on name_of parent_of (λ l. block_at l.image 0) t.layers i (layer_at t.layers i) (with_mark (layer_at t.layers i)) h (layer_read t.layers i h) refl refl t.on w.head;
+  layers = alike_tree name_of parent_of (λ l. block_at l.image 0) t.layers i (layer_at t.layers i) (marked_layer (layer_at t.layers i)) h (layer_read t.layers i h) refl refl w.layers;
+  head = alike_on name_of parent_of (λ l. block_at l.image 0) t.layers i (layer_at t.layers i) (marked_layer (layer_at t.layers i)) h (layer_read t.layers i h) refl refl t.on w.head;
   few = omega (arith, length-set {A = Layer}, w.few);
 }
 
-pub marked_is : (xs : List Layer) (i : ℕ) (x : Layer) → i < length xs → x ≡ get_or xs i x → set xs i (with_mark x) ≡ set xs i (with_mark (layer_at xs i))
-marked_is xs i x h is = ap (λ (y : Layer). set xs i (with_mark y)) (sym (layer_is xs i x h is))
+pub marked_is : (xs : List Layer) (i : ℕ) (x : Layer) → i < length xs → x ≡ get_or xs i x → set xs i (marked_layer x) ≡ set xs i (marked_layer (layer_at xs i))
+marked_is xs i x h is = ap (λ (y : Layer). set xs i (marked_layer y)) (sym (layer_is xs i x h is))
 
 pub mark_keeps : (t : Tree) (i : ℕ) → i < length t.layers → KeepsReadings t (marked_at t i)
 mark_keeps t i h = record {
@@ -38,15 +38,15 @@ pushed_others t x want k n = read-other name_of parent_of (λ l. block_at l.imag
 pub pushed_head : (t : Tree) (x : Layer) (k : ℕ) → t.on ≢ Some (name_of x) → head_reads (pushed t x) k ≡ head_reads t k
 pushed_head t x k n = ap (option_or (block_at t.head k)) (pushed_others t x t.on k n)
 
-pub snapped_reads : (t : Tree) (name : List ℕ) (user_created : Bool) (spare : Tables) (k : ℕ) → reads (snapped t name user_created spare).layers (Some name) k ≡ head_reads t k
+pub snapped_reads : (t : Tree) (name : List ℕ) (user_created : Bool) (spare : Tables) (k : ℕ) → reads (snapped_tree t name user_created spare).layers (Some name) k ≡ head_reads t k
 snapped_reads t name user_created spare k = read-same name_of parent_of (λ l. block_at l.image k) (Some name) _ t.layers refl
 
-pub snapped_others : (t : Tree) (name : List ℕ) (user_created : Bool) (spare : Tables) (want : Option (List ℕ)) (k : ℕ) → want ≢ Some name → reads (snapped t name user_created spare).layers want k ≡ reads t.layers want k
+pub snapped_others : (t : Tree) (name : List ℕ) (user_created : Bool) (spare : Tables) (want : Option (List ℕ)) (k : ℕ) → want ≢ Some name → reads (snapped_tree t name user_created spare).layers want k ≡ reads t.layers want k
 snapped_others t name user_created spare want k n = read-other name_of parent_of (λ l. block_at l.image k) want _ t.layers n
 
-pub snapped_head : (t : Tree) (name : List ℕ) (user_created : Bool) (spare : Tables) (k : ℕ) → block_at spare k ≡ None → head_reads (snapped t name user_created spare) k ≡ head_reads t k
+pub snapped_head : (t : Tree) (name : List ℕ) (user_created : Bool) (spare : Tables) (k : ℕ) → block_at spare k ≡ None → head_reads (snapped_tree t name user_created spare) k ≡ head_reads t k
 snapped_head t name user_created spare k empty =
-    ap (λ b. option_or b (reads (snapped t name user_created spare).layers (Some name) k)) empty ∙ snapped_reads t name user_created spare k
+    ap (λ b. option_or b (reads (snapped_tree t name user_created spare).layers (Some name) k)) empty ∙ snapped_reads t name user_created spare k
 
-pub reverted_head : (t : Tree) (name : List ℕ) (spare : Tables) (k : ℕ) → block_at spare k ≡ None → head_reads (reverted t name spare) k ≡ reads t.layers (Some name) k
+pub reverted_head : (t : Tree) (name : List ℕ) (spare : Tables) (k : ℕ) → block_at spare k ≡ None → head_reads (reverted_tree t name spare) k ≡ reads t.layers (Some name) k
 reverted_head t name spare k empty = ap (λ b. option_or b (reads t.layers (Some name) k)) empty

@@ -6,7 +6,7 @@ use Rattle.std.proofs.lemmas.List.{set-append_left, set-append_right, get_or_def
 use Rattle.std.proofs.lemmas.List.Edits.{get_or-remove_below, length-remove}
 use Rattle.std.proofs.lemmas.Grind.{elements}
 use Rattle.sparse_image.specs.Image.{Tables, block_at, EmptiesPage, LaysPageOver}
-use Rattle.layer_chain.specs.Tree.{Tree, name_of, parent_of, layer_at, reads, IsLayers, IsThere, IsWhole, IsChild}
+use Rattle.layer_chain.specs.Tree.{Tree, name_of, parent_of, layer_at, reads, IsLayers, IsThere, IsWholeTree, IsChild}
 use Rattle.layer_chain.specs.Changes.{with_layers, with_image, with_images, MovesPage, taken_out, in_place_of, replaced}
 use Rattle.layer_chain.specs.Children.{IsLeaf, IsOnlyChild}
 use Rattle.layer_chain.specs.declared.layer.Layer.{Layer}
@@ -43,7 +43,7 @@ images_on xs p c under over h in_p on there =
 pub images_length : (xs : List Layer) (p c : ℕ) (under over : Tables) → length (with_images xs p c under over) ≡ length xs
 images_length xs p c under over = omega (arith, length-set {A = Layer})
 
-pub images_whole : (t : Tree) (p c : ℕ) (under over : Tables) → c < p → p < length t.layers → IsWhole t → IsWhole (with_layers t (with_images t.layers p c under over))
+pub images_whole : (t : Tree) (p c : ℕ) (under over : Tables) → c < p → p < length t.layers → IsWholeTree t → IsWholeTree (with_layers t (with_images t.layers p c under over))
 images_whole t p c under over h in_p w = record {
   layers = images_tree t.layers p c under over h in_p w.layers;
   head = images_on t.layers p c under over h in_p t.on w.head;
@@ -52,7 +52,7 @@ images_whole t p c under over h in_p w = record {
 
 -- ---- the one layer that stands on that at p is at c
 
-module _ (t : Tree) (p c : ℕ) (w : IsWhole t) (in_p : p < length t.layers) (only : IsOnlyChild t p c) where
+module _ (t : Tree) (p c : ℕ) (w : IsWholeTree t) (in_p : p < length t.layers) (only : IsOnlyChild t p c) where
   pub child_in : c < length t.layers
   child_in = only.0.0
 
@@ -89,7 +89,7 @@ module _ (t : Tree) (p c : ℕ) (w : IsWhole t) (in_p : p < length t.layers) (on
       ∙ replace_at name_of parent_of (λ l. block_at l.image block) t.layers c p (layer_at t.layers c) (layer_at t.layers p) child_above in_p (layer_read t.layers c child_in) (layer_got t.layers p (layer_at t.layers c) in_p) w.layers child_on others_elsewhere
       d refl refl (sym (ap (λ (o : Option (List ℕ)). option_or o (block_at (layer_at t.layers p).image block)) empty)) want n
 
-  pub replaced_whole : IsWhole (replaced t p c)
+  pub replaced_whole : IsWholeTree (replaced t p c)
   replaced_whole = record {
     layers = subst (λ (ys : List Layer). IsLayers ys) (sym swap)
         (replace_tree name_of parent_of (λ l. block_at l.image 0) t.layers c p (layer_at t.layers c) (layer_at t.layers p) child_above in_p (layer_read t.layers c child_in) (layer_got t.layers p (layer_at t.layers c) in_p) w.layers child_on others_elsewhere d refl refl);
@@ -112,7 +112,7 @@ module _ (t : Tree) (p : ℕ) (in_p : p < length t.layers) (leaf : IsLeaf t p) w
   pub without_reads : (block : ℕ) (want : Option (List ℕ)) → want ≢ Some (name_of (layer_at t.layers p)) → reads (taken_out t p).layers want block ≡ reads t.layers want block
   without_reads block = delete_at name_of parent_of (λ l. block_at l.image block) t.layers p (layer_at t.layers p) in_p (layer_read t.layers p in_p) leaf_elsewhere
 
-  pub without_whole : IsWhole t → IsWhole (taken_out t p)
+  pub without_whole : IsWholeTree t → IsWholeTree (taken_out t p)
   without_whole w = record {
     layers = delete_tree name_of parent_of (λ l. block_at l.image 0) t.layers p (layer_at t.layers p) in_p (layer_read t.layers p in_p) leaf_elsewhere w.layers;
     head = delete_on name_of parent_of (λ l. block_at l.image 0) t.layers p (layer_at t.layers p) in_p (layer_read t.layers p in_p) leaf_elsewhere t.on leaf_head w.head;

@@ -5,7 +5,7 @@ use Rattle.std.proofs.lemmas.List.{get_or_default}
 use Rattle.std.proofs.lemmas.Bool.{cases_eq, cases_lt}
 use Rattle.layer_chain.proofs.Cuts.{CutAt, cut_at, CutTwo, cut_two}
 use Rattle.layer_chain.proofs.TreeShape.{tree_back, on_back, no_back, apart, parent_other}
-use Rattle.layer_chain.specs.Tree.{Tree, name_of, parent_of, IsLayers, IsNew, IsThere, IsAt, IsChild, IsParent, IsWhole, layer_at}
+use Rattle.layer_chain.specs.Tree.{Tree, name_of, parent_of, IsLayers, IsNew, IsThere, IsAt, IsChild, IsParent, IsWholeTree, layer_at}
 use Rattle.layer_chain.specs.declared.layer.Layer.{Layer}
 
 -- what holds at each place holds of each element
@@ -79,7 +79,7 @@ child_newer xs p c tree in_p in_c child =
     (cases_lt c p)
 
 -- the place of a parent's name is an older one's
-pub parent_placed : (t : Tree) (c : ℕ) (name : List ℕ) (found : Option ℕ) → c < length t.layers → IsWhole t → parent_of (layer_at t.layers c) ≡ Some name → MatchOption found (IsNew name t.layers) (λ p. IsAt t.layers name p) → MatchOption found (parent_of (layer_at t.layers c) ≡ None) (λ p. IsParent t.layers p c)
+pub parent_placed : (t : Tree) (c : ℕ) (name : List ℕ) (found : Option ℕ) → c < length t.layers → IsWholeTree t → parent_of (layer_at t.layers c) ≡ Some name → MatchOption found (IsNew name t.layers) (λ p. IsAt t.layers name p) → MatchOption found (parent_of (layer_at t.layers c) ≡ None) (λ p. IsParent t.layers p c)
 parent_placed t c name None h w is new = absurd (not_new t.layers c name h w.layers is new)
 parent_placed t c name (Some p) h w is at =
     let child : IsChild t.layers c p = is ∙ ap (λ (n : List ℕ). Some n) (sym at.named) in

@@ -17,8 +17,8 @@ abbrev pub headed : Tree → ℕ → Option (List ℕ) → Tables → Tree
 headed t number on head = record t { head = head; on = on; number = number }
 
 -- what was the head is the newest layer, of that name, and a spare image is the head on it
-abbrev pub snapped : Tree → List ℕ → Bool → Tables → Tree
-snapped t name user_created spare = record {
+abbrev pub snapped_tree : Tree → List ℕ → Bool → Tables → Tree
+snapped_tree t name user_created spare = record {
   layers = record {
     meta = record { name = name; parent = t.on; marked = false; user_created = user_created; created = None };
     image = t.head;
@@ -29,16 +29,16 @@ snapped t name user_created spare = record {
 }
 
 -- the head is dropped, and a spare image is the head on the layer of that name
-abbrev pub reverted : Tree → List ℕ → Tables → Tree
-reverted t name spare = record { layers = t.layers; head = spare; on = Some name; number = t.number + 1 }
+abbrev pub reverted_tree : Tree → List ℕ → Tables → Tree
+reverted_tree t name spare = record { layers = t.layers; head = spare; on = Some name; number = t.number + 1 }
 
 -- the layer with its mark
-abbrev pub with_mark : Layer → Layer
-with_mark l = record l { meta = record l.meta { marked = true } }
+abbrev pub marked_layer : Layer → Layer
+marked_layer l = record l { meta = record l.meta { marked = true } }
 
 -- the layer at that place has its mark
 abbrev pub marked_at : Tree → ℕ → Tree
-marked_at t place = record t { layers = slice_set t.layers place (with_mark (layer_at t.layers place)) }
+marked_at t place = record t { layers = slice_set t.layers place (marked_layer (layer_at t.layers place)) }
 
 -- each layer and the head read as they did
 pub record KeepsReadings (old new : Tree) : Type 0 where

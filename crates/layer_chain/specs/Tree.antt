@@ -71,14 +71,14 @@ pub record IsParent (layers : List Layer) (p c : ℕ) : Type 0 where
   pub child : IsChild layers c p
 
 -- what every tree keeps: names once, parents older, the head on a layer or on none, and at most 250 with the head
-pub record IsWhole (t : Tree) : Type 0 where
+pub record IsWholeTree (t : Tree) : Type 0 where
   pub layers : IsLayers t.layers
   pub head : IsThere t.on t.layers
   pub few : length t.layers + 1 ≤ 250
 
 -- and so many layers have room, so that none is refused for want of memory
-pub record IsRoomy (t : Tree) (capacity : ℕ) : Type 0 where
-  pub whole : IsWhole t
+pub record IsRoomyTree (t : Tree) (capacity : ℕ) : Type 0 where
+  pub whole : IsWholeTree t
   pub room : 250 ≤ capacity
 
 -- no layer, and a head without blocks on none

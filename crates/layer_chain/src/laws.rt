@@ -3,7 +3,7 @@
 ghost use Rattle.std.specs.Prelude.{◌≡◌, ◌≢◌, ◌<◌, ℕ, Bool, List, length, Option, None, Some};
 ghost use Rattle.std.specs.Option.{option_or};
 ghost use Rattle.sparse_image.specs.Image.{Tables, block_at};
-ghost use Rattle.layer_chain.specs.Changes.{KeepsReadings, marked_at, pushed, reverted, snapped};
+ghost use Rattle.layer_chain.specs.Changes.{KeepsReadings, marked_at, pushed, reverted_tree, snapped_tree};
 ghost use Rattle.layer_chain.specs.Tree.{IsAt, IsLayers, Tree, head_reads, name_of, parent_of, reads};
 ghost use Rattle.layer_chain.specs.declared.layer.Layer.{Layer};
 
@@ -36,14 +36,14 @@ pub fn a_push_keeps_the_head()
 /// The layer that a snapshot makes reads as the head did.
 pub fn a_snapshot_reads_as_the_head_did()
     ensures { (t : Tree) (name : List ℕ) (user_created : Bool) (spare : Tables) (block : ℕ)
-        → reads (snapped t name user_created spare).layers (Some name) block ≡ head_reads t block }
+        → reads (snapped_tree t name user_created spare).layers (Some name) block ≡ head_reads t block }
 {}
 
 /// Each other layer reads as it did.
 pub fn a_snapshot_changes_no_other_layer()
     ensures { (t : Tree) (name : List ℕ) (user_created : Bool) (spare : Tables)
         (other : Option (List ℕ)) (block : ℕ) → other ≢ Some name
-        → reads (snapped t name user_created spare).layers other block
+        → reads (snapped_tree t name user_created spare).layers other block
         ≡ reads t.layers other block }
 {}
 
@@ -51,14 +51,14 @@ pub fn a_snapshot_changes_no_other_layer()
 pub fn a_snapshot_keeps_the_head()
     ensures { (t : Tree) (name : List ℕ) (user_created : Bool) (spare : Tables) (block : ℕ)
         → block_at spare block ≡ None
-        → head_reads (snapped t name user_created spare) block ≡ head_reads t block }
+        → head_reads (snapped_tree t name user_created spare) block ≡ head_reads t block }
 {}
 
 /// With an empty spare image the head reads as the layer to which it is reverted.
 pub fn a_reverted_head_reads_as_the_layer()
     ensures { (t : Tree) (name : List ℕ) (spare : Tables) (block : ℕ)
         → block_at spare block ≡ None
-        → head_reads (reverted t name spare) block ≡ reads t.layers (Some name) block }
+        → head_reads (reverted_tree t name spare) block ≡ reads t.layers (Some name) block }
 {}
 
 /// Each layer and the head read as they did.

@@ -3,8 +3,8 @@ ghost use Rattle.std.specs.Option.{option_copied, option_map};
 ghost use Rattle.vol_units.specs.Bytes.{with_bytes_at};
 ghost use Rattle.sparse_image.specs.Disk.{disk_of};
 ghost use Rattle.sparse_image.specs.Image.{block_at, has_page, MakesPages, is_page_of, ChangesBlock};
-ghost use Rattle.layer_chain.specs.Tree.{IsBlank, IsWhole, IsNew, IsThere, IsAt, IsChild, IsParent, reads, head_reads, marked_chain, layer_at, name_of, parent_of};
-ghost use Rattle.layer_chain.specs.Changes.{pushed, with_head, headed, snapped, reverted, marked_at, with_layers, MovesPage, taken_out, replaced};
+ghost use Rattle.layer_chain.specs.Tree.{IsBlank, IsWholeTree, IsNew, IsThere, IsAt, IsChild, IsParent, reads, head_reads, marked_chain, layer_at, name_of, parent_of};
+ghost use Rattle.layer_chain.specs.Changes.{pushed, with_head, headed, snapped_tree, reverted_tree, marked_at, with_layers, MovesPage, taken_out, replaced};
 ghost use Rattle.layer_chain.specs.Children.{Tells, IsLeaf, IsOnlyChild, children_named};
 
 use crate::chain::chain_in;
@@ -32,13 +32,13 @@ pub struct LayerTree {
 
 impl Model for LayerTree {
     ghost use Rattle.std.specs.Prelude.{vec_capacity};
-    ghost use Rattle.layer_chain.specs.Tree.{Tree, IsRoomy};
+    ghost use Rattle.layer_chain.specs.Tree.{Tree, IsRoomyTree};
 
     ghost Value = { Tree };
 
     ghost view = { λ t. record { layers = t.layers.items; head = t.head; on = t.on; number = t.number } };
 
-    ghost invariant = { λ t. IsRoomy
+    ghost invariant = { λ t. IsRoomyTree
         (record { layers = t.layers.items; head = t.head; on = t.on; number = t.number })
         (vec_capacity t.layers) };
 }
@@ -58,7 +58,7 @@ impl LayerTree {
     /// The layers and the head.
     pub fn count(&self) -> usize
         ensures count { result ≡ length self.now.layers + 1 }
-        ensures whole { IsWhole self.now }
+        ensures whole { IsWholeTree self.now }
     {
         self.layers.len() + 1
     }
@@ -196,7 +196,7 @@ impl LayerTree {
         requires room { length self.old.layers + 1 < MOST_LAYERS }
         requires new { IsNew name self.old.layers }
         requires number { self.old.number + 1 < 2 ^ 64 }
-        ensures { self.new ≡ snapped self.old name user_created spare }
+        ensures { self.new ≡ snapped_tree self.old name user_created spare }
     {
         let layer = Layer {
             meta: LayerMeta {
@@ -217,7 +217,7 @@ impl LayerTree {
     pub fn move_head(&mut self, name: LayerName, spare: Image)
         requires there { IsThere (Some name) self.old.layers }
         requires number { self.old.number + 1 < 2 ^ 64 }
-        ensures { self.new ≡ reverted self.old name spare }
+        ensures { self.new ≡ reverted_tree self.old name spare }
     {
         self.put_head(self.number + 1, Some(name), spare);
     }

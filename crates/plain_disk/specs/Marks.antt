@@ -3,6 +3,6 @@ use Rattle.volume_model.specs.declared.mark.Mark.{Mark}
 use Rattle.volume_model.specs.declared.mark.Mark.TheVariants as mark
 
 -- the mark takes a snapshot
-abbrev pub TakesSnapshot : Mark → Type 0
-TakesSnapshot (mark.Added replica source name) = Unit {0}
-TakesSnapshot m = ⊥
+abbrev pub MarkTakesSnapshot : Mark → Type 0
+MarkTakesSnapshot (mark.Added replica source name) = Unit {0}
+MarkTakesSnapshot m = ⊥

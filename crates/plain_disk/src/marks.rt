@@ -3,7 +3,7 @@
 ghost use Rattle.std.specs.Prelude.{◌≡◌, ◌+◌, ◌^◌, ◌<◌, OnOk, OnErr};
 ghost use Rattle.volume_model.specs.Marks.{after_mark};
 ghost use Rattle.volume_model.specs.PlainState.{purged};
-ghost use Rattle.plain_disk.specs.Marks.{TakesSnapshot};
+ghost use Rattle.plain_disk.specs.Marks.{MarkTakesSnapshot};
 
 use crate::disk::PlainDisk;
 use crate::snapshots::{give_parent, parent_of, take_out};
@@ -13,10 +13,10 @@ use volume_model::{FoldOrDrop, Mark};
 impl PlainDisk {
     /// Is then what a mark leaves. The begin of a rebuild takes a snapshot, and alone takes memory.
     pub fn follow(&mut self, alloc: Global, mark: &Mark) -> Result<(), AllocError>
-        requires number { TakesSnapshot mark.now → self.old.volume.snapshots.number + 1 < 2 ^ 64 }
+        requires number { MarkTakesSnapshot mark.now → self.old.volume.snapshots.number + 1 < 2 ^ 64 }
         ensures ok { OnOk result (self.new ≡ after_mark self.old mark.now) }
         ensures err { OnErr result (self.new ≡ self.old) }
-        ensures cause { OnErr result (TakesSnapshot mark.now) }
+        ensures cause { OnErr result (MarkTakesSnapshot mark.now) }
     {
         match mark {
             Mark::Purged(part) => self.purge(part),

@@ -1,6 +1,6 @@
 -- What stands against commands, and what they leave of the volume that a replica is.
 use Rattle.std.proofs.Common.{◌≡◌, ℕ, Bool, true, false, cond, List, None, Some, refl, sym, ap, subst, ◌∙◌}
-use Rattle.replica_node.specs.Node.{Node, marked, reverted, IsKept, IsFree}
+use Rattle.replica_node.specs.Node.{Node, marked, reverted_node, IsKept, IsFree}
 use Rattle.replica_node.specs.Fold.{tree_of}
 use Rattle.volume_model.specs.PlainState.{Volume}
 use Rattle.volume_model.specs.PlainStep.{command_refusal, live_refusal, volume_after_command, reply_of}
@@ -14,7 +14,7 @@ use Rattle.volume_model.specs.declared.call.Reply.TheVariants as reply
 use Rattle.volume_model.specs.declared.mode.Mode.{Mode}
 use Rattle.replica_state.specs.Volume.{volume_of_node}
 use Rattle.replica_state.proofs.VolumeLemmas.{kept_of, free_of, marked_volume, reverted_volume}
-use Rattle.replica_disk.specs.Step.{IsNew, volume_step, volume_step_unless}
+use Rattle.replica_disk.specs.Step.{HasNewName, volume_step, volume_step_unless}
 
 -- ---- the use of a snapshot
 
@@ -27,10 +27,10 @@ live_for n name free = none_gone (is_live (tree_of n) name) free
 
 -- ---- what a change asks of the replica
 
-pub free_for : (n : Node) (c : Command) (name taken : List ℕ) → IsNew (volume_of_node n) (call.Command c) → c ≡ command.Snapshot name → taken ≡ name
+pub free_for : (n : Node) (c : Command) (name taken : List ℕ) → HasNewName (volume_of_node n) (call.Command c) → c ≡ command.Snapshot name → taken ≡ name
     → IsFree n taken
 free_for n c name taken new is same =
-    subst (IsFree n) (sym same) (free_of n name (subst (λ d. IsNew (volume_of_node n) (call.Command d)) is new))
+    subst (IsFree n) (sym same) (free_of n name (subst (λ d. HasNewName (volume_of_node n) (call.Command d)) is new))
 
 pub kept_for_mark : (modes : List Mode) (n : Node) (c : Command) (name : List ℕ) → None ≡ command_refusal modes (volume_of_node n) c
     → c ≡ command.Remove name → IsKept n (Some name)
@@ -63,7 +63,7 @@ removed_step modes old new c name free is now =
     (ap volume_of_node now ∙ marked_volume old name) refl
 
 pub reverted_step : (modes : List Mode) (old new : Node) (c : Command) (name : List ℕ) → None ≡ command_refusal modes (volume_of_node old) c
-    → c ≡ command.Revert name → new ≡ reverted old name → volume_step modes (volume_of_node old) (call.Command c) ≡ (volume_of_node new, reply.Done)
+    → c ≡ command.Revert name → new ≡ reverted_node old name → volume_step modes (volume_of_node old) (call.Command c) ≡ (volume_of_node new, reply.Done)
 reverted_step modes old new c name free is now =
     let here : None ≡ live_refusal (volume_of_node old) name = free ∙ ap (command_refusal modes (volume_of_node old)) is in
     ap (λ d. volume_step modes (volume_of_node old) (call.Command d)) is

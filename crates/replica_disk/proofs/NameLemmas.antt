@@ -12,7 +12,7 @@ use Rattle.volume_model.specs.declared.call.Refusal.{Refusal}
 use Rattle.volume_model.specs.declared.call.Refusal.TheVariants.{NameUsed}
 use Rattle.volume_model.specs.declared.call.Reply.{Reply}
 use Rattle.volume_model.specs.declared.mode.Mode.{Mode}
-use Rattle.replica_disk.specs.Step.{IsNew, volume_step, volume_step_unless}
+use Rattle.replica_disk.specs.Step.{HasNewName, volume_step, volume_step_unless}
 
 -- the volume that a step leaves, and its reply
 abbrev seen : PlainState × Reply → Volume × Reply
@@ -41,6 +41,6 @@ not_taken : (used : Bool) → cond used (Some NameUsed) None ≡ None → used �
 not_taken true e = cc
 not_taken false e = refl
 
-pub is_new : (state : PlainState) (c : Call) → name_refusal state.used c ≡ None → AreNamed state → IsNew state.volume c
+pub is_new : (state : PlainState) (c : Call) → name_refusal state.used c ≡ None → AreNamed state → HasNewName state.volume c
 is_new state (call.Command (command.Snapshot name)) free named = none_has state name named (not_taken (is_used state.used name) free)
 is_new state c free named = tt

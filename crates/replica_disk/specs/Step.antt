@@ -21,6 +21,6 @@ abbrev pub volume_step : List Mode → Volume → Call → Volume × Reply
 volume_step modes volume c = volume_step_unless (volume_refusal modes volume c) modes volume c
 
 -- the call takes no snapshot under a name that one of the volume has
-abbrev pub IsNew : Volume → Call → Type 0
-IsNew volume (call.Command (command.Snapshot name)) = has_name volume.snapshots.tree name ≡ false
-IsNew volume c = Unit {0}
+abbrev pub HasNewName : Volume → Call → Type 0
+HasNewName volume (call.Command (command.Snapshot name)) = has_name volume.snapshots.tree name ≡ false
+HasNewName volume c = Unit {0}

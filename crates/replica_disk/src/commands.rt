@@ -2,7 +2,7 @@ ghost use Rattle.std.specs.Prelude.{◌≡◌, ◌+◌, ◌^◌, ◌<◌, IfOk, 
 ghost use Rattle.volume_model.specs.Modes.{mode_of};
 ghost use Rattle.volume_model.specs.PlainStep.{add_refusal, command_refusal, live_refusal, room_refusal};
 ghost use Rattle.replica_state.specs.Volume.{volume_of_node};
-ghost use Rattle.replica_disk.specs.Step.{IsNew, volume_step};
+ghost use Rattle.replica_disk.specs.Step.{HasNewName, volume_step};
 
 use replica_node::{MOST_LAYERS, ReplicaNode};
 use std::alloc::{AllocError, Global};
@@ -16,7 +16,7 @@ pub(crate) fn answer(
     command: &Command,
 ) -> Result<Reply, AllocError>
     requires number { node.old.number + 1 < 2 ^ 64 }
-    requires new { IsNew (volume_of_node node.old) (Call.Command command.now) }
+    requires new { HasNewName (volume_of_node node.old) (Call.Command command.now) }
     ensures step { IfOk result (λ reply. volume_step modes.now (volume_of_node node.old) (Call.Command command.now)
         ≡ (volume_of_node node.new, reply)) }
     ensures err { OnErr result (node.new ≡ node.old) }

@@ -4,7 +4,7 @@ ghost use Rattle.volume_model.specs.Snapshots.{chain_of};
 ghost use Rattle.volume_model.specs.PlainState.{volume_of, written, purged};
 ghost use Rattle.volume_model.specs.Purge.{CanBeDone, next_of};
 ghost use Rattle.volume_model.specs.declared.mode.Mode.{Mode};
-ghost use Rattle.replica_disk.specs.Step.{IsNew, volume_step};
+ghost use Rattle.replica_disk.specs.Step.{HasNewName, volume_step};
 
 use crate::commands;
 use crate::merge::merged_blocks;
@@ -76,7 +76,7 @@ impl ReplicaDisk {
     /// Answers a call on replicas of these modes, and is then what the call leaves.
     pub fn step(&mut self, alloc: Global, modes: &[Mode], call: &Call) -> Result<Reply, AllocError>
         requires number { self.old.snapshots.number + 1 < 2 ^ 64 }
-        requires new { IsNew self.old call.now }
+        requires new { HasNewName self.old call.now }
         ensures step { IfOk result (λ reply. volume_step modes.now self.old call.now ≡ (self.new, reply)) }
         ensures err { OnErr result (self.new ≡ self.old) }
     {

@@ -6,7 +6,7 @@ ghost use Rattle.volume_model.specs.PlainState.{PlainState};
 ghost use Rattle.volume_model.specs.PlainStep.{name_refusal, plain_step};
 ghost use Rattle.volume_model.specs.declared.call.Call.{Call};
 ghost use Rattle.volume_model.specs.declared.mode.Mode.{Mode};
-ghost use Rattle.replica_disk.specs.Step.{IsNew, volume_step};
+ghost use Rattle.replica_disk.specs.Step.{HasNewName, volume_step};
 
 /// Where no name that was taken stands against a call, the plain step leaves the volume that the volume's step leaves, and
 /// answers the same; and where each snapshot's name was taken, the call takes none under a name that one has.
@@ -14,5 +14,5 @@ pub fn a_plain_step_is_the_volumes()
     ensures step { (modes : List Mode) (state : PlainState) (call : Call) → name_refusal state.used call ≡ None
         → volume_step modes state.volume call ≡ ((plain_step modes state call).0.volume, (plain_step modes state call).1) }
     ensures new { (state : PlainState) (call : Call) → name_refusal state.used call ≡ None → AreNamed state
-        → IsNew state.volume call }
+        → HasNewName state.volume call }
 {}

@@ -1,4 +1,4 @@
-ghost use Rattle.replica_disk.specs.Step.{IsNew};
+ghost use Rattle.replica_disk.specs.Step.{HasNewName};
 
 use super::*;
 use std::alloc::Global;
@@ -6,7 +6,7 @@ use std::test::Fail;
 use vol_units::VolumeSize;
 
 fn ask(alloc: Global, disk: &mut ReplicaDisk, call: &Call) -> Result<Reply, Fail>
-    requires { IsNew disk.old call.now }
+    requires { HasNewName disk.old call.now }
 {
     if disk.head_number() == u64::MAX {
         return Err(Fail::new("no number is left"));

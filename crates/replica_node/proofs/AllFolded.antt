@@ -1,8 +1,8 @@
 -- All pages of a child, one after another, are folded onto its parent.
-use Rattle.std.proofs.Common.{◌≡◌, ⊎_elim, ℕ, zero, suc, ◌+◌, ◌*◌, ◌/◌, ◌<◌, ◌≤◌, true, false, not, ◌&&◌, List, length, Option, refl, sym, ap, subst, ◌∙◌, arith, add-one}
+use Rattle.std.proofs.Common.{◌≡◌, ⊎_elim, ℕ, zero, suc, ◌+◌, ◌*◌, ◌/◌, ◌<◌, false, not, ◌&&◌, List, length, refl, sym, ap, subst, ◌∙◌, arith, add-one}
 use Rattle.std.specs.Prelude.{All}
 use Rattle.std.proofs.lemmas.Bool.{cases_eq, cases_lt, and_right}
-use Rattle.layer_chain.specs.Tree.{Tree, IsWhole, layer_at}
+use Rattle.layer_chain.specs.Tree.{Tree, IsWholeTree, layer_at}
 use Rattle.volume_model.specs.Purge.{CanFold}
 use Rattle.volume_model.specs.Snapshots.{Snapshot}
 use Rattle.coalesce.specs.declared.change.FoldPlaces.{FoldPlaces}
@@ -39,7 +39,7 @@ has_page t pages place page n within inside =
     omega (arith, whole)
 
 pub one_page : (start old new : Tree) (p c : List ℕ) (places : FoldPlaces) (pages page : ℕ) → FoldsPages start old p c places (pages * 512) page
-    → IsWhole old → page < pages → FoldsPage old new p c page → KeepsOthers old new p → CanFoldAt new p c places → FoldsPages start new p c places (pages * 512) (page + 1)
+    → IsWholeTree old → page < pages → FoldsPage old new p c page → KeepsOthers old new p → CanFoldAt new p c places → FoldsPages start new p c places (pages * 512) (page + 1)
 one_page start old new p c places pages page far whole inside folds keeps can =
     let count = pages * 512 in
     let step = fold_is old new count (node_of old count) p c page refl far.node whole (can_back old count p c far.can.can)

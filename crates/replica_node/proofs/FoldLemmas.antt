@@ -10,7 +10,7 @@ use Rattle.sparse_image.specs.Image.{Tables, block_at}
 use Rattle.sparse_image.specs.Disk.{bytes_of}
 use Rattle.sparse_image.proofs.DiskLemmas.{joined-same}
 use Rattle.layer_chain.specs.Changes.{with_layers, with_image, with_images, MovesPage}
-use Rattle.layer_chain.specs.Tree.{Tree, name_of, parent_of, layer_at, reads, head_reads, IsAt, IsLayers, IsNew, IsWhole, IsParent}
+use Rattle.layer_chain.specs.Tree.{Tree, name_of, parent_of, layer_at, reads, head_reads, IsAt, IsLayers, IsNew, IsWholeTree, IsParent}
 use Rattle.layer_chain.specs.declared.layer.Layer.{Layer}
 use Rattle.layer_chain.proofs.FoldLemmas.{images_tree}
 use Rattle.layer_chain.proofs.ReadLaws.{cases_named}
@@ -67,7 +67,7 @@ option_or_three : (a b c : Option (List ℕ)) → option_or (option_or a b) c �
 option_or_three None b c = refl
 option_or_three (Some a) b c = refl
 
-module _ (old new : Tree) (p c : List ℕ) (i j page : ℕ) (w : IsWhole old) (at : AreAt old.layers p c i j) (stands : IsParent old.layers i j) (moves : MovesPage old.layers new.layers i j page) (keeps : KeepsOthers old new p) where
+module _ (old new : Tree) (p c : List ℕ) (i j page : ℕ) (w : IsWholeTree old) (at : AreAt old.layers p c i j) (stands : IsParent old.layers i j) (moves : MovesPage old.layers new.layers i j page) (keeps : KeepsOthers old new p) where
   abbrev x : Layer
   x = layer_at old.layers i
 
@@ -214,7 +214,7 @@ module _ (old new : Tree) (p c : List ℕ) (i j page : ℕ) (w : IsWhole old) (a
       folded_node = other_layers old new count (map step kept) rest keeps.head folded_layers
 
 -- a page of the tree is folded, and so it is in the replica
-pub fold_is : (old new : Tree) (count : ℕ) (node : Node) (p c : List ℕ) (page : ℕ) → node_of old count ≡ node → IsNode old count → IsWhole old
+pub fold_is : (old new : Tree) (count : ℕ) (node : Node) (p c : List ℕ) (page : ℕ) → node_of old count ≡ node → IsNode old count → IsWholeTree old
     → CanFold (tree_of node) node.on p c → page * 2097152 < length node.disk → FoldsPage old new p c page → KeepsOthers old new p
     → (IsNode new count) × (node_of new count ≡ page_folded node p c page)
 fold_is old new count node p c page view n w can inside folds keeps =

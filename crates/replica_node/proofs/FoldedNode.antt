@@ -11,7 +11,7 @@ use Rattle.volume_model.specs.Snapshots.{Snapshot}
 use Rattle.coalesce.specs.Folding.{snapshot_of}
 use Rattle.coalesce.proofs.ChildLemmas.{other_name}
 use Rattle.replica_node.specs.Node.{Kept, Node, disk_named, has_own}
-use Rattle.replica_node.specs.Fold.{tree_of, own_named, is_in, own_without_page, with_page, without_page, page_folded_in, page_folded, without, put_down, replaced, dropped_node}
+use Rattle.replica_node.specs.Fold.{tree_of, own_named, is_in, own_without_page, with_page, without_page, page_folded_in, page_folded, layers_without, put_down, replaced_node, dropped_node}
 use Rattle.replica_node.proofs.ListedLemmas.{listed-at, listed-past}
 
 abbrev told : List Kept → List Snapshot
@@ -117,21 +117,21 @@ own_past (k ∷ ks) name count block all past =
 
 -- ---- a layer is out
 
-without_told : (p : List ℕ) (ks : List Kept) → told (without p ks) ≡ dropped p (told ks)
+without_told : (p : List ℕ) (ks : List Kept) → told (layers_without p ks) ≡ dropped p (told ks)
 without_told p [] = refl
 without_told p (k ∷ ks) = go (without_told p ks) (bytes_eq p k.meta.name)
   where
-    go : told (without p ks) ≡ dropped p (told ks) → (b : Bool)
-        → told (cond b ks (k ∷ without p ks)) ≡ cond b (told ks) (snapshot_of k.meta ∷ dropped p (told ks))
+    go : told (layers_without p ks) ≡ dropped p (told ks) → (b : Bool)
+        → told (cond b ks (k ∷ layers_without p ks)) ≡ cond b (told ks) (snapshot_of k.meta ∷ dropped p (told ks))
     go rest true = refl
     go rest false = ap (λ (ss : List Snapshot). snapshot_of k.meta ∷ ss) rest
 
-without_named : (p : List ℕ) (ks : List Kept) (name : List ℕ) → name ≢ p → disk_named (without p ks) name ≡ disk_named ks name
+without_named : (p : List ℕ) (ks : List Kept) (name : List ℕ) → name ≢ p → disk_named (layers_without p ks) name ≡ disk_named ks name
 without_named p [] name other = refl
 without_named p (k ∷ ks) name other = go (without_named p ks name other) (bytes_eq p k.meta.name) refl
   where
-    go : disk_named (without p ks) name ≡ disk_named ks name → (b : Bool) → bytes_eq p k.meta.name ≡ b
-        → disk_named (cond b ks (k ∷ without p ks)) name ≡ disk_named (k ∷ ks) name
+    go : disk_named (layers_without p ks) name ≡ disk_named ks name → (b : Bool) → bytes_eq p k.meta.name ≡ b
+        → disk_named (cond b ks (k ∷ layers_without p ks)) name ≡ disk_named (k ∷ ks) name
     go rest true is =
         sym (ap (λ b. cond b k.disk (disk_named ks name))
         (other_name name k.meta.name (λ e. other (sym e ∙ sym ((bytes_eq-Decides p k.meta.name).0 is)))))
@@ -171,12 +171,12 @@ module _ (c : List ℕ) (parent : Option (List ℕ)) (own : List Bool) where
       go rest false = ap (λ d. cond (bytes_eq name k.meta.name) k.disk d) rest
 
 -- the layers, as snapshots
-pub replaced_tree : (node : Node) (p c : List ℕ) → tree_of (replaced node p c) ≡ folded p c (tree_of node)
+pub replaced_tree : (node : Node) (p c : List ℕ) → tree_of (replaced_node node p c) ≡ folded p c (tree_of node)
 replaced_tree node p c =
-    put c (parent_in p (tree_of node)) (own_named node.layers p) (without p node.layers)
+    put c (parent_in p (tree_of node)) (own_named node.layers p) (layers_without p node.layers)
     ∙ ap (given c (parent_in p (tree_of node))) (without_told p node.layers)
 
 -- each layer but p reads as it did
-pub replaced_disk : (node : Node) (p c name : List ℕ) → name ≢ p → disk_named (replaced node p c).layers name ≡ disk_named node.layers name
+pub replaced_disk : (node : Node) (p c name : List ℕ) → name ≢ p → disk_named (replaced_node node p c).layers name ≡ disk_named node.layers name
 replaced_disk node p c name other =
-    put_named c (parent_in p (tree_of node)) (own_named node.layers p) (without p node.layers) name ∙ without_named p node.layers name other
+    put_named c (parent_in p (tree_of node)) (own_named node.layers p) (layers_without p node.layers) name ∙ without_named p node.layers name other

@@ -11,7 +11,7 @@ use Rattle.sparse_image.specs.Disk.{bytes_of}
 use Rattle.sparse_image.proofs.ImageLemmas.{ChangesBlock-past}
 use Rattle.layer_chain.specs.Changes as change
 use Rattle.layer_chain.specs.Changes.{with_layers, in_place_of}
-use Rattle.layer_chain.specs.Tree.{Tree, name_of, parent_of, layer_at, IsAt, IsLayers, IsNew, IsWhole, IsParent}
+use Rattle.layer_chain.specs.Tree.{Tree, name_of, parent_of, layer_at, IsAt, IsLayers, IsNew, IsWholeTree, IsParent}
 use Rattle.layer_chain.specs.declared.layer.Layer.{Layer}
 use Rattle.layer_chain.proofs.TreeLemmas.{one_place, there_at}
 use Rattle.layer_chain.proofs.TreeShape.{no_append, apart}
@@ -20,7 +20,7 @@ use Rattle.coalesce.specs.Folding.{snapshot_of, AreAt, KeepsOthers, HasNoBlock, 
 use Rattle.coalesce.proofs.PlaceLemmas.{fold_parent}
 use Rattle.coalesce.proofs.ChildLemmas.{same_name, other_name}
 use Rattle.replica_node.specs.Node.{Kept, Node, node_of, kept_in, has_own, own_in, IsNode}
-use Rattle.replica_node.specs.Fold.{tree_of, own_named, without, put_down, replaced, dropped_node}
+use Rattle.replica_node.specs.Fold.{tree_of, own_named, layers_without, put_down, replaced_node, dropped_node}
 use Rattle.replica_node.proofs.CutLemmas.{Cut, cut, Pair, pair, absent_reads, map_one}
 use Rattle.replica_node.proofs.FoldLemmas.{other_layers, other_whole, other_disks}
 use Rattle.replica_node.proofs.NodeLemmas.{HasPages, kept_elsewhere, length-none, same_kept}
@@ -48,11 +48,11 @@ parent_at (x ∷ xs) layers count name (suc i) tree at =
 
 -- the first layer of the name is out
 without_past : (xs ys layers : List Layer) (count : ℕ) (x : Layer) (p : List ℕ) → IsNew p xs → name_of x ≡ p
-    → without p (map (kept_in layers count) (xs ++ (x ∷ ys))) ≡ map (kept_in layers count) (xs ++ ys)
+    → layers_without p (map (kept_in layers count) (xs ++ (x ∷ ys))) ≡ map (kept_in layers count) (xs ++ ys)
 without_past [] ys layers count x p new is =
-    ap (λ b. cond b (map (kept_in layers count) ys) (kept_in layers count x ∷ without p (map (kept_in layers count) ys))) (ap (bytes_eq p) is ∙ same_name p)
+    ap (λ b. cond b (map (kept_in layers count) ys) (kept_in layers count x ∷ layers_without p (map (kept_in layers count) ys))) (ap (bytes_eq p) is ∙ same_name p)
 without_past (l ∷ ls) ys layers count x p new is =
-    ap (λ b. cond b (map (kept_in layers count) (ls ++ (x ∷ ys))) (kept_in layers count l ∷ without p (map (kept_in layers count) (ls ++ (x ∷ ys)))))
+    ap (λ b. cond b (map (kept_in layers count) (ls ++ (x ∷ ys))) (kept_in layers count l ∷ layers_without p (map (kept_in layers count) (ls ++ (x ∷ ys)))))
     (other_name p (name_of l) new.0)
     ∙ ap (λ (ks : List Kept). kept_in layers count l ∷ ks) (without_past ls ys layers count x p new.1 is)
 
@@ -63,7 +63,7 @@ none_there : (o : Option (List ℕ)) → is_some o ≡ false → o ≡ None
 none_there None e = refl
 none_there (Some b) e = absurd (false≢true (sym e))
 
-pub has_no_block : (t : Tree) (count : ℕ) (node : Node) (c : List ℕ) → node_of t count ≡ node → IsNode t count → IsWhole t
+pub has_no_block : (t : Tree) (count : ℕ) (node : Node) (c : List ℕ) → node_of t count ≡ node → IsNode t count → IsWholeTree t
     → ((block : ℕ) → has_own (own_named node.layers c) block ≡ false) → HasNoBlock t.layers c
 has_no_block t count node c view n w empty = λ i l within named block.
     let is : get_or t.layers i l ≡ layer_at t.layers i = get_or_default t.layers i l _ within in
@@ -77,7 +77,7 @@ has_no_block t count node c view n w empty = λ i l within named block.
     (λ past. (ChangesBlock-past (layer_at t.layers i).image block (λ b. b) (omega (arith, past, pages))).0)
     (cases_lt block count)
 
-module _ (old new : Tree) (p c : List ℕ) (i j : ℕ) (w : IsWhole old) (at : AreAt old.layers p c i j) (stands : IsParent old.layers i j) (is_new : new ≡ change.replaced old i j) (rest : new ≡ with_layers old new.layers) (keeps : KeepsOthers old new p) (count : ℕ) (n : IsNode old count) where
+module _ (old new : Tree) (p c : List ℕ) (i j : ℕ) (w : IsWholeTree old) (at : AreAt old.layers p c i j) (stands : IsParent old.layers i j) (is_new : new ≡ change.replaced old i j) (rest : new ≡ with_layers old new.layers) (keeps : KeepsOthers old new p) (count : ℕ) (n : IsNode old count) where
   abbrev x : Layer
   x = layer_at old.layers i
 
@@ -143,14 +143,14 @@ module _ (old new : Tree) (p c : List ℕ) (i j : ℕ) (w : IsWhole old) (at : A
       same_kept moved.meta _ _ (own_in x.image count) _ (other_disks old new count p (name_of y) keeps names_apart) refl
       ∙ ap (λ b. cond b (record (was y) { meta = moved.meta; own = own_in x.image count }) (was y)) (sym (ap (bytes_eq c) at.child.named ∙ same_name c))
 
-  p_out : without p kept ≡ map was (two.before ++ (y ∷ (two.between ++ two.after)))
+  p_out : layers_without p kept ≡ map was (two.before ++ (y ∷ (two.between ++ two.after)))
   p_out =
-      ap (λ (ls : List Layer). without p (map was ls)) (two.is ∙ sym (append_assoc two.before (y ∷ two.between) (x ∷ two.after)))
+      ap (λ (ls : List Layer). layers_without p (map was ls)) (two.is ∙ sym (append_assoc two.before (y ∷ two.between) (x ∷ two.after)))
       ∙ without_past (two.before ++ (y ∷ two.between)) two.after old.layers count x p
       (no_append name_of parent_of p two.before (y ∷ two.between) two.p_before (names_apart, two.p_between)) at.parent.named
       ∙ ap (map was) (append_assoc two.before (y ∷ two.between) two.after)
 
-  replaced_layers : map is new.layers ≡ map (put_down c (parent_in p (tree_of (node_of old count))) (own_named kept p)) (without p kept)
+  replaced_layers : map is new.layers ≡ map (put_down c (parent_in p (tree_of (node_of old count))) (own_named kept p)) (layers_without p kept)
   replaced_layers =
       let behind = two.between ++ two.after in
       ap (map is) layers_are
@@ -159,28 +159,28 @@ module _ (old new : Tree) (p c : List ℕ) (i j : ℕ) (w : IsWhole old) (at : A
       (elsewhere behind (no_append name_of parent_of p two.between two.after two.p_between two.p_after) (no_append name_of parent_of c two.between two.after two.c_between two.c_after))
       ∙ sym (map_one step (map was two.before) (map was behind) (was y))
       ∙ ap (map step) (sym (map_one was two.before behind y) ∙ sym p_out)
-      ∙ ap (λ q. map (put_down c q (own_in x.image count)) (without p kept)) (sym (parent_at old.layers old.layers count p i w.layers at.parent))
-      ∙ ap (λ o. map (put_down c (parent_in p (tree_of (node_of old count))) o) (without p kept)) (sym (own_of old.layers old.layers count p i w.layers at.parent))
+      ∙ ap (λ q. map (put_down c q (own_in x.image count)) (layers_without p kept)) (sym (parent_at old.layers old.layers count p i w.layers at.parent))
+      ∙ ap (λ o. map (put_down c (parent_in p (tree_of (node_of old count))) o) (layers_without p kept)) (sym (own_of old.layers old.layers count p i w.layers at.parent))
     where
       pieces : {a b d e : List Kept} {l m : Kept} → a ≡ b → l ≡ m → d ≡ e → a ++ (l ∷ d) ≡ b ++ (m ∷ e)
       pieces q r s = cc
 
-  pub replaced_node : node_of new count ≡ replaced (node_of old count) p c
-  replaced_node = other_layers old new count _ rest keeps.head replaced_layers
+  pub node_of_replaced : node_of new count ≡ replaced_node (node_of old count) p c
+  node_of_replaced = other_layers old new count _ rest keeps.head replaced_layers
 
 -- the parent is replaced in the tree, and so it is in the replica
-pub replace_is : (old new : Tree) (count : ℕ) (node : Node) (p c : List ℕ) → node_of old count ≡ node → IsNode old count → IsWhole old
+pub replace_is : (old new : Tree) (count : ℕ) (node : Node) (p c : List ℕ) → node_of old count ≡ node → IsNode old count → IsWholeTree old
     → CanFold (tree_of node) node.on p c → Replaces old new p c → new ≡ with_layers old new.layers → KeepsOthers old new p
-    → (IsNode new count) × (node_of new count ≡ replaced node p c)
+    → (IsNode new count) × (node_of new count ≡ replaced_node node p c)
 replace_is old new count node p c view n w can replaces rest keeps =
     let stands = fold_parent old p c replaces.parent replaces.child w replaces.at (can_fold old count node p c view can) in (
       replaced_whole old new p c replaces.parent replaces.child w replaces.at stands replaces.is rest keeps count n,
-      replaced_node old new p c replaces.parent replaces.child w replaces.at stands replaces.is rest keeps count n ∙ ap (λ a. replaced a p c) view,
+      node_of_replaced old new p c replaces.parent replaces.child w replaces.at stands replaces.is rest keeps count n ∙ ap (λ a. replaced_node a p c) view,
     )
 
 -- ---- a layer is dropped
 
-module _ (old new : Tree) (p : List ℕ) (i : ℕ) (w : IsWhole old) (at : IsAt old.layers p i) (is_new : new ≡ change.taken_out old i) (rest : new ≡ with_layers old new.layers) (keeps : KeepsOthers old new p) (count : ℕ) (n : IsNode old count) where
+module _ (old new : Tree) (p : List ℕ) (i : ℕ) (w : IsWholeTree old) (at : IsAt old.layers p i) (is_new : new ≡ change.taken_out old i) (rest : new ≡ with_layers old new.layers) (keeps : KeepsOthers old new p) (count : ℕ) (n : IsNode old count) where
   one : Cut old.layers p i
   one = cut old.layers p i w.layers at
 
@@ -196,18 +196,18 @@ module _ (old new : Tree) (p : List ℕ) (i : ℕ) (w : IsWhole old) (at : IsAt 
       (subst (λ (t : Tree). All (HasPages count) t.layers) (sym is_new) (all_remove (HasPages count) old.layers i n.images))
       (λ k. ap (λ o. length (bytes_of o)) (absent_reads new.layers p k (subst (λ (ls : List Layer). IsNew p ls) (sym left_are) no_p)) ∙ length-none)
 
-  dropped_layers : map (kept_in new.layers count) new.layers ≡ without p (map (kept_in old.layers count) old.layers)
+  dropped_layers : map (kept_in new.layers count) new.layers ≡ layers_without p (map (kept_in old.layers count) old.layers)
   dropped_layers =
       ap (map (kept_in new.layers count)) left_are
       ∙ kept_elsewhere (one.before ++ one.after) old.layers new.layers count p no_p (λ name other. other_disks old new count p name keeps other)
       ∙ sym (without_past one.before one.after old.layers count (layer_at old.layers i) p one.none_before at.named)
-      ∙ sym (ap (λ (ls : List Layer). without p (map (kept_in old.layers count) ls)) one.is)
+      ∙ sym (ap (λ (ls : List Layer). layers_without p (map (kept_in old.layers count) ls)) one.is)
 
   pub dropped_is : node_of new count ≡ dropped_node (node_of old count) p
   dropped_is = other_layers old new count _ rest keeps.head dropped_layers
 
 -- a layer is dropped from the tree, and so it is from the replica
-pub drop_is : (old new : Tree) (count : ℕ) (node : Node) (p : List ℕ) → node_of old count ≡ node → IsNode old count → IsWhole old
+pub drop_is : (old new : Tree) (count : ℕ) (node : Node) (p : List ℕ) → node_of old count ≡ node → IsNode old count → IsWholeTree old
     → Drops old new p → new ≡ with_layers old new.layers → KeepsOthers old new p → (IsNode new count) × (node_of new count ≡ dropped_node node p)
 drop_is old new count node p view n w drops rest keeps = (
   dropped_whole old new p drops.place w drops.at drops.is rest keeps count n,

@@ -22,7 +22,7 @@ use Rattle.layer_chain.specs.Tree.{Tree, name_of, reads, head_reads, layer_at, I
 use Rattle.layer_chain.proofs.ChangeLemmas.{snapped_reads, snapped_others, snapped_head, reverted_head, mark_keeps}
 use Rattle.layer_chain.proofs.ReadLaws.{cases_named}
 use Rattle.replica_node.proofs.ListedLemmas.{length-listed, listed-all}
-use Rattle.replica_node.specs.Node.{Kept, Node, node_of, kept_in, disk_in, head_disk, own_in, made_in, names_of, disk_named, IsNode, IsKept, IsFree, IsSpareOf, no_room, no_own, blank, snapped, reverted, marked, with_mark}
+use Rattle.replica_node.specs.Node.{Kept, Node, node_of, kept_in, disk_in, head_disk, own_in, made_in, layer_names, disk_named, IsNode, IsKept, IsFree, IsSpareOf, no_room, no_own, blank, snapped_node, reverted_node, marked, marked_if_named}
 
 -- ---- room, and blocks of its own
 
@@ -76,12 +76,12 @@ is_new (x ∷ xs) layers count name all = (
 )
 
 there_from : (xs layers : List Layer) (count : ℕ) (name : List ℕ) (i : ℕ) → i < length xs
-    → get_or (names_of (map (kept_in layers count) xs)) i name ≡ name → IsThere (Some name) xs
+    → get_or (layer_names (map (kept_in layers count) xs)) i name ≡ name → IsThere (Some name) xs
 there_from [] layers count name i within e = absurd (omega arith)
 there_from (x ∷ xs) layers count name zero within e = inl e
 there_from (x ∷ xs) layers count name (suc i) within e = inr (there_from xs layers count name i (omega arith) e)
 
-is_there : (xs layers : List Layer) (count : ℕ) (name : List ℕ) → Contains (names_of (map (kept_in layers count) xs)) name → IsThere (Some name) xs
+is_there : (xs layers : List Layer) (count : ℕ) (name : List ℕ) → Contains (layer_names (map (kept_in layers count) xs)) name → IsThere (Some name) xs
 is_there xs layers count name c = there_from xs layers count name c.0
     (omega (arith, c.1, length-map {A = Kept} {B = List ℕ}, length-map {A = Layer} {B = Kept})) c.2
 
@@ -101,7 +101,7 @@ free_from (x ∷ xs) layers count name free =
 pub is_free : (t : Tree) (count : ℕ) (node : Node) (name : List ℕ) → node_of t count ≡ node → IsNew name t.layers → IsFree node name
 is_free t count node name view free = subst (λ n. IsFree n name) view (free_from t.layers t.layers count name free)
 
-kept_from : (xs layers : List Layer) (count : ℕ) (name : List ℕ) → IsThere (Some name) xs → Contains (names_of (map (kept_in layers count) xs)) name
+kept_from : (xs layers : List Layer) (count : ℕ) (name : List ℕ) → IsThere (Some name) xs → Contains (layer_names (map (kept_in layers count) xs)) name
 kept_from [] layers count name there = absurd there
 kept_from (x ∷ xs) layers count name (inl same) = (0, omega arith, same)
 kept_from (x ∷ xs) layers count name (inr older) =
@@ -145,12 +145,12 @@ same_parts p q x y z w = cc
 
 -- ---- a snapshot
 
-pub snapped_node : (t : Tree) (count : ℕ) (name : List ℕ) (spare : Tables) (page_count : ℕ)
+pub node_of_snapped : (t : Tree) (count : ℕ) (name : List ℕ) (spare : Tables) (page_count : ℕ)
     → IsNew name t.layers → IsEmpty spare page_count
-    → node_of (change.snapped t name (not (begins_sys name)) spare) count ≡ snapped (node_of t count) name
-snapped_node t count name spare page_count free e =
+    → node_of (change.snapped_tree t name (not (begins_sys name)) spare) count ≡ snapped_node (node_of t count) name
+node_of_snapped t count name spare page_count free e =
     let user_created = not (begins_sys name) in
-    let after = change.snapped t name user_created spare in
+    let after = change.snapped_tree t name user_created spare in
     let own : disk_in after.layers count name ≡ head_disk t count =
     joined-same (λ k. bytes_of (head_reads t k)) (λ k. bytes_of (reads after.layers (Some name) k)) count
     (λ k h. ap bytes_of (snapped_reads t name user_created spare k)) in
@@ -168,9 +168,9 @@ snapped_node t count name spare page_count free e =
     both p q = cc
 
 pub snapped_whole : (t : Tree) (count : ℕ) (name : List ℕ) (user_created : Bool) (spare : Tables) (page_count : ℕ)
-    → IsNode t count → IsEmpty spare page_count → page_count * 512 ≡ count → IsNode (change.snapped t name user_created spare) count
+    → IsNode t count → IsEmpty spare page_count → page_count * 512 ≡ count → IsNode (change.snapped_tree t name user_created spare) count
 snapped_whole t count name user_created spare page_count n e pages =
-    let after = change.snapped t name user_created spare in
+    let after = change.snapped_tree t name user_created spare in
     record {
       pages = ap (λ l. l * 512) e.count ∙ pages;
       images = All-cons (HasPages count) (layer_at after.layers 0) t.layers n.pages n.images;
@@ -196,11 +196,11 @@ named_there (x ∷ xs) layers count name there = go (λ older. named_there xs la
         rest
         there
 
-pub reverted_node : (t : Tree) (count : ℕ) (name : List ℕ) (spare : Tables) (page_count : ℕ)
+pub node_of_reverted : (t : Tree) (count : ℕ) (name : List ℕ) (spare : Tables) (page_count : ℕ)
     → IsThere (Some name) t.layers → IsEmpty spare page_count
-    → node_of (change.reverted t name spare) count ≡ reverted (node_of t count) name
-reverted_node t count name spare page_count there e =
-    let after = change.reverted t name spare in
+    → node_of (change.reverted_tree t name spare) count ≡ reverted_node (node_of t count) name
+node_of_reverted t count name spare page_count there e =
+    let after = change.reverted_tree t name spare in
     let head : head_disk after count ≡ disk_in t.layers count name =
     joined-same (λ k. bytes_of (reads t.layers (Some name) k)) (λ k. bytes_of (head_reads after k)) count
     (λ k h. ap bytes_of (reverted_head t name spare k (e.blocks k))) in
@@ -208,7 +208,7 @@ reverted_node t count name spare page_count there e =
     (no_room-empty t spare page_count count e) (no_own-empty t spare page_count count e)
 
 pub reverted_whole : (t : Tree) (count : ℕ) (name : List ℕ) (spare : Tables) (page_count : ℕ)
-    → IsNode t count → IsEmpty spare page_count → page_count * 512 ≡ count → IsNode (change.reverted t name spare) count
+    → IsNode t count → IsEmpty spare page_count → page_count * 512 ≡ count → IsNode (change.reverted_tree t name spare) count
 reverted_whole t count name spare page_count n e pages = record {
   pages = ap (λ l. l * 512) e.count ∙ pages;
   images = n.images;
@@ -220,7 +220,7 @@ reverted_whole t count name spare page_count n e pages = record {
 
 -- layers of other names stay without it
 unmarked_others : (xs : List Layer) (layers : List Layer) (count : ℕ) (name : List ℕ) → IsNew name xs
-    → map (with_mark name) (map (kept_in layers count) xs) ≡ map (kept_in layers count) xs
+    → map (marked_if_named name) (map (kept_in layers count) xs) ≡ map (kept_in layers count) xs
 unmarked_others [] layers count name free = refl
 unmarked_others (x ∷ xs) layers count name free =
     both (other (bytes_eq name (name_of x)) refl) (unmarked_others xs layers count name free.1)
@@ -228,19 +228,19 @@ unmarked_others (x ∷ xs) layers count name free =
     both : {a b : Kept} {l m : List Kept} → a ≡ b → l ≡ m → a ∷ l ≡ b ∷ m
     both p q = cc
 
-    other : (b : Bool) → bytes_eq name (name_of x) ≡ b → with_mark name (kept_in layers count x) ≡ kept_in layers count x
+    other : (b : Bool) → bytes_eq name (name_of x) ≡ b → marked_if_named name (kept_in layers count x) ≡ kept_in layers count x
     other true is = absurd (free.0 (sym ((bytes_eq-Decides name (name_of x)).0 is)))
     other false is = ap (λ b. cond b (record (kept_in layers count x) { meta = record x.meta { marked = true } }) (kept_in layers count x)) is
 
 marked_here : (layers : List Layer) (count : ℕ) (name : List ℕ) (x : Layer) → name_of x ≡ name
-    → with_mark name (kept_in layers count x) ≡ kept_in layers count (change.with_mark x)
+    → marked_if_named name (kept_in layers count x) ≡ kept_in layers count (change.marked_layer x)
 marked_here layers count name x is =
     ap (λ b. cond b (record (kept_in layers count x) { meta = record x.meta { marked = true } }) (kept_in layers count x))
     ((bytes_eq-Decides name (name_of x)).1 (sym is))
 
 marked_at_place : (xs layers : List Layer) (count : ℕ) (name : List ℕ) (place : ℕ) → IsLayers xs → place < length xs
     → name_of (layer_at xs place) ≡ name
-    → map (with_mark name) (map (kept_in layers count) xs) ≡ map (kept_in layers count) (set xs place (change.with_mark (layer_at xs place)))
+    → map (marked_if_named name) (map (kept_in layers count) xs) ≡ map (kept_in layers count) (set xs place (change.marked_layer (layer_at xs place)))
 marked_at_place [] layers count name place tree within is = absurd (omega arith)
 marked_at_place (x ∷ xs) layers count name zero tree within is =
     both (marked_here layers count name x is) (unmarked_others xs layers count name (subst (λ n. IsNew n xs) is tree.0))
@@ -261,7 +261,7 @@ marked_at_place (x ∷ xs) layers count name (suc place) tree within is =
     apart : name_of x ≡ name → ⊥
     apart same = there xs place (omega arith) (subst (λ n. IsNew n xs) (same ∙ sym is) tree.0)
 
-    other : (b : Bool) → bytes_eq name (name_of x) ≡ b → with_mark name (kept_in layers count x) ≡ kept_in layers count x
+    other : (b : Bool) → bytes_eq name (name_of x) ≡ b → marked_if_named name (kept_in layers count x) ≡ kept_in layers count x
     other true is = absurd (apart (sym ((bytes_eq-Decides name (name_of x)).0 is)))
     other false is = ap (λ b. cond b (record (kept_in layers count x) { meta = record x.meta { marked = true } }) (kept_in layers count x)) is
 
@@ -279,7 +279,7 @@ pub marked_node : (t : Tree) (count : ℕ) (name : List ℕ) (place : ℕ) → I
 marked_node t count name place tree at =
     let after = change.marked_at t place in
     let keeps = mark_keeps t place at.within in
-    let layers : map (kept_in after.layers count) after.layers ≡ map (with_mark name) (map (kept_in t.layers count) t.layers) =
+    let layers : map (kept_in after.layers count) after.layers ≡ map (marked_if_named name) (map (kept_in t.layers count) t.layers) =
     same_readings after.layers t.layers after.layers count
     (λ n. joined-same (λ k. bytes_of (reads t.layers (Some n) k)) (λ k. bytes_of (reads after.layers (Some n) k)) count
     (λ k h. ap bytes_of (keeps.layers (Some n) k)))
@@ -293,7 +293,7 @@ marked_whole t count place within n =
     let keeps = mark_keeps t place within in
     record {
       pages = n.pages;
-      images = All-set (HasPages count) t.layers place (change.with_mark (layer_at t.layers place)) (n.images place _ within) n.images;
+      images = All-set (HasPages count) t.layers place (change.marked_layer (layer_at t.layers place)) (n.images place _ within) n.images;
       layers = λ want k. ap (λ b. length (bytes_of b)) (keeps.layers want k) ∙ n.layers want k;
       head = λ k. ap (λ b. length (bytes_of b)) (keeps.head k) ∙ n.head k;
     }

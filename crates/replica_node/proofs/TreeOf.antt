@@ -7,7 +7,7 @@ use Rattle.volume_model.proofs.PurgeLemmas.{next_is_first, next_is_none}
 use Rattle.volume_model.specs.Purge.{CanFold, CanDrop, IsFirst, IsPurged, next_in}
 use Rattle.volume_model.specs.declared.mark.FoldOrDrop.{FoldOrDrop}
 use Rattle.volume_model.specs.Snapshots.{Snapshot}
-use Rattle.layer_chain.specs.Tree.{Tree, IsWhole, layer_at}
+use Rattle.layer_chain.specs.Tree.{Tree, IsWholeTree, layer_at}
 use Rattle.layer_chain.specs.declared.layer.Layer.{Layer}
 use Rattle.coalesce.specs.Folding.{snapshot_of, snapshots_in}
 use Rattle.coalesce.proofs.NameLemmas.{names_once}
@@ -24,7 +24,7 @@ kept_told (x ∷ xs) layers count = ap (λ (ss : List Snapshot). snapshot_of x.m
 pub tree_is : (t : Tree) (count : ℕ) (node : Node) → node_of t count ≡ node → tree_of node ≡ snapshots_in t
 tree_is t count node view = ap tree_of (sym view) ∙ kept_told t.layers t.layers count
 
-pub tree_once : (t : Tree) (count : ℕ) (node : Node) → node_of t count ≡ node → IsWhole t → NamesOnce (tree_of node)
+pub tree_once : (t : Tree) (count : ℕ) (node : Node) → node_of t count ≡ node → IsWholeTree t → NamesOnce (tree_of node)
 tree_once t count node view w = subst NamesOnce (sym (tree_is t count node view)) (names_once t w)
 
 -- what can be folded or dropped of the replica can be of the tree

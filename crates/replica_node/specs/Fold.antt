@@ -74,9 +74,9 @@ pages_folded node p c (suc pages) = page_folded (pages_folded node p c pages) p 
 -- ---- a layer goes
 
 -- without the layer of the name
-abbrev pub without : List ℕ → List Kept → List Kept
-without p [] = []
-without p (k ∷ ks) = if bytes_eq p k.meta.name then ks else k ∷ without p ks
+abbrev pub layers_without : List ℕ → List Kept → List Kept
+layers_without p [] = []
+layers_without p (k ∷ ks) = if bytes_eq p k.meta.name then ks else k ∷ layers_without p ks
 
 -- the layer of the name on another parent, or on none, and with other blocks; any other as it is
 abbrev pub put_down : List ℕ → Option (List ℕ) → List Bool → Kept → Kept
@@ -84,18 +84,18 @@ put_down c parent own k =
     if bytes_eq c k.meta.name then record k { meta = record k.meta { parent = parent }; own = own } else k
 
 -- p is out, and c, which reads as it did, stands on p's parent and has p's own blocks
-abbrev pub replaced : Node → List ℕ → List ℕ → Node
-replaced node p c = record node {
-  layers = map (put_down c (parent_in p (tree_of node)) (own_named node.layers p)) (without p node.layers);
+abbrev pub replaced_node : Node → List ℕ → List ℕ → Node
+replaced_node node p c = record node {
+  layers = map (put_down c (parent_in p (tree_of node)) (own_named node.layers p)) (layers_without p node.layers);
 }
 
 -- all pages of c are folded onto p, and p is out
 abbrev pub folded_away : Node → List ℕ → List ℕ → Node
-folded_away node p c = replaced (pages_folded node p c (length node.disk / PAGE_BYTES)) p c
+folded_away node p c = replaced_node (pages_folded node p c (length node.disk / PAGE_BYTES)) p c
 
 -- p is out
 abbrev pub dropped_node : Node → List ℕ → Node
-dropped_node node p = record node { layers = without p node.layers }
+dropped_node node p = record node { layers = layers_without p node.layers }
 
 -- ---- the same of a tree
 

@@ -89,8 +89,8 @@ pub record IsNode (t : Tree) (count : ℕ) : Type 0 where
 -- ---- what is asked of a replica
 
 -- the names of the layers
-abbrev pub names_of : List Kept → List (List ℕ)
-names_of layers = map (λ k. k.meta.name) layers
+abbrev pub layer_names : List Kept → List (List ℕ)
+layer_names layers = map (λ k. k.meta.name) layers
 
 -- the disk kept under the name, of the first layer that has it
 abbrev pub disk_named : List Kept → List ℕ → List ℕ
@@ -105,7 +105,7 @@ disk_of_layer node (Some name) = disk_named node.layers name
 -- the layer is there, if one is named
 abbrev pub IsKept : Node → Option (List ℕ) → Type 0
 IsKept node None = Unit {0}
-IsKept node (Some name) = Contains (names_of node.layers) name
+IsKept node (Some name) = Contains (layer_names node.layers) name
 
 -- the image has a place for each page of the replica, and none is made
 abbrev pub IsSpareOf : Node → Tables → Type 0
@@ -137,8 +137,8 @@ abbrev pub no_own : Node → List Bool
 no_own node = replicate (length node.own) false
 
 -- the head's disk and blocks are kept under the name, and a new head stands on them
-abbrev pub snapped : Node → List ℕ → Node
-snapped node name = record node {
+abbrev pub snapped_node : Node → List ℕ → Node
+snapped_node node name = record node {
   layers = record { meta = fresh name node.on; disk = node.disk; own = node.own } ∷ node.layers;
   on = Some name;
   number = node.number + 1;
@@ -147,8 +147,8 @@ snapped node name = record node {
 }
 
 -- the head is dropped, and a new one stands on the layer of the name, and reads as it
-abbrev pub reverted : Node → List ℕ → Node
-reverted node name = record node {
+abbrev pub reverted_node : Node → List ℕ → Node
+reverted_node node name = record node {
   on = Some name;
   number = node.number + 1;
   disk = disk_named node.layers name;
@@ -157,9 +157,9 @@ reverted node name = record node {
 }
 
 -- the layers of the name, which is one, with their mark
-abbrev pub with_mark : List ℕ → Kept → Kept
-with_mark name k =
+abbrev pub marked_if_named : List ℕ → Kept → Kept
+marked_if_named name k =
     if bytes_eq name k.meta.name then record k { meta = record k.meta { marked = true } } else k
 
 abbrev pub marked : Node → List ℕ → Node
-marked node name = record node { layers = map (with_mark name) node.layers }
+marked node name = record node { layers = map (marked_if_named name) node.layers }

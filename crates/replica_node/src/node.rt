@@ -6,8 +6,8 @@ ghost use Rattle.replica_node.specs.Room.{HasRoom, KeepsRoom, with_room, with_ro
 ghost use Rattle.volume_model.specs.Names.{NamesOnce};
 ghost use Rattle.volume_model.specs.Purge.{CanFold, CanDrop, next_in};
 ghost use Rattle.volume_model.specs.Snapshots.{is_live, chain_of};
-ghost use Rattle.replica_node.specs.Node.{Kept, blank, snapped, reverted, marked, disk_of_layer, block_in, has_own, node_of, IsNode, IsKept, IsFree, IsSpareOf};
-ghost use Rattle.replica_node.specs.Fold.{tree_of, snapshots_of, own_named, page_folded, replaced, folded_away, dropped_node};
+ghost use Rattle.replica_node.specs.Node.{Kept, blank, snapped_node, reverted_node, marked, disk_of_layer, block_in, has_own, node_of, IsNode, IsKept, IsFree, IsSpareOf};
+ghost use Rattle.replica_node.specs.Fold.{tree_of, snapshots_of, own_named, page_folded, replaced_node, folded_away, dropped_node};
 
 use crate::blocks::Blocks;
 use crate::fold::fold_pages;
@@ -68,7 +68,7 @@ impl ReplicaNode {
         requires layers { length self.old.layers + 1 < MOST_LAYERS }
         requires free { IsFree self.old name }
         requires number { self.old.number + 1 < 2 ^ 64 }
-        ensures { self.new ≡ snapped self.old name }
+        ensures { self.new ≡ snapped_node self.old name }
     {
         snapshot_ops::snapshot(&mut self.tree, name, spare);
     }
@@ -78,7 +78,7 @@ impl ReplicaNode {
         requires spare { IsSpareOf self.old spare }
         requires kept { IsKept self.old (Some name) }
         requires number { self.old.number + 1 < 2 ^ 64 }
-        ensures { self.new ≡ reverted self.old name }
+        ensures { self.new ≡ reverted_node self.old name }
     {
         snapshot_ops::revert(&mut self.tree, name, spare);
     }
@@ -130,7 +130,7 @@ impl ReplicaNode {
     pub fn replace(&mut self, parent: &LayerName, child: &LayerName)
         requires can { CanFold (tree_of self.old) self.old.on parent.now child.now }
         requires empty { (block : ℕ) → has_own (own_named self.old.layers child.now) block ≡ false }
-        ensures { self.new ≡ replaced self.old parent.now child.now }
+        ensures { self.new ≡ replaced_node self.old parent.now child.now }
     {
         // That no name comes twice, a proof learns here.
         let _count = self.tree.count();

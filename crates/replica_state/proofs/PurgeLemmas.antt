@@ -14,7 +14,7 @@ use Rattle.volume_model.specs.Names.{has_name, NamesOnce}
 use Rattle.volume_model.proofs.NamesLemmas.{marked_has_name}
 use Rattle.volume_model.proofs.PurgeLemmas.{any_cases}
 use Rattle.replica_node.specs.Node.{Kept, Node, has_own}
-use Rattle.replica_node.specs.Fold.{tree_of, own_named, is_in, page_folded_in, page_folded, put_down, without, replaced, dropped_node}
+use Rattle.replica_node.specs.Fold.{tree_of, own_named, is_in, page_folded_in, page_folded, put_down, layers_without, replaced_node, dropped_node}
 use Rattle.replica_node.proofs.FoldedNode.{page_folded_tree, page_folded_own, own_past, dropped_tree, replaced_tree}
 use Rattle.replica_state.specs.Volume.{copies_in, volume_of_node, with_layers_of}
 use Rattle.replica_state.proofs.VolumeLemmas.{snap, same_volume}
@@ -75,14 +75,14 @@ folded_copies layers (k ∷ ks) p c page marked =
     go rest false child false parent = one_copy (page_folded_in layers p c page k) k (map (page_folded_in layers p c page) ks) ks (rw (child, parent) refl) (rw (child, parent) refl) (λ e. rw (child, parent) refl) rest
 
 -- nor does it when a marked layer is out
-without_copies : (ks : List Kept) (p : List ℕ) → MarkedAll p ks → copies_in (without p ks) ≡ copies_in ks
+without_copies : (ks : List Kept) (p : List ℕ) → MarkedAll p ks → copies_in (layers_without p ks) ≡ copies_in ks
 without_copies [] p marked = refl
 without_copies (k ∷ ks) p marked =
     go (without_copies ks p (All-tail (λ (k : Kept). k.meta.name ≡ p → k.meta.marked ≡ true) k ks marked)) (bytes_eq p k.meta.name) refl
   where
-    go : copies_in (without p ks) ≡ copies_in ks → (t : Bool) → bytes_eq p k.meta.name ≡ t → copies_in (cond t ks (k ∷ without p ks)) ≡ copies_in (k ∷ ks)
+    go : copies_in (layers_without p ks) ≡ copies_in ks → (t : Bool) → bytes_eq p k.meta.name ≡ t → copies_in (cond t ks (k ∷ layers_without p ks)) ≡ copies_in (k ∷ ks)
     go rest true same = rw (All-head (λ (k : Kept). k.meta.name ≡ p → k.meta.marked ≡ true) k ks marked (sym ((bytes_eq-Decides p k.meta.name).0 same))) refl
-    go rest false same = one_copy k k (without p ks) ks refl refl (λ e. refl) rest
+    go rest false same = one_copy k k (layers_without p ks) ks refl refl (λ e. refl) rest
 
 -- and a layer that is put down keeps its copy
 put_down_copies : (ks : List Kept) (c : List ℕ) (parent : Option (List ℕ)) (own : List Bool) → copies_in (map (put_down c parent own) ks) ≡ copies_in ks
@@ -103,9 +103,9 @@ page_folded_volume n p c page once can =
     same_volume n (folded_copies n.layers n.layers p c page (marked_all p n.layers once can.marked)) (page_folded_tree n p c page)
 
 pub replaced_volume : (n : Node) (p c : List ℕ) → NamesOnce (tree_of n) → CanFold (tree_of n) n.on p c
-    → volume_of_node (replaced n p c) ≡ purged (volume_of_node n) (part.Fold p c)
+    → volume_of_node (replaced_node n p c) ≡ purged (volume_of_node n) (part.Fold p c)
 replaced_volume n p c once can =
-    same_volume n (put_down_copies (without p n.layers) c _ _ ∙ without_copies n.layers p (marked_all p n.layers once can.marked)) (replaced_tree n p c)
+    same_volume n (put_down_copies (layers_without p n.layers) c _ _ ∙ without_copies n.layers p (marked_all p n.layers once can.marked)) (replaced_tree n p c)
 
 pub dropped_volume : (n : Node) (p : List ℕ) → NamesOnce (tree_of n) → CanDrop (tree_of n) n.on p
     → volume_of_node (dropped_node n p) ≡ purged (volume_of_node n) (part.Drop p)
@@ -167,16 +167,16 @@ all_moved old now c count page far whole = λ block.
     far.moved block (⊎_elim (λ low. inl low) (λ high. inr (omega (arith, whole))) (cases_lt block (page * 512)))
 
 pub folded_volume : (old now new : Node) (p c : List ℕ) (count page : ℕ) → NamesOnce (tree_of old) → CanFold (tree_of old) old.on p c
-    → IsFolding old now c count page → new ≡ replaced now p c → volume_of_node new ≡ purged (volume_of_node old) (part.Fold p c)
+    → IsFolding old now c count page → new ≡ replaced_node now p c → volume_of_node new ≡ purged (volume_of_node old) (part.Fold p c)
 folded_volume old now new p c count page once can far is =
     ap volume_of_node is
     ∙ replaced_volume now p c (once_still old now c count page far once) (can_still old now p c count page far can)
     ∙ ap (λ (v : Volume). purged v (part.Fold p c)) far.volume
 
-pub folded_head : (old now new : Node) (p c : List ℕ) (count page : ℕ) → IsFolding old now c count page → new ≡ replaced now p c
+pub folded_head : (old now new : Node) (p c : List ℕ) (count page : ℕ) → IsFolding old now c count page → new ≡ replaced_node now p c
     → new ≡ with_layers_of old new
 folded_head old now new p c count page far is =
-    subst (λ n. n ≡ with_layers_of old n) (sym is) (ap (λ (n : Node). record n { layers = (replaced now p c).layers }) far.head)
+    subst (λ n. n ≡ with_layers_of old n) (sym is) (ap (λ (n : Node). record n { layers = (replaced_node now p c).layers }) far.head)
 
 pub dropped_head : (old new : Node) (p : List ℕ) → new ≡ dropped_node old p → new ≡ with_layers_of old new
 dropped_head old new p is = subst (λ n. n ≡ with_layers_of old n) (sym is) refl

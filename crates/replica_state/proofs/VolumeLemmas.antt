@@ -1,5 +1,5 @@
 -- What is told of the volume that a replica is, and what changes it, is told of the replica.
-use Rattle.std.proofs.Common.{◌≡◌, ◌≢◌, ℕ, suc, ◌+◌, ◌*◌, Bool, true, false, not, cond, ◌||◌, List, [], ◌∷◌, length, map, Option, None, Some, pos, refl, sym, ap, ◌∙◌, arith}
+use Rattle.std.proofs.Common.{◌≡◌, ◌≢◌, ℕ, suc, ◌+◌, ◌*◌, Bool, true, false, not, cond, ◌||◌, List, [], ◌∷◌, length, map, Some, pos, refl, sym, ap, ◌∙◌, arith}
 use Rattle.std.specs.List.{All}
 use Rattle.std.specs.Prelude.{Contains}
 use Rattle.std.specs.Str.{bytes_eq}
@@ -8,7 +8,7 @@ use Rattle.std.proofs.lemmas.List.Elements.{All-nil, All-cons}
 use Rattle.std.proofs.lemmas.Slice.Eq.{bytes_eq-Decides}
 use Rattle.std.proofs.lemmas.Bool.{false≢true}
 use Rattle.vol_units.specs.Bytes.{zeros}
-use Rattle.replica_node.specs.Node.{Kept, Node, names_of, disk_named, with_mark, IsKept, IsFree}
+use Rattle.replica_node.specs.Node.{Kept, Node, layer_names, disk_named, marked_if_named, IsKept, IsFree}
 use Rattle.replica_node.specs.Node as node
 use Rattle.replica_node.specs.Fold.{tree_of}
 use Rattle.replica_node.specs.Room.{put_at, with_room_of}
@@ -29,12 +29,12 @@ pub same_count : (n : Node) → layer_count (volume_of_node n).snapshots ≡ len
 same_count n = ap (λ k. k + 1) (length-map n.layers snap)
 
 -- a layer that is live is there
-live_at : (ks : List Kept) (name : List ℕ) → is_live (map snap ks) name ≡ true → Contains (names_of ks) name
+live_at : (ks : List Kept) (name : List ℕ) → is_live (map snap ks) name ≡ true → Contains (layer_names ks) name
 live_at [] name live = absurd (false≢true live)
 live_at (k ∷ ks) name live = go (λ older. live_at ks name older) (bytes_eq name k.meta.name) refl live
   where
-    go : (is_live (map snap ks) name ≡ true → Contains (names_of ks) name) → (t : Bool) → bytes_eq name k.meta.name ≡ t
-        → cond t (not k.meta.marked) (is_live (map snap ks) name) ≡ true → Contains (names_of (k ∷ ks)) name
+    go : (is_live (map snap ks) name ≡ true → Contains (layer_names ks) name) → (t : Bool) → bytes_eq name k.meta.name ≡ t
+        → cond t (not k.meta.marked) (is_live (map snap ks) name) ≡ true → Contains (layer_names (k ∷ ks)) name
     go rest true same is = (0, omega arith, sym ((bytes_eq-Decides name k.meta.name).0 same))
     go rest false same is = let older = rest is in (suc older.0, omega (arith, older.1), older.2)
 
@@ -83,7 +83,7 @@ pub put_volume : (n : Node) (first : ℕ) (bytes : List ℕ)
     → volume_of_node (put_at n first bytes) ≡ plain.written (volume_of_node n) (pos (first * 4096)) bytes
 put_volume n first bytes = refl
 
-pub snapped_volume : (n : Node) (name : List ℕ) → volume_of_node (node.snapped n name) ≡ plain.snapped (volume_of_node n) name
+pub snapped_volume : (n : Node) (name : List ℕ) → volume_of_node (node.snapped_node n name) ≡ plain.snapped (volume_of_node n) name
 snapped_volume n name = refl
 
 -- the copy of a layer that is live is what it reads as
@@ -100,31 +100,31 @@ copy_of_live (k ∷ ks) name live = go k.meta.marked refl (bytes_eq name k.meta.
     go false marked false same rest is = rw (marked, same) (rest is)
 
 pub reverted_volume : (n : Node) (name : List ℕ) → is_live (tree_of n) name ≡ true
-    → volume_of_node (node.reverted n name) ≡ plain.reverted (volume_of_node n) name
+    → volume_of_node (node.reverted_node n name) ≡ plain.reverted (volume_of_node n) name
 reverted_volume n name live =
-    ap (λ d. record (volume_of_node (node.reverted n name)) { disk = d }) (sym (copy_of_live n.layers name live))
+    ap (λ d. record (volume_of_node (node.reverted_node n name)) { disk = d }) (sym (copy_of_live n.layers name live))
 
 -- a mark drops the copies of the name
-without_marked : (ks : List Kept) (name : List ℕ) → copies_in (map (with_mark name) ks) ≡ without (copies_in ks) name
+without_marked : (ks : List Kept) (name : List ℕ) → copies_in (map (marked_if_named name) ks) ≡ without (copies_in ks) name
 without_marked [] name = refl
 without_marked (k ∷ ks) name = go (without_marked ks name) (bytes_eq name k.meta.name) refl k.meta.marked refl
   where
-    go : copies_in (map (with_mark name) ks) ≡ without (copies_in ks) name → (t : Bool) → bytes_eq name k.meta.name ≡ t → (marked : Bool) → k.meta.marked ≡ marked
-        → copies_in (map (with_mark name) (k ∷ ks)) ≡ without (copies_in (k ∷ ks)) name
+    go : copies_in (map (marked_if_named name) ks) ≡ without (copies_in ks) name → (t : Bool) → bytes_eq name k.meta.name ≡ t → (marked : Bool) → k.meta.marked ≡ marked
+        → copies_in (map (marked_if_named name) (k ∷ ks)) ≡ without (copies_in (k ∷ ks)) name
     go rest true same true marked = rw (same, marked) rest
     go rest true same false marked = rw (same, marked) (rw same rest)
     go rest false same true marked = rw (same, marked) rest
     go rest false same false marked = rw (same, marked) (rw same (ap (λ l. record { name = k.meta.name; disk = k.disk } ∷ l) rest))
 
 -- a layer with its mark is the snapshot with its mark
-same_mark : (k : Kept) (name : List ℕ) → snap (with_mark name k) ≡ marked_if name (snap k)
+same_mark : (k : Kept) (name : List ℕ) → snap (marked_if_named name k) ≡ marked_if name (snap k)
 same_mark k name = one (bytes_eq name k.meta.name)
   where
     one : (t : Bool) → snap (cond t (record k { meta = record k.meta { marked = true } }) k) ≡ cond t (record (snap k) { marked = true }) (snap k)
     one true = refl
     one false = refl
 
-same_tree : (ks : List Kept) (name : List ℕ) → map snap (map (with_mark name) ks) ≡ map (marked_if name) (map snap ks)
+same_tree : (ks : List Kept) (name : List ℕ) → map snap (map (marked_if_named name) ks) ≡ map (marked_if name) (map snap ks)
 same_tree [] name = refl
 same_tree (k ∷ ks) name = both (same_mark k name) (same_tree ks name)
   where

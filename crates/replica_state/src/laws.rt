@@ -7,7 +7,7 @@ ghost use Rattle.volume_model.specs.PlainState as plain;
 ghost use Rattle.volume_model.specs.Purge.{CanFold, CanDrop};
 ghost use Rattle.volume_model.specs.Snapshots.{is_live, layer_count};
 ghost use Rattle.volume_model.specs.declared.mark.FoldOrDrop.TheVariants as part;
-ghost use Rattle.replica_node.specs.Fold.{tree_of, page_folded, replaced, dropped_node};
+ghost use Rattle.replica_node.specs.Fold.{tree_of, page_folded, replaced_node, dropped_node};
 ghost use Rattle.replica_node.specs.Node.{Node, IsKept, IsFree};
 ghost use Rattle.replica_node.specs.Node as node;
 ghost use Rattle.replica_node.specs.Room.{put_at, with_room_of};
@@ -23,9 +23,9 @@ pub fn a_replica_changes_as_its_volume()
     ensures put { (n : Node) (first : ℕ) (bytes : List ℕ) → volume_of_node (put_at n first bytes)
         ≡ plain.written (volume_of_node n) (pos (first * BLOCK_BYTES)) bytes }
     ensures snapshot { (n : Node) (name : List ℕ)
-        → volume_of_node (node.snapped n name) ≡ plain.snapped (volume_of_node n) name }
+        → volume_of_node (node.snapped_node n name) ≡ plain.snapped (volume_of_node n) name }
     ensures revert { (n : Node) (name : List ℕ) → is_live (tree_of n) name ≡ true
-        → volume_of_node (node.reverted n name) ≡ plain.reverted (volume_of_node n) name }
+        → volume_of_node (node.reverted_node n name) ≡ plain.reverted (volume_of_node n) name }
     ensures remove { (n : Node) (name : List ℕ)
         → volume_of_node (node.marked n name) ≡ plain.removed (volume_of_node n) name }
 {}
@@ -36,7 +36,7 @@ pub fn a_replica_is_purged_as_its_volume()
     ensures page { (n : Node) (p c : List ℕ) (page : ℕ) → NamesOnce (tree_of n) → CanFold (tree_of n) n.on p c
         → volume_of_node (page_folded n p c page) ≡ volume_of_node n }
     ensures fold { (n : Node) (p c : List ℕ) → NamesOnce (tree_of n) → CanFold (tree_of n) n.on p c
-        → volume_of_node (replaced n p c) ≡ plain.purged (volume_of_node n) (part.Fold p c) }
+        → volume_of_node (replaced_node n p c) ≡ plain.purged (volume_of_node n) (part.Fold p c) }
     ensures drop { (n : Node) (p : List ℕ) → NamesOnce (tree_of n) → CanDrop (tree_of n) n.on p
         → volume_of_node (dropped_node n p) ≡ plain.purged (volume_of_node n) (part.Drop p) }
 {}

@@ -1,6 +1,6 @@
 ghost use Rattle.std.specs.Prelude.{◌≡◌, ◌+◌, ◌^◌, ◌<◌, length, Some, not};
 ghost use Rattle.vol_units.specs.Name.{begins_sys};
-ghost use Rattle.layer_chain.specs.Changes.{snapped, reverted};
+ghost use Rattle.layer_chain.specs.Changes.{snapped_tree, reverted_tree};
 ghost use Rattle.layer_chain.specs.Tree.{IsNew, IsThere};
 ghost use Rattle.layer_chain.specs.declared.layer_tree.TheConstants.{MOST_LAYERS};
 ghost use Rattle.snapshot_ops.specs.Ops.{TakesSnapshot, Reverts, Marks};
@@ -14,7 +14,7 @@ pub fn snapshot(tree: &mut LayerTree, name: LayerName, spare: Spare)
     requires room { length tree.old.layers + 1 < MOST_LAYERS }
     requires new { IsNew name tree.old.layers }
     requires number { tree.old.number + 1 < 2 ^ 64 }
-    ensures tree { tree.new ≡ snapped tree.old name (not (begins_sys name)) spare }
+    ensures tree { tree.new ≡ snapped_tree tree.old name (not (begins_sys name)) spare }
     ensures readings { TakesSnapshot tree.old tree.new name }
 {
     tree.snap_head(name, is_users(&name), spare.into_image());
@@ -24,7 +24,7 @@ pub fn snapshot(tree: &mut LayerTree, name: LayerName, spare: Spare)
 pub fn revert(tree: &mut LayerTree, name: LayerName, spare: Spare)
     requires there { IsThere (Some name) tree.old.layers }
     requires number { tree.old.number + 1 < 2 ^ 64 }
-    ensures tree { tree.new ≡ reverted tree.old name spare }
+    ensures tree { tree.new ≡ reverted_tree tree.old name spare }
     ensures readings { Reverts tree.old tree.new name }
 {
     tree.move_head(name, spare.into_image());

@@ -23,7 +23,7 @@ use Rattle.volume_model.specs.Names.{has_name, AreNamed}
 use Rattle.volume_model.specs.History.{Spot}
 use Rattle.volume_model.specs.OneWorker.{behind_entries, refused_at, call_marks, marks_unless, marks_before, reply_for, entries_at, served_from}
 use Rattle.volume_model.proofs.OnlyServed.{with_source}
-use Rattle.replica_disk.specs.Step.{IsNew, volume_step, volume_step_unless}
+use Rattle.replica_disk.specs.Step.{HasNewName, volume_step, volume_step_unless}
 use Rattle.solo_worker.specs.Serving.{spot_of, Adds, AnswersCalls}
 use Rattle.solo_worker.specs.Volume.{LeavesReplicas}
 use Rattle.solo_worker.proofs.AddsLemmas.{adds_spot, adds_append, adds_same}
@@ -68,7 +68,7 @@ taken_answers modes state (call.Command (command.Fail r)) taken = absurd cc
 taken_answers modes state (call.Command (command.Add r)) taken = absurd cc
 
 -- a name that was not taken is that of no snapshot
-pub new_name : (state : PlainState) (c : Call) → AreNamed state → is_some (name_refusal state.used c) ≡ false → IsNew state.volume c
+pub new_name : (state : PlainState) (c : Call) → AreNamed state → is_some (name_refusal state.used c) ≡ false → HasNewName state.volume c
 new_name state (call.Read offset n) named new = tt
 new_name state (call.Write offset bytes) named new = tt
 new_name state call.Ping named new = tt

@@ -1,5 +1,5 @@
 use Rattle.std.proofs.Common.{◌<◌, List, length, sym, ap, subst, arith}
-use Rattle.layer_chain.specs.Tree.{Tree, IsWhole}
+use Rattle.layer_chain.specs.Tree.{Tree, IsWholeTree}
 use Rattle.layer_chain.specs.declared.layer.Layer.{Layer}
 use Rattle.layer_chain.proofs.ChangeLemmas.{mark_whole, marked_is}
 use Rattle.layer_chain.proofs.layer_tree.LayerTree.mark_layer.Goals as goal
@@ -9,7 +9,7 @@ invariant_of-self c =
     let within : c.args.place < length c.self.inside.layers.items = omega (arith, ap (λ (t : Tree). length t.layers) c.self.view_is) in
     record {
       whole =
-          subst (λ (xs : List Layer). IsWhole (record { layers = xs; head = c.self.inside.head; on = c.self.inside.on; number = c.self.inside.number }))
+          subst (λ (xs : List Layer). IsWholeTree (record { layers = xs; head = c.self.inside.head; on = c.self.inside.on; number = c.self.inside.number }))
           (sym (marked_is c.self.inside.layers.items c.args.place c.index_mut.result.now within c.index_mut.ensures.value))
           (mark_whole _ c.args.place within c.self.invariant.whole);
       room = c.self.invariant.room;

@@ -1,6 +1,6 @@
 use Rattle.std.proofs.Common.{◌≡◌, ◌<◌, ◌≤◌, List, length, get_or, set, sym, ap, subst, ◌∙◌, arith}
 use Rattle.std.specs.List.{remove}
-use Rattle.layer_chain.specs.Tree.{Tree, IsWhole}
+use Rattle.layer_chain.specs.Tree.{Tree, IsWholeTree}
 use Rattle.layer_chain.specs.Changes.{replaced, in_place_of, with_layers}
 use Rattle.layer_chain.specs.declared.layer.Layer.{Layer}
 use Rattle.layer_chain.proofs.FoldLemmas.{child_above, replaced_whole, replaced_is}
@@ -8,11 +8,11 @@ use Rattle.layer_chain.proofs.layer_tree.LayerTree.replace.Goals as goal
 
 pub index_mut-upper-requires : goal.index_mut-upper-requires
 index_mut-upper-requires c =
-    let above : c.args.child < c.args.parent = child_above c.args.self.now c.args.parent c.args.child (subst (λ (t : Tree). IsWhole t) c.self.view_is c.self.invariant.whole) c.requires.within c.requires.only in
+    let above : c.args.child < c.args.parent = child_above c.args.self.now c.args.parent c.args.child (subst (λ (t : Tree). IsWholeTree t) c.self.view_is c.self.invariant.whole) c.requires.within c.requires.only in
     omega (arith, above, c.requires.within, c.remove-meta.ensures.len, ap (λ (t : Tree). length t.layers) c.self.view_is)
 
-whole : (c : goal.Joined-meta) → IsWhole c.args.self.now
-whole c = subst (λ (t : Tree). IsWhole t) c.self.view_is c.self.invariant.whole
+whole : (c : goal.Joined-meta) → IsWholeTree c.args.self.now
+whole c = subst (λ (t : Tree). IsWholeTree t) c.self.view_is c.self.invariant.whole
 
 abbrev new : goal.Joined-meta → List Layer
 new c = set c.remove-meta.new.self.items c.args.child (in_place_of c.index_mut-upper.result.now c.remove-meta.result)
@@ -29,8 +29,8 @@ is c =
 pub invariant_of-self : goal.invariant_of-self
 invariant_of-self c = record {
   whole =
-      subst (λ (t : Tree). IsWhole (with_layers t (new c))) (sym c.self.view_is)
-      (subst (λ (xs : List Layer). IsWhole (with_layers c.args.self.now xs)) (sym (is c))
+      subst (λ (t : Tree). IsWholeTree (with_layers t (new c))) (sym c.self.view_is)
+      (subst (λ (xs : List Layer). IsWholeTree (with_layers c.args.self.now xs)) (sym (is c))
       (replaced_whole c.args.self.now c.args.parent c.args.child (whole c) c.requires.within c.requires.only));
   room = subst (λ n. 250 ≤ n) (sym c.remove-meta.ensures.capacity) c.self.invariant.room;
 }

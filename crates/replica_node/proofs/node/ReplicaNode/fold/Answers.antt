@@ -1,8 +1,6 @@
 use Rattle.std.proofs.Common.{◌≡◌, ℕ, ◌*◌, ◌/◌, false, length, refl, sym, ap, subst, ◌∙◌, arith}
-use Rattle.std.specs.Prelude.{All}
-use Rattle.volume_model.specs.Purge.{CanFold}
-use Rattle.replica_node.specs.Node.{Kept, Node, node_of, IsNode, has_own}
-use Rattle.replica_node.specs.Fold.{tree_of, own_named, pages_folded, FoldsPages, replaced}
+use Rattle.replica_node.specs.Node.{node_of, IsNode, has_own}
+use Rattle.replica_node.specs.Fold.{own_named, pages_folded, FoldsPages, replaced_node}
 use Rattle.replica_node.proofs.AllFolded.{can_back, none_left}
 use Rattle.replica_node.proofs.GoneLemmas.{has_no_block, replace_is}
 use Rattle.replica_node.proofs.ReadLemmas.{length-node}
@@ -43,7 +41,7 @@ replace-requires-clause-empty c =
 
 -- what the parent's going leaves
 left : (c : goal.After-replace) → IsNode c.replace.new.tree (c.page_count.result * 512)
-    × (node_of c.replace.new.tree (c.page_count.result * 512) ≡ replaced (node_of c.fold_pages.new.tree (c.page_count.result * 512)) c.args.parent.now c.args.child.now)
+    × (node_of c.replace.new.tree (c.page_count.result * 512) ≡ replaced_node (node_of c.fold_pages.new.tree (c.page_count.result * 512)) c.args.parent.now c.args.child.now)
 left c =
     let r = c.replace.ensures in
     let count = c.page_count.result * 512 in
@@ -66,7 +64,7 @@ returns c =
     let pages : c.page_count.result ≡ length c.args.self.now.disk / 2097152 =
     omega (arith, length-node c.self.inside.tree count c.args.self.now c.self.view_is c.self.invariant, same) in
     ap (node_of c.replace.new.tree) same ∙ (left c).1
-    ∙ ap (λ n. replaced n p q) all.is
-    ∙ ap (λ m. replaced (pages_folded (node_of c.self.inside.tree m) p q c.page_count.result) p q) (sym same)
-    ∙ ap (λ n. replaced (pages_folded n p q c.page_count.result) p q) c.self.view_is
-    ∙ ap (λ m. replaced (pages_folded c.args.self.now p q m) p q) pages
+    ∙ ap (λ n. replaced_node n p q) all.is
+    ∙ ap (λ m. replaced_node (pages_folded (node_of c.self.inside.tree m) p q c.page_count.result) p q) (sym same)
+    ∙ ap (λ n. replaced_node (pages_folded n p q c.page_count.result) p q) c.self.view_is
+    ∙ ap (λ m. replaced_node (pages_folded c.args.self.now p q m) p q) pages

@@ -1,7 +1,7 @@
 use Rattle.std.proofs.Common.{◌/◌, length, not, sym, ap, subst, ◌∙◌}
 use Rattle.vol_units.specs.Name.{begins_sys}
-use Rattle.replica_node.specs.Node.{node_of, IsNode, snapped}
-use Rattle.replica_node.proofs.NodeLemmas.{free_in, spare_pages, snapped_node, snapped_whole}
+use Rattle.replica_node.specs.Node.{node_of, IsNode, snapped_node}
+use Rattle.replica_node.proofs.NodeLemmas.{free_in, spare_pages, node_of_snapped, snapped_whole}
 use Rattle.replica_node.proofs.node.ReplicaNode.snapshot.Goals as goal
 
 pub snapshot-requires-clause-new : goal.snapshot-requires-clause-new
@@ -19,6 +19,6 @@ pub returns : goal.returns
 returns c =
     let count = c.self.inside.size / 4096 in
     ap (λ t. node_of t count) c.snapshot.ensures.tree
-    ∙ snapped_node c.self.inside.tree count c.args.name c.args.spare (length c.args.spare)
+    ∙ node_of_snapped c.self.inside.tree count c.args.name c.args.spare (length c.args.spare)
     (free_in c.self.inside.tree count c.args.self.now c.args.name c.self.view_is c.requires.free) c.requires.spare.1
-    ∙ ap (λ n. snapped n c.args.name) c.self.view_is
+    ∙ ap (λ n. snapped_node n c.args.name) c.self.view_is
