@@ -16,10 +16,7 @@ use sparse_image::{BLOCK_BYTES, Block, Image, PAGE_BLOCKS};
 use std::alloc::{AllocError, Global};
 use std::marker::Model;
 use std::mem;
-use vol_units::{BlockRange, LayerName};
-
-/// The most layers of a replica, its head among them.
-pub const MOST_LAYERS: usize = 250;
+use vol_units::{BlockRange, LayerName, MOST_LAYERS};
 
 /// The layers of a replica, the newest first, and its head.
 #[derive(Drop)]

@@ -11,7 +11,7 @@ mod reading;
 
 pub use children::{Child, Children};
 pub use layer::{Layer, LayerMeta};
-pub use layer_tree::{LayerTree, MOST_LAYERS};
+pub use layer_tree::LayerTree;
 
 #[cfg(test)]
 mod tests;

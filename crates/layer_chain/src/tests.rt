@@ -1,7 +1,7 @@
 use super::*;
 use sparse_image::Image;
 use std::test::Fail;
-use vol_units::{BlockRange, LayerName};
+use vol_units::{BlockRange, LayerName, MOST_LAYERS};
 
 #[test]
 fn a_chain_goes_down_to_the_lowest_layer(rt: HostRuntime) -> Result<(), Fail> {

@@ -1,6 +1,5 @@
 ghost use Rattle.std.specs.Prelude.{◌≡◌, ◌+◌, ◌^◌, ◌<◌, List, IfOk, OnOk, OnErr};
 ghost use Rattle.volume_model.specs.declared.mode.Mode.{Mode};
-ghost use Rattle.volume_model.specs.Modes.{mode_of};
 ghost use Rattle.volume_model.specs.PlainState.{taken, reverted};
 ghost use Rattle.volume_model.specs.PlainStep.{plain_step, room_refusal};
 
@@ -8,10 +7,8 @@ use crate::copies::{WholeCopy, copied_bytes, drop_copies};
 use crate::disk::PlainDisk;
 use crate::snapshots::{TakenSnapshot, is_live, is_used, mark};
 use std::alloc::{AllocError, Global};
+use vol_units::MOST_LAYERS;
 use volume_model::{Call, Command, LayerName, Mode, Refusal, Reply, Sequence};
-
-/// The most layers of a volume, its head counted.
-const MOST_LAYERS: usize = 250;
 
 impl PlainDisk {
     /// Answers a command, and is then what the command leaves.
@@ -126,7 +123,7 @@ impl PlainDisk {
     fn add(&self, modes: &[Mode], replica: u8) -> Reply
         ensures { plain_step modes.now self.now (Call.Command (Command.Add replica)) ≡ (self.now, result) }
     {
-        let why = match mode_of(modes, replica) {
+        let why = match Mode::of(modes, replica) {
             Mode::Rw | Mode::Wo => Some(Refusal::InUse),
             Mode::Err => self.room_refusal(),
         };
@@ -145,14 +142,4 @@ impl PlainDisk {
             modes: Sequence::of(Vec::from_slice(alloc, modes)?),
         })
     }
-}
-
-/// The mode of a replica; one that is not there has failed.
-fn mode_of(modes: &[Mode], replica: u8) -> Mode
-    ensures { result ≡ mode_of modes.now replica }
-{
-    modes
-        .get(usize::from(replica))
-        .copied()
-        .unwrap_or(Mode::Err)
 }

@@ -8,11 +8,8 @@ use crate::copies::WholeCopy;
 use crate::snapshots::TakenSnapshot;
 use std::alloc::{AllocError, Global};
 use std::marker::Model;
-use vol_units::place_within;
+use vol_units::{LONGEST_CALL, place_within};
 use volume_model::{Call, LayerName, Mode, Refusal, Reply, Sequence};
-
-/// The most bytes that one call reads.
-const LONGEST_CALL: u32 = 1_048_576;
 
 /// A disk in one piece of memory, with a whole copy for each snapshot. Contracts see a plain state.
 #[derive(Debug, Drop)]

@@ -1,11 +1,11 @@
 ghost use Rattle.std.specs.Prelude.{◌≡◌, ◌+◌, ◌^◌, ◌<◌, IfOk, OnErr};
-ghost use Rattle.volume_model.specs.Modes.{mode_of};
 ghost use Rattle.volume_model.specs.PlainStep.{add_refusal, command_refusal, live_refusal, room_refusal};
 ghost use Rattle.replica_state.specs.Volume.{volume_of_node};
 ghost use Rattle.replica_disk.specs.Step.{HasNewName, volume_step};
 
-use replica_node::{MOST_LAYERS, ReplicaNode};
+use replica_node::ReplicaNode;
 use std::alloc::{AllocError, Global};
+use vol_units::MOST_LAYERS;
 use volume_model::{Call, Command, LayerName, Mode, Refusal, Reply, Sequence};
 
 /// Answers a command, and is then what the command leaves.
@@ -57,7 +57,7 @@ fn refusal(node: &ReplicaNode, modes: &[Mode], command: &Command) -> Option<Refu
     match command {
         Command::Snapshot(_) => room_refusal(node),
         Command::Remove(name) | Command::Revert(name) => live_refusal(node, name),
-        Command::Add(replica) => add_refusal(node, mode_of(modes, *replica)),
+        Command::Add(replica) => add_refusal(node, Mode::of(modes, *replica)),
         Command::Purge | Command::Status | Command::Fail(_) => None,
     }
 }
@@ -92,14 +92,4 @@ fn add_refusal(node: &ReplicaNode, mode: Mode) -> Option<Refusal>
         Mode::Rw | Mode::Wo => Some(Refusal::InUse),
         Mode::Err => room_refusal(node),
     }
-}
-
-/// The mode of a replica; one that is not there has failed.
-fn mode_of(modes: &[Mode], replica: u8) -> Mode
-    ensures { result ≡ mode_of modes.now replica }
-{
-    modes
-        .get(usize::from(replica))
-        .copied()
-        .unwrap_or(Mode::Err)
 }

@@ -12,11 +12,8 @@ use replica_node::{BLOCK_BYTES, BlockRange, ReplicaNode};
 use replica_state::take_out;
 use std::alloc::{AllocError, Global};
 use std::marker::Model;
-use vol_units::{LayerName, VolumeSize, place_within};
+use vol_units::{LONGEST_CALL, LayerName, VolumeSize, place_within};
 use volume_model::{Call, FoldOrDrop, Mode, Refusal, Reply, Sequence};
-
-/// The most bytes that one call reads.
-const LONGEST_CALL: u32 = 1_048_576;
 
 /// The volume that one replica is. The names that were taken, its owner keeps.
 #[derive(Drop)]

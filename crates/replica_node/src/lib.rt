@@ -6,7 +6,7 @@ mod fold;
 mod node;
 
 pub use blocks::Blocks;
-pub use layer_chain::{LayerMeta, MOST_LAYERS};
+pub use layer_chain::LayerMeta;
 pub use node::ReplicaNode;
 pub use snapshot_ops::Spare;
 pub use sparse_image::{BLOCK_BYTES, Block};

@@ -11,12 +11,12 @@ ghost use Rattle.replica_node.specs.Fold.{tree_of, snapshots_of, own_named, page
 
 use crate::blocks::Blocks;
 use crate::fold::fold_pages;
-use layer_chain::{LayerTree, MOST_LAYERS};
+use layer_chain::LayerTree;
 use snapshot_ops::Spare;
 use sparse_image::{BLOCK_BYTES, Block};
 use std::alloc::{AllocError, Global};
 use std::marker::Model;
-use vol_units::{BlockRange, LayerName, VolumeSize};
+use vol_units::{BlockRange, LayerName, MOST_LAYERS, VolumeSize};
 use volume_model::FoldOrDrop;
 
 /// One replica. A contract sees what its head and each of its layers read as.

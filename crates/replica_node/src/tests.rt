@@ -3,6 +3,7 @@ ghost use Rattle.replica_node.specs.Fold.{tree_of};
 
 use super::*;
 use std::test::Fail;
+use vol_units::MOST_LAYERS;
 
 #[test]
 fn a_box_comes_back_where_the_head_had_a_block(rt: HostRuntime) -> Result<(), Fail> {

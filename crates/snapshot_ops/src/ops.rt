@@ -2,7 +2,7 @@ ghost use Rattle.std.specs.Prelude.{◌≡◌, ◌+◌, ◌^◌, ◌<◌, length
 ghost use Rattle.vol_units.specs.Name.{begins_sys};
 ghost use Rattle.layer_chain.specs.Changes.{snapped_tree, reverted_tree};
 ghost use Rattle.layer_chain.specs.Tree.{IsNew, IsThere};
-ghost use Rattle.layer_chain.specs.declared.layer_tree.TheConstants.{MOST_LAYERS};
+ghost use Rattle.vol_units.specs.declared.limits.TheConstants.{MOST_LAYERS};
 ghost use Rattle.snapshot_ops.specs.Ops.{TakesSnapshot, Reverts, Marks};
 
 use crate::spare::Spare;

@@ -1,7 +1,7 @@
 use super::*;
-use layer_chain::{LayerTree, MOST_LAYERS};
+use layer_chain::LayerTree;
 use std::test::Fail;
-use vol_units::LayerName;
+use vol_units::{LayerName, MOST_LAYERS};
 
 #[test]
 fn the_engines_own_name_is_no_users(rt: HostRuntime) -> Result<(), Fail> {
