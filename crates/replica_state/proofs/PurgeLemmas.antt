@@ -1,9 +1,9 @@
 -- What a purge takes out of a replica changes neither its disk nor a copy.
-use Rattle.std.proofs.Common.{◌≡◌, ℕ, ◌+◌, ◌*◌, ◌/◌, ◌<◌, ◌≤◌, Bool, true, false, cond, not, ◌&&◌, ◌||◌, List, [], ◌∷◌, length, map, refl, sym, ap, subst, ◌∙◌, arith, inl, inr, ⊎_elim, ◌⊎◌}
+use Rattle.std.proofs.Common.{◌≡◌, ℕ, zero, suc, ◌/◌, Bool, true, false, cond, ◌||◌, List, [], ◌∷◌, length, map, refl, sym, ap, subst, ◌∙◌, ⊎_elim, ◌⊎◌}
 use Rattle.std.specs.List.{All}
 use Rattle.std.specs.Prelude.{Option}
 use Rattle.std.specs.Str.{bytes_eq}
-use Rattle.std.proofs.lemmas.Bool.{false≢true, cases_lt, cases_eq, eq-eqb}
+use Rattle.std.proofs.lemmas.Bool.{false≢true}
 use Rattle.std.proofs.lemmas.List.Elements.{All-nil, All-cons, All-head, All-tail}
 use Rattle.std.proofs.lemmas.Slice.Eq.{bytes_eq-Decides}
 use Rattle.volume_model.specs.Snapshots.{Snapshot}
@@ -13,9 +13,10 @@ use Rattle.volume_model.specs.Purge.{IsMarked, CanFold, CanDrop}
 use Rattle.volume_model.specs.Names.{has_name, NamesOnce}
 use Rattle.volume_model.proofs.NamesLemmas.{marked_has_name}
 use Rattle.volume_model.proofs.PurgeLemmas.{any_cases}
-use Rattle.replica_node.specs.Node.{Kept, Node, has_own}
-use Rattle.replica_node.specs.Fold.{tree_of, own_named, is_in, page_folded_in, page_folded, put_down, layers_without, replaced_node, dropped_node}
-use Rattle.replica_node.proofs.FoldedNode.{page_folded_tree, page_folded_own, own_past, dropped_tree, replaced_tree}
+use Rattle.vol_units.specs.declared.size.TheConstants.{PAGE_BYTES}
+use Rattle.replica_node.specs.Node.{Kept, Node}
+use Rattle.replica_node.specs.Fold.{tree_of, page_folded_in, page_folded, pages_folded, folded_away, put_down, layers_without, replaced_node, dropped_node}
+use Rattle.replica_node.proofs.FoldedNode.{page_folded_tree, dropped_tree, replaced_tree}
 use Rattle.replica_state.specs.Volume.{copies_in, volume_of_node, with_layers_of}
 use Rattle.replica_state.proofs.VolumeLemmas.{snap, same_volume}
 
@@ -111,72 +112,45 @@ pub dropped_volume : (n : Node) (p : List ℕ) → NamesOnce (tree_of n) → Can
     → volume_of_node (dropped_node n p) ≡ purged (volume_of_node n) (part.Drop p)
 dropped_volume n p once can = same_volume n (without_copies n.layers p (marked_all p n.layers once can.marked)) (dropped_tree n p)
 
--- ---- the folding of a layer, page by page
+-- ---- the folding of a layer
 
--- the child has none of that page, and none that it did not have
-folded_child : (n : Node) (p c : List ℕ) (page block : ℕ) → (is_in page block ≡ true) ⊎ (has_own (own_named n.layers c) block ≡ false)
-    → has_own (own_named (page_folded n p c page).layers c) block ≡ false
-folded_child n p c page block either = page_folded_own n p c page block ∙ none (is_in page block) (has_own (own_named n.layers c) block) either
-  where
-    none : (a b : Bool) → (a ≡ true) ⊎ (b ≡ false) → (not a && b) ≡ false
-    none true b e = refl
-    none false true e = ⊎_elim (λ f. absurd (false≢true f)) (λ f. f) e
-    none false false e = refl
+-- no name comes twice in a replica of the same volume
+once_as : (n m : Node) → volume_of_node m ≡ volume_of_node n → NamesOnce (tree_of n) → NamesOnce (tree_of m)
+once_as n m same once = subst (λ (v : Volume). NamesOnce v.snapshots.tree) (sym same) once
 
--- the pages before one, of so many blocks in all, are folded: nothing is seen of it, and the child has none of their blocks
-pub record IsFolding (old now : Node) (c : List ℕ) (count page : ℕ) : Type 0 where
-  pub volume : volume_of_node now ≡ volume_of_node old
-  pub head : now ≡ with_layers_of old now
-  pub moved : (block : ℕ) → (block < page * 512) ⊎ (count ≤ block) → has_own (own_named now.layers c) block ≡ false
+-- what can be folded can be in a replica of the same volume
+can_as : (n m : Node) (p c : List ℕ) → volume_of_node m ≡ volume_of_node n → CanFold (tree_of n) n.on p c → CanFold (tree_of m) m.on p c
+can_as n m p c same can = subst (λ (v : Volume). CanFold v.snapshots.tree v.snapshots.on p c) (sym same) can
 
-pub no_page : (old : Node) (c : List ℕ) (count : ℕ) → All (λ (k : Kept). length k.own ≡ count) old.layers → IsFolding old old c count 0
-no_page old c count all = record {
-  volume = refl;
-  head = refl;
-  moved = λ block. ⊎_elim (λ low. absurd (omega arith)) (λ past. own_past old.layers c count block all past);
-}
+-- pages that are folded are not seen
+pages_volume : (n : Node) (p c : List ℕ) (pages : ℕ) → NamesOnce (tree_of n) → CanFold (tree_of n) n.on p c
+    → volume_of_node (pages_folded n p c pages) ≡ volume_of_node n
+unfolding pages_folded
+pages_volume n p c zero once can = refl
+pages_volume n p c (suc pages) once can =
+    let before = pages_volume n p c pages once can in
+    let m = pages_folded n p c pages in
+    page_folded_volume m p c pages (once_as n m before once) (can_as n m p c before can) ∙ before
 
-pub once_still : (old now : Node) (c : List ℕ) (count page : ℕ) → IsFolding old now c count page → NamesOnce (tree_of old) → NamesOnce (tree_of now)
-once_still old now c count page far once = subst (λ (v : Volume). NamesOnce v.snapshots.tree) (sym far.volume) once
+-- and they are not the head's
+pages_head : (n : Node) (p c : List ℕ) (pages : ℕ) → pages_folded n p c pages ≡ with_layers_of n (pages_folded n p c pages)
+unfolding pages_folded
+pages_head n p c zero = refl
+pages_head n p c (suc pages) =
+    ap (λ (m : Node). record m { layers = (page_folded (pages_folded n p c pages) p c pages).layers }) (pages_head n p c pages)
 
-pub can_still : (old now : Node) (p c : List ℕ) (count page : ℕ) → IsFolding old now c count page → CanFold (tree_of old) old.on p c
-    → CanFold (tree_of now) now.on p c
-can_still old now p c count page far can = subst (λ (v : Volume). CanFold v.snapshots.tree v.snapshots.on p c) (sym far.volume) can
+-- a layer that is folded away is a part of a purge
+pub folded_volume : (n : Node) (p c : List ℕ) → NamesOnce (tree_of n) → CanFold (tree_of n) n.on p c
+    → volume_of_node (folded_away n p c) ≡ purged (volume_of_node n) (part.Fold p c)
+folded_volume n p c once can =
+    let pages = length n.disk / PAGE_BYTES in
+    let before = pages_volume n p c pages once can in
+    let m = pages_folded n p c pages in
+    replaced_volume m p c (once_as n m before once) (can_as n m p c before can) ∙ ap (λ (v : Volume). purged v (part.Fold p c)) before
 
-pub page_more : (old now next : Node) (p c : List ℕ) (count page : ℕ) → NamesOnce (tree_of old) → CanFold (tree_of old) old.on p c
-    → IsFolding old now c count page → next ≡ page_folded now p c page → IsFolding old next c count (page + 1)
-page_more old now next p c count page once can far is =
-    subst (λ n. IsFolding old n c count (page + 1)) (sym is) (record {
-      volume = page_folded_volume now p c page (once_still old now c count page far once) (can_still old now p c count page far can) ∙ far.volume;
-      head = ap (λ (n : Node). record n { layers = (page_folded now p c page).layers }) far.head;
-      moved = λ block h. folded_child now p c page block (its_block block h);
-    })
-  where
-    in_page : (block : ℕ) → (block / 512 ≡ page) ⊎ ((block / 512 ≡ page) → ⊥) → block < (page + 1) * 512 → (is_in page block ≡ true) ⊎ (block < page * 512)
-    in_page block (inl same) low = inl (eq-eqb (block / 512) page same)
-    in_page block (inr other) low = inr (omega (arith, other))
-
-    its_block : (block : ℕ) → (block < (page + 1) * 512) ⊎ (count ≤ block) → (is_in page block ≡ true) ⊎ (has_own (own_named now.layers c) block ≡ false)
-    its_block block (inl low) = ⊎_elim (λ same. inl same) (λ before. inr (far.moved block (inl before))) (in_page block (cases_eq (block / 512) page) low)
-    its_block block (inr past) = inr (far.moved block (inr past))
-
--- once each page is, the child has no block left
-pub all_moved : (old now : Node) (c : List ℕ) (count page : ℕ) → IsFolding old now c count page → count ≤ page * 512
-    → (block : ℕ) → has_own (own_named now.layers c) block ≡ false
-all_moved old now c count page far whole = λ block.
-    far.moved block (⊎_elim (λ low. inl low) (λ high. inr (omega (arith, whole))) (cases_lt block (page * 512)))
-
-pub folded_volume : (old now new : Node) (p c : List ℕ) (count page : ℕ) → NamesOnce (tree_of old) → CanFold (tree_of old) old.on p c
-    → IsFolding old now c count page → new ≡ replaced_node now p c → volume_of_node new ≡ purged (volume_of_node old) (part.Fold p c)
-folded_volume old now new p c count page once can far is =
-    ap volume_of_node is
-    ∙ replaced_volume now p c (once_still old now c count page far once) (can_still old now p c count page far can)
-    ∙ ap (λ (v : Volume). purged v (part.Fold p c)) far.volume
-
-pub folded_head : (old now new : Node) (p c : List ℕ) (count page : ℕ) → IsFolding old now c count page → new ≡ replaced_node now p c
-    → new ≡ with_layers_of old new
-folded_head old now new p c count page far is =
-    subst (λ n. n ≡ with_layers_of old n) (sym is) (ap (λ (n : Node). record n { layers = (replaced_node now p c).layers }) far.head)
+pub folded_head : (n new : Node) (p c : List ℕ) → new ≡ folded_away n p c → new ≡ with_layers_of n new
+folded_head n new p c is =
+    subst (λ m. m ≡ with_layers_of n m) (sym is) (ap (λ (m : Node). record m { layers = (folded_away n p c).layers }) (pages_head n p c (length n.disk / PAGE_BYTES)))
 
 pub dropped_head : (old new : Node) (p : List ℕ) → new ≡ dropped_node old p → new ≡ with_layers_of old new
 dropped_head old new p is = subst (λ n. n ≡ with_layers_of old n) (sym is) refl

@@ -20,19 +20,15 @@ pub fn take_out(node: &mut ReplicaNode, part: &FoldOrDrop)
     }
 }
 
-/// Moves the child's blocks onto its parent, page by page, and lets the child take the parent's place.
+/// Moves the child's blocks onto its parent, and lets the child take the parent's place.
 fn fold(node: &mut ReplicaNode, parent: &LayerName, child: &LayerName)
     requires { CanFold (tree_of node.old) node.old.on parent.now child.now }
     ensures volume { volume_of_node node.new ≡ purged (volume_of_node node.old) (part.Fold parent.now child.now) }
     ensures head { node.new ≡ with_layers_of node.old node.new }
 {
-    // That no name comes twice, and how many blocks each layer may have, a proof learns here.
+    // That no name comes twice, a proof learns here.
     let _layers = node.layer_count();
-    let _blocks = node.block_count();
-    for page in 0..node.page_count() {
-        node.fold_step(parent, child, page);
-    }
-    node.replace(parent, child);
+    node.fold(parent, child);
 }
 
 /// Lets a layer go on which nothing stands.
