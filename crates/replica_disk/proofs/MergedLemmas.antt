@@ -1,5 +1,5 @@
 -- Bytes that are written over a part of a disk, block by block.
-use Rattle.std.proofs.Common.{◌≡◌, ℕ, ◌+◌, ◌-◌, ◌*◌, ◌≤◌, min, max, List, [], ◌∷◌, ◌++◌, length, take, drop, slice_range, sym, ap, ◌∙◌, arith, append_assoc, append-nil, Option, Some, length-append, length-drop, inl, inr, ◌⊎◌, ⊎_elim, refl}
+use Rattle.std.proofs.Common.{◌≡◌, ℕ, ◌+◌, ◌-◌, ◌*◌, ◌<◌, ◌≤◌, min, max, List, [], ◌∷◌, ◌++◌, length, take, drop, slice_range, sym, ap, subst, ◌∙◌, arith, append_assoc, append-nil, Option, Some, length-append, length-drop, inl, inr, ◌⊎◌, ⊎_elim, refl}
 use Rattle.std.proofs.lemmas.List.{take_all, length-take-le, take-append-le, drop-append-le, take-append-drop, take-take, drop-drop, drop-take}
 use Rattle.std.proofs.Math.Seq.{drop-append-add}
 use Rattle.std.proofs.lemmas.Grind.{flat_map-append}
@@ -8,7 +8,9 @@ use Rattle.replica_node.specs.Room.{bytes_in}
 use Rattle.vol_units.specs.Bytes.{bytes_at, with_bytes_at}
 use Rattle.std.proofs.lemmas.Bool.{cases_lt}
 use Rattle.vol_units.specs.declared.range.BlockRange.{BlockRange}
-use Rattle.replica_disk.specs.Merged.{Touches, AreBlocksOf}
+use Rattle.vol_units.specs.Range.{blocks_around}
+use Rattle.replica_disk.specs.Merged.{AreBlocksOf}
+use Rattle.vol_units.proofs.RangeLemmas.{some_around}
 use Rattle.vol_units.proofs.BytesLemmas.{take-slice, bytes_at-append, length-with_bytes_at}
 
 -- n bytes from a place, as a take of a drop
@@ -150,6 +152,24 @@ either_max a b m is = ⊎_elim (λ lower. inl (omega (arith, is))) (λ higher. i
 
 pub either_min : (a b m : ℕ) → m ≡ min a b → (m ≡ b) ⊎ (m ≡ a)
 either_min a b m is = ⊎_elim (λ lower. inr (omega (arith, is))) (λ higher. inl (omega (arith, is))) (cases_lt a b)
+
+-- the range is that of the blocks which n bytes from a place on touch
+pub record Touches (range : BlockRange) (at n : ℕ) : Type 0 where
+  pub some : range.first < range.end
+  pub first : range.first * 4096 ≤ at
+  pub low : at < range.first * 4096 + 4096
+  pub high : range.end * 4096 < at + n + 4096
+  pub end : at + n ≤ range.end * 4096
+
+-- some bytes touch the blocks that are around them
+pub touches : (range : BlockRange) (at n : ℕ) → 0 < n → range ≡ blocks_around at n → Touches range at n
+touches range at n some is = subst (λ (r : BlockRange). Touches r at n) (sym (is ∙ some_around at n (λ none. omega (arith, none)))) (record {
+  some = omega (arith, some);
+  first = omega arith;
+  low = omega arith;
+  high = omega (arith, some);
+  end = omega (arith, some);
+})
 
 -- the blocks of a range that has all bytes, put over the disk, leave what the write leaves
 pub put_range : (disk bytes : List ℕ) (at : ℕ) (range : BlockRange) (blocks : List (Option (List ℕ))) → at + length bytes ≤ length disk

@@ -166,10 +166,7 @@ impl ReplicaDisk {
     {
         // What the largest size is, and that it is whole blocks, a proof learns here.
         let (_size, _count) = (self.node.size(), self.node.block_count());
-        let range = BlockRange {
-            first: (at / BLOCK_BYTES) as u32,
-            end: ((at + bytes.len() - 1) / BLOCK_BYTES + 1) as u32,
-        };
+        let range = BlockRange::touched(at, bytes.len());
         // All memory is taken first: from here on the write cannot fail.
         let mut blocks = merged_blocks(alloc, &self.node, range, at, bytes)?;
         self.node.make_room(alloc, range)?;

@@ -1,6 +1,7 @@
 ghost use Rattle.std.specs.Prelude.{◌≡◌, ◌+◌, ◌*◌, ◌<◌, ◌≤◌, length, IfOk};
 ghost use Rattle.vol_units.specs.Bytes.{bytes_at, with_bytes_at};
-ghost use Rattle.replica_disk.specs.Merged.{Touches, AreBlocksOf};
+ghost use Rattle.vol_units.specs.Range.{blocks_around};
+ghost use Rattle.replica_disk.specs.Merged.{AreBlocksOf};
 
 use replica_node::{BLOCK_BYTES, Block, BlockRange, Blocks, ReplicaNode};
 use std::alloc::{AllocError, Global};
@@ -13,7 +14,8 @@ pub(crate) fn merged_blocks(
     at: usize,
     bytes: &[u8],
 ) -> Result<Blocks, AllocError>
-    requires touched { Touches range at (length bytes.now) }
+    requires some { 0 < length bytes.now }
+    requires touched { range ≡ blocks_around at (length bytes.now) }
     requires inside { range.end * BLOCK_BYTES ≤ length node.now.disk }
     requires within { at + length bytes.now ≤ length node.now.disk }
     ensures { IfOk result (AreBlocksOf (with_bytes_at node.now.disk at bytes.now) range) }
