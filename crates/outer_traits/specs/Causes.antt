@@ -22,7 +22,7 @@ abbrev pub ErrorCause : ℕ → ℕ → OuterError → Type 0
 ErrorCause before now Failed = now ≡ one_more before
 ErrorCause before now NoMemory = now ≡ before
 
--- The same of a call that may want memory.
+-- The same of a call that may run out of memory.
 pub record HasOuterCause {T : Type 0} (before now : ℕ) (result : Result T OuterError) : Type 0 where
   pub later : before ≤ now
   pub cause : MatchResult result (λ _. now ≡ before) (ErrorCause before now)

@@ -12,10 +12,10 @@ pub record ReadsMore (left rest : Option (List ℕ)) (old new : List ℕ) (room 
   pub within : n ≤ room
   pub end : n ≡ 0 → IsAtEnd rest
 
--- a front of the bytes went to the sink
-abbrev pub WritesFront : Option (List ℕ) → Option (List ℕ) → List ℕ → Type 0
-WritesFront old new bytes = (front : List ℕ) × (rest : List ℕ) × (bytes ≡ front ++ rest) × Appends old new front
+-- a prefix of the bytes went to the sink
+abbrev pub WritesPrefix : Option (List ℕ) → Option (List ℕ) → List ℕ → Type 0
+WritesPrefix old new bytes = (prefix : List ℕ) × (rest : List ℕ) × (bytes ≡ prefix ++ rest) × Appends old new prefix
 
--- The text was put behind what a buffer had, and a front of both went to the sink. The buffer has the rest.
+-- The text was put behind what a buffer had, and a prefix of both went to the sink. The buffer has the rest.
 abbrev pub Passes : Option (List ℕ) → Option (List ℕ) → List ℕ → List ℕ → List ℕ → Type 0
-Passes old new had has text = (front : List ℕ) × (had ++ text ≡ front ++ has) × Appends old new front
+Passes old new had has text = (prefix : List ℕ) × (had ++ text ≡ prefix ++ has) × Appends old new prefix

@@ -16,7 +16,7 @@ pub enum OuterError {
     NoMemory,
 }
 
-/// What a call to the outside answers that may want memory.
+/// What a call to the outside answers that may run out of memory.
 pub type Outer<T> = Result<T, OuterError>;
 
 impl From<Failed> for OuterError {

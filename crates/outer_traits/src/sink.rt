@@ -12,7 +12,7 @@ pub trait Sink {
     // How often the sink has failed.
     ghost faults: { Self → ℕ };
 
-    /// Takes at least one byte of the front of `bytes`, and says how many. An error takes none.
+    /// Takes a prefix of `bytes`, of one byte at least, and says how long it is. An error takes none.
     fn write(&mut self, bytes: &[u8]) -> Outer<usize>
         requires { 0 < length bytes.now }
         ensures bound { IfOk result (λ n. (0 < n) × (n ≤ length bytes.now)) }

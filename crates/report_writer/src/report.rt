@@ -1,7 +1,7 @@
 ghost use Rattle.std.specs.Prelude.{◌≡◌, ◌≢◌, ◌<◌, ◌≤◌, ◌⊎◌, ◌++◌, length, slice_get, Some, OnOk, IfSome, IfNone, vec_len};
 ghost use Rattle.std.specs.Io.KnownBytes.{Appends};
 ghost use Rattle.outer_traits.specs.Causes.{HasOuterCause};
-ghost use Rattle.outer_traits.specs.Passing.{WritesFront, Passes};
+ghost use Rattle.outer_traits.specs.Passing.{WritesPrefix, Passes};
 ghost use Rattle.outer_traits.specs.declared.output.TheConstants.{PIECE};
 ghost use Rattle.run_report.specs.Lines.{entry_line, reply_line};
 ghost use Rattle.run_report.specs.Report.{journal_lines, reply_lines, replies_from};
@@ -30,7 +30,7 @@ pub fn write_report<K: Sink>(
     requires { length (modes_of journal.now) < 256 }
     ensures whole { OnOk result (Appends (K.contents sink.old) (K.contents sink.new)
         (written_text heads.now journal.now disk.now)) }
-    ensures front { WritesFront (K.contents sink.old) (K.contents sink.new)
+    ensures prefix { WritesPrefix (K.contents sink.old) (K.contents sink.new)
         (written_text heads.now journal.now disk.now) }
     ensures cause { HasOuterCause (K.faults sink.old) (K.faults sink.new) result }
 {
@@ -45,7 +45,7 @@ pub fn write_report<K: Sink>(
 fn pass_entries<K: Sink>(journal: &Journal, sink: &mut K, buffer: &mut Vec<u8>) -> Outer<()>
     ensures passed { OnOk result (Passes (K.contents sink.old) (K.contents sink.new)
         buffer.old.items buffer.new.items (journal_lines 0 journal.now.entries)) }
-    ensures front { WritesFront (K.contents sink.old) (K.contents sink.new)
+    ensures prefix { WritesPrefix (K.contents sink.old) (K.contents sink.new)
         (buffer.old.items ++ journal_lines 0 journal.now.entries) }
     ensures cause { HasOuterCause (K.faults sink.old) (K.faults sink.new) result }
 {
@@ -64,7 +64,7 @@ fn pass_streams<K: Sink>(
 ) -> Outer<()>
     ensures passed { OnOk result (Passes (K.contents sink.old) (K.contents sink.new)
         buffer.old.items buffer.new.items (replies_from 0 streams.now journal.now.entries)) }
-    ensures front { WritesFront (K.contents sink.old) (K.contents sink.new)
+    ensures prefix { WritesPrefix (K.contents sink.old) (K.contents sink.new)
         (buffer.old.items ++ replies_from 0 streams.now journal.now.entries) }
     ensures cause { HasOuterCause (K.faults sink.old) (K.faults sink.new) result }
 {
@@ -84,7 +84,7 @@ fn pass_replies<K: Sink>(
 ) -> Outer<()>
     ensures passed { OnOk result (Passes (K.contents sink.old) (K.contents sink.new)
         buffer.old.items buffer.new.items (reply_lines heads.now (answers_of stream journal.now.entries))) }
-    ensures front { WritesFront (K.contents sink.old) (K.contents sink.new)
+    ensures prefix { WritesPrefix (K.contents sink.old) (K.contents sink.new)
         (buffer.old.items ++ reply_lines heads.now (answers_of stream journal.now.entries)) }
     ensures cause { HasOuterCause (K.faults sink.old) (K.faults sink.new) result }
 {
@@ -125,7 +125,7 @@ fn pass_entry<K: Sink>(place: u64, entry: &Entry, sink: &mut K, buffer: &mut Vec
     ensures small { OnOk result (vec_len buffer.new < PIECE) }
     ensures passed { OnOk result (Passes (K.contents sink.old) (K.contents sink.new)
         buffer.old.items buffer.new.items (entry_line place entry.now)) }
-    ensures front { WritesFront (K.contents sink.old) (K.contents sink.new)
+    ensures prefix { WritesPrefix (K.contents sink.old) (K.contents sink.new)
         (buffer.old.items ++ entry_line place entry.now) }
     ensures cause { HasOuterCause (K.faults sink.old) (K.faults sink.new) result }
 {
@@ -142,7 +142,7 @@ fn pass_reply<K: Sink>(
     ensures small { OnOk result (vec_len buffer.new < PIECE) }
     ensures passed { OnOk result (Passes (K.contents sink.old) (K.contents sink.new)
         buffer.old.items buffer.new.items (reply_line asked.now answer.now)) }
-    ensures front { WritesFront (K.contents sink.old) (K.contents sink.new)
+    ensures prefix { WritesPrefix (K.contents sink.old) (K.contents sink.new)
         (buffer.old.items ++ reply_line asked.now answer.now) }
     ensures cause { HasOuterCause (K.faults sink.old) (K.faults sink.new) result }
 {

@@ -16,7 +16,7 @@ use Rattle.volume_cli.specs.declared.status.Status.TheVariants as status
 use Rattle.volume_cli.specs.declared.stop.Stop.{Stop}
 use Rattle.volume_cli.specs.declared.stop.Stop.TheVariants.{BadScript, WriteFault}
 use Rattle.volume_cli.specs.Headline.{IsStatus}
-use Rattle.volume_cli.specs.Stops.{stop_of, IsRun, RunLeaves, StopLeaves, PrintsFront, HadNoScript}
+use Rattle.volume_cli.specs.Stops.{stop_of, IsRun, RunLeaves, StopLeaves, PrintsPrefix, HadNoScript}
 
 -- what is asked is a run: there is nothing else yet
 a_run : (asked : Option Words) (words : Words) → asked ≡ Some words → (workers : Workers) × (asked ≡ Some (Run workers))
@@ -78,7 +78,7 @@ pub stopped_at : (stop : Stop) (place : ℕ) (why : What) (same : Type 0) (left 
 stopped_at stop place why same left old new is leaves = (subst (λ stop. StopLeaves stop same left old new) is leaves).1
 
 pub stopped_writing : (stop : Stop) (same : Type 0) (left old new : Option (List ℕ)) → stop ≡ WriteFault → StopLeaves stop same left old new
-    → PrintsFront left old new
+    → PrintsPrefix left old new
 stopped_writing stop same left old new is leaves = subst (λ stop. StopLeaves stop same left old new) is leaves
 
 -- what a refused script leaves

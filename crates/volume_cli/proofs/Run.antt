@@ -3,7 +3,7 @@ use Rattle.std.proofs.Common.{◌≡◌, ℕ, ◌<◌, ◌≤◌, List, ◌++◌
 use Rattle.std.specs.Io.KnownBytes.{Consumes, IsAtEnd, Appends}
 use Rattle.std.proofs.KnownBytes.{Consumes-whole}
 use Rattle.frame_wire.specs.declared.head.Head.{Head}
-use Rattle.outer_traits.specs.Passing.{WritesFront}
+use Rattle.outer_traits.specs.Passing.{WritesPrefix}
 use Rattle.report_writer.specs.Written.{written_text}
 use Rattle.run_report.specs.Report.{call_lines, end_lines}
 use Rattle.script_text.specs.declared.script.Script.{Script}
@@ -91,12 +91,12 @@ written_is script s done =
 -- what is written of the report of a run
 pub leaves : {T : Type 0} (result : Result T Stop) (same : Type 0) (left old new : Option (List ℕ)) (script : Script) (journal : List Entry) (text : List ℕ) (before now : ℕ)
     → IsRun left script journal → text ≡ report_text script journal
-    → OnOk result (Appends old new text) → WritesFront old new text → WriteCounts result before now → RunLeaves result same left old new
-leaves (Ok x) same left old new script journal text before now run is whole front counts = (script, journal, run, subst (Appends old new) is whole)
-leaves (Err (BadScript place why)) same left old new script journal text before now run is whole front counts = absurd counts
-leaves (Err ReadFault) same left old new script journal text before now run is whole front counts = absurd counts
-leaves (Err WriteFault) same left old new script journal text before now run is whole front counts = (script, journal, run, subst (WritesFront old new) is front)
-leaves (Err NoMemory) same left old new script journal text before now run is whole front counts = inr (script, journal, run, subst (WritesFront old new) is front)
+    → OnOk result (Appends old new text) → WritesPrefix old new text → WriteCounts result before now → RunLeaves result same left old new
+leaves (Ok x) same left old new script journal text before now run is whole prefix counts = (script, journal, run, subst (Appends old new) is whole)
+leaves (Err (BadScript place why)) same left old new script journal text before now run is whole prefix counts = absurd counts
+leaves (Err ReadFault) same left old new script journal text before now run is whole prefix counts = absurd counts
+leaves (Err WriteFault) same left old new script journal text before now run is whole prefix counts = (script, journal, run, subst (WritesPrefix old new) is prefix)
+leaves (Err NoMemory) same left old new script journal text before now run is whole prefix counts = inr (script, journal, run, subst (WritesPrefix old new) is prefix)
 
 -- what the counts say of a run that has read its input, and then wrote
 pub run_counts : {T : Type 0} (result : Result T Stop) (s t k l : ℕ) → t ≡ s → WriteCounts result k l → Counts result s t k l

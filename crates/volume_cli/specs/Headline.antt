@@ -5,7 +5,7 @@ use Rattle.program_words.specs.declared.words.Words.TheVariants.{Run}
 use Rattle.program_words.specs.Asked.{asked_by}
 use Rattle.volume_cli.specs.declared.status.Status.{Status}
 use Rattle.volume_cli.specs.declared.status.Status.TheVariants.{Done, Usage, Script, ReadFault, WriteFault, NoMemory}
-use Rattle.volume_cli.specs.Stops.{HadNoScript, Prints, PrintsFront}
+use Rattle.volume_cli.specs.Stops.{HadNoScript, Prints, PrintsPrefix}
 
 -- the words ask for a run
 abbrev pub AskRun : {A : Type 0} → List (String A) → Type 0
@@ -38,5 +38,5 @@ Leaves Done same left old new = Prints left old new
 Leaves Usage same left old new = same
 Leaves (Script place what) same left old new = same
 Leaves ReadFault same left old new = same
-Leaves WriteFault same left old new = PrintsFront left old new
-Leaves NoMemory same left old new = same ⊎ PrintsFront left old new
+Leaves WriteFault same left old new = PrintsPrefix left old new
+Leaves NoMemory same left old new = same ⊎ PrintsPrefix left old new

@@ -2,7 +2,7 @@
 use Rattle.std.specs.Prelude.{◌≡◌, ℕ, ◌⊎◌, List, Option, IfSome, Result, Ok, Err}
 use Rattle.std.specs.Io.KnownBytes.{Appends}
 use Rattle.outer_traits.specs.Causes.{Rose}
-use Rattle.outer_traits.specs.Passing.{WritesFront}
+use Rattle.outer_traits.specs.Passing.{WritesPrefix}
 use Rattle.volume_model.specs.declared.entry.Entry.{Entry}
 use Rattle.volume_model.specs.History.{IsHistory}
 use Rattle.volume_model.specs.OneWorker.{stream_of, served}
@@ -77,10 +77,10 @@ abbrev pub Prints : Option (List ℕ) → Option (List ℕ) → Option (List ℕ
 Prints left old new = (script : Script) × (journal : List Entry) × IsRun left script journal
     × Appends old new (report_text script journal)
 
--- The sink has got a front of the report of a run.
-abbrev pub PrintsFront : Option (List ℕ) → Option (List ℕ) → Option (List ℕ) → Type 0
-PrintsFront left old new = (script : Script) × (journal : List Entry) × IsRun left script journal
-    × WritesFront old new (report_text script journal)
+-- The sink has got a prefix of the report of a run.
+abbrev pub PrintsPrefix : Option (List ℕ) → Option (List ℕ) → Option (List ℕ) → Type 0
+PrintsPrefix left old new = (script : Script) × (journal : List Entry) × IsRun left script journal
+    × WritesPrefix old new (report_text script journal)
 
 -- what the source had is no script, for this reason first, at this place
 abbrev pub HadNoScript : Option (List ℕ) → ℕ → What → Type 0
@@ -90,8 +90,8 @@ HadNoScript left place what = IfSome left (λ told. IsNoScript told place what)
 abbrev pub StopLeaves : Stop → Type 0 → Option (List ℕ) → Option (List ℕ) → Option (List ℕ) → Type 0
 StopLeaves (BadScript place what) same left old new = same × HadNoScript left place what
 StopLeaves ReadFault same left old new = same
-StopLeaves WriteFault same left old new = PrintsFront left old new
-StopLeaves NoMemory same left old new = same ⊎ PrintsFront left old new
+StopLeaves WriteFault same left old new = PrintsPrefix left old new
+StopLeaves NoMemory same left old new = same ⊎ PrintsPrefix left old new
 
 -- the same of how a run ended
 abbrev pub RunLeaves : {T : Type 0} → Result T Stop → Type 0 → Option (List ℕ) → Option (List ℕ) → Option (List ℕ) → Type 0

@@ -1,7 +1,7 @@
 ghost use Rattle.std.specs.Prelude.{◌≡◌, ◌<◌, ◌≤◌, length, IfOk, OnOk};
 ghost use Rattle.std.specs.Io.KnownBytes.{Appends, Consumes, IsAtEnd};
 ghost use Rattle.journal_book.specs.Book.{modes_of};
-ghost use Rattle.outer_traits.specs.Passing.{GivesAtMost, WritesFront};
+ghost use Rattle.outer_traits.specs.Passing.{GivesAtMost, WritesPrefix};
 ghost use Rattle.report_writer.specs.Written.{written_text};
 ghost use Rattle.volume_cli.specs.Stops.{ReadCounts, WriteCounts};
 
@@ -27,12 +27,12 @@ pub fn read_input<S: Source>(alloc: Global, source: &mut S) -> Result<Bytes, Sto
     }
 }
 
-/// Writes the report of what was served. Where that fails, the sink has taken a front of it.
+/// Writes the report of what was served. Where that fails, the sink has taken a prefix of it.
 pub fn write_output<K: Sink>(alloc: Global, served: &Served, sink: &mut K) -> Result<(), Stop>
     requires { length (modes_of served.now.journal) < 256 }
     ensures whole { OnOk result (Appends (K.contents sink.old) (K.contents sink.new)
         (written_text served.now.heads.items served.now.journal served.now.disk)) }
-    ensures front { WritesFront (K.contents sink.old) (K.contents sink.new)
+    ensures prefix { WritesPrefix (K.contents sink.old) (K.contents sink.new)
         (written_text served.now.heads.items served.now.journal served.now.disk) }
     ensures counts { WriteCounts result (K.faults sink.old) (K.faults sink.new) }
 {

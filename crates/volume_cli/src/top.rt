@@ -48,7 +48,7 @@ pub fn longhorn<S: Source, K: Sink>(
     ensures most { GivesAtMost (S.left source.old) (S.left source.new) 268435457 }
 
     // At Done the sink has the report of one legal history of the script's calls. After a write fault it has a
-    // front of it, and after a refusal and a read fault it is as it was.
+    // prefix of it, and after a refusal and a read fault it is as it was.
     ensures printed { Leaves result (sink.new ≡ sink.old) (S.left source.old) (K.contents sink.old) (K.contents sink.new) }
 {
     match read_words(alloc, words) {

@@ -7,7 +7,7 @@ use outer_memory::{FaultPlan, LimitedSink, MemorySink, MemorySource, NoFaultSour
 use std::test::Fail;
 
 #[test]
-fn a_sink_that_fails_holds_a_front(rt: HostRuntime) -> Result<(), Fail> {
+fn a_sink_that_fails_holds_a_prefix(rt: HostRuntime) -> Result<(), Fail> {
     let alloc = rt.alloc();
     let words = words(alloc, &["run"])?;
     let mut source = NoFaultSource::new(script(alloc, &[read(1, 0, 4096)], 0, b"")?, 4096);

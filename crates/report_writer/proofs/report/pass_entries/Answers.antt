@@ -3,8 +3,8 @@ use Rattle.std.proofs.lemmas.Option.{get_or_from_slice_get}
 use Rattle.run_report.specs.Lines.{entry_line}
 use Rattle.run_report.specs.Report.{journal_lines}
 use Rattle.run_report.proofs.ReportLemmas.{next_line}
-use Rattle.outer_traits.specs.Passing.{WritesFront}
-use Rattle.outer_traits.proofs.Passing.{Passes-trans, WritesFront-after, WritesFront-more}
+use Rattle.outer_traits.specs.Passing.{WritesPrefix}
+use Rattle.outer_traits.proofs.Passing.{Passes-trans, WritesPrefix-after, WritesPrefix-more}
 use Rattle.report_writer.proofs.report.pass_entries.Goals as goal
 
 pub loop-place-preserved : goal.loop-place-preserved
@@ -21,8 +21,8 @@ loop-place-preserved g c =
       c.in_ok-pass_entry.ensures.cause.cause ∙ i.3,
     )
 
-pub returns-in_err-pass_entry-clause-front : goal.returns-in_err-pass_entry-clause-front
-returns-in_err-pass_entry-clause-front g c =
+pub returns-in_err-pass_entry-clause-prefix : goal.returns-in_err-pass_entry-clause-prefix
+returns-in_err-pass_entry-clause-prefix g c =
     let i = c.loop-place.invariant in
     let entries = c.args.journal.now.entries in
     let place = c.loop-place.place in
@@ -32,6 +32,6 @@ returns-in_err-pass_entry-clause-front g c =
     let t = next_line i.0 (journal_lines 0 entries) place entries e inside (get_or_from_slice_get entries place e e c.entry.ensures) i.2 in
     let whole : (c.args.buffer.now.items ++ (i.0 ++ entry_line place e)) ++ rest ≡ c.args.buffer.now.items ++ journal_lines 0 entries =
     append_assoc c.args.buffer.now.items (i.0 ++ entry_line place e) rest ∙ ap (λ l. c.args.buffer.now.items ++ l) t in
-    let front = WritesFront-after _ _ _ c.args.buffer.now.items _ i.0 (entry_line place e) i.1 c.in_err-pass_entry.ensures.front in
-    subst (WritesFront (g.K.Sink.contents c.args.sink.now) (g.K.Sink.contents c.pass_entry.new.sink)) whole
-    (WritesFront-more _ _ _ rest front)
+    let prefix = WritesPrefix-after _ _ _ c.args.buffer.now.items _ i.0 (entry_line place e) i.1 c.in_err-pass_entry.ensures.prefix in
+    subst (WritesPrefix (g.K.Sink.contents c.args.sink.now) (g.K.Sink.contents c.pass_entry.new.sink)) whole
+    (WritesPrefix-more _ _ _ rest prefix)

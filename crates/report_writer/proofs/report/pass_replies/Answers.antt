@@ -5,8 +5,8 @@ use Rattle.volume_model.specs.declared.entry.Entry.TheVariants as entry
 use Rattle.run_report.specs.Lines.{reply_line}
 use Rattle.run_report.specs.Report.{reply_lines}
 use Rattle.run_report.proofs.ReportLemmas.{next_reply, skip_mark, skip_other, skip_past, no_reply}
-use Rattle.outer_traits.specs.Passing.{WritesFront, Passes}
-use Rattle.outer_traits.proofs.Passing.{Passes-trans, WritesFront-after, WritesFront-more, WritesFront-passed}
+use Rattle.outer_traits.specs.Passing.{WritesPrefix, Passes}
+use Rattle.outer_traits.proofs.Passing.{Passes-trans, WritesPrefix-after, WritesPrefix-more, WritesPrefix-passed}
 use Rattle.report_writer.proofs.report.pass_replies.Goals as goal
 use Rattle.report_writer.proofs.report.pass_replies.Goals.{in-Some-head_for+in_ok-pass_reply, in_default-head_for}
 
@@ -51,8 +51,8 @@ loop-place-preserved-in_default g c =
     let t = skip_mark i.0 (reply_lines heads (answers_from c.args.stream 0 entries)) c.args.stream s.next s.place heads entries e
     inside (get_or_from_slice_get entries s.place e e c.entry.ensures) c.in_default.ensures i.2 in (i.0, i.1, t, i.3)
 
-pub returns-in_err-pass_reply-clause-front : goal.returns-in_err-pass_reply-clause-front
-returns-in_err-pass_reply-clause-front g c =
+pub returns-in_err-pass_reply-clause-prefix : goal.returns-in_err-pass_reply-clause-prefix
+returns-in_err-pass_reply-clause-prefix g c =
     let entries = c.args.journal.now.entries in
     let heads = c.args.heads.now in
     let had = c.args.buffer.now.items in
@@ -67,8 +67,8 @@ returns-in_err-pass_reply-clause-front g c =
     let is : get_or entries s.place (entry.Answer a) ≡ entry.Answer a =
     get_or_from_slice_get entries s.place c.entry.result.now (entry.Answer a) c.entry.ensures ∙ c.in-Some.ensures in
     let t = next_reply i.0 whole c.args.stream s.next s.place heads entries h a inside is found.1 (get_or_from_slice_get heads s.next h h found.2) found.0 i.2 in
-    let front = WritesFront-after _ _ _ had _ i.0 (reply_line h a) i.1 c.in_err-pass_reply.ensures.front in
-    subst (WritesFront _ _) (append_assoc had (i.0 ++ reply_line h a) rest ∙ ap (λ l. had ++ l) t) (WritesFront-more _ _ _ rest front)
+    let prefix = WritesPrefix-after _ _ _ had _ i.0 (reply_line h a) i.1 c.in_err-pass_reply.ensures.prefix in
+    subst (WritesPrefix _ _) (append_assoc had (i.0 ++ reply_line h a) rest ∙ ap (λ l. had ++ l) t) (WritesPrefix-more _ _ _ rest prefix)
 
 pub returns-clause-passed : goal.returns-clause-passed
 returns-clause-passed g c =
@@ -79,7 +79,7 @@ returns-clause-passed g c =
     let all = no_reply i.0 (reply_lines heads (answers_from c.args.stream 0 entries)) c.args.stream c.loop-place.next c.loop-place.place heads entries past i.2 in
     subst (Passes _ _ c.args.buffer.now.items c.loop-place.buffer.items) all i.1
 
-pub returns-clause-front : goal.returns-clause-front
-returns-clause-front g c =
+pub returns-clause-prefix : goal.returns-clause-prefix
+returns-clause-prefix g c =
     let text = reply_lines c.args.heads.now (answers_from c.args.stream 0 c.args.journal.now.entries) in
-    WritesFront-passed _ _ c.args.buffer.now.items c.loop-place.buffer.items text (returns-clause-passed g c)
+    WritesPrefix-passed _ _ c.args.buffer.now.items c.loop-place.buffer.items text (returns-clause-passed g c)

@@ -3,8 +3,8 @@ use Rattle.frame_wire.specs.declared.head.Head.{Head}
 use Rattle.volume_model.specs.History.{answers_of}
 use Rattle.run_report.specs.Report.{reply_lines, replies_from}
 use Rattle.run_report.proofs.ReportLemmas.{next_stream}
-use Rattle.outer_traits.specs.Passing.{WritesFront}
-use Rattle.outer_traits.proofs.Passing.{Passes-trans, WritesFront-after, WritesFront-more}
+use Rattle.outer_traits.specs.Passing.{WritesPrefix}
+use Rattle.outer_traits.proofs.Passing.{Passes-trans, WritesPrefix-after, WritesPrefix-more}
 use Rattle.report_writer.proofs.report.pass_streams.Goals as goal
 
 pub loop-stream-preserved : goal.loop-stream-preserved
@@ -24,8 +24,8 @@ loop-stream-preserved g c =
       c.in_ok-pass_replies.ensures.cause.cause ∙ i.3,
     )
 
-pub returns-in_err-pass_replies-clause-front : goal.returns-in_err-pass_replies-clause-front
-returns-in_err-pass_replies-clause-front g c =
+pub returns-in_err-pass_replies-clause-prefix : goal.returns-in_err-pass_replies-clause-prefix
+returns-in_err-pass_replies-clause-prefix g c =
     let i = c.loop-stream.invariant in
     let entries = c.args.journal.now.entries in
     let streams = c.args.streams.now in
@@ -38,5 +38,5 @@ returns-in_err-pass_replies-clause-front g c =
     let at : get_or streams stream heads ≡ heads =
     subst (λ (hs : List Head). get_or streams stream hs ≡ hs) (sym c.as_slice.ensures) (sym c.index-streams-stream.is) in
     let t = next_stream i.0 (replies_from 0 streams entries) stream streams entries heads inside at i.2 in
-    let front = WritesFront-after _ _ _ had _ i.0 text i.1 c.in_err-pass_replies.ensures.front in
-    subst (WritesFront _ _) (append_assoc had (i.0 ++ text) rest ∙ ap (λ l. had ++ l) t) (WritesFront-more _ _ _ rest front)
+    let prefix = WritesPrefix-after _ _ _ had _ i.0 text i.1 c.in_err-pass_replies.ensures.prefix in
+    subst (WritesPrefix _ _) (append_assoc had (i.0 ++ text) rest ∙ ap (λ l. had ++ l) t) (WritesPrefix-more _ _ _ rest prefix)

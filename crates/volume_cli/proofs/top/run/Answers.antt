@@ -20,7 +20,7 @@ returns-clause-leaves g c =
     let is = c.in_ok-script.ensures.found in
     let run = is_run _ _ input script served c.in_ok-input.ensures.bytes c.in_ok-input.ensures.whole is c.in_ok-served.ensures in
     leaves c.write_output.result _ _ _ _ script served.journal.entries _ (g.K.Sink.faults c.args.sink.now) (g.K.Sink.faults c.write_output.new.sink)
-    run (written_is script served c.in_ok-served.ensures) c.write_output.ensures.whole c.write_output.ensures.front c.write_output.ensures.counts
+    run (written_is script served c.in_ok-served.ensures) c.write_output.ensures.whole c.write_output.ensures.prefix c.write_output.ensures.counts
 
 pub returns-clause-counts : goal.returns-clause-counts
 returns-clause-counts g c = run_counts c.write_output.result (g.S.Source.faults c.args.source.now) (g.S.Source.faults c.read_input.new.source)
