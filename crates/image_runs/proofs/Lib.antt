@@ -1,4 +1,4 @@
 pub mod RunsLemmas
-pub mod Fronts
+pub mod Prefixes
 pub mod LongestRuns
 pub mod TextTells

@@ -4,7 +4,7 @@ use Rattle.std.specs.Prelude.{replicate}
 use Rattle.std.specs.List.{All, AllByRecursion}
 use Rattle.std.proofs.lemmas.Bool.{eqb-true, eqb-false}
 use Rattle.std.proofs.lemmas.List.Elements.{All-from_recursion}
-use Rattle.image_runs.specs.Runs.{ByteRun, run_of, put_byte, runs, run_bytes, AreApart}
+use Rattle.image_runs.specs.Runs.{ByteRun, run_of, put_byte, runs, run_bytes, NeighboursDiffer}
 
 -- one byte more
 run_bytes-put_byte : (b : ℕ) (rs : List ByteRun) → run_bytes (put_byte b rs) ≡ b ∷ run_bytes rs
@@ -39,18 +39,18 @@ pub All_runs_filled : (bytes : List ℕ) → All (λ (r : ByteRun). 0 < r.count)
 All_runs_filled bytes = All-from_recursion (λ (r : ByteRun). 0 < r.count) (runs bytes) (runs_filled bytes)
 
 -- a longer run of the same byte is as far apart
-same_byte : (b n : ℕ) (r : ByteRun) (rs : List ByteRun) → r.byte ≡ b → AreApart (r ∷ rs) → AreApart (run_of b n ∷ rs)
+same_byte : (b n : ℕ) (r : ByteRun) (rs : List ByteRun) → r.byte ≡ b → NeighboursDiffer (r ∷ rs) → NeighboursDiffer (run_of b n ∷ rs)
 same_byte b n r [] same apart = tt
 same_byte b n r (q ∷ qs) same apart = (λ e. apart.0 (same ∙ e), apart.1)
 
-put_byte_apart : (b : ℕ) (rs : List ByteRun) → AreApart rs → AreApart (put_byte b rs)
+put_byte_apart : (b : ℕ) (rs : List ByteRun) → NeighboursDiffer rs → NeighboursDiffer (put_byte b rs)
 put_byte_apart b [] apart = tt
 put_byte_apart b (r ∷ rs) apart = by_test (eqb r.byte b) (λ e. eqb-true r.byte b e) (λ e. eqb-false r.byte b e)
   where
-    by_test : (t : Bool) → (t ≡ true → r.byte ≡ b) → (t ≡ false → r.byte ≢ b) → AreApart (cond t (run_of b (suc r.count) ∷ rs) (run_of b 1 ∷ r ∷ rs))
+    by_test : (t : Bool) → (t ≡ true → r.byte ≡ b) → (t ≡ false → r.byte ≢ b) → NeighboursDiffer (cond t (run_of b (suc r.count) ∷ rs) (run_of b 1 ∷ r ∷ rs))
     by_test true same other = same_byte b (suc r.count) r rs (same refl) apart
     by_test false same other = (λ e. other refl (sym e), apart)
 
-pub runs_apart : (bytes : List ℕ) → AreApart (runs bytes)
+pub runs_apart : (bytes : List ℕ) → NeighboursDiffer (runs bytes)
 runs_apart [] = tt
 runs_apart (b ∷ bs) = put_byte_apart b (runs bs) (runs_apart bs)

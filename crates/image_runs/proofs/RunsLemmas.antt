@@ -66,7 +66,7 @@ with_commas-lone (b ∷ bs) = ap (λ l. lone_text b ++ l) (with_commas-lone bs)
 with_commas-append : (rs qs : List ByteRun) → with_commas (rs ++ qs) ≡ with_commas rs ++ with_commas qs
 with_commas-append = flat_map-append (λ r. run_text r ++ codes ",")
 
--- ---- what is printed at the front, and the text of what is left
+-- ---- what is printed first, and the text of what is left
 
 -- for bytes that stand alone
 pub lone_printed : (n : ℕ) (bytes : List ℕ) → n < length bytes → ((k : ℕ) → k < n → get_or bytes k 0 ≢ get_or bytes (k + 1) 0)
@@ -100,8 +100,8 @@ joined b (r ∷ q ∷ qs) starts =
 pub runs_text-printed : (old bytes all : List ℕ) → 0 < length bytes → all ≡ old ++ with_commas (runs bytes) → take (length all - 1) all ≡ old ++ runs_text bytes
 runs_text-printed old [] all some text = absurd (omega arith)
 runs_text-printed old (b ∷ bs) all some text =
-    let front = old ++ runs_text (b ∷ bs) in
-    let whole : all ≡ front ++ 44 ∷ [] =
+    let prefix = old ++ runs_text (b ∷ bs) in
+    let whole : all ≡ prefix ++ 44 ∷ [] =
     text ∙ ap (λ l. old ++ l) (joined b (runs (b ∷ bs)) (put_byte_starts b (runs bs))) ∙ sym (append_assoc old (runs_text (b ∷ bs)) (codes ",")) in
-    let long : length front ≡ length all - 1 = omega (arith, ap length whole, length_push front 44) in
-    ap (take (length all - 1)) whole ∙ take_at front (44 ∷ []) (length all - 1) long
+    let long : length prefix ≡ length all - 1 = omega (arith, ap length whole, length_push prefix 44) in
+    ap (take (length all - 1)) whole ∙ take_at prefix (44 ∷ []) (length all - 1) long

@@ -11,6 +11,6 @@ with_commas rs = flat_map (λ r. run_text r ++ codes ",") rs
 abbrev pub lone_text : ℕ → List ℕ
 lone_text b = digit_glyph false (b / 16) ∷ digit_glyph false (b % 16) ∷ codes "*1,"
 
--- the text begins with this front
-abbrev pub IsFrontOf : List ℕ → List ℕ → Type 0
-IsFrontOf front text = take (length front) text ≡ front
+-- the text begins with this prefix
+abbrev pub IsPrefixOf : List ℕ → List ℕ → Type 0
+IsPrefixOf prefix text = take (length prefix) text ≡ prefix

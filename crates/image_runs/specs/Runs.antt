@@ -37,7 +37,7 @@ abbrev pub run_bytes : List ByteRun → List ℕ
 run_bytes rs = flat_map (λ r. replicate r.count r.byte) rs
 
 -- neighbours are of different bytes
-abbrev pub AreApart : List ByteRun → Type 0
-AreApart [] = ⊤
-AreApart (r ∷ []) = ⊤
-AreApart (r ∷ q ∷ qs) = (r.byte ≢ q.byte) × AreApart (q ∷ qs)
+abbrev pub NeighboursDiffer : List ByteRun → Type 0
+NeighboursDiffer [] = ⊤
+NeighboursDiffer (r ∷ []) = ⊤
+NeighboursDiffer (r ∷ q ∷ qs) = (r.byte ≢ q.byte) × NeighboursDiffer (q ∷ qs)

@@ -1,7 +1,7 @@
 //! What follows from the definitions alone. Each law is a contract.
 
 ghost use Rattle.std.specs.Prelude.{◌≡◌, ◌<◌, ◌^◌, ◌∷◌, [], List, ℕ, All, length, codes};
-ghost use Rattle.image_runs.specs.Runs.{ByteRun, runs, runs_text, run_bytes, AreApart};
+ghost use Rattle.image_runs.specs.Runs.{ByteRun, runs, runs_text, run_bytes, NeighboursDiffer};
 
 /// Two lists of bytes with one text are equal.
 pub fn runs_tell_the_bytes()
@@ -13,7 +13,7 @@ pub fn runs_tell_the_bytes()
 pub fn runs_are_as_long_as_can_be()
     ensures spelled { (bytes : List ℕ) → run_bytes (runs bytes) ≡ bytes }
     ensures filled { (bytes : List ℕ) → All (λ (r : ByteRun). 0 < r.count) (runs bytes) }
-    ensures apart { (bytes : List ℕ) → AreApart (runs bytes) }
+    ensures apart { (bytes : List ℕ) → NeighboursDiffer (runs bytes) }
 {}
 
 /// Worked rows.

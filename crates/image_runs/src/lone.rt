@@ -5,7 +5,7 @@ ghost use Rattle.image_runs.specs.Printing.{lone_text};
 use crate::table::LONE_TEXTS;
 use std::alloc::AllocError;
 
-/// How many bytes at the front differ each from the one behind it, as far as 32 bytes.
+/// How many of the first bytes differ each from the one behind it, as far as 32 bytes.
 pub fn lone_bytes(bytes: &[u8]) -> usize
     requires { 0 < length bytes.now }
     ensures within { result < length bytes.now }
@@ -16,8 +16,8 @@ pub fn lone_bytes(bytes: &[u8]) -> usize
         → slice_index bytes.now result ≡ slice_index bytes.now (result + 1) }
 {
     // Mostly there is no pair, and a fold without a way out tells that at once.
-    if let Some(front) = bytes.first_chunk::<33>() {
-        if !has_pair(front) {
+    if let Some(prefix) = bytes.first_chunk::<33>() {
+        if !has_pair(prefix) {
             return 32;
         }
     }

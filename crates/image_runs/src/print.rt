@@ -1,6 +1,6 @@
 ghost use Rattle.std.specs.Prelude.{◌≡◌, ◌+◌, ◌<◌, ◌≤◌, ◌++◌, length, drop, IfOk, OnOk, OnErr};
 ghost use Rattle.image_runs.specs.Runs.{runs, runs_text};
-ghost use Rattle.image_runs.specs.Printing.{with_commas, IsFrontOf};
+ghost use Rattle.image_runs.specs.Printing.{with_commas, IsPrefixOf};
 
 use crate::lone::{append_lone, lone_bytes};
 use crate::run::{append_run, run_length};
@@ -25,10 +25,10 @@ pub fn print_runs(bytes: &[u8], into: &mut Vec<u8>) -> Result<(), AllocError>
     Ok(())
 }
 
-/// Appends all runs, a comma behind each. Some of them stand there after want of memory.
+/// Appends all runs, a comma behind each. Some of them stand there where memory runs out.
 fn append_runs(bytes: &[u8], into: &mut Vec<u8>) -> Result<(), AllocError>
     ensures ok { OnOk result (into.new.items ≡ into.old.items ++ with_commas (runs bytes.now)) }
-    ensures kept { IsFrontOf into.old.items into.new.items }
+    ensures kept { IsPrefixOf into.old.items into.new.items }
 {
     let mut rest = bytes;
     while !rest.is_empty() {
@@ -38,13 +38,13 @@ fn append_runs(bytes: &[u8], into: &mut Vec<u8>) -> Result<(), AllocError>
     Ok(())
 }
 
-/// Appends some whole runs of the front, a comma behind each, and says how many bytes they are.
+/// Appends some of the first runs, each whole, a comma behind each, and says how many bytes they are.
 fn append_some(bytes: &[u8], into: &mut Vec<u8>) -> Result<usize, AllocError>
     requires { 0 < length bytes.now }
     ensures some { IfOk result (λ n. (0 < n) × (n ≤ length bytes.now)) }
     ensures ok { IfOk result (λ n. into.new.items ++ with_commas (runs (drop n bytes.now))
         ≡ into.old.items ++ with_commas (runs bytes.now)) }
-    ensures kept { IsFrontOf into.old.items into.new.items }
+    ensures kept { IsPrefixOf into.old.items into.new.items }
 {
     let alone = lone_bytes(bytes);
     if alone > 0 {

@@ -1,13 +1,13 @@
 ghost use Rattle.std.specs.Prelude.{◌≡◌, ◌==◌, ◌+◌, ◌<◌, ◌≤◌, ◌++◌, length, codes, OnOk};
 ghost use Rattle.std.specs.List.{prefix_len, list_all};
 ghost use Rattle.image_runs.specs.Runs.{run_of, run_text};
-ghost use Rattle.image_runs.specs.Printing.{IsFrontOf};
+ghost use Rattle.image_runs.specs.Printing.{IsPrefixOf};
 
 use crate::lone::lone_text;
 use itoa::Buffer;
 use std::alloc::AllocError;
 
-/// How many bytes at the front are this byte.
+/// How many of the first bytes are this byte, up to one that is not.
 pub fn run_length(bytes: &[u8], byte: u8) -> usize
     ensures value { result ≡ prefix_len (λ b. b == byte) bytes.now }
     ensures bound { result ≤ length bytes.now }
@@ -68,11 +68,11 @@ fn is_all(bytes: &[u8], byte: u8) -> bool
     same
 }
 
-/// Appends a run and a comma. Some of it may stand there after want of memory.
+/// Appends a run and a comma. Some of it may stand there where memory runs out.
 pub fn append_run(byte: u8, count: usize, into: &mut Vec<u8>) -> Result<(), AllocError>
     ensures ok { OnOk result (into.new.items
         ≡ into.old.items ++ (run_text (run_of byte count) ++ codes ",")) }
-    ensures kept { IsFrontOf into.old.items into.new.items }
+    ensures kept { IsPrefixOf into.old.items into.new.items }
 {
     let [high, low, ..] = lone_text(byte);
     if count < 10 {

@@ -1,6 +1,6 @@
 use Rattle.std.proofs.Common.{◌≡◌, ℕ, ◌+◌, ◌-◌, ◌≤◌, true, eqb, length, take, drop, sym, ap, ◌∙◌, arith, length-drop}
 use Rattle.std.specs.List.{list_all}
-use Rattle.image_runs.proofs.Fronts.{le_prefix_len, le_prefix_len_more}
+use Rattle.image_runs.proofs.Prefixes.{le_prefix_len, le_prefix_len_more}
 use Rattle.image_runs.proofs.run.length_in_pieces.Goals as goal
 
 pub loop-count-preserved : goal.loop-count-preserved

@@ -1,6 +1,6 @@
 use Rattle.std.proofs.Common.{ℕ, eqb, ap, arith}
 use Rattle.std.specs.List.{prefix_len}
-use Rattle.image_runs.proofs.Fronts.{prefix_len-drop}
+use Rattle.image_runs.proofs.Prefixes.{prefix_len-drop}
 use Rattle.image_runs.proofs.run.long_run_length.Goals as goal
 
 pub returns-clause-value : goal.returns-clause-value

@@ -1,4 +1,4 @@
--- How many elements pass at the front of a list, counted in parts.
+-- How many of the first elements of a list pass, counted in parts.
 use Rattle.std.proofs.Common.{◌≡◌, ℕ, zero, suc, ◌+◌, ◌≤◌, Bool, true, false, cond, List, [], ◌∷◌, length, take, drop, arith}
 use Rattle.std.specs.List.{prefix_len, list_all}
 use Rattle.std.proofs.lemmas.Bool.{and_parts}
@@ -26,4 +26,4 @@ module _ {X : Type 0} (p : X → Bool) where
 
   -- one part more
   pub le_prefix_len_more : (m n : ℕ) (xs : List X) → m ≤ prefix_len p xs → n ≤ prefix_len p (drop m xs) → m + n ≤ prefix_len p xs
-  le_prefix_len_more m n xs front more = let whole = prefix_len-drop m xs front in omega arith
+  le_prefix_len_more m n xs prefix more = let whole = prefix_len-drop m xs prefix in omega arith
