@@ -1,7 +1,7 @@
 -- The lines that a run prints: one for an entry of the journal, an answer or a mark, one for the frame that replies to a
 -- frame, and those of a replica at the end. The form is this project's own.
-use Rattle.std.specs.Prelude.{ℕ, List, [], ◌∷◌, ◌++◌, length, codes, Bool, if◌then◌else◌, Option, Some, None}
-use Rattle.std.specs.List.{flat_map}
+use Rattle.std.specs.Prelude.{ℕ, List, [], ◌∷◌, ◌++◌, length, map, codes, Bool, if◌then◌else◌, Option, Some, None}
+use Rattle.std.specs.List.{flat_map, join_with_byte}
 use Rattle.std.specs.Fmt.{decimal, signed_decimal}
 use Rattle.frame_wire.specs.declared.head.Head.{Head}
 use Rattle.image_runs.specs.Runs.{runs_text}
@@ -26,12 +26,9 @@ use Rattle.volume_model.specs.Texts.{refusal_text}
 abbrev pub word : List ℕ → List ℕ
 word text = text ++ 32 ∷ []
 
--- a replica, and the same with the space behind it
+-- a replica
 abbrev pub replica_text : ℕ → List ℕ
 replica_text r = codes "r" ++ decimal r
-
-abbrev pub replica_word : ℕ → List ℕ
-replica_word r = word (replica_text r)
 
 -- a mode, in longhorn-engine's words
 abbrev pub mode_text : Mode → List ℕ
@@ -39,11 +36,9 @@ mode_text mode.Rw = codes "RW"
 mode_text mode.Wo = codes "WO"
 mode_text mode.Err = codes "ERR"
 
--- modes, parted by commas
+-- modes, parted by commas: 44 is one
 abbrev pub modes_text : List Mode → List ℕ
-modes_text [] = []
-modes_text (m ∷ []) = mode_text m
-modes_text (m ∷ ms) = mode_text m ++ 44 ∷ modes_text ms
+modes_text modes = join_with_byte 44 (map mode_text modes)
 
 -- what is asked
 abbrev pub call_text : Call → List ℕ
@@ -83,9 +78,9 @@ part_text (part.Drop p) = codes "dropped " ++ p
 -- the snapshot that was taken
 abbrev pub mark_text : Mark → List ℕ
 mark_text (mark.Purged part) = part_text part
-mark_text (mark.Fault stream r count) = codes "fault " ++ word (decimal stream) ++ replica_word r ++ decimal count
+mark_text (mark.Fault stream r count) = codes "fault " ++ word (decimal stream) ++ word (replica_text r) ++ decimal count
 mark_text (mark.Failed r) = codes "failed " ++ replica_text r
-mark_text (mark.Added r source name) = codes "added " ++ replica_word r ++ replica_word source ++ name
+mark_text (mark.Added r source name) = codes "added " ++ word (replica_text r) ++ word (replica_text source) ++ name
 mark_text (mark.Promoted r) = codes "promoted " ++ replica_text r
 mark_text (mark.Aborted r) = codes "aborted " ++ replica_text r
 
@@ -107,14 +102,9 @@ abbrev pub reply_body : Reply → List ℕ
 reply_body (reply.Read bytes) = bytes
 reply_body r = error_text r
 
--- how many bytes a call that was done has put
-abbrev pub put_count : Call → ℕ
-put_count (call.Write offset bytes) = length bytes
-put_count c = 0
-
 -- what the size of that frame says: the bytes put by a write, and else the length of its data
 abbrev pub reply_size : Call → Reply → ℕ
-reply_size asked reply.Done = put_count asked
+reply_size (call.Write offset bytes) reply.Done = length bytes
 reply_size asked r = length (reply_body r)
 
 -- the header of the frame that replies: seq and offset of the frame that asked, its own type and size
@@ -129,7 +119,7 @@ reply_line asked a = codes "reply " ++ word (decimal a.stream) ++ word (decimal 
 
 -- a replica's mode
 abbrev pub mode_line : ℕ → Mode → List ℕ
-mode_line r m = codes "mode " ++ replica_word r ++ mode_text m ++ 10 ∷ []
+mode_line r m = codes "mode " ++ word (replica_text r) ++ mode_text m ++ 10 ∷ []
 
 -- the name of a layer below the head, and a star where the layer is marked
 abbrev pub layer_word : List ℕ × Bool → List ℕ
@@ -138,7 +128,7 @@ layer_word layer = 32 ∷ layer.0 ++ (if layer.1 then codes "*" else [])
 -- of which replica a chain is, where that is said
 abbrev pub chain_owner : Option ℕ → List ℕ
 chain_owner None = []
-chain_owner (Some r) = replica_word r
+chain_owner (Some r) = word (replica_text r)
 
 -- a chain: the head, and the layers below it from its parent down
 abbrev pub chain_line : Option ℕ → List (List ℕ × Bool) → List ℕ
@@ -146,4 +136,4 @@ chain_line r layers = codes "chain " ++ chain_owner r ++ codes "head" ++ flat_ma
 
 -- the digest of a replica's head
 abbrev pub head_line : ℕ → List ℕ → List ℕ
-head_line r digest = codes "head " ++ replica_word r ++ digest ++ 10 ∷ []
+head_line r digest = codes "head " ++ word (replica_text r) ++ digest ++ 10 ∷ []

@@ -1,5 +1,6 @@
 -- The report of a run: a line for each entry of the journal, one for each reply, by streams, and then what the run leaves.
 use Rattle.std.specs.Prelude.{ℕ, suc, List, [], ◌∷◌, ◌++◌, Some}
+use Rattle.std.specs.List.{flat_map, zip}
 use Rattle.frame_wire.specs.declared.head.Head.{Head}
 use Rattle.volume_model.specs.declared.entry.Answer.{Answer}
 use Rattle.volume_model.specs.declared.entry.Entry.{Entry}
@@ -20,9 +21,7 @@ journal_lines place (e ∷ es) = entry_line place e ++ journal_lines (suc place)
 
 -- the replies to frames with these headers, each with its answer
 abbrev pub reply_lines : List Head → List (ℕ × Answer) → List ℕ
-reply_lines [] answers = []
-reply_lines (h ∷ hs) [] = []
-reply_lines (h ∷ hs) (p ∷ ps) = reply_line h p.1 ++ reply_lines hs ps
+reply_lines heads answers = flat_map (λ p. reply_line p.0 p.1.1) (zip heads answers)
 
 -- the replies to the frames of each stream, from this stream on
 abbrev pub replies_from : ℕ → List (List Head) → List Entry → List ℕ

@@ -1,7 +1,7 @@
 ghost use Rattle.std.specs.Prelude.{◌≡◌, ◌++◌, ◌∷◌, [], OnOk, OnErr, take, length, flat_map};
 ghost use Rattle.run_report.specs.Lines.{mode_line, chain_line, chain_owner, layer_word, head_line};
 
-use crate::words::{append_replica_word, text_of_mode};
+use crate::words::{append_replica_word, text_of_mode, whole_or_none};
 use std::alloc::AllocError;
 use vol_units::LayerName;
 use volume_model::Mode;
@@ -13,11 +13,7 @@ pub fn print_mode(r: u8, mode: Mode, into: &mut Vec<u8>) -> Result<(), AllocErro
 {
     let start = into.len();
     let printed = append_mode(r, mode, into);
-    if printed.is_err() {
-        // A part of a line would be read as a line.
-        into.truncate(start);
-    }
-    printed
+    whole_or_none(printed, start, into)
 }
 
 /// Appends the line of a chain: the head, and the layers below it from its parent down, each with its mark.
@@ -32,11 +28,7 @@ pub fn print_chain(
 {
     let start = into.len();
     let printed = append_chain(r, names, into);
-    if printed.is_err() {
-        // A part of a line would be read as a line.
-        into.truncate(start);
-    }
-    printed
+    whole_or_none(printed, start, into)
 }
 
 /// Appends the line of a head's digest.
@@ -46,11 +38,7 @@ pub fn print_head(r: u8, digest: &[u8; 64], into: &mut Vec<u8>) -> Result<(), Al
 {
     let start = into.len();
     let printed = append_head(r, digest, into);
-    if printed.is_err() {
-        // A part of a line would be read as a line.
-        into.truncate(start);
-    }
-    printed
+    whole_or_none(printed, start, into)
 }
 
 fn append_mode(r: u8, mode: Mode, into: &mut Vec<u8>) -> Result<(), AllocError>

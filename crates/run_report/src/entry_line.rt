@@ -2,7 +2,9 @@ ghost use Rattle.std.specs.Prelude.{◌≡◌, ◌++◌, OnOk, OnErr, take, leng
 ghost use Rattle.run_report.specs.Lines.{entry_line, answer_line, place_words, call_text, reply_text};
 
 use crate::mark_line::append_mark;
-use crate::words::{append_decimal, append_error, append_modes, append_number, append_offset};
+use crate::words::{
+    append_decimal, append_error, append_modes, append_number, append_offset, whole_or_none,
+};
 use image_runs::print_runs;
 use std::alloc::AllocError;
 use volume_model::{Answer, Call, Entry, Mode, Reply};
@@ -17,11 +19,7 @@ pub fn print_entry(place: u64, entry: &Entry, into: &mut Vec<u8>) -> Result<(), 
         Entry::Answer(answer) => append_answer(place, answer, into),
         Entry::Mark(mark) => append_mark(place, mark, into),
     };
-    if printed.is_err() {
-        // A part of a line would be read as a line.
-        into.truncate(start);
-    }
-    printed
+    whole_or_none(printed, start, into)
 }
 
 fn append_answer(place: u64, answer: &Answer, into: &mut Vec<u8>) -> Result<(), AllocError>

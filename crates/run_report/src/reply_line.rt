@@ -1,7 +1,7 @@
 ghost use Rattle.std.specs.Prelude.{◌≡◌, ◌++◌, OnOk, OnErr, take, length};
 ghost use Rattle.run_report.specs.Lines.{reply_line, header_words, reply_kind, reply_size, reply_body, error_text};
 
-use crate::words::{append_error, append_number, append_offset};
+use crate::words::{append_error, append_number, append_offset, whole_or_none};
 use frame_wire::Head;
 use image_runs::print_runs;
 use std::alloc::AllocError;
@@ -20,11 +20,7 @@ pub fn print_reply(asked: &Head, answer: &Answer, into: &mut Vec<u8>) -> Result<
 {
     let start = into.len();
     let printed = append_frame(asked, answer, into);
-    if printed.is_err() {
-        // A part of a line would be read as a line.
-        into.truncate(start);
-    }
-    printed
+    whole_or_none(printed, start, into)
 }
 
 fn append_frame(asked: &Head, answer: &Answer, into: &mut Vec<u8>) -> Result<(), AllocError>

@@ -1,10 +1,27 @@
-ghost use Rattle.std.specs.Prelude.{◌≡◌, ◌++◌, ◌∷◌, OnOk, take, length, flat_map};
+ghost use Rattle.std.specs.Prelude.{◌≡◌, ◌++◌, ◌∷◌, OnOk, OnErr, take, length, flat_map};
 ghost use Rattle.std.specs.Fmt.{decimal, signed_decimal};
-ghost use Rattle.run_report.specs.Lines.{word, replica_text, replica_word, mode_text, modes_text, error_text};
+ghost use Rattle.run_report.specs.Lines.{word, replica_text, mode_text, modes_text, error_text};
 
 use itoa::Buffer;
 use std::alloc::AllocError;
 use volume_model::{Mode, Reply};
+
+/// What the printing of a line came to, which began at `start`. Where it failed, the part that was printed is taken back.
+pub fn whole_or_none(
+    printed: Result<(), AllocError>,
+    start: usize,
+    into: &mut Vec<u8>,
+) -> Result<(), AllocError>
+    ensures same { result ≡ printed }
+    ensures ok { OnOk printed (into.new.items ≡ into.old.items) }
+    ensures err { OnErr printed (into.new.items ≡ take start into.old.items) }
+{
+    if printed.is_err() {
+        // A part of a line would be read as a line.
+        into.truncate(start);
+    }
+    printed
+}
 
 /// Appends a number.
 pub fn append_decimal(n: u64, into: &mut Vec<u8>) -> Result<(), AllocError>
@@ -52,7 +69,7 @@ pub fn append_replica(r: u8, into: &mut Vec<u8>) -> Result<(), AllocError>
 
 /// Appends a replica and a space.
 pub fn append_replica_word(r: u8, into: &mut Vec<u8>) -> Result<(), AllocError>
-    ensures ok { OnOk result (into.new.items ≡ into.old.items ++ replica_word r) }
+    ensures ok { OnOk result (into.new.items ≡ into.old.items ++ word (replica_text r)) }
     ensures kept { take (length into.old.items) into.new.items ≡ into.old.items }
 {
     append_replica(r, into)?;
