@@ -1,11 +1,33 @@
 -- What is written of a run.
-use Rattle.std.specs.Prelude.{ℕ, List, ◌++◌}
+use Rattle.std.specs.Prelude.{ℕ, suc, List, [], ◌∷◌, ◌++◌, Some}
 use Rattle.frame_wire.specs.declared.head.Head.{Head}
 use Rattle.journal_book.specs.Book.{Book, modes_of}
+use Rattle.volume_model.specs.declared.mode.Mode.{Mode}
+use Rattle.volume_model.specs.declared.mode.Mode.TheVariants as mode
 use Rattle.volume_model.specs.PlainState.{Volume}
-use Rattle.run_report.specs.Report.{call_lines, end_lines}
+use Rattle.volume_model.specs.Snapshots.{chain_of}
+use Rattle.run_report.specs.Digest.{digest_text}
+use Rattle.run_report.specs.Lines.{chain_line, head_line}
+use Rattle.run_report.specs.Report.{call_lines, mode_lines}
+use Rattle.report_writer.specs.declared.end.EndLine.{EndLine}
+use Rattle.report_writer.specs.declared.end.EndLine.TheVariants.{Chain, Digest}
 
--- the lines of the calls of streams whose frames have these headers, and then of the replicas, of which each that is read
--- and written is this volume
-abbrev pub written_text : List (List Head) → Book → Volume → List ℕ
-written_text heads book volume = call_lines heads book.entries ++ end_lines (modes_of book) volume
+-- what such a line tells of a replica that is this volume
+abbrev pub replica_line : EndLine → ℕ → Volume → List ℕ
+replica_line Chain r volume = chain_line (Some r) (chain_of volume.snapshots)
+replica_line Digest r volume = head_line r (digest_text volume.disk)
+
+-- a line of this kind for each of the replicas that is read and written, of the volume that it is; the first replica is r
+abbrev pub replica_lines : EndLine → ℕ → List Mode → List Volume → List ℕ
+replica_lines kind r [] volumes = []
+replica_lines kind r (m ∷ ms) [] = []
+replica_lines kind r (mode.Rw ∷ ms) (v ∷ vs) = replica_line kind r v ++ replica_lines kind (suc r) ms vs
+replica_lines kind r (m ∷ ms) (v ∷ vs) = replica_lines kind (suc r) ms vs
+
+-- what a run leaves of replicas that are these volumes: modes, chains, and the digests of the heads
+abbrev pub end_text : List Mode → List Volume → List ℕ
+end_text modes volumes = mode_lines 0 modes ++ replica_lines Chain 0 modes volumes ++ replica_lines Digest 0 modes volumes
+
+-- the lines of the calls of streams whose frames have these headers, and then of the replicas, which are these volumes
+abbrev pub written_text : List (List Head) → Book → List Volume → List ℕ
+written_text heads book volumes = call_lines heads book.entries ++ end_text (modes_of book) volumes

@@ -1,30 +1,36 @@
-ghost use Rattle.std.specs.Prelude.{◌≡◌, ◌+◌, ◌<◌, ◌++◌, length, OnOk, Some};
+ghost use Rattle.std.specs.Prelude.{◌≡◌, ◌+◌, ◌<◌, ◌++◌, length, OnOk};
 ghost use Rattle.run_report.specs.Digest.{digest_text};
-ghost use Rattle.run_report.specs.Lines.{chain_line, head_line};
-ghost use Rattle.run_report.specs.Report.{end_lines, mode_lines, source_lines};
+ghost use Rattle.run_report.specs.Report.{mode_lines};
+ghost use Rattle.report_writer.specs.Written.{end_text, replica_line, replica_lines};
 
 use replica_disk::ReplicaDisk;
 use run_report::{Digest, print_chain, print_head, print_mode};
 use std::alloc::{AllocError, Global};
-use vol_units::LayerName;
 use volume_model::Mode;
 
+/// What a line at the end tells of a replica that is read and written.
+#[derive(Clone, Copy)]
+pub(crate) enum EndLine {
+    Chain,
+    /// The digest of its head.
+    Digest,
+}
+
 /// Prints what a run leaves of replicas of these modes: the mode of each, and the chain and the head's digest of each that is
-/// read and written, which is this volume.
+/// read and written.
 pub(crate) fn print_end(
     alloc: Global,
     modes: &[Mode],
-    disk: &ReplicaDisk,
+    replicas: &[ReplicaDisk],
     into: &mut Vec<u8>,
 ) -> Result<(), AllocError>
-    requires { length modes.now < 256 }
-    ensures { OnOk result (into.new.items ≡ into.old.items ++ end_lines modes.now disk.now) }
+    requires few { length modes.now < 256 }
+    requires each { length replicas.now ≡ length modes.now }
+    ensures { OnOk result (into.new.items ≡ into.old.items ++ end_text modes.now replicas.now) }
 {
-    let layers = disk.chain(alloc)?;
-    let digest = digest_of_head(disk);
     print_modes(0, modes, into)?;
-    print_chains(0, modes, &layers, into)?;
-    print_heads(0, modes, &digest, into)
+    print_each(alloc, EndLine::Chain, 0, modes, replicas, into)?;
+    print_each(alloc, EndLine::Digest, 0, modes, replicas, into)
 }
 
 /// The modes of the replicas, the first of which is `r`.
@@ -39,49 +45,41 @@ fn print_modes(r: u8, modes: &[Mode], into: &mut Vec<u8>) -> Result<(), AllocErr
     print_modes(r + 1, rest, into)
 }
 
-/// The chain of each that is read and written.
-fn print_chains(
+/// A line of this kind for each that is read and written.
+fn print_each(
+    alloc: Global,
+    kind: EndLine,
     r: u8,
     modes: &[Mode],
-    layers: &[(LayerName, bool)],
+    replicas: &[ReplicaDisk],
     into: &mut Vec<u8>,
 ) -> Result<(), AllocError>
-    requires { r + length modes.now < 256 }
-    ensures { OnOk result (into.new.items
-        ≡ into.old.items ++ source_lines (λ s. chain_line (Some s) layers.now) r modes.now) }
+    requires few { r + length modes.now < 256 }
+    requires each { length replicas.now ≡ length modes.now }
+    ensures { OnOk result (into.new.items ≡ into.old.items ++ replica_lines kind r modes.now replicas.now) }
 {
-    let [mode, rest @ ..] = modes else {
+    let ([mode, modes @ ..], [replica, replicas @ ..]) = (modes, replicas) else {
         return Ok(());
     };
     match mode {
-        Mode::Rw => {
-            print_chain(Some(r), layers, into)?;
-            print_chains(r + 1, rest, layers, into)
-        }
-        Mode::Wo | Mode::Err => print_chains(r + 1, rest, layers, into),
+        Mode::Rw => print_line(alloc, kind, r, replica, into)?,
+        Mode::Wo | Mode::Err => {}
     }
+    print_each(alloc, kind, r + 1, modes, replicas, into)
 }
 
-/// The digest of the head of each that is read and written.
-fn print_heads(
+fn print_line(
+    alloc: Global,
+    kind: EndLine,
     r: u8,
-    modes: &[Mode],
-    digest: &[u8; 64],
+    replica: &ReplicaDisk,
     into: &mut Vec<u8>,
 ) -> Result<(), AllocError>
-    requires { r + length modes.now < 256 }
-    ensures { OnOk result (into.new.items
-        ≡ into.old.items ++ source_lines (λ s. head_line s digest.now) r modes.now) }
+    ensures { OnOk result (into.new.items ≡ into.old.items ++ replica_line kind r replica.now) }
 {
-    let [mode, rest @ ..] = modes else {
-        return Ok(());
-    };
-    match mode {
-        Mode::Rw => {
-            print_head(r, digest, into)?;
-            print_heads(r + 1, rest, digest, into)
-        }
-        Mode::Wo | Mode::Err => print_heads(r + 1, rest, digest, into),
+    match kind {
+        EndLine::Chain => print_chain(Some(r), &replica.chain(alloc)?, into),
+        EndLine::Digest => print_head(r, &digest_of_head(replica), into),
     }
 }
 

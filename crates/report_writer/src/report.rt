@@ -18,26 +18,27 @@ use run_report::{print_entry, print_reply};
 use std::alloc::Global;
 use volume_model::{Answer, Entry, Sequence};
 
-/// Writes the report of a run on at most 255 replicas, of which each that is read and written is this volume at the end. The
-/// headers are those of each stream's frames: a control stream has none.
+/// Writes the report of a run on these replicas, at most 255, as they are at its end. The headers are those of each stream's
+/// frames: a control stream has none.
 pub fn write_report<K: Sink>(
     alloc: Global,
     heads: &[Sequence<Head>],
     journal: &Journal,
-    disk: &ReplicaDisk,
+    replicas: &[ReplicaDisk],
     sink: &mut K,
 ) -> Outer<()>
-    requires { length (modes_of journal.now) < 256 }
+    requires few { length (modes_of journal.now) < 256 }
+    requires each { length replicas.now ≡ length (modes_of journal.now) }
     ensures whole { OnOk result (Appends (K.contents sink.old) (K.contents sink.new)
-        (written_text heads.now journal.now disk.now)) }
+        (written_text heads.now journal.now replicas.now)) }
     ensures prefix { WritesPrefix (K.contents sink.old) (K.contents sink.new)
-        (written_text heads.now journal.now disk.now) }
+        (written_text heads.now journal.now replicas.now) }
     ensures cause { HasOuterCause (K.faults sink.old) (K.faults sink.new) result }
 {
     let mut buffer = Vec::new(alloc);
     pass_entries(journal, sink, &mut buffer)?;
     pass_streams(heads, journal, sink, &mut buffer)?;
-    print_end(alloc, journal.modes(), disk, &mut buffer)?;
+    print_end(alloc, journal.modes(), replicas, &mut buffer)?;
     write_all(sink, &buffer)
 }
 

@@ -1,10 +1,11 @@
 -- What a run has read, and what it leaves in its sink.
-use Rattle.std.proofs.Common.{◌≡◌, ℕ, ◌<◌, ◌≤◌, List, ◌++◌, length, Option, Some, None, Result, Ok, Err, refl, sym, ap, subst, ◌∙◌, inl, inr, OnOk, arith, length-append}
+use Rattle.std.proofs.Common.{◌≡◌, ℕ, ◌≤◌, List, [], ◌∷◌, ◌++◌, length, Option, Some, None, Result, Ok, Err, refl, sym, ap, subst, ◌∙◌, inl, inr, OnOk, arith, length-append}
 use Rattle.std.specs.Io.KnownBytes.{Consumes, IsAtEnd, Appends}
 use Rattle.std.proofs.KnownBytes.{Consumes-whole}
 use Rattle.frame_wire.specs.declared.head.Head.{Head}
 use Rattle.outer_traits.specs.Passing.{WritesPrefix}
 use Rattle.report_writer.specs.Written.{written_text}
+use Rattle.report_writer.proofs.SameVolume.{same_end, one_is}
 use Rattle.run_report.specs.Report.{call_lines, end_lines}
 use Rattle.script_text.specs.declared.script.Script.{Script}
 use Rattle.script_text.specs.declared.what.What.{What}
@@ -74,14 +75,17 @@ is_run left rest input script s given end is done = record {
 }
 
 -- it has one replica
-pub few_replicas : (input : List ℕ) (script : Script) (s : Served) → IsScript input script → IsServed script s → length (modes_of s.journal) < 256
-few_replicas input script s is done =
+pub one_mode : (input : List ℕ) (script : Script) (s : Served) → IsScript input script → IsServed script s → length (modes_of s.journal) ≡ 1
+one_mode input script s is done =
     omega (arith, length-modes_after s.journal.opening.modes s.journal.entries, ap (λ (ms : List Mode). length ms) (done.modes ∙ one_replica input script is))
 
 -- the text that is written is the report of the run
-pub written_is : (script : Script) (s : Served) → IsServed script s → written_text s.heads.items s.journal s.disk ≡ report_text script s.journal.entries
-written_is script s done =
-    same_text s.heads.items (heads_in script) s.journal.entries (modes_of s.journal) (modes_after (opening_of script).modes s.journal.entries) s.disk
+pub written_is : (script : Script) (s : Served) → length (modes_of s.journal) ≡ 1 → IsServed script s
+    → written_text s.heads.items s.journal (s.disk ∷ []) ≡ report_text script s.journal.entries
+written_is script s one done =
+    ap (λ l. call_lines s.heads.items s.journal.entries ++ l)
+    (same_end (modes_of s.journal) (s.disk ∷ []) s.disk (omega (arith, one)) (one_is (modes_of s.journal) s.disk))
+    ∙ same_text s.heads.items (heads_in script) s.journal.entries (modes_of s.journal) (modes_after (opening_of script).modes s.journal.entries) s.disk
     (replay (opening_of script).state s.journal.entries).volume done.heads (ap (λ ms. modes_after ms s.journal.entries) done.modes) done.disk
   where
     same_text : (hs gs : List (List Head)) (es : List Entry) (ms ns : List Mode) (v w : Volume) → hs ≡ gs → ms ≡ ns → v ≡ w

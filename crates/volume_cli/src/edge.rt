@@ -1,4 +1,4 @@
-ghost use Rattle.std.specs.Prelude.{◌≡◌, ◌<◌, ◌≤◌, length, IfOk, OnOk};
+ghost use Rattle.std.specs.Prelude.{◌≡◌, ◌≤◌, ◌∷◌, [], length, IfOk, OnOk};
 ghost use Rattle.std.specs.Io.KnownBytes.{Appends, Consumes, IsAtEnd};
 ghost use Rattle.journal_book.specs.Book.{modes_of};
 ghost use Rattle.outer_traits.specs.Passing.{GivesAtMost, WritesPrefix};
@@ -12,6 +12,7 @@ use report_writer::write_report;
 use script_text::MOST_INPUT;
 use solo_worker::Served;
 use std::alloc::Global;
+use std::slice;
 
 /// Reads the input to its end, or to one byte past the most that it may have.
 pub fn read_input<S: Source>(alloc: Global, source: &mut S) -> Result<Bytes, Stop>
@@ -27,16 +28,17 @@ pub fn read_input<S: Source>(alloc: Global, source: &mut S) -> Result<Bytes, Sto
     }
 }
 
-/// Writes the report of what was served. Where that fails, the sink has taken a prefix of it.
+/// Writes the report of what was served on one replica. Where that fails, the sink has taken a prefix of it.
 pub fn write_output<K: Sink>(alloc: Global, served: &Served, sink: &mut K) -> Result<(), Stop>
-    requires { length (modes_of served.now.journal) < 256 }
+    requires { length (modes_of served.now.journal) ≡ 1 }
     ensures whole { OnOk result (Appends (K.contents sink.old) (K.contents sink.new)
-        (written_text served.now.heads.items served.now.journal served.now.disk)) }
+        (written_text served.now.heads.items served.now.journal (served.now.disk ∷ []))) }
     ensures prefix { WritesPrefix (K.contents sink.old) (K.contents sink.new)
-        (written_text served.now.heads.items served.now.journal served.now.disk) }
+        (written_text served.now.heads.items served.now.journal (served.now.disk ∷ [])) }
     ensures counts { WriteCounts result (K.faults sink.old) (K.faults sink.new) }
 {
-    match write_report(alloc, &served.heads, &served.journal, &served.disk, sink) {
+    let replicas = slice::from_ref(&served.disk);
+    match write_report(alloc, &served.heads, &served.journal, replicas, sink) {
         Ok(()) => Ok(()),
         Err(OuterError::Failed) => Err(Stop::WriteFault),
         Err(OuterError::NoMemory) => Err(Stop::NoMemory),

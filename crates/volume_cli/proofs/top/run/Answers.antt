@@ -1,6 +1,6 @@
 use Rattle.std.proofs.Common.{refl, subst}
 use Rattle.script_text.specs.Script.{Refuses}
-use Rattle.volume_cli.proofs.Run.{had_no_script, is_run, few_replicas, written_is, leaves, run_counts}
+use Rattle.volume_cli.proofs.Run.{had_no_script, is_run, one_mode, written_is, leaves, run_counts}
 use Rattle.volume_cli.proofs.Refusals.{refused_leaves}
 use Rattle.volume_cli.proofs.top.run.Goals as goal
 
@@ -20,11 +20,11 @@ returns-clause-leaves g c =
     let is = c.in_ok-script.ensures.found in
     let run = is_run _ _ input script served c.in_ok-input.ensures.bytes c.in_ok-input.ensures.whole is c.in_ok-served.ensures in
     leaves c.write_output.result _ _ _ _ script served.journal.entries _ (g.K.Sink.faults c.args.sink.now) (g.K.Sink.faults c.write_output.new.sink)
-    run (written_is script served c.in_ok-served.ensures) c.write_output.ensures.whole c.write_output.ensures.prefix c.write_output.ensures.counts
+    run (written_is script served (one_mode input script served is c.in_ok-served.ensures) c.in_ok-served.ensures) c.write_output.ensures.whole c.write_output.ensures.prefix c.write_output.ensures.counts
 
 pub returns-clause-counts : goal.returns-clause-counts
 returns-clause-counts g c = run_counts c.write_output.result (g.S.Source.faults c.args.source.now) (g.S.Source.faults c.read_input.new.source)
     (g.K.Sink.faults c.args.sink.now) (g.K.Sink.faults c.write_output.new.sink) c.in_ok-input.ensures.counts c.write_output.ensures.counts
 
 pub write_output-requires : goal.write_output-requires
-write_output-requires g c = few_replicas c.in_ok-input.input c.in_ok-script.script c.in_ok-served.served c.in_ok-script.ensures.found c.in_ok-served.ensures
+write_output-requires g c = one_mode c.in_ok-input.input c.in_ok-script.script c.in_ok-served.served c.in_ok-script.ensures.found c.in_ok-served.ensures
