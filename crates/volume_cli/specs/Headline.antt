@@ -11,9 +11,9 @@ use Rattle.volume_cli.specs.Stops.{HadNoScript, Prints, PrintsPrefix}
 abbrev pub AskRun : {A : Type 0} → List (String A) → Type 0
 AskRun words = (workers : Workers) × (asked_by (map string_bytes words) ≡ Some (Run workers))
 
--- the words ask for nothing that there is
-abbrev pub AskNothing : {A : Type 0} → List (String A) → Type 0
-AskNothing words = asked_by (map string_bytes words) ≡ None
+-- the words are a usage error: they ask for nothing that there is
+abbrev pub IsUsageError : {A : Type 0} → List (String A) → Type 0
+IsUsageError words = asked_by (map string_bytes words) ≡ None
 
 -- it is the answer, unless memory ran out
 abbrev pub IsStatus : Status → Status → Type 0

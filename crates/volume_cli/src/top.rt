@@ -4,7 +4,7 @@ ghost use Rattle.outer_traits.specs.Passing.{GivesAtMost};
 ghost use Rattle.script_text.specs.Script.{IsScript, IsNoScript};
 ghost use Rattle.script_text.specs.declared.script.Script.{Script};
 ghost use Rattle.script_text.specs.declared.what.What.{What};
-ghost use Rattle.volume_cli.specs.Headline.{AskRun, AskNothing, ExactlyWhere, ScriptRefusal, Leaves, IsStatus};
+ghost use Rattle.volume_cli.specs.Headline.{AskRun, IsUsageError, ExactlyWhere, ScriptRefusal, Leaves, IsStatus};
 ghost use Rattle.volume_cli.specs.Stops.{Counts, RunLeaves};
 
 use crate::edge::{read_input, write_output};
@@ -27,8 +27,8 @@ pub fn longhorn<S: Source, K: Sink>(
     requires source_count { S.faults source.old < 2 ^ 64 - 1 }
     requires sink_count { K.faults sink.old < 2 ^ 64 - 1 }
 
-    // When each status comes. Want of memory alone is free, but that a fault of source or sink is told in any case.
-    ensures usage { ExactlyWhere result Status.Usage (AskNothing words.now) }
+    // When each status comes. Out of memory alone is free, but a fault of source or sink is told in any case.
+    ensures usage { ExactlyWhere result Status.Usage (IsUsageError words.now) }
     ensures read_fault { result ≡ Status.ReadFault ↔ S.faults source.old < S.faults source.new }
     ensures write_fault { result ≡ Status.WriteFault ↔ K.faults sink.old < K.faults sink.new }
     ensures script_only { ScriptRefusal result words.now (S.left source.old) }
@@ -43,7 +43,7 @@ pub fn longhorn<S: Source, K: Sink>(
         → K.faults sink.new ≡ K.faults sink.old → IfSome (S.left source.old) (λ input. (script : Script)
         → IsScript input script → IsStatus result Status.Done) }
 
-    // Words that ask for nothing leave the source. Else at most one byte more is read than an input may have.
+    // A usage error leaves the source. Else at most one byte more is read than an input may have.
     ensures unread { result ≡ Status.Usage → source.new ≡ source.old }
     ensures most { GivesAtMost (S.left source.old) (S.left source.new) 268435457 }
 
