@@ -23,6 +23,6 @@ fn main(rt: HostRuntime) -> ExitCode {
         }
         Err(status) => status,
     };
-    standard::note(&rt, &status);
-    ExitCode::from(status.code())
+    standard::note(&rt, status);
+    status.exit_code()
 }

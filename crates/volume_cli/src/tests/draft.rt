@@ -145,8 +145,8 @@ pub(crate) fn runs(
     }
     assert_eq!(rt; longhorn(alloc, &words, &mut source, &mut sink), status);
     assert_eq!(rt; sink.bytes(), output.as_slice());
-    let text = status.note(alloc)?;
-    assert_eq!(rt; text.as_slice(), note.as_bytes());
+    let text = status.to_string(alloc)?;
+    assert_eq!(rt; text.as_str(), note);
     Ok(())
 }
 
