@@ -77,7 +77,7 @@ pub record Starts (old new : List Ticket) (number : ℕ) : Type 0 where
   pub started : new ≡ with_started old place
 
 -- the ticket of that number goes, and the others stay in their order
-pub record Leaves (old new : List Ticket) (number : ℕ) : Type 0 where
+pub record Goes (old new : List Ticket) (number : ℕ) : Type 0 where
   pub place : ℕ
   pub stood : StandsAt old number place
   pub others : new ≡ remove old place

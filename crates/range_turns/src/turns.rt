@@ -1,5 +1,5 @@
 ghost use Rattle.std.specs.Prelude.{◌≡◌, ◌==◌, ◌+◌, ◌<◌, ◌∷◌, ◌++◌, [], length, false, max, remove, IfOk, OnOk, OnErr, MatchOption};
-ghost use Rattle.range_turns.specs.Order.{ticket_at, with_started, IsFresh, StandsAt, IsEnrolled, IsClear, IsFirstInWay, AreInOrder, Starts, Leaves};
+ghost use Rattle.range_turns.specs.Order.{ticket_at, with_started, IsFresh, StandsAt, IsEnrolled, IsClear, IsFirstInWay, AreInOrder, Starts, Goes};
 ghost use Rattle.range_turns.specs.Answers.{MayStartNow};
 
 use crate::ticket::{Kind, Ticket, TicketNumber};
@@ -172,7 +172,7 @@ impl Turns {
     /// The ticket goes: its call has ended.
     pub fn end(&mut self, ticket: TicketNumber)
         requires { IsEnrolled self.old.tickets ticket }
-        ensures tickets { Leaves self.old.tickets self.new.tickets ticket }
+        ensures tickets { Goes self.old.tickets self.new.tickets ticket }
         ensures spare { self.new.spare ≡ self.old.spare }
     {
         self.end_at(self.place_of(ticket));
@@ -181,7 +181,7 @@ impl Turns {
     /// The ticket goes: its call is not made.
     pub fn withdraw(&mut self, ticket: TicketNumber)
         requires { IsEnrolled self.old.tickets ticket }
-        ensures tickets { Leaves self.old.tickets self.new.tickets ticket }
+        ensures tickets { Goes self.old.tickets self.new.tickets ticket }
         ensures spare { self.new.spare ≡ self.old.spare }
     {
         self.end(ticket);
