@@ -8,7 +8,8 @@ use Rattle.script_head.specs.declared.head.ScriptHead.{ScriptHead}
 use Rattle.script_head.specs.declared.head.StreamHead.{StreamHead}
 use Rattle.script_head.specs.declared.member.Member.{Member}
 use Rattle.script_head.specs.Members.{IsGood, IsFirstBadOf, in_order}
-use Rattle.script_head.specs.Head.{IsObject, IsHead, IsFirstBad, Says, HasFirstBad, IsNoObject, Answers, IsOnlyAnswer}
+use Rattle.script_head.specs.Head.{IsObject, IsScriptHead, IsFirstBad, Says, HasFirstBad, IsNoObject, AnswersLine}
+use Rattle.script_head.specs.Answers.{IsOnlyAnswer}
 use Rattle.script_head.specs.Refusals.{AnswersObject}
 use Rattle.script_head.proofs.OneValue.{same_value, same_streams}
 
@@ -22,7 +23,7 @@ same_parts : {streams ss : List StreamHead} {now n volume v : List ℕ} {size s 
     → head_of streams now volume size replicas ≡ head_of ss n v s r
 same_parts a b c d e = cc
 
-pub same_head : (d : Data) (a b : ScriptHead) → IsHead d a → IsHead d b → a ≡ b
+pub same_head : (d : Data) (a b : ScriptHead) → IsScriptHead d a → IsScriptHead d b → a ≡ b
 same_head d a b p q =
     same_parts (same_streams _ a.streams b.streams p.streams.0 q.streams.0) (same_value _ p.now.0 q.now.0) (same_value _ p.volume.0 q.volume.0)
     (same_value _ p.size.0 q.size.0) (same_value _ p.replicas.0 q.replicas.0)
@@ -32,7 +33,7 @@ AreGood : Data → List Member → Type 0
 AreGood d [] = Unit {0}
 AreGood d (m ∷ ms) = IsGood d m × AreGood d ms
 
-all_good : (d : Data) (head : ScriptHead) → IsHead d head → AreGood d in_order
+all_good : (d : Data) (head : ScriptHead) → IsScriptHead d head → AreGood d in_order
 unfolding AreGood
 all_good d head is = (
   (head.volume, is.volume),
@@ -65,15 +66,15 @@ one_bad (n ∷ ns) d a b (inr (good, later)) (inl (same, worse)) = absurd (worse
 one_bad (n ∷ ns) d a b (inr (good, later)) (inr (fine, more)) = one_bad ns d a b later more
 
 -- another answer beside each of the three
-beside_head : (line : List ℕ) (head : ScriptHead) (b : Result ScriptHead HeadError) → b ≢ Err NoMemory → Says line head → Answers line b → Ok head ≡ b
+beside_head : (line : List ℕ) (head : ScriptHead) (b : Result ScriptHead HeadError) → b ≢ Err NoMemory → Says line head → AnswersLine line b → Ok head ≡ b
 beside_head line head (Ok other) told (d, object, is) (e, too, also) =
-    ap Ok (same_head d head other is (subst (λ x. IsHead x other) (sym (same_object line d e object too)) also))
+    ap Ok (same_head d head other is (subst (λ x. IsScriptHead x other) (sym (same_object line d e object too)) also))
 beside_head line head (Err Json) told (d, object, is) none = absurd (none d object)
 beside_head line head (Err (BadMember m)) told (d, object, is) (e, too, bad) =
     absurd (none_bad in_order d m (all_good d head is) (subst (λ x. IsFirstBad x m) (sym (same_object line d e object too)) bad))
 beside_head line head (Err NoMemory) told says free = absurd (told refl)
 
-beside_bad : (line : List ℕ) (m : Member) (b : Result ScriptHead HeadError) → b ≢ Err NoMemory → HasFirstBad line m → Answers line b → Err (BadMember m) ≡ b
+beside_bad : (line : List ℕ) (m : Member) (b : Result ScriptHead HeadError) → b ≢ Err NoMemory → HasFirstBad line m → AnswersLine line b → Err (BadMember m) ≡ b
 beside_bad line m (Ok head) told (d, object, bad) (e, too, is) =
     absurd (none_bad in_order e m (all_good e head is) (subst (λ x. IsFirstBad x m) (same_object line d e object too) bad))
 beside_bad line m (Err Json) told (d, object, bad) none = absurd (none d object)
@@ -81,20 +82,20 @@ beside_bad line m (Err (BadMember n)) told (d, object, bad) (e, too, worse) =
     ap (λ (k : Member). Err (BadMember k)) (one_bad in_order d m n bad (subst (λ x. IsFirstBad x n) (sym (same_object line d e object too)) worse))
 beside_bad line m (Err NoMemory) told bad free = absurd (told refl)
 
-beside_json : (line : List ℕ) (b : Result ScriptHead HeadError) → b ≢ Err NoMemory → IsNoObject line → Answers line b → Err Json ≡ b
+beside_json : (line : List ℕ) (b : Result ScriptHead HeadError) → b ≢ Err NoMemory → IsNoObject line → AnswersLine line b → Err Json ≡ b
 beside_json line (Ok head) told none (d, object, is) = absurd (none d object)
 beside_json line (Err Json) told none also = refl
 beside_json line (Err (BadMember m)) told none (d, object, bad) = absurd (none d object)
 beside_json line (Err NoMemory) told none free = absurd (told refl)
 
-pub one_answer : (line : List ℕ) (a : Result ScriptHead HeadError) → Answers line a → IsOnlyAnswer line a
+pub one_answer : (line : List ℕ) (a : Result ScriptHead HeadError) → AnswersLine line a → IsOnlyAnswer NoMemory (AnswersLine line) a
 one_answer line (Ok head) is = λ b told also. inl (beside_head line head b told is also)
 one_answer line (Err Json) is = λ b told also. inl (beside_json line b told is also)
 one_answer line (Err (BadMember m)) is = λ b told also. inl (beside_bad line m b told is also)
 one_answer line (Err NoMemory) is = λ b told also. inr refl
 
 -- an answer that is true of the line's object
-pub answers_line : (line : List ℕ) (d : Data) (r : Result ScriptHead HeadError) → IsObject line d → AnswersObject d r → Answers line r
+pub answers_line : (line : List ℕ) (d : Data) (r : Result ScriptHead HeadError) → IsObject line d → AnswersObject d r → AnswersLine line r
 answers_line line d (Ok head) object is = (d, object, is)
 answers_line line d (Err Json) object is = absurd is
 answers_line line d (Err (BadMember m)) object bad = (d, object, bad)

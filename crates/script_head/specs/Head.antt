@@ -1,6 +1,6 @@
 -- What the first line of a script says, and why a line says nothing.
 -- JSON is read by serde_json's definition, with its depth of 127.
-use Rattle.std.specs.Prelude.{◌≡◌, ◌≢◌, ◌⊎◌, List, ℕ, length, true, IsUtf8, Some, Result, Err, MatchResult, is_some}
+use Rattle.std.specs.Prelude.{◌≡◌, List, ℕ, length, true, IsUtf8, Some, Result, MatchResult, is_some}
 use Rattle.serde_json.specs.Data.{Data}
 use Rattle.serde_json.specs.Find.{as_object}
 use Rattle.serde_json.specs.Read.{read}
@@ -30,7 +30,7 @@ pub record IsObject (line : List ℕ) (d : Data) : Type 0 where
   pub object : is_some (as_object d) ≡ true
 
 -- the object's members say this; those that no field tells are good
-pub record IsHead (d : Data) (head : ScriptHead) : Type 0 where
+pub record IsScriptHead (d : Data) (head : ScriptHead) : Type 0 where
   pub volume : HasVolume d head.volume
   pub size : HasSize d head.size
   pub replicas : HasReplicas d head.replicas
@@ -46,7 +46,7 @@ IsFirstBad = IsFirstBadOf in_order
 
 -- the line says this
 abbrev pub Says : List ℕ → ScriptHead → Type 0
-Says line head = (d : Data) × IsObject line d × IsHead d head
+Says line head = (d : Data) × IsObject line d × IsScriptHead d head
 
 -- the line is an object, and this is the first member that is bad
 abbrev pub HasFirstBad : List ℕ → Member → Type 0
@@ -57,16 +57,11 @@ abbrev pub IsNoObject : List ℕ → Type 0
 IsNoObject line = (d : Data) → IsObject line d → ⊥
 
 -- why a line is refused; want of memory is free
-abbrev pub Refuses : List ℕ → HeadError → Type 0
-Refuses line Json = IsNoObject line
-Refuses line (BadMember m) = HasFirstBad line m
-Refuses line NoMemory = Unit {0}
+abbrev pub RefusesLine : List ℕ → HeadError → Type 0
+RefusesLine line Json = IsNoObject line
+RefusesLine line (BadMember m) = HasFirstBad line m
+RefusesLine line NoMemory = Unit {0}
 
 -- the answer is true of the line
-abbrev pub Answers : List ℕ → Result ScriptHead HeadError → Type 0
-Answers line result = MatchResult result (Says line) (Refuses line)
-
--- but for want of memory no other answer is true of the line
-abbrev pub IsOnlyAnswer : List ℕ → Result ScriptHead HeadError → Type 0
-IsOnlyAnswer line result = (other : Result ScriptHead HeadError) → other ≢ Err NoMemory
-    → Answers line other → (result ≡ other) ⊎ (result ≡ Err NoMemory)
+abbrev pub AnswersLine : List ℕ → Result ScriptHead HeadError → Type 0
+AnswersLine line result = MatchResult result (Says line) (RefusesLine line)

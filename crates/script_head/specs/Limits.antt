@@ -1,5 +1,14 @@
--- What a script may ask for. A member that asks for more is a bad one. The limits are this project's own.
+-- What a script may ask for, and what its input may have. A member that asks for more is a bad one. The limits are this
+-- project's own.
 use Rattle.std.specs.Prelude.{ℕ, Bool, false}
+
+-- the most bytes of an input, and so of the frames of a stream
+abbrev pub most_input : ℕ
+most_input = 268435456
+
+-- the most bytes of the first line, its line feed counted
+abbrev pub longest_line : ℕ
+longest_line = 1048576
 
 -- the most replicas of a volume
 abbrev pub most_replicas : ℕ
@@ -9,13 +18,9 @@ most_replicas = 1
 abbrev pub most_streams : ℕ
 most_streams = 16
 
--- the most commands of a stream
-abbrev pub most_commands : ℕ
-most_commands = 65536
-
--- the most bytes of frames that a stream has
-abbrev pub most_stream_bytes : ℕ
-most_stream_bytes = 268435456
+-- the most calls of a run, and so the most commands of a stream
+abbrev pub most_calls : ℕ
+most_calls = 65536
 
 -- the most lines of which failures are planned
 abbrev pub most_lines : ℕ

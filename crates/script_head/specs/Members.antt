@@ -12,7 +12,7 @@ use Rattle.script_head.specs.declared.head.StreamHead.TheVariants as stream
 use Rattle.script_head.specs.declared.member.Member.{Member}
 use Rattle.script_head.specs.declared.member.Member.TheVariants.{Volume, Size, Replicas, Open, Save, Now, Streams, Lines}
 use Rattle.vol_units.specs.Time.{IsTimeText}
-use Rattle.script_head.specs.Limits.{most_replicas, most_streams, most_commands, most_stream_bytes, most_lines, may_open, may_save}
+use Rattle.script_head.specs.Limits.{most_input, most_replicas, most_streams, most_calls, most_lines, may_open, may_save}
 use Rattle.script_head.specs.Values.{whole, item_count, member, member_or, HasItems}
 
 -- `volume`: the name of the volume
@@ -43,9 +43,9 @@ IsCommandItem d c = (text : List ℕ) × (as_str d ≡ Some text) × IsCommand t
 -- An item of `streams`: a number of bytes under `frames`, or a list of commands under `control`, and one of them alone.
 abbrev pub IsStreamItem : Data → StreamHead → Type 0
 IsStreamItem d (stream.Frames count) = (member whole (codes "frames") d ≡ Some count)
-    × (count ≤ most_stream_bytes) × (get (codes "control") d ≡ None)
+    × (count ≤ most_input) × (get (codes "control") d ≡ None)
 IsStreamItem d (stream.Control commands) = HasItems IsCommandItem (get (codes "control") d) commands
-    × (length commands ≤ most_commands) × (get (codes "frames") d ≡ None)
+    × (length commands ≤ most_calls) × (get (codes "frames") d ≡ None)
 
 -- `streams`: what each of them is
 abbrev pub HasStreams : Data → List StreamHead → Type 0

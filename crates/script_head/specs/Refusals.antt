@@ -7,7 +7,7 @@ use Rattle.script_head.specs.declared.error.HeadError.{HeadError}
 use Rattle.script_head.specs.declared.error.HeadError.TheVariants.{Json, BadMember, NoMemory}
 use Rattle.script_head.specs.declared.head.ScriptHead.{ScriptHead}
 use Rattle.script_head.specs.declared.member.Member.{Member}
-use Rattle.script_head.specs.Head.{IsHead, IsFirstBad}
+use Rattle.script_head.specs.Head.{IsScriptHead, IsFirstBad}
 
 -- the refusal that an error of reading JSON becomes
 abbrev pub IsRefusalOf : Error → HeadError → Type 0
@@ -24,7 +24,7 @@ Reads m Has (Err NoMemory) = Unit {0}
 
 -- the answer is true of an object
 abbrev pub AnswersObject : Data → Result ScriptHead HeadError → Type 0
-AnswersObject d (Ok head) = IsHead d head
+AnswersObject d (Ok head) = IsScriptHead d head
 AnswersObject d (Err Json) = ⊥
 AnswersObject d (Err (BadMember m)) = IsFirstBad d m
 AnswersObject d (Err NoMemory) = Unit {0}

@@ -1,5 +1,6 @@
 -- Values of JSON, as a script's members want them.
-use Rattle.std.specs.Prelude.{◌≡◌, ℕ, List, [], ◌∷◌, Option, Some, None, option_map, option_and_then}
+use Rattle.std.specs.Prelude.{◌≡◌, ℕ, List, [], ◌∷◌, Option, Some, option_map, option_and_then}
+use Rattle.std.specs.Option.{option_map_or}
 use Rattle.serde_json.specs.Data.{Data, Items, no_items, item}
 use Rattle.serde_json.specs.Events.{items_len}
 use Rattle.serde_json.specs.Find.{get, as_array, as_number, as_u64}
@@ -26,10 +27,6 @@ HasItems IsItem value list = (items : Items) × (option_and_then as_array value 
 abbrev pub member : {A : Type 0} → (Data → Option A) → List ℕ → Data → Option A
 member f name d = option_and_then f (get name d)
 
--- the value of a member that may be missing
-abbrev pub or_missing : {A : Type 0} → A → (Data → Option A) → Option Data → Option A
-or_missing missing f None = Some missing
-or_missing missing f (Some d) = f d
-
+-- the value of a member that may be missing, and is that one then
 abbrev pub member_or : {A : Type 0} → A → (Data → Option A) → List ℕ → Data → Option A
-member_or missing f name d = or_missing missing f (get name d)
+member_or missing f name d = option_map_or f (get name d) (Some missing)

@@ -4,15 +4,19 @@ ghost use Rattle.script_head.specs.declared.error.HeadError.TheVariants.{NoMemor
 
 use crate::member::Member;
 use std::alloc::{AllocError, AllocFailed};
+use thiserror::Error;
 
 /// Why a line is not the first of a script.
-#[derive(Clone, Copy, Debug, PartialEq, Eq)]
+#[derive(Clone, Copy, Debug, PartialEq, Eq, Error)]
 pub enum HeadError {
     /// It is no JSON, or no object.
+    #[error("no object of JSON")]
     Json,
     /// This is the first member that is missing or has another value than it may have.
+    #[error("a member is missing or bad")]
     BadMember(Member),
     /// Memory ran out.
+    #[error("out of memory")]
     NoMemory,
 }
 

@@ -1,6 +1,7 @@
 ghost use Rattle.std.specs.Prelude.{◌≡◌, IfOk, IfErr};
 ghost use Rattle.serde_json.specs.View.{view};
-ghost use Rattle.script_head.specs.Head.{byte_count, command_count, Says, Refuses, Answers, IsOnlyAnswer};
+ghost use Rattle.script_head.specs.Answers.{IsOnlyAnswer};
+ghost use Rattle.script_head.specs.Head.{byte_count, command_count, Says, RefusesLine, AnswersLine};
 ghost use Rattle.script_head.specs.Refusals.{AnswersObject};
 
 use crate::error::HeadError;
@@ -57,16 +58,16 @@ pub struct ScriptHead {
 /// What the first line of a script says, its line feed left out.
 pub fn read_head(alloc: Global, line: &[u8]) -> Result<ScriptHead, HeadError>
     ensures found { IfOk result (Says line.now) }
-    ensures refused { IfErr result (Refuses line.now) }
+    ensures refused { IfErr result (RefusesLine line.now) }
 
     // But for want of memory no other answer is true of the line.
-    ensures only { IsOnlyAnswer line.now result }
+    ensures only { IsOnlyAnswer HeadError.NoMemory (AnswersLine line.now) result }
 {
     head_of(alloc, line)
 }
 
 fn head_of(alloc: Global, line: &[u8]) -> Result<ScriptHead, HeadError>
-    ensures { Answers line.now result }
+    ensures { AnswersLine line.now result }
 {
     let value = Value::from_slice(alloc, line)?;
     if !value.is_object() {

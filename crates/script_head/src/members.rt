@@ -1,8 +1,9 @@
 ghost use Rattle.std.specs.Prelude.{◌≡◌, Some, option_map};
+ghost use Rattle.std.specs.Option.{option_map_or};
 ghost use Rattle.serde_json.specs.View.{view};
 ghost use Rattle.script_head.specs.Refusals.{Reads};
 ghost use Rattle.script_head.specs.Members as spec;
-ghost use Rattle.script_head.specs.Values.{item_count, or_missing};
+ghost use Rattle.script_head.specs.Values.{item_count};
 
 use crate::error::HeadError;
 use crate::head::StreamHead;
@@ -90,7 +91,7 @@ pub(crate) fn lines_in(line: &Value) -> Result<usize, HeadError>
 }
 
 fn line_count(lines: Option<&Value>) -> Option<usize>
-    ensures { result ≡ or_missing 0 item_count (option_map (λ v. view v.now) lines.entry) }
+    ensures { result ≡ option_map_or item_count (option_map (λ v. view v.now) lines.entry) (Some 0) }
 {
     match lines {
         None => Some(0),

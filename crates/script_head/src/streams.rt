@@ -3,13 +3,13 @@
 ghost use Rattle.std.specs.Prelude.{◌≡◌, ◌≤◌, Some, length};
 ghost use Rattle.serde_json.specs.View.{view, items_view};
 ghost use Rattle.script_head.specs.Refusals.{Reads};
-ghost use Rattle.script_head.specs.Limits.{most_commands, most_stream_bytes};
+ghost use Rattle.script_head.specs.Limits.{most_calls, most_input};
 ghost use Rattle.script_head.specs.Members.{IsCommandItem, IsStreamItem};
 ghost use Rattle.script_head.specs.Values.{whole, AreItems, HasItems};
 
 use crate::error::HeadError;
 use crate::head::StreamHead;
-use crate::limits::{MOST_COMMANDS, MOST_STREAM_BYTES};
+use crate::limits::{MOST_CALLS, MOST_INPUT};
 use crate::member::Member;
 use command_text::Command;
 use serde_json::Value;
@@ -44,10 +44,10 @@ fn stream_of(alloc: Global, item: &Value) -> Result<StreamHead, HeadError>
 /// How many bytes of frames.
 fn bytes_of(frames: &Value) -> Result<u64, HeadError>
     ensures { Reads Member.Streams
-        (λ count. (whole (view frames.now) ≡ Some count) × (count ≤ most_stream_bytes)) result }
+        (λ count. (whole (view frames.now) ≡ Some count) × (count ≤ most_input)) result }
 {
     match frames.as_u64() {
-        Some(count) if count <= MOST_STREAM_BYTES => Ok(count),
+        Some(count) if count <= MOST_INPUT as u64 => Ok(count),
         _ => Err(BAD),
     }
 }
@@ -55,11 +55,11 @@ fn bytes_of(frames: &Value) -> Result<u64, HeadError>
 fn commands_in(alloc: Global, control: &Value) -> Result<Sequence<Command>, HeadError>
     ensures { Reads Member.Streams
         (λ commands. HasItems IsCommandItem (Some (view control.now)) commands
-        × (length commands ≤ most_commands)) result }
+        × (length commands ≤ most_calls)) result }
 {
     let items = control.as_array().ok_or(BAD)?;
     // Too long a list is refused before memory is taken for it.
-    if items.len() > MOST_COMMANDS {
+    if items.len() > MOST_CALLS {
         return Err(BAD);
     }
     commands_from(alloc, items)

@@ -6,7 +6,7 @@ use Rattle.std.proofs.lemmas.List.{get_or-take, get_or_at, length-take, take-app
 use Rattle.std.proofs.lemmas.List.Elements.{All-head, All-tail, All-get_or, All-from_get_or}
 use Rattle.std.proofs.lemmas.List.Quantifiers.{position-Some}
 use Rattle.std.proofs.lemmas.List.Sums.{fails_before_first}
-use Rattle.script_text.specs.Limits.{longest_line, most_input}
+use Rattle.script_head.specs.Limits.{longest_line, most_input}
 use Rattle.script_text.specs.Line.{IsCut, HasNoLine}
 
 abbrev IsOther : ℕ → Type 0

@@ -7,18 +7,19 @@ use Rattle.script_head.specs.declared.head.StreamHead.{StreamHead}
 use Rattle.script_head.specs.declared.member.Member.{Member}
 use Rattle.script_head.specs.Head.{byte_count, command_count}
 use Rattle.script_head.specs.Head as first
+use Rattle.script_head.specs.Answers.{IsOnlyAnswer}
 use Rattle.script_head.proofs.OneAnswer as first_line
 use Rattle.script_text.specs.declared.error.ScriptError.{ScriptError}
 use Rattle.script_text.specs.declared.error.ScriptError.TheVariants.{Bad, NoMemory}
-use Rattle.script_text.specs.Limits.{most_calls, most_input}
+use Rattle.script_head.specs.Limits.{most_calls, most_input}
 use Rattle.script_text.specs.declared.script.Script.{Script}
 use Rattle.script_text.specs.declared.script.Stream.{Stream}
 use Rattle.script_text.specs.declared.what.What.{What}
 use Rattle.script_text.specs.declared.what.What.TheVariants as what
 use Rattle.script_text.specs.Line.{IsCut, HasNoLine}
-use Rattle.script_text.specs.Streams.{call_count, AreStreams, AreNoStreams}
-use Rattle.script_text.specs.Refusals.{refusal_of, IsOtherEnd, AreBad, AnswersBody}
-use Rattle.script_text.specs.Script.{IsHeaded, bytes_of, commands_of, script_of, HasBadStream, IsNoScript, Answers, IsOnlyAnswer}
+use Rattle.script_text.specs.Streams.{stream_length, AreStreams, AreNoStreams}
+use Rattle.script_text.specs.Refusals.{line_refusal, IsOtherEnd, AreBad, AnswersBody}
+use Rattle.script_text.specs.Script.{IsHeaded, IsScript, HasBadStream, IsNoScript, AnswersInput}
 use Rattle.script_text.proofs.LineLemmas.{one_cut, no_cut}
 use Rattle.script_text.proofs.StreamsLemmas.{calls_of_all, calls_or_frame}
 use Rattle.script_text.proofs.OneStream.{one_list, list_or_none, one_reason_of_all}
@@ -32,7 +33,7 @@ body_refusal place heads body bad what.Rest other = inl (other, refl)
 body_refusal place heads body bad why none = inr none
 
 -- streams are not bad, and not for two reasons
-streams_or_bad : (place : ℕ) (heads : List StreamHead) (body : List ℕ) (ss : List Stream) (bad : ℕ) (why : What) → AreStreams heads body ss → sum_by call_count ss ≤ most_calls
+streams_or_bad : (place : ℕ) (heads : List StreamHead) (body : List ℕ) (ss : List Stream) (bad : ℕ) (why : What) → AreStreams heads body ss → sum_by stream_length ss ≤ most_calls
     → AreBad place heads body bad why → ⊥
 streams_or_bad place heads body ss bad why are few (inl (many, at, is)) = absurd (omega (arith, calls_of_all heads body ss are))
 streams_or_bad place heads body ss bad why are few (inr (most, none)) =
@@ -75,6 +76,20 @@ one_body place heads body r (Err NoMemory) told also x y = absurd (also refl)
 
 -- ---- the whole input
 
+abbrev script_with : List Stream → List ℕ → List ℕ → ℕ → ℕ → Script
+script_with streams now volume size replicas = record { streams = streams; now = now; volume = volume; size = size; replicas = replicas }
+
+same_parts : {ss : List Stream} {now n volume v : List ℕ} {size s replicas r : ℕ} → now ≡ n → volume ≡ v → size ≡ s → replicas ≡ r
+    → script_with ss now volume size replicas ≡ script_with ss n v s r
+same_parts a b c d = cc
+
+-- the script of a first line and of streams
+abbrev script_of : ScriptHead → List Stream → Script
+script_of head streams = script_with streams head.now head.volume head.size head.replicas
+
+is_script_of : (input : List ℕ) (script : Script) (is : IsScript input script) → script ≡ script_of is.head script.streams
+is_script_of input script is = same_parts is.now is.volume is.size is.replicas
+
 -- the script of a first line and of what its streams are, or their refusal
 with_head : ScriptHead → Result (List Stream) ScriptError → Result Script ScriptError
 with_head head (Ok streams) = Ok (script_of head streams)
@@ -83,13 +98,13 @@ with_head head (Err e) = Err e
 -- what the first line is, and then the rest, gives the answer
 Follows : List ℕ → List ℕ → Result ScriptHead HeadError → Result Script ScriptError → Type 0
 Follows line body (Ok head) a = (r : Result (List Stream) ScriptError) × AnswersBody (length line + 1) head.streams body r × (r ≢ Err NoMemory) × (a ≡ with_head head r)
-Follows line body (Err e) a = a ≡ Err (refusal_of e)
+Follows line body (Err e) a = a ≡ Err (line_refusal e)
 
 -- where an answer comes from
 data Comes (input : List ℕ) (a : Result Script ScriptError) : Type 0 where
   too_long : most_input < length input → a ≡ Err (Bad most_input what.Input) → Comes input a
   no_line : length input ≤ most_input → HasNoLine input → a ≡ Err (Bad 0 what.Line) → Comes input a
-  from_line : (line body : List ℕ) (h : Result ScriptHead HeadError) → IsCut input line body → h ≢ Err fault.NoMemory → first.Answers line h → Follows line body h a → Comes input a
+  from_line : (line body : List ℕ) (h : Result ScriptHead HeadError) → IsCut input line body → h ≢ Err fault.NoMemory → first.AnswersLine line h → Follows line body h a → Comes input a
 
 length-cut : (input line body : List ℕ) → IsCut input line body → length input ≡ length line + 1 + length body
 length-cut input line body cut = omega (arith, ap length cut.whole, length-append line (10 ∷ body))
@@ -109,11 +124,11 @@ head_json e = cc
 head_bad : {A : Type 0} {m : Member} → ◌≡◌ {A = Result A HeadError} (Err (fault.BadMember m)) (Err fault.NoMemory) → ⊥
 head_bad e = cc
 
-comes : (input : List ℕ) (a : Result Script ScriptError) → a ≢ Err NoMemory → Answers input a → Comes input a
+comes : (input : List ℕ) (a : Result Script ScriptError) → a ≢ Err NoMemory → AnswersInput input a → Comes input a
 unfolding Follows with_head
 comes input (Ok script) told is =
     from_line is.line is.body (Ok is.head) is.headed.cut head_ok is.headed.says
-    (Ok script.streams, (is.whole, is.streams, is.calls), ok_memory, ap Ok is.members)
+    (Ok script.streams, (is.whole, is.streams, is.calls), ok_memory, ap Ok (is_script_of input script is))
 comes input (Err (Bad place what.Input)) told (long, at) = too_long long (ap (λ p. Err (Bad p what.Input)) at)
 comes input (Err (Bad place what.Line)) told (most, none, at) = no_line most none (ap (λ p. Err (Bad p what.Line)) at)
 comes input (Err (Bad place what.Json)) told (line, body, cut, none, at) = from_line line body (Err fault.Json) cut head_json none (ap (λ p. Err (Bad p what.Json)) at)
@@ -136,7 +151,7 @@ one_follows line body (Ok head) a b (r, x, told, is) (t, y, also, too) =
     is ∙ ap (with_head head) (one_body (length line + 1) head.streams body r t told also x y) ∙ sym too
 one_follows line body (Err e) a b is too = is ∙ sym too
 
-same_head : (line : List ℕ) (h k : Result ScriptHead HeadError) → h ≢ Err fault.NoMemory → k ≢ Err fault.NoMemory → first.Answers line h → first.Answers line k → h ≡ k
+same_head : (line : List ℕ) (h k : Result ScriptHead HeadError) → h ≢ Err fault.NoMemory → k ≢ Err fault.NoMemory → first.AnswersLine line h → first.AnswersLine line k → h ≡ k
 same_head line h k told also x y = by_cases (first_line.one_answer line h x k also y)
   where
     by_cases : (h ≡ k) ⊎ (h ≡ Err fault.NoMemory) → h ≡ k
@@ -154,48 +169,48 @@ one_source input a b (from_line line body h cut told says follows) (too_long als
 one_source input a b (from_line line body h cut told says follows) (no_line few nothing too) = absurd (no_cut input line body nothing cut)
 one_source input a b (from_line line body h cut told says follows) (from_line row rest k other also speaks after) =
     let same = one_cut input line body row rest cut other in
-    let heads = same_head row h k told also (subst (λ l. first.Answers l h) same.0 says) speaks in
+    let heads = same_head row h k told also (subst (λ l. first.AnswersLine l h) same.0 says) speaks in
     let along = subst (λ l. Follows l body h a) same.0 follows in
     let behind = subst (λ l. Follows row l h a) same.1 along in
     one_follows row rest k a b (subst (λ x. Follows row rest x a) heads behind) after
 
-pub one_truth : (input : List ℕ) (a b : Result Script ScriptError) → a ≢ Err NoMemory → b ≢ Err NoMemory → Answers input a → Answers input b → a ≡ b
+pub one_truth : (input : List ℕ) (a b : Result Script ScriptError) → a ≢ Err NoMemory → b ≢ Err NoMemory → AnswersInput input a → AnswersInput input b → a ≡ b
 one_truth input a b told also is too = one_source input a b (comes input a told is) (comes input b also too)
 
-pub one_answer : (input : List ℕ) (a : Result Script ScriptError) → Answers input a → IsOnlyAnswer input a
+pub one_answer : (input : List ℕ) (a : Result Script ScriptError) → AnswersInput input a → IsOnlyAnswer NoMemory (AnswersInput input) a
 one_answer input (Ok script) is = λ b told too. inl (one_truth input _ b ok_memory told is too)
 one_answer input (Err (Bad place why)) is = λ b told too. inl (one_truth input _ b script_memory told is too)
 one_answer input (Err NoMemory) is = λ b told too. inr refl
 
 -- ---- a refusal of the bytes behind the first line, as one of the input
 
-bad_streams : (input line body : List ℕ) (head : ScriptHead) (place : ℕ) (why : What) → IsHeaded input line body head → bytes_of head ≡ length body
-    → commands_of head ≤ most_calls → AreNoStreams (most_calls - commands_of head) (length line + 1) head.streams body place why
+bad_streams : (input line body : List ℕ) (head : ScriptHead) (place : ℕ) (why : What) → IsHeaded input line body head → sum_by byte_count head.streams ≡ length body
+    → sum_by command_count head.streams ≤ most_calls → AreNoStreams (most_calls - sum_by command_count head.streams) (length line + 1) head.streams body place why
     → (why ≡ what.Calls) ⊎ (why ≡ what.Frame) → IsNoScript input place why
 bad_streams input line body head place why headed whole few none (inl calls) =
     subst (IsNoScript input place) (sym calls) (inr (subst (HasBadStream input place) calls (line, body, head, headed, whole, few, none)))
 bad_streams input line body head place why headed whole few none (inr frame) =
     subst (IsNoScript input place) (sym frame) (subst (HasBadStream input place) frame (line, body, head, headed, whole, few, none))
 
-bad_body : (input line body : List ℕ) (head : ScriptHead) (place : ℕ) (why : What) → IsHeaded input line body head → bytes_of head ≡ length body
+bad_body : (input line body : List ℕ) (head : ScriptHead) (place : ℕ) (why : What) → IsHeaded input line body head → sum_by byte_count head.streams ≡ length body
     → AreBad (length line + 1) head.streams body place why → IsNoScript input place why
 bad_body input line body head place why headed whole (inl (many, at, calls)) =
     subst (IsNoScript input place) (sym calls) (inl ((line, body, head, headed, whole, many), at))
 bad_body input line body head place why headed whole (inr (few, none)) =
     bad_streams input line body head place why headed whole few none
-    (calls_or_frame head.streams (most_calls - commands_of head) (length line + 1) body place why none)
+    (calls_or_frame head.streams (most_calls - sum_by command_count head.streams) (length line + 1) body place why none)
 
 pub refused_behind : (input line body : List ℕ) (head : ScriptHead) (e : ScriptError) → IsCut input line body → first.Says line head
-    → AnswersBody (length line + 1) head.streams body (Err e) → Answers input (Err e)
+    → AnswersBody (length line + 1) head.streams body (Err e) → AnswersInput input (Err e)
 refused_behind input line body head NoMemory cut says free = free
 refused_behind input line body head (Bad place why) cut says no_body = by_cases (body_refusal (length line + 1) head.streams body place why no_body)
   where
     headed : IsHeaded input line body head
     headed = record { cut = cut; says = says }
 
-    by_cases : (IsOtherEnd (bytes_of head) (length line + 1) (length body) place × (why ≡ what.Rest)) ⊎ ((bytes_of head ≡ length body) × AreBad (length line + 1) head.streams body place why)
+    by_cases : (IsOtherEnd (sum_by byte_count head.streams) (length line + 1) (length body) place × (why ≡ what.Rest)) ⊎ ((sum_by byte_count head.streams ≡ length body) × AreBad (length line + 1) head.streams body place why)
         → IsNoScript input place why
     by_cases (inl (other, rest)) =
         subst (IsNoScript input place) (sym rest)
-        (line, body, head, headed, other.0, other.1 ∙ ap (λ n. min n (length line + 1 + bytes_of head)) (sym (length-cut input line body cut)))
+        (line, body, head, headed, other.0, other.1 ∙ ap (λ n. min n (length line + 1 + sum_by byte_count head.streams)) (sym (length-cut input line body cut)))
     by_cases (inr (whole, none)) = bad_body input line body head place why headed whole none

@@ -7,13 +7,13 @@ use Rattle.script_head.specs.declared.head.StreamHead.TheVariants as head
 use Rattle.script_head.specs.Head.{byte_count, command_count}
 use Rattle.script_text.specs.declared.error.ScriptError.{ScriptError}
 use Rattle.script_text.specs.declared.error.ScriptError.TheVariants.{Bad, NoMemory}
-use Rattle.script_text.specs.Limits.{most_calls}
+use Rattle.script_head.specs.Limits.{most_calls}
 use Rattle.script_text.specs.declared.script.Stream.{Stream}
 use Rattle.script_text.specs.declared.script.Stream.TheVariants as stream
 use Rattle.script_text.specs.declared.what.What.{What}
 use Rattle.script_text.specs.declared.what.What.TheVariants as what
 use Rattle.script_text.specs.Frames.{spellings}
-use Rattle.script_text.specs.Streams.{call_count, frame_count, IsBadAt, IsStreamOf, AreStreams, AreNoStreams}
+use Rattle.script_text.specs.Streams.{stream_length, frame_count, IsBadAt, IsStreamOf, AreStreams, AreNoStreams}
 use Rattle.script_text.specs.Refusals.{AnswersStreams, AnswersBody}
 
 -- the streams so far, and the bytes that are left for the others
@@ -69,7 +69,7 @@ all_read room place heads bytes streams left rest (h ∷ hs) none read = absurd 
 
 -- ---- the calls of all streams
 
-calls_of_one : (h : StreamHead) (bytes : List ℕ) (s : Stream) → IsStreamOf h bytes s → call_count s ≡ command_count h + frame_count s
+calls_of_one : (h : StreamHead) (bytes : List ℕ) (s : Stream) → IsStreamOf h bytes s → stream_length s ≡ command_count h + frame_count s
 calls_of_one (head.Frames count) bytes (stream.Frames frames) is = omega arith
 calls_of_one (head.Frames count) bytes (stream.Control commands) is = absurd is
 calls_of_one (head.Control commands) bytes (stream.Frames frames) is = absurd is
@@ -77,12 +77,12 @@ calls_of_one (head.Control commands) bytes (stream.Control others) is = omega (a
 
 -- a call is a command or a frame
 pub calls_of_all : (heads : List StreamHead) (bytes : List ℕ) (ss : List Stream) → AreStreams heads bytes ss
-    → sum_by call_count ss ≡ sum_by command_count heads + sum_by frame_count ss
+    → sum_by stream_length ss ≡ sum_by command_count heads + sum_by frame_count ss
 calls_of_all [] bytes [] are = refl
 calls_of_all [] bytes (s ∷ ss) are = absurd are
 calls_of_all (h ∷ hs) bytes [] are = absurd are
 calls_of_all (h ∷ hs) bytes (s ∷ ss) (is, are) =
-    omega (arith, calls_of_one h (take (byte_count h) bytes) s is, calls_of_all hs (drop (byte_count h) bytes) ss are, sum_by-cons call_count s ss, sum_by-cons frame_count s ss, sum_by-cons command_count h hs)
+    omega (arith, calls_of_one h (take (byte_count h) bytes) s is, calls_of_all hs (drop (byte_count h) bytes) ss are, sum_by-cons stream_length s ss, sum_by-cons frame_count s ss, sum_by-cons command_count h hs)
 
 -- ---- the streams as the rest of an input
 

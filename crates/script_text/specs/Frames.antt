@@ -4,7 +4,7 @@ use Rattle.std.specs.List.{flat_map}
 use Rattle.frame_wire.specs.Spelling.{frame, IsHead}
 use Rattle.frame_stream.specs.declared.frame.Frame.{Frame}
 use Rattle.frame_stream.specs.Asked.{close_kind}
-use Rattle.script_text.specs.Limits.{most_data}
+use Rattle.volume_model.specs.PlainStep.{longest_call}
 
 -- a frame as bytes
 abbrev pub spelled : Frame → List ℕ
@@ -14,11 +14,11 @@ spelled f = frame f.head f.body
 abbrev pub spellings : List Frame → List ℕ
 spellings frames = flat_map spelled frames
 
--- a whole frame, with no more data than it may have
-pub record IsWhole (f : Frame) : Type 0 where
+-- a whole frame, with no more data than a call may have
+pub record IsWholeFrame (f : Frame) : Type 0 where
   pub head : IsHead f.head
   pub body : length f.body ≡ f.head.len
-  pub most : f.head.len ≤ most_data
+  pub most : f.head.len ≤ longest_call
 
 -- it ends its stream
 abbrev pub IsClose : Frame → Type 0
@@ -26,11 +26,11 @@ IsClose f = f.head.kind ≡ close_kind
 
 -- a whole frame that is a call
 abbrev pub IsCall : Frame → Type 0
-IsCall f = IsWhole f × (IsClose f → ⊥)
+IsCall f = IsWholeFrame f × (IsClose f → ⊥)
 
 -- the bytes begin with a whole frame, and the rest stands behind it
 pub record BeginsWithFrame (bytes : List ℕ) (f : Frame) (rest : List ℕ) : Type 0 where
-  pub whole : IsWhole f
+  pub whole : IsWholeFrame f
   pub text : bytes ≡ spelled f ++ rest
 
 -- the bytes begin with no whole frame

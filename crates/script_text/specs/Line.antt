@@ -1,6 +1,6 @@
 -- The first line of an input.
 use Rattle.std.specs.Prelude.{◌≡◌, ◌≢◌, ℕ, ◌<◌, ◌≤◌, List, ◌∷◌, ◌++◌, length, take, All}
-use Rattle.script_text.specs.Limits.{longest_line, most_input}
+use Rattle.script_head.specs.Limits.{longest_line, most_input}
 
 -- an input that is not too long: its first line, which a line feed ends, and the bytes behind it
 pub record IsCut (input line body : List ℕ) : Type 0 where

@@ -7,17 +7,17 @@ use Rattle.script_head.specs.Head.{byte_count, command_count}
 use Rattle.script_text.specs.declared.error.ScriptError.{ScriptError}
 use Rattle.script_text.specs.declared.error.ScriptError.TheVariants.{Bad, NoMemory}
 use Rattle.frame_stream.specs.declared.frame.Frame.{Frame}
-use Rattle.script_text.specs.Limits.{most_calls}
+use Rattle.script_head.specs.Limits.{most_calls}
 use Rattle.script_text.specs.declared.script.Stream.{Stream}
 use Rattle.script_text.specs.declared.what.What.{What}
 use Rattle.script_text.specs.declared.what.What.TheVariants as what
-use Rattle.script_text.specs.Streams.{call_count, frame_count, IsStream, IsNoStream, IsStreamOf, IsNoStreamOf, AreStreams, AreNoStreams}
+use Rattle.script_text.specs.Streams.{stream_length, frame_count, IsStream, IsNoStream, IsStreamOf, IsNoStreamOf, AreStreams, AreNoStreams}
 
 -- the refusal of the input that a refusal of its first line is
-abbrev pub refusal_of : HeadError → ScriptError
-refusal_of fault.Json = Bad 0 what.Json
-refusal_of (fault.BadMember m) = Bad 0 (what.Member m)
-refusal_of fault.NoMemory = NoMemory
+abbrev pub line_refusal : HeadError → ScriptError
+line_refusal fault.Json = Bad 0 what.Json
+line_refusal (fault.BadMember m) = Bad 0 (what.Member m)
+line_refusal fault.NoMemory = NoMemory
 
 -- the answer is true of the bytes of one stream of frames
 abbrev pub AnswersStream : ℕ → ℕ → List ℕ → Result (List Frame) ScriptError → Type 0
@@ -53,7 +53,7 @@ AreBad place heads body bad why =
 abbrev pub AnswersBody : ℕ → List StreamHead → List ℕ → Result (List Stream) ScriptError → Type 0
 AnswersBody place heads body (Ok streams) =
     (sum_by byte_count heads ≡ length body) × AreStreams heads body streams
-    × (sum_by call_count streams ≤ most_calls)
+    × (sum_by stream_length streams ≤ most_calls)
 AnswersBody place heads body (Err (Bad bad what.Rest)) =
     IsOtherEnd (sum_by byte_count heads) place (length body) bad
 AnswersBody place heads body (Err (Bad bad why)) =

@@ -46,9 +46,9 @@ IsNoStream room place bytes bad why = (frames : List Frame) × (rest : List ℕ)
 -- ---- all streams
 
 -- how many calls a stream is
-abbrev pub call_count : Stream → ℕ
-call_count (stream.Frames frames) = length frames
-call_count (stream.Control commands) = length commands
+abbrev pub stream_length : Stream → ℕ
+stream_length (stream.Frames frames) = length frames
+stream_length (stream.Control commands) = length commands
 
 -- how many of them are frames
 abbrev pub frame_count : Stream → ℕ

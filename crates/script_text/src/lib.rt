@@ -3,7 +3,6 @@
 
 mod error;
 pub mod laws;
-mod limits;
 mod line;
 mod script;
 mod stream;
@@ -12,9 +11,10 @@ mod what;
 
 pub use error::ScriptError;
 pub use frame_stream::{Asked, Bytes, Call, Frame, Head, of_frame};
-pub use limits::{MOST_CALLS, MOST_DATA, MOST_INPUT};
 pub use script::{Script, Stream, read_script};
+pub use script_head::limits::{MOST_CALLS, MOST_INPUT};
 pub use script_head::{Command, Member, Sequence, TimeText};
+pub use stream::MOST_DATA;
 pub use vol_units::{PlainName, VolumeSize};
 pub use what::What;
 

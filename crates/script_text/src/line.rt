@@ -1,8 +1,8 @@
 ghost use Rattle.std.specs.Prelude.{◌≡◌, ◌==◌, ◌+◌, ◌<◌, ◌≤◌, length, take, drop, position, IfSome, IfNone};
 ghost use Rattle.script_text.specs.Line.{IsCut, HasNoLine};
-ghost use Rattle.script_text.specs.Limits.{longest_line, most_input};
+ghost use Rattle.script_head.specs.Limits.{longest_line, most_input};
 
-use crate::limits::LONGEST_LINE;
+use script_head::limits::LONGEST_LINE;
 
 /// How many bytes the first line has, its line feed left out, if it is not too long.
 pub(crate) fn line_length(input: &[u8]) -> Option<usize>

@@ -1,14 +1,15 @@
 ghost use Rattle.std.specs.Prelude.{◌≡◌, ◌+◌, ◌^◌, ◌<◌, length, IfOk, IfErr};
+ghost use Rattle.script_head.specs.Answers.{IsOnlyAnswer};
 ghost use Rattle.script_text.specs.Refusals.{AnswersBody};
-ghost use Rattle.script_text.specs.Script.{IsScript, Refuses, Answers, IsOnlyAnswer};
+ghost use Rattle.script_text.specs.Script.{IsScript, RefusesInput, AnswersInput};
 ghost use Rattle.script_text.specs.Streams.{frame_count};
 
 use crate::error::ScriptError;
-use crate::limits::MOST_INPUT;
 use crate::line::line_length;
 use crate::streams::{other_end, read_streams, room_beside};
 use crate::what::What;
 use frame_stream::{Bytes, Frame};
+use script_head::limits::MOST_INPUT;
 use script_head::{Command, ScriptHead, Sequence, StreamHead, TimeText, read_head};
 use std::alloc::Global;
 use vol_units::{PlainName, VolumeSize};
@@ -48,16 +49,16 @@ pub struct Script {
 /// The script that an input is. Its frames share the input's bytes.
 pub fn read_script(alloc: Global, input: &Bytes) -> Result<Script, ScriptError>
     ensures found { IfOk result (IsScript input.now) }
-    ensures refused { IfErr result (Refuses input.now) }
+    ensures refused { IfErr result (RefusesInput input.now) }
 
     // But for want of memory no other answer is true of the input.
-    ensures only { IsOnlyAnswer input.now result }
+    ensures only { IsOnlyAnswer ScriptError.NoMemory (AnswersInput input.now) result }
 {
     script_in(alloc, input)
 }
 
 fn script_in(alloc: Global, input: &Bytes) -> Result<Script, ScriptError>
-    ensures { Answers input.now result }
+    ensures { AnswersInput input.now result }
 {
     if input.len() > MOST_INPUT {
         return Err(ScriptError::Bad {

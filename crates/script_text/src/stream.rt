@@ -3,12 +3,14 @@ ghost use Rattle.script_text.specs.Frames.{BeginsWithFrame, HasNoFrame};
 ghost use Rattle.script_text.specs.Refusals.{AnswersStream};
 
 use crate::error::ScriptError;
-use crate::limits::MOST_DATA;
 use crate::what::What;
 use frame_stream::{Bytes, CLOSE, Frame};
 use frame_wire::{Decoded, HEADER_LENGTH, decode};
 use script_head::Sequence;
 use std::alloc::{AllocError, Global};
+
+/// The most bytes of data in a frame: as many as a call may have.
+pub const MOST_DATA: u32 = 1_048_576;
 
 /// The frames of a stream whose bytes begin at a place of the input. There may be so many calls.
 /// The frames share the bytes.

@@ -2,13 +2,13 @@ ghost use Rattle.std.specs.Prelude.{◌≡◌, ◌+◌, ◌-◌, ◌^◌, ◌<�
 ghost use Rattle.std.specs.Option.{SomeIff};
 ghost use Rattle.script_head.specs.Head.{byte_count, command_count};
 ghost use Rattle.script_text.specs.Refusals.{IsOtherEnd, AnswersStreamOf, AnswersStreams};
-ghost use Rattle.script_text.specs.Limits.{most_calls};
+ghost use Rattle.script_head.specs.Limits.{most_calls};
 
 use crate::error::ScriptError;
-use crate::limits::MOST_CALLS;
 use crate::script::Stream;
 use crate::stream::read_stream;
 use frame_stream::Bytes;
+use script_head::limits::MOST_CALLS;
 use script_head::{Sequence, StreamHead};
 use std::alloc::Global;
 

@@ -14,9 +14,9 @@ use Rattle.volume_model.proofs.ServedLemmas.{behind-calls, behind-streams, serve
 use Rattle.frame_stream.specs.Asked.{call_of}
 use Rattle.script_text.specs.declared.script.Stream.{Stream}
 use Rattle.script_text.specs.declared.script.Stream.TheVariants as stream
-use Rattle.script_text.specs.Streams.{call_count as stream_calls}
+use Rattle.script_text.specs.Streams.{stream_length}
 use Rattle.solo_worker.specs.Serving.{spot_of, IsReady, AnswersCalls, AnswersEach}
-use Rattle.solo_worker.specs.Volume.{calls_of, IsOfCalls, LeavesReplicas}
+use Rattle.solo_worker.specs.Volume.{stream_calls, IsOfCalls, LeavesReplicas}
 use Rattle.solo_worker.proofs.AddsLemmas.{adds_spot, adds_none, adds_append, adds_same, ready_done, ready_calls}
 use Rattle.solo_worker.proofs.ScriptLemmas.{calls_leave}
 
@@ -129,7 +129,7 @@ pub record StreamsSoFar (number : ℕ) (all rest : List Stream) (old now : Book)
   pub done : List Stream
   pub cut : all ≡ done ++ rest
   pub count : number ≡ length done
-  pub answers : AnswersEach 0 (map calls_of done) old now before after
+  pub answers : AnswersEach 0 (map stream_calls done) old now before after
   pub calls : All IsOfCalls rest
   pub ready : IsReady (spot_of now after)
 
@@ -138,42 +138,42 @@ no_streams all book volume calls ready =
     record { done = []; cut = refl; count = refl; answers = adds_none book book volume refl refl; calls = calls; ready = ready }
 
 pub streams_more : (number later : ℕ) (all rest : List Stream) (x : Stream) (a b d : Book) (s t u : Volume)
-    → StreamsSoFar number all (x ∷ rest) a b s t → AnswersCalls number 0 (calls_of x) b d t u → later ≡ number + 1 → StreamsSoFar later all rest a d s u
+    → StreamsSoFar number all (x ∷ rest) a b s t → AnswersCalls number 0 (stream_calls x) b d t u → later ≡ number + 1 → StreamsSoFar later all rest a d s u
 streams_more number later all rest x a b d s t u far more next = record {
   done = far.done ++ x ∷ [];
   cut = far.cut ∙ sym (append_assoc far.done (x ∷ []) rest);
   count = omega (arith, next, far.count, length-append far.done (x ∷ []));
-  answers = subst (λ css. AnswersEach 0 css a d s u) (sym (map-append calls_of far.done (x ∷ [])))
-      (streams_push number (map calls_of far.done) (calls_of x) a b d s t u far.answers (far.count ∙ sym (length-map far.done calls_of)) more);
+  answers = subst (λ css. AnswersEach 0 css a d s u) (sym (map-append stream_calls far.done (x ∷ [])))
+      (streams_push number (map stream_calls far.done) (stream_calls x) a b d s t u far.answers (far.count ∙ sym (length-map far.done stream_calls)) more);
   calls = All-tail IsOfCalls x rest far.calls;
-  ready = subst IsReady (sym (behind_answers number 0 (calls_of x) b d t u more))
-      (ready_calls (spot_of b t) (calls_of x) (calls_leave x (All-head IsOfCalls x rest far.calls)) far.ready);
+  ready = subst IsReady (sym (behind_answers number 0 (stream_calls x) b d t u more))
+      (ready_calls (spot_of b t) (stream_calls x) (calls_leave x (All-head IsOfCalls x rest far.calls)) far.ready);
 }
 
 pub streams_all : (number : ℕ) (all rest : List Stream) (old now : Book) (before after : Volume)
-    → StreamsSoFar number all rest old now before after → rest ≡ [] → AnswersEach 0 (map calls_of all) old now before after
+    → StreamsSoFar number all rest old now before after → rest ≡ [] → AnswersEach 0 (map stream_calls all) old now before after
 streams_all number all rest old now before after far none =
-    subst (λ xs. AnswersEach 0 (map calls_of xs) old now before after) (sym (far.cut ∙ ap (λ xs. far.done ++ xs) none ∙ append-nil far.done)) far.answers
+    subst (λ xs. AnswersEach 0 (map stream_calls xs) old now before after) (sym (far.cut ∙ ap (λ xs. far.done ++ xs) none ∙ append-nil far.done)) far.answers
 
 -- as many calls as the stream is
-call_count-of : (s : Stream) → length (calls_of s) ≡ stream_calls s
+call_count-of : (s : Stream) → length (stream_calls s) ≡ stream_length s
 call_count-of (stream.Frames frames) = length-map frames call_of
 call_count-of (stream.Control commands) = length-map commands call.Command
 
-pub call_count-in : (ss : List Stream) → call_count (map calls_of ss) ≡ sum_by stream_calls ss
+pub call_count-in : (ss : List Stream) → call_count (map stream_calls ss) ≡ sum_by stream_length ss
 call_count-in [] = refl
-call_count-in (s ∷ ss) = omega (arith, call_count-of s, call_count-in ss, sum_by-cons stream_calls s ss)
+call_count-in (s ∷ ss) = omega (arith, call_count-of s, call_count-in ss, sum_by-cons stream_length s ss)
 
 -- The number of the head leaves room for the calls to come.
 pub streams_number : (number : ℕ) (all rest : List Stream) (old now : Book) (before after : Volume)
     → StreamsSoFar number all rest old now before after
-    → after.snapshots.number + sum_by stream_calls rest ≤ before.snapshots.number + sum_by stream_calls all
+    → after.snapshots.number + sum_by stream_length rest ≤ before.snapshots.number + sum_by stream_length all
 streams_number number all rest old now before after far =
     omega (
       arith,
-      ap (λ (s : Spot). s.state.volume.snapshots.number) (behind_all (map calls_of far.done) old now before after far.answers),
-      streams_raise (spot_of old before) (map calls_of far.done),
+      ap (λ (s : Spot). s.state.volume.snapshots.number) (behind_all (map stream_calls far.done) old now before after far.answers),
+      streams_raise (spot_of old before) (map stream_calls far.done),
       call_count-in far.done,
-      ap (sum_by stream_calls) far.cut,
-      sum_by-append stream_calls far.done rest,
+      ap (sum_by stream_length) far.cut,
+      sum_by-append stream_length far.done rest,
     )

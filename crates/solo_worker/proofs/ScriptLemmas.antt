@@ -21,13 +21,13 @@ use Rattle.script_text.proofs.StreamLemmas.{All-asked}
 use Rattle.volume_model.specs.declared.call.Call.TheVariants as call
 use Rattle.volume_model.specs.declared.mode.Mode.TheVariants.{Rw}
 use Rattle.volume_model.specs.OneWorker.{IsProper, AreProper, AllProper}
-use Rattle.solo_worker.specs.Volume.{opening_of, calls_of, IsOfCalls, LeavesReplicas}
+use Rattle.solo_worker.specs.Volume.{opening_of, stream_calls, IsOfCalls, LeavesReplicas}
 
 -- one replica, which is read and written
 pub replica_count : (input : List ℕ) (script : Script) → IsScript input script → script.replicas ≡ 1
 replica_count input script is =
     let r = is.headed.says.2.replicas in
-    ap (λ s. s.replicas) is.members ∙ only is.head.replicas r.1 r.2
+    is.replicas ∙ only is.head.replicas r.1 r.2
   where
     only : (n : ℕ) → 1 ≤ n → n ≤ 1 → n ≡ 1
     only n low high = omega arith
@@ -102,7 +102,7 @@ frames_leave : (frames : List Frame) → All (λ f. LeavesReplicas (call_of f)) 
 frames_leave [] = All-nil (λ f. LeavesReplicas (call_of f))
 frames_leave (f ∷ fs) = All-cons (λ f. LeavesReplicas (call_of f)) f fs (frame_leaves f) (frames_leave fs)
 
-pub calls_leave : (s : Stream) → IsOfCalls s → All LeavesReplicas (calls_of s)
+pub calls_leave : (s : Stream) → IsOfCalls s → All LeavesReplicas (stream_calls s)
 calls_leave (stream.Frames frames) are = All-map LeavesReplicas call_of frames (frames_leave frames)
 calls_leave (stream.Control commands) are =
     All-map LeavesReplicas call.Command commands (All-weaker HasGoodName (λ c. LeavesReplicas (call.Command c)) command_leaves commands are)
@@ -137,10 +137,10 @@ commands_proper replicas [] are = tt
 commands_proper replicas (c ∷ cs) are =
     (command_proper replicas c (All-head HasGoodName c cs are), commands_proper replicas cs (All-tail HasGoodName c cs are))
 
-calls_proper : (replicas : ℕ) (s : Stream) → IsOfCalls s → AreProper replicas (calls_of s)
+calls_proper : (replicas : ℕ) (s : Stream) → IsOfCalls s → AreProper replicas (stream_calls s)
 calls_proper replicas (stream.Frames frames) are = frames_proper replicas frames
 calls_proper replicas (stream.Control commands) are = commands_proper replicas commands are
 
-pub all_proper : (replicas : ℕ) (ss : List Stream) → All IsOfCalls ss → AllProper replicas (map calls_of ss)
+pub all_proper : (replicas : ℕ) (ss : List Stream) → All IsOfCalls ss → AllProper replicas (map stream_calls ss)
 all_proper replicas [] are = tt
 all_proper replicas (s ∷ ss) are = (calls_proper replicas s (All-head IsOfCalls s ss are), all_proper replicas ss (All-tail IsOfCalls s ss are))

@@ -15,7 +15,7 @@ use Rattle.volume_model.specs.OneWorker.{served, served_streams}
 use Rattle.script_text.specs.declared.script.Script.{Script}
 use Rattle.script_text.specs.declared.script.Stream.{Stream}
 use Rattle.script_text.specs.Script.{IsScript}
-use Rattle.solo_worker.specs.Volume.{opening_of, calls_of, calls_in}
+use Rattle.solo_worker.specs.Volume.{opening_of, stream_calls, calls_in}
 use Rattle.solo_worker.specs.Serving.{spot_of, IsReady, AnswersEach}
 use Rattle.solo_worker.proofs.ScriptLemmas.{one_replica}
 
@@ -45,14 +45,14 @@ pub record Serves (script : Script) (book : Book) (after : Volume) : Type 0 wher
   pub disk : after ≡ (replay (opening_of script).state book.entries).volume
 
 pub serves : (script : Script) (old new : Book) (before after : Volume) (streams : List Stream) → old.entries ≡ [] → spot_of old before ≡ opening_of script
-    → streams ≡ script.streams → AnswersEach 0 (map calls_of streams) old new before after → Serves script new after
+    → streams ≡ script.streams → AnswersEach 0 (map stream_calls streams) old new before after → Serves script new after
 serves script old new before after streams none at all done =
     let journal : new.entries ≡ served (opening_of script) (calls_in script) =
-    done.entries ∙ from_start old.entries (spot_of old before) (opening_of script) (map calls_of streams) (calls_in script) none at (ap (map calls_of) all) in
+    done.entries ∙ from_start old.entries (spot_of old before) (opening_of script) (map stream_calls streams) (calls_in script) none at (ap (map stream_calls) all) in
     record {
       journal = journal;
       disk = done.volume
-          ∙ left old.entries (spot_of old before) (opening_of script) (map calls_of streams) (calls_in script) none at (ap (map calls_of) all)
+          ∙ left old.entries (spot_of old before) (opening_of script) (map stream_calls streams) (calls_in script) none at (ap (map stream_calls) all)
           ∙ ap (λ es. (replay (opening_of script).state es).volume) (sym journal);
     }
   where

@@ -21,9 +21,9 @@ abbrev pub opening_of : Script → Spot
 opening_of script = record { state = state_of (zeros script.size); modes = replicate script.replicas Rw }
 
 -- what a stream calls
-abbrev pub calls_of : Stream → List Call
-calls_of (stream.Frames frames) = map call_of frames
-calls_of (stream.Control commands) = map call.Command commands
+abbrev pub stream_calls : Stream → List Call
+stream_calls (stream.Frames frames) = map call_of frames
+stream_calls (stream.Control commands) = map call.Command commands
 
 -- the headers of the frames that ask it: commands have none
 abbrev pub heads_of : Stream → List Head
@@ -32,7 +32,7 @@ heads_of (stream.Control commands) = []
 
 -- the same of each stream
 abbrev pub calls_in : Script → List (List Call)
-calls_in script = map calls_of script.streams
+calls_in script = map stream_calls script.streams
 
 abbrev pub heads_in : Script → List (List Head)
 heads_in script = map heads_of script.streams

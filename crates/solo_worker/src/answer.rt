@@ -2,13 +2,13 @@ ghost use Rattle.std.specs.Prelude.{◌≡◌, ◌+◌, ◌^◌, ◌<◌, ◌≤
 ghost use Rattle.command_text.specs.Commands.{HasGoodName};
 ghost use Rattle.frame_stream.specs.Asked.{asked_of, call_of};
 ghost use Rattle.frame_stream.specs.declared.asked.Asked.TheVariants as asked;
-ghost use Rattle.script_text.specs.Streams.{call_count};
+ghost use Rattle.script_text.specs.Streams.{stream_length};
 ghost use Rattle.volume_model.specs.declared.call.Call.TheVariants as call;
 ghost use Rattle.journal_book.specs.Book.{names_of};
 ghost use Rattle.volume_model.specs.Names.{names_in};
 ghost use Rattle.volume_model.specs.PlainStep.{name_refusal, plain_step};
 ghost use Rattle.solo_worker.specs.Serving.{AnswersCalls, AnswersEach, IsReady, spot_of};
-ghost use Rattle.solo_worker.specs.Volume.{calls_of, AreCalls, IsOfCalls, LeavesReplicas};
+ghost use Rattle.solo_worker.specs.Volume.{stream_calls, AreCalls, IsOfCalls, LeavesReplicas};
 
 use crate::purge::make_marks;
 use frame_stream::{Asked, Frame, of_frame};
@@ -27,9 +27,9 @@ pub(crate) fn answer_streams(
     requires few { length streams.items ≤ 16 }
     requires calls { All IsOfCalls streams.items }
     requires ready { IsReady (spot_of journal.old disk.old) }
-    requires number { disk.old.snapshots.number + sum_by call_count streams.items < 2 ^ 64 }
+    requires number { disk.old.snapshots.number + sum_by stream_length streams.items < 2 ^ 64 }
     ensures { OnOk result
-        (AnswersEach 0 (map calls_of streams.items) journal.old journal.new disk.old disk.new) }
+        (AnswersEach 0 (map stream_calls streams.items) journal.old journal.new disk.old disk.new) }
 {
     let mut number = 0;
     for stream in streams {
@@ -49,8 +49,8 @@ fn answer_stream(
 ) -> Result<(), AllocError>
     requires calls { IsOfCalls stream }
     requires ready { IsReady (spot_of journal.old disk.old) }
-    requires number { disk.old.snapshots.number + call_count stream < 2 ^ 64 }
-    ensures { OnOk result (AnswersCalls number 0 (calls_of stream) journal.old journal.new disk.old disk.new) }
+    requires number { disk.old.snapshots.number + stream_length stream < 2 ^ 64 }
+    ensures { OnOk result (AnswersCalls number 0 (stream_calls stream) journal.old journal.new disk.old disk.new) }
 {
     match stream {
         Stream::Frames(frames) => answer_frames(alloc, number, frames.into_vec(), journal, disk),

@@ -1,7 +1,7 @@
 use Rattle.std.proofs.Common.{◌≡◌, ◌≤◌, Some, length, arith, refl, rules}
 use Rattle.serde_json.specs.Find.{as_array}
 use Rattle.serde_json.specs.View.{view, items_view}
-use Rattle.script_head.specs.Limits.{most_commands}
+use Rattle.script_head.specs.Limits.{most_calls}
 use Rattle.script_head.specs.declared.member.Member.TheVariants.{Streams}
 use Rattle.script_head.specs.Members.{IsCommandItem}
 use Rattle.script_head.specs.Values.{AreItems, HasItems}
@@ -9,8 +9,8 @@ use Rattle.script_head.proofs.Lists.{items_there, length-AreItems}
 use Rattle.script_head.proofs.Readers.{Reads-along}
 use Rattle.script_head.proofs.streams.commands_in.Goals as goal
 
-pub returns-then-len-gt-MOST_COMMANDS : goal.returns-then-len-gt-MOST_COMMANDS
-returns-then-len-gt-MOST_COMMANDS c =
+pub returns-then-len-gt-MOST_CALLS : goal.returns-then-len-gt-MOST_CALLS
+returns-then-len-gt-MOST_CALLS c =
     let vs = c.in_ok-items.items.now.items in
     let there : as_array (view c.args.control.now) ≡ Some (items_view vs) = search rules in
     (refl, λ commands has. omega (arith, length-AreItems IsCommandItem vs commands (items_there IsCommandItem (Some (view c.args.control.now)) vs commands there has.0)))
@@ -19,7 +19,7 @@ pub returns : goal.returns
 returns c =
     let vs = c.in_ok-items.items.now.items in
     let there : as_array (view c.args.control.now) ≡ Some (items_view vs) = search rules in
-    Reads-along Streams (AreItems IsCommandItem (items_view vs)) (λ commands. HasItems IsCommandItem (Some (view c.args.control.now)) commands × (length commands ≤ most_commands))
+    Reads-along Streams (AreItems IsCommandItem (items_view vs)) (λ commands. HasItems IsCommandItem (Some (view c.args.control.now)) commands × (length commands ≤ most_calls))
     c.commands_from.result
     (λ commands are. ((items_view vs, there, are), omega (arith, length-AreItems IsCommandItem vs commands are)))
     (λ commands has. items_there IsCommandItem (Some (view c.args.control.now)) vs commands there has.0)

@@ -1,6 +1,6 @@
 use Rattle.std.proofs.Common.{◌≡◌, ◌-◌, ◌≤◌, ◌∙◌, length, sum_by}
 use Rattle.script_head.specs.Head.{byte_count, command_count}
-use Rattle.script_text.specs.Limits.{most_calls}
+use Rattle.script_head.specs.Limits.{most_calls}
 use Rattle.script_text.proofs.StreamsLemmas.{answers_body}
 use Rattle.script_text.proofs.script.read_body.Goals as goal
 

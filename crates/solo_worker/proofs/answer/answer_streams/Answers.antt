@@ -2,7 +2,7 @@ use Rattle.std.proofs.Common.{◌≡◌, ◌+◌, ◌^◌, ◌∷◌, ◌∙◌,
 use Rattle.std.specs.List.{sum_by}
 use Rattle.std.specs.Vec.Iter.{into_iter_items}
 use Rattle.std.proofs.lemmas.List.Sums.{sum_by-cons}
-use Rattle.script_text.specs.Streams.{call_count}
+use Rattle.script_text.specs.Streams.{stream_length}
 use Rattle.solo_worker.proofs.AnswerLemmas.{StreamsSoFar, streams_more, streams_number, some_numbers}
 use Rattle.solo_worker.proofs.answer.answer_streams.Goals as goal
 
@@ -10,10 +10,10 @@ pub answer_stream-requires-clause-number : goal.answer_stream-requires-clause-nu
 answer_stream-requires-clause-number c =
     let rest = into_iter_items c.next.new.self in
     let cut : into_iter_items c.loop-stream.stream-iterator ≡ c.in-Some.stream ∷ rest = c.in-Some.ensures.steps.0 in
-    some_numbers c.loop-stream.disk.snapshots.number (sum_by call_count (into_iter_items c.loop-stream.stream-iterator)) (call_count c.in-Some.stream)
-    (sum_by call_count rest) (c.args.disk.now.snapshots.number + sum_by call_count c.args.streams.items) (2 ^ 64)
+    some_numbers c.loop-stream.disk.snapshots.number (sum_by stream_length (into_iter_items c.loop-stream.stream-iterator)) (stream_length c.in-Some.stream)
+    (sum_by stream_length rest) (c.args.disk.now.snapshots.number + sum_by stream_length c.args.streams.items) (2 ^ 64)
     (streams_number c.loop-stream.number c.args.streams.items _ _ _ _ _ c.loop-stream.invariant)
-    (ap (sum_by call_count) cut ∙ sum_by-cons call_count c.in-Some.stream rest) c.requires.number
+    (ap (sum_by stream_length) cut ∙ sum_by-cons stream_length c.in-Some.stream rest) c.requires.number
 
 pub loop-stream-preserved : goal.loop-stream-preserved
 loop-stream-preserved c =

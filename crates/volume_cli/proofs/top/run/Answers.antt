@@ -1,5 +1,5 @@
 use Rattle.std.proofs.Common.{refl, subst}
-use Rattle.script_text.specs.Script.{Refuses}
+use Rattle.script_text.specs.Script.{RefusesInput}
 use Rattle.volume_cli.proofs.Run.{had_no_script, is_run, one_mode, written_is, leaves, run_counts}
 use Rattle.volume_cli.proofs.Refusals.{refused_leaves}
 use Rattle.volume_cli.proofs.top.run.Goals as goal
@@ -10,7 +10,7 @@ returns-in_err-script-clause-leaves g c =
     let fault = c.in_err-script.field-0.0 in
     refused_leaves c.from_residual-in_err-script.result fault _ _ _ _ c.from_residual-in_err-script.ensures.1 refl
     (λ place why is. had_no_script _ _ input place why c.in_ok-input.ensures.bytes c.in_ok-input.ensures.whole
-    (subst (Refuses input) is c.in_err-script.ensures.refused))
+    (subst (RefusesInput input) is c.in_err-script.ensures.refused))
 
 pub returns-clause-leaves : goal.returns-clause-leaves
 returns-clause-leaves g c =
