@@ -1,6 +1,6 @@
 -- What the first line of a script says, and why a line says nothing.
 -- JSON is read by serde_json's definition, with its depth of 127.
-use Rattle.std.specs.Prelude.{◌≡◌, List, ℕ, length, true, IsUtf8, Some, Result, MatchResult, is_some}
+use Rattle.std.specs.Prelude.{◌≡◌, List, ℕ, length, Bool, true, codes, IsUtf8, Some, Result, MatchResult, is_some}
 use Rattle.serde_json.specs.Data.{Data}
 use Rattle.serde_json.specs.Find.{as_object}
 use Rattle.serde_json.specs.Read.{read}
@@ -10,8 +10,8 @@ use Rattle.script_head.specs.declared.head.ScriptHead.{ScriptHead}
 use Rattle.script_head.specs.declared.head.StreamHead.{StreamHead}
 use Rattle.script_head.specs.declared.head.StreamHead.TheVariants as stream
 use Rattle.script_head.specs.declared.member.Member.{Member}
-use Rattle.script_head.specs.declared.member.Member.TheVariants.{Open, Save, Lines}
-use Rattle.script_head.specs.Members.{HasVolume, HasSize, HasReplicas, HasNow, HasStreams, IsGood, in_order, IsFirstBadOf}
+use Rattle.script_head.specs.Limits.{may_open, may_save}
+use Rattle.script_head.specs.Members.{HasVolume, HasSize, HasReplicas, HasFlag, HasNow, HasStreams, HasLines, in_order, IsFirstBadOf}
 
 -- how many bytes of the input a stream has
 abbrev pub byte_count : StreamHead → ℕ
@@ -34,11 +34,11 @@ pub record IsScriptHead (d : Data) (head : ScriptHead) : Type 0 where
   pub volume : HasVolume d head.volume
   pub size : HasSize d head.size
   pub replicas : HasReplicas d head.replicas
-  pub open_flag : IsGood d Open
-  pub save_flag : IsGood d Save
+  pub open_flag : (flag : Bool) × HasFlag d (codes "open") may_open flag
+  pub save_flag : (flag : Bool) × HasFlag d (codes "save") may_save flag
   pub now : HasNow d head.now
   pub streams : HasStreams d head.streams
-  pub lines : IsGood d Lines
+  pub lines : (count : ℕ) × HasLines d count
 
 -- it is the object's first member, in their order, that is missing or has another value
 abbrev pub IsFirstBad : Data → Member → Type 0
