@@ -1,5 +1,5 @@
 -- What the answering of calls leaves: of the journal, and of the volume.
-use Rattle.std.specs.Prelude.{◌≡◌, ℕ, List, ◌++◌, length}
+use Rattle.std.specs.Prelude.{◌≡◌, ℕ, List, [], ◌++◌, length}
 use Rattle.journal_book.specs.Book.{Book, modes_of, names_of}
 use Rattle.volume_model.specs.declared.call.Call.{Call}
 use Rattle.volume_model.specs.declared.entry.Entry.{Entry}
@@ -16,7 +16,10 @@ use Rattle.solo_worker.specs.Volume.{opening_of, heads_in, calls_in}
 
 -- where the worker stands with this journal and this volume
 abbrev pub spot_of : Book → Volume → Spot
-spot_of book volume = record { state = record { volume = volume; used = names_in (names_of book) }; modes = modes_of book }
+spot_of book volume = record {
+  state = record { volume = volume; used = names_in (names_of book) };
+  modes = modes_of book;
+}
 
 -- a replica is read and written, and the snapshots have names of their own
 pub record IsReady (spot : Spot) : Type 0 where
@@ -47,9 +50,12 @@ AnswersEach first streams old new before after =
 abbrev pub IsRead : Script → Type 0
 IsRead script = (input : List ℕ) × IsScript input script
 
--- The journal has the answers of the script's streams, one stream after another, and the volume is what the journal leaves.
+-- The journal begins with the head alone, on the script's replicas, with no name taken. It has the answers of the script's
+-- streams, one stream after another, and the volume is what the journal leaves.
 pub record IsServed (script : Script) (s : Served) : Type 0 where
   pub heads : s.heads.items ≡ heads_in script
   pub modes : s.journal.opening.modes ≡ (opening_of script).modes
+  pub layers : s.journal.opening.layers ≡ 1
+  pub names : s.journal.opening.names ≡ []
   pub journal : s.journal.entries ≡ served (opening_of script) (calls_in script)
   pub disk : s.disk ≡ (replay (opening_of script).state s.journal.entries).volume

@@ -41,6 +41,7 @@ pub fn serve(alloc: Global, script: Script) -> Result<Served, AllocError>
 fn opening(alloc: Global, replicas: u8) -> Opening
     requires { replicas ≤ 8 }
     ensures modes { result.modes ≡ replicate replicas Rw }
+    ensures layers { result.layers ≡ 1 }
     ensures names { result.names ≡ [] }
 {
     Opening {
