@@ -4,3 +4,4 @@ pub mod StreamLemmas
 pub mod StreamsLemmas
 pub mod OneStream
 pub mod OneAnswer
+pub mod KeptLemmas

@@ -1,12 +1,12 @@
 -- Lemmas on specs/Streams.antt, for one stream.
-use Rattle.std.proofs.Common.{◌≡◌, ◌≢◌, ◌==◌, ◌∙◌, ℕ, ◌+◌, ◌-◌, ◌≤◌, Bool, false, cond, List, [], length, refl, sym, ap, inr, arith, length-append}
-use Rattle.std.proofs.lemmas.Bool.{eqb-false, ne_eqb}
+use Rattle.std.proofs.Common.{◌≡◌, ◌≢◌, ◌==◌, ◌∙◌, ℕ, ◌+◌, ◌-◌, ◌≤◌, Bool, true, false, cond, List, [], ◌∷◌, length, refl, sym, ap, inl, inr, arith, length-append}
+use Rattle.std.proofs.lemmas.Bool.{eqb-false, eqb-true, ne_eqb}
 use Rattle.std.specs.List.{All}
 use Rattle.std.proofs.lemmas.List.Elements.{All-weaker}
 use Rattle.frame_stream.specs.declared.asked.Asked.TheVariants.{Call, End}
 use Rattle.frame_stream.specs.declared.frame.Frame.{Frame}
 use Rattle.script_text.specs.declared.what.What.TheVariants as what
-use Rattle.script_text.specs.Frames.{spelled, spellings, IsClose, IsCall, BeginsWithFrame, BeginWithCalls}
+use Rattle.script_text.specs.Frames.{spelled, spellings, IsClose, IsCall, BeginsWithFrame, HasNoFrame, BeginWithCalls}
 use Rattle.frame_stream.specs.Asked.{close_kind, asked_of, call_of}
 use Rattle.script_text.specs.Streams.{IsNoStream}
 
@@ -14,10 +14,19 @@ use Rattle.script_text.specs.Streams.{IsNoStream}
 pub some_bytes : (bytes : List ℕ) (empty : Bool) → empty ≡ (length bytes == 0) → empty ≡ false → bytes ≢ []
 some_bytes bytes empty is none = λ nothing. eqb-false _ _ (sym is ∙ none) (ap length nothing)
 
+-- and none are
+pub no_bytes : (bytes : List ℕ) → true ≡ (length bytes == 0) → bytes ≡ []
+no_bytes [] is = refl
+no_bytes (b ∷ bs) is = absurd (omega (arith, eqb-true _ _ (sym is)))
+
 module _ (room place end : ℕ) (bytes : List ℕ) (frames : List Frame) (rest : List ℕ) (begin : BeginWithCalls bytes frames rest)
     (few : length frames ≤ room) (to : end ≡ place + length bytes) where
   length_front : length bytes ≡ length (spellings frames) + length rest
   length_front = ap length begin.text ∙ length-append (spellings frames) rest
+
+  -- no whole frame stands there
+  pub bad_here : rest ≢ [] → HasNoFrame rest → IsNoStream room place bytes (end - length rest) what.Frame
+  bad_here some none = (frames, rest, begin, few, inl (some, none, omega (arith, length_front)))
 
   -- bytes go on behind a frame that ends the stream
   pub bad_behind_close : (f : Frame) (more : List ℕ) → BeginsWithFrame rest f more → IsClose f → more ≢ [] → IsNoStream room place bytes (end - length more) what.Frame

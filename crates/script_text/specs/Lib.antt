@@ -4,3 +4,4 @@ pub mod Line
 pub mod Streams
 pub mod Script
 pub mod Refusals
+pub mod Kept

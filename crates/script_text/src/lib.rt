@@ -2,6 +2,7 @@
 #![tactic(auto)]
 
 mod error;
+mod frames;
 pub mod laws;
 mod line;
 mod script;
@@ -11,10 +12,10 @@ mod what;
 
 pub use error::ScriptError;
 pub use frame_stream::{Asked, Bytes, Call, Frame, Head, of_frame};
+pub use frames::{FrameReader, Frames, MOST_DATA};
 pub use script::{Script, Stream, read_script};
 pub use script_head::limits::{MOST_CALLS, MOST_INPUT};
 pub use script_head::{Command, Member, Sequence, TimeText};
-pub use stream::MOST_DATA;
 pub use vol_units::{PlainName, VolumeSize};
 pub use what::What;
 

@@ -5,10 +5,11 @@ ghost use Rattle.script_text.specs.Script.{IsScript, RefusesInput, AnswersInput}
 ghost use Rattle.script_text.specs.Streams.{frame_count};
 
 use crate::error::ScriptError;
+use crate::frames::Frames;
 use crate::line::line_length;
 use crate::streams::{other_end, read_streams, room_beside};
 use crate::what::What;
-use frame_stream::{Bytes, Frame};
+use frame_stream::Bytes;
 use script_head::limits::MOST_INPUT;
 use script_head::{Command, ScriptHead, Sequence, StreamHead, TimeText, read_head};
 use std::alloc::Global;
@@ -18,7 +19,7 @@ use vol_units::{PlainName, VolumeSize};
 #[derive(Debug, Drop)]
 pub enum Stream {
     /// The frames that are calls, in their order.
-    Frames(Sequence<Frame>),
+    Frames(Frames),
     /// The commands, in their order.
     Control(Sequence<Command>),
 }

@@ -1,0 +1,64 @@
+-- Lemmas on specs/Kept.antt.
+use Rattle.std.proofs.Common.{◌≡◌, ◌∙◌, ℕ, suc, ◌+◌, ◌≤◌, List, [], ◌∷◌, ◌++◌, length, map, take, drop, refl, sym, ap, subst, arith, append_assoc}
+use Rattle.std.proofs.Math.Seq.{drop-append_seam, drop-append-add}
+use Rattle.std.proofs.lemmas.List.{take-append-drop, length-take-le}
+use Rattle.frame_wire.specs.declared.head.Head.{Head}
+use Rattle.frame_wire.specs.Spelling.{header_length, header}
+use Rattle.frame_wire.specs.Decoding.{HoldsFrame}
+use Rattle.volume_model.specs.PlainStep.{longest_call}
+use Rattle.frame_stream.specs.declared.frame.Frame.{Frame}
+use Rattle.script_text.specs.Frames.{IsClose, BeginsWithFrame, BeginWithCalls}
+use Rattle.script_text.specs.Kept.{span, frame_under, frames_under, behind, HoldFrames}
+use Rattle.script_text.proofs.FramesLemmas.{one_call_more}
+
+-- one more header takes the frame that stands behind those before
+pub behind-push : (hs : List Head) (h : Head) (bytes : List ℕ) → behind (hs ++ h ∷ []) bytes ≡ drop (span h) (behind hs bytes)
+behind-push [] h bytes = refl
+behind-push (g ∷ gs) h bytes = behind-push gs h (drop (span g) bytes)
+
+pub frames-push : (hs : List Head) (h : Head) (bytes : List ℕ) → frames_under (hs ++ h ∷ []) bytes ≡ frames_under hs bytes ++ frame_under h (behind hs bytes) ∷ []
+frames-push [] h bytes = refl
+frames-push (g ∷ gs) h bytes = ap (λ fs. frame_under g bytes ∷ fs) (frames-push gs h (drop (span g) bytes))
+
+pub holds-push : (hs : List Head) (h : Head) (bytes : List ℕ) → HoldFrames hs bytes → span h ≤ length (behind hs bytes) → HoldFrames (hs ++ h ∷ []) bytes
+holds-push [] h bytes holds more = (more, tt)
+holds-push (g ∷ gs) h bytes holds more = (holds.0, holds-push gs h (drop (span g) bytes) holds.1 more)
+
+-- there are as many frames as headers, and these are theirs
+pub length-frames : (hs : List Head) (bytes : List ℕ) → length (frames_under hs bytes) ≡ length hs
+length-frames [] bytes = refl
+length-frames (h ∷ hs) bytes = ap suc (length-frames hs (drop (span h) bytes))
+
+pub heads-frames : (hs : List Head) (bytes : List ℕ) → map (λ (f : Frame). f.head) (frames_under hs bytes) ≡ hs
+heads-frames [] bytes = refl
+heads-frames (h ∷ hs) bytes = ap (λ l. h ∷ l) (heads-frames hs (drop (span h) bytes))
+
+-- bytes that hold a frame begin with the one of its header
+pub front_frame : (bytes : List ℕ) (h : Head) → HoldsFrame bytes longest_call h → BeginsWithFrame bytes (frame_under h bytes) (drop (span h) bytes)
+front_frame bytes h (rest, begin, long, most) =
+    let n : length (header h) ≡ header_length = omega arith in
+    let after : drop header_length bytes ≡ rest = subst (λ k. drop k bytes ≡ rest) n (ap (drop (length (header h))) begin.whole ∙ drop-append_seam (header h) rest) in
+    let more : drop (span h) bytes ≡ drop h.len rest =
+    subst (λ k. drop (k + h.len) bytes ≡ drop h.len rest) n (ap (drop (length (header h) + h.len)) begin.whole ∙ drop-append-add (header h) rest h.len) in
+    record {
+      whole = record { head = begin.head; body = length-take-le h.len (drop header_length bytes) (omega (arith, ap length after, long)); most = most };
+      text =
+          begin.whole ∙ ap (λ l. header h ++ l) (sym (take-append-drop h.len rest)) ∙ sym (append_assoc (header h) (take h.len rest) (drop h.len rest))
+          ∙ ap (λ l. (header h ++ take h.len l) ++ drop h.len rest) (sym after) ∙ ap (λ l. (header h ++ take h.len (drop header_length bytes)) ++ l) (sym more);
+    }
+
+-- one call more is kept by its header
+pub one_frame_more : (bytes : List ℕ) (hs : List Head) (h : Head) (rest : List ℕ) → BeginWithCalls bytes (frames_under hs bytes) rest → HoldFrames hs bytes → rest ≡ behind hs bytes
+    → BeginsWithFrame rest (frame_under h rest) (drop (span h) rest) → span h ≤ length rest → (IsClose (frame_under h rest) → ⊥)
+    → BeginWithCalls bytes (frames_under (hs ++ h ∷ []) bytes) (drop (span h) rest) × HoldFrames (hs ++ h ∷ []) bytes × (drop (span h) rest ≡ behind (hs ++ h ∷ []) bytes)
+one_frame_more bytes hs h rest begin holds is front within calls =
+    let at = behind hs bytes in
+    let begins = subst (λ r. BeginWithCalls bytes (frames_under hs bytes) r) is begin in
+    let stands = subst (λ r. BeginsWithFrame r (frame_under h r) (drop (span h) r)) is front in
+    let more =
+    subst (λ fs. BeginWithCalls bytes fs (drop (span h) at)) (sym (frames-push hs h bytes))
+        (one_call_more bytes (frames_under hs bytes) (frame_under h at) at (drop (span h) at) begins stands calls) in (
+      subst (λ r. BeginWithCalls bytes (frames_under (hs ++ h ∷ []) bytes) (drop (span h) r)) (sym is) more,
+      holds-push hs h bytes holds (subst (λ r. span h ≤ length r) is within),
+      ap (drop (span h)) is ∙ sym (behind-push hs h bytes),
+    )

@@ -1,0 +1,28 @@
+-- How the frames of a stream are kept: their headers, and the bytes that they begin.
+use Rattle.std.specs.Prelude.{ℕ, ◌+◌, ◌≤◌, List, [], ◌∷◌, length, take, drop}
+use Rattle.frame_wire.specs.declared.head.Head.{Head}
+use Rattle.frame_wire.specs.Spelling.{header_length}
+use Rattle.frame_stream.specs.declared.frame.Frame.{Frame}
+
+-- how many bytes the frame of a header takes
+abbrev pub span : Head → ℕ
+span h = header_length + h.len
+
+-- the frame of a header that stands at the front of the bytes
+abbrev pub frame_under : Head → List ℕ → Frame
+frame_under h bytes = record { head = h; body = take h.len (drop header_length bytes) }
+
+-- the frames of these headers, one after another from the front of the bytes
+abbrev pub frames_under : List Head → List ℕ → List Frame
+frames_under [] bytes = []
+frames_under (h ∷ hs) bytes = frame_under h bytes ∷ frames_under hs (drop (span h) bytes)
+
+-- what stands behind them
+abbrev pub behind : List Head → List ℕ → List ℕ
+behind [] bytes = bytes
+behind (h ∷ hs) bytes = behind hs (drop (span h) bytes)
+
+-- the bytes hold them all
+abbrev pub HoldFrames : List Head → List ℕ → Type 0
+HoldFrames [] bytes = Unit {0}
+HoldFrames (h ∷ hs) bytes = (span h ≤ length bytes) × HoldFrames hs (drop (span h) bytes)
