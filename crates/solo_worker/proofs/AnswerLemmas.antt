@@ -177,3 +177,9 @@ streams_number number all rest old now before after far =
       ap (sum_by stream_length) far.cut,
       sum_by-append stream_length far.done rest,
     )
+
+-- what is kept of each, once one more is
+pub one_kept : {X Y : Type 0} (of : X → Y) (all rest : List X) (x : X) (y : Y) (kept more : List Y) → more ≡ kept ++ y ∷ [] → y ≡ of x
+    → kept ++ map of (x ∷ rest) ≡ map of all → more ++ map of rest ≡ map of all
+one_kept of all rest x y kept more pushed is so_far =
+    ap (λ ys. ys ++ map of rest) pushed ∙ append_assoc kept (y ∷ []) (map of rest) ∙ ap (λ z. kept ++ z ∷ map of rest) is ∙ so_far

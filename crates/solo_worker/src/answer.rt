@@ -8,54 +8,62 @@ ghost use Rattle.journal_book.specs.Book.{names_of};
 ghost use Rattle.volume_model.specs.Names.{names_in};
 ghost use Rattle.volume_model.specs.PlainStep.{name_refusal, plain_step};
 ghost use Rattle.solo_worker.specs.Serving.{AnswersCalls, AnswersEach, IsReady, spot_of};
-ghost use Rattle.solo_worker.specs.Volume.{stream_calls, AreCalls, IsOfCalls, LeavesReplicas};
+ghost use Rattle.solo_worker.specs.Volume.{stream_calls, heads_of, AreCalls, IsOfCalls, LeavesReplicas};
 
 use crate::purge::make_marks;
 use frame_stream::{Asked, Frame, of_frame};
+use frame_wire::Head;
 use journal_book::{Answer, Call, Command, Entry, Journal, LayerName, Refusal, Reply};
 use replica_disk::ReplicaDisk;
-use script_text::Stream;
+use script_text::{Frames, Sequence, Stream};
 use std::alloc::{AllocError, Global};
 
-/// AnswersCalls the calls of the streams, one stream after another.
+/// Answers the calls of the streams, one stream after another, and gives back the headers of each stream's frames.
 pub(crate) fn answer_streams(
     alloc: Global,
     streams: Vec<Stream>,
     journal: &mut Journal,
     disk: &mut ReplicaDisk,
-) -> Result<(), AllocError>
+) -> Result<Vec<Sequence<Head>>, AllocError>
     requires few { length streams.items ≤ 16 }
     requires calls { All IsOfCalls streams.items }
     requires ready { IsReady (spot_of journal.old disk.old) }
     requires number { disk.old.snapshots.number + sum_by stream_length streams.items < 2 ^ 64 }
-    ensures { OnOk result
+    ensures answers { OnOk result
         (AnswersEach 0 (map stream_calls streams.items) journal.old journal.new disk.old disk.new) }
+    ensures heads { IfOk result (λ heads. heads.items ≡ map heads_of streams.items) }
 {
+    let mut heads = Vec::new(alloc);
     let mut number = 0;
     for stream in streams {
-        answer_stream(alloc, number, stream, journal, disk)?;
+        heads.push(answer_stream(alloc, number, stream, journal, disk)?)?;
         number += 1;
     }
-    Ok(())
+    Ok(heads)
 }
 
-/// AnswersCalls the calls of the stream of this number.
+/// Answers the calls of the stream of this number, and gives back the headers of its frames.
 fn answer_stream(
     alloc: Global,
     number: u8,
     stream: Stream,
     journal: &mut Journal,
     disk: &mut ReplicaDisk,
-) -> Result<(), AllocError>
+) -> Result<Sequence<Head>, AllocError>
     requires calls { IsOfCalls stream }
     requires ready { IsReady (spot_of journal.old disk.old) }
     requires number { disk.old.snapshots.number + stream_length stream < 2 ^ 64 }
-    ensures { OnOk result (AnswersCalls number 0 (stream_calls stream) journal.old journal.new disk.old disk.new) }
+    ensures answers { OnOk result (AnswersCalls number 0 (stream_calls stream) journal.old journal.new disk.old disk.new) }
+    ensures heads { IfOk result (λ heads. heads ≡ heads_of stream) }
 {
     match stream {
-        Stream::Frames(frames) => answer_frames(alloc, number, frames.into_vec(), journal, disk),
+        Stream::Frames(frames) => {
+            answer_frames(alloc, number, &frames, journal, disk)?;
+            Ok(Sequence::of(frames.into_heads()))
+        }
         Stream::Control(commands) => {
-            answer_commands(alloc, number, commands.into_vec(), journal, disk)
+            answer_commands(alloc, number, commands.into_vec(), journal, disk)?;
+            Ok(Sequence::of(Vec::new(alloc)))
         }
     }
 }
@@ -63,19 +71,19 @@ fn answer_stream(
 fn answer_frames(
     alloc: Global,
     stream: u8,
-    frames: Vec<Frame>,
+    frames: &Frames,
     journal: &mut Journal,
     disk: &mut ReplicaDisk,
 ) -> Result<(), AllocError>
-    requires calls { AreCalls frames.items }
+    requires calls { AreCalls frames.now }
     requires ready { IsReady (spot_of journal.old disk.old) }
-    requires number { disk.old.snapshots.number + length frames.items < 2 ^ 64 }
+    requires number { disk.old.snapshots.number + length frames.now < 2 ^ 64 }
     ensures { OnOk result
-        (AnswersCalls stream 0 (map call_of frames.items) journal.old journal.new disk.old disk.new) }
+        (AnswersCalls stream 0 (map call_of frames.now) journal.old journal.new disk.old disk.new) }
 {
-    journal.reserve(frames.len() as u64)?;
+    let mut left = frames.reader()?;
     let mut index = 0;
-    for frame in frames {
+    while let Some(frame) = left.next()? {
         answer(alloc, stream, index, call_in(frame), journal, disk)?;
         index += 1;
     }
@@ -104,7 +112,7 @@ fn answer_commands(
     Ok(())
 }
 
-/// AnswersCalls the call of a stream that has this index there.
+/// Answers the call of a stream that has this index there.
 fn answer(
     alloc: Global,
     stream: u8,

@@ -33,11 +33,11 @@ returns c =
     let modes = ap (λ (o : Opening). o.modes) c.new-journal.ensures.opening ∙ c.opening.ensures.modes in
     let names = ap (λ (o : Opening). o.names) c.new-journal.ensures.opening ∙ c.opening.ensures.names in
     let at = at_start c.args.script book c.in_ok-disk.disk modes names c.new-journal.ensures.entries c.in_ok-disk.ensures in
-    let added = c.in_ok-answer_streams.ensures in
+    let added = c.in_ok-heads.ensures.answers in
     let done = serves c.args.script book c.answer_streams.new.journal c.in_ok-disk.disk c.answer_streams.new.disk c.into_vec.result.items
     c.new-journal.ensures.entries at c.into_vec.ensures added in
     record {
-      heads = c.in_ok-heads.ensures ∙ ap (map heads_of) c.as_slice.ensures;
+      heads = c.in_ok-heads.ensures.heads ∙ ap (map heads_of) c.into_vec.ensures;
       modes = ap (λ (o : Opening). o.modes) added.opening ∙ modes;
       layers = ap (λ (o : Opening). o.layers) (added.opening ∙ c.new-journal.ensures.opening) ∙ c.opening.ensures.layers;
       names = ap (λ (o : Opening). o.names) added.opening ∙ names;
