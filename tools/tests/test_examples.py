@@ -41,9 +41,14 @@ class Examples(unittest.TestCase):
             self.assertTrue(lines[0].startswith('# '), name)
             self.assertEqual(script.show(script.make(''.join(lines))), ''.join(line for line in lines if line[0] != '#'), name)
 
-    def test_the_first_example_is_the_script_beside_it(self):
+    def test_stored_scripts_are_what_is_made(self):
+        for name, stored in (('first_steps', 'first.script'), ('snapshot_and_revert', 'snapshot_and_revert.script')):
+            with open(os.path.join(EXAMPLES, stored), 'rb') as file:
+                self.assertEqual(script.make(read(name + TEXT)), file.read())
+
+    def test_the_first_script_is_written_byte_by_byte_too(self):
         with open(os.path.join(EXAMPLES, 'first.script'), 'rb') as file:
-            self.assertEqual(script.make(read('first_steps' + TEXT)), file.read())
+            self.assertEqual(subprocess.run([os.path.join(EXAMPLES, 'make_first')], capture_output=True).stdout, file.read())
 
     def test_no_expected_output_has_anything_odd(self):
         for name in NAMES:
