@@ -17,8 +17,8 @@ LINK = re.compile(r'!?\[[^\[\]]*\]\(([^()\s]+)\)')
 REFERENCE = re.compile(r'\[[^\[\]]+\]\[([^\[\]]+)\]')
 TARGET = re.compile(r'\[([^\[\]]+)\]: +(\S+)$')
 CODE = re.compile(r'`([^`]*)`')
-# A cited definition: its name as code, and the label of the file that has it.
-CITED = re.compile(r'\[`([^`]+)`\]\[([^\[\]]+)\]')
+# Cited definitions: their names as code, and the label of the file that has them.
+CITED = re.compile(r'\[((?:`[^`]+`, )*`[^`]+`)\]\[([^\[\]]+)\]')
 # A path of the repository, with a definition file named as specs/NAME or specs/NAME.antt.
 FOLDERS = ('docs', 'examples', 'tools', 'bench', 'crates', '.ci')
 IN_CRATE = ('specs', 'src', 'proofs', 'must-fail')
@@ -136,10 +136,11 @@ def lost_definitions(path):
     text = read(TOP, path)
     labels, lost = targets(text), []
     for number, line in prose(text):
-        for name, label in CITED.findall(line):
-            end = os.path.join(os.path.dirname(path), labels[label].partition('#')[0])
-            if not defines(read(TOP, end), name):
-                lost.append('%s:%d: %s has no `%s`' % (path, number, os.path.normpath(end), name))
+        for names, label in CITED.findall(line):
+            end = os.path.normpath(os.path.join(os.path.dirname(path), labels.get(label, '')))
+            for name in CODE.findall(names):
+                if not os.path.isfile(os.path.join(TOP, end)) or not defines(read(TOP, end), name):
+                    lost.append('%s:%d: %s has no `%s`' % (path, number, end, name))
     return lost
 
 
