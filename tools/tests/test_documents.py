@@ -13,8 +13,9 @@ MOST_README_LINES = 110
 MOST_COLUMNS = 120
 
 HEADING = re.compile(r'#{1,6} +(.*?) *#*$')
-LINK = re.compile(r'!?\[[^\[\]]*\]\(([^()\s]+)\)')
-REFERENCE = re.compile(r'\[[^\[\]]+\]\[([^\[\]]+)\]')
+# The ends of links: what a link is shown as may begin a line before.
+LINK = re.compile(r'\]\(([^()\s]+)\)')
+REFERENCE = re.compile(r'\]\[([^\[\]]+)\]')
 TARGET = re.compile(r'\[([^\[\]]+)\]: +(\S+)$')
 CODE = re.compile(r'`([^`]*)`')
 # Cited definitions: their names as code, and the label of the file that has them.
@@ -95,10 +96,11 @@ def broken_links(top, path):
         if target:
             follow(number, target.group(2))
             continue
-        for label in REFERENCE.findall(line):
+        shown = CODE.sub('', line)
+        for label in REFERENCE.findall(shown):
             if label not in labels:
                 wrong.append('%s:%d: no target has the label %s' % (path, number, label))
-        for target in LINK.findall(CODE.sub('', line)):
+        for target in LINK.findall(shown):
             follow(number, target)
     return wrong
 
@@ -159,7 +161,8 @@ class Links(unittest.TestCase):
 
     def test_broken_links_are_found(self):
         page = ('# One, two `three`\n\n[good](b.md) [good](b.md#a-b) [good](#one-two-three) [good][l] `[no](link.md)`\n'
-                '[no file](c.md) [no heading](b.md#c) [no heading here](#two) [no label][m] [outside](../a.md)\n\n'
+                '[no file](c.md) [no heading](b.md#c) [no heading here](#two) [no label][m] [outside](../a.md) [two\n'
+                'lines](c.md) `[no][m]`\n\n'
                 '    [code](c.md)\n\n[l]: b.md\n[n]: d.md\n')
         with tempfile.TemporaryDirectory() as top:
             for name, text in (('a.md', page), ('b.md', '## A b\n')):
@@ -168,10 +171,12 @@ class Links(unittest.TestCase):
             self.assertEqual(broken_links(top, 'b.md'), [])
             self.assertEqual(broken_links(top, 'a.md'), [
                 'a.md:4: no target has the label m', 'a.md:4: nothing is at c.md', 'a.md:4: no heading is at b.md#c',
-                'a.md:4: no heading is at #two', 'a.md:4: nothing is at ../a.md', 'a.md:9: nothing is at d.md'])
+                'a.md:4: no heading is at #two', 'a.md:4: nothing is at ../a.md', 'a.md:5: nothing is at c.md',
+                'a.md:10: nothing is at d.md'])
 
     def test_headings_have_the_anchors_of_their_page(self):
-        self.assertEqual(anchors('# A b-c_d\n\n## `run`, e.g.: 2\n\n## A b-c_d\n\n    # code\n'), {'a-b-c_d', 'run-eg-2', 'a-b-c_d-1'})
+        page = '# A b-c_d\n\n## `run`, e.g.: 2\n\n## A b-c_d\n\n    # code\n'
+        self.assertEqual(anchors(page), {'a-b-c_d', 'run-eg-2', 'a-b-c_d-1'})
 
 
 class Definitions(unittest.TestCase):
@@ -181,8 +186,8 @@ class Definitions(unittest.TestCase):
         self.assertEqual(lost_definitions(path), [])
 
     def test_what_a_definition_is(self):
-        text = ('abbrev pub is_good : A\npub record IsName (name : A) : B where\n  abbrev pub chain_from : A\npub struct Turns {\n'
-                '    pub fn source(&self)\nabbrev pub odd : A\nodd = even\n')
+        text = ('abbrev pub is_good : A\npub record IsName (name : A) : B where\n  abbrev pub chain_from : A\n'
+                'pub struct Turns {\n    pub fn source(&self)\nabbrev pub odd : A\nodd = even\n')
         for name in ('is_good', 'IsName', 'chain_from', 'Turns', 'source', 'odd'):
             self.assertTrue(defines(text, name), name)
         for name in ('is', 'good', 'IsNam', 'chain', 'even', 'name'):
