@@ -1,4 +1,4 @@
-"""Tests of the documents: that each link, path and definition that they name is there, and that they show what is printed."""
+"""Tests of the documents: that each link, path and definition in them is there, and that they show what is printed."""
 import glob
 import os
 import re
@@ -39,7 +39,7 @@ def read(top, path):
 
 
 def prose(text):
-    """The lines that are no code, each with its number from 1. Four blanks behind an empty line begin a block of code."""
+    """The lines that are no code, each with its number. Four blanks behind an empty line begin a block of code."""
     lines, in_fence, in_code, before = [], False, False, ''
     for number, line in enumerate(text.split('\n'), 1):
         if line.startswith('```'):
@@ -130,7 +130,8 @@ def lost_paths(path):
 def defines(text, name):
     """Whether a file of specs or of code defines the name, in public."""
     words = r'(?:abbrev|unfoldable|record|enum|struct|trait|const|fn|type|ghost)'
-    return re.search(r'^ *(?:%s )*pub (?:%s )*%s(?![\w-])' % (words, words, re.escape(name)), text, re.MULTILINE) is not None
+    line = r'^ *(?:%s )*pub (?:%s )*%s(?![\w-])' % (words, words, re.escape(name))
+    return re.search(line, text, re.MULTILINE) is not None
 
 
 def lost_definitions(path):
@@ -204,7 +205,8 @@ class Texts(unittest.TestCase):
         self.assertEqual(long, [])
 
     def test_examples_are_shown_as_they_print(self):
-        for path, example in (('README.md', 'snapshot_and_revert.output'), ('docs/FORMATS.md', 'remove_and_purge.output')):
+        for path, example in (('README.md', 'snapshot_and_revert.output'),
+                              ('docs/FORMATS.md', 'remove_and_purge.output')):
             self.assertTrue(shown(path, example), (path, example))
 
     def test_the_picture_is_that_of_the_example(self):

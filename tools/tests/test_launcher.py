@@ -1,4 +1,4 @@
-"""Tests of the launcher `longhorn`, with a command that stands for `rt` and builds a program that stands for volume_cli."""
+"""Tests of the launcher `longhorn`, with a command that stands for `rt`, and a program that stands for volume_cli."""
 import os
 import shutil
 import subprocess
@@ -14,6 +14,7 @@ cat <<END
 logic /kit/logic.json: libraries=16 files=2756
 rt: chose --jobs 2 for vol_units
 fn vol_units::range::is_good: proved
+so far: 8 of 72 functions checked
 statements std: modules loaded=1 checked=0
 crate vol_units: modules loaded=0 checked=40
 logic=proved functions=1 native=nat
@@ -23,7 +24,8 @@ END
 echo usage >&2
 '''
 BUILD = '''mkdir -p out && printf '#!/bin/sh\\necho "ran $*"\\n' > out/volume_cli && chmod +x out/volume_cli'''
-BEGIN = 'longhorn: proving and building, which takes some 10 to 15 minutes the first time\n'
+BEGIN = ('longhorn: proving and building, which takes some 10 to 15 minutes the first time\n'
+         'longhorn: vol_units: 8 of 72 functions checked\nlonghorn: vol_units is proved\n')
 
 
 class Launcher(unittest.TestCase):
@@ -40,12 +42,12 @@ class Launcher(unittest.TestCase):
             os.chmod(rt, 0o755)
             path = os.path.join(folder, 'bin') + os.pathsep + os.environ['PATH']
             for _ in range(times):
-                ended = subprocess.run([os.path.join(folder, 'longhorn'), 'run', 'x'], capture_output=True, text=True,
-                                       stdin=subprocess.DEVNULL, env=dict(os.environ, PATH=path))
+                ended = subprocess.run([os.path.join(folder, 'longhorn'), 'run', 'x'], env=dict(os.environ, PATH=path),
+                                       stdin=subprocess.DEVNULL, capture_output=True, text=True)
             return ended.returncode, ended.stdout, ended.stderr
 
     def test_it_names_each_crate_that_is_proved_and_then_runs(self):
-        note = BEGIN + 'longhorn: vol_units is proved\nlonghorn: volume_cli is proved\n'
+        note = BEGIN + 'longhorn: volume_cli is proved\n'
         said = 'crate volume_cli: modules loaded=0 checked=40\nlogic=proved functions=1 native=nat'
         self.assertEqual(self.launched(said, BUILD), (0, 'ran run x\n', note))
 
@@ -53,7 +55,7 @@ class Launcher(unittest.TestCase):
         self.assertEqual(self.launched('', BUILD, times=2), (0, 'ran run x\n', ''))
 
     def test_what_goes_wrong_is_shown(self):
-        note = BEGIN + 'longhorn: vol_units is proved\nerror: a goal is open\nlonghorn: the program could not be built\n'
+        note = BEGIN + 'error: a goal is open\nlonghorn: the program could not be built\n'
         self.assertEqual(self.launched('error: a goal is open', ''), (1, '', note))
 
 
