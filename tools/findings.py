@@ -46,7 +46,7 @@ class Checker:
         self.entries = {entry.place: entry for entry in report.entries}
         journal = report.journal
         self.following = dict(zip((line.line for line in journal), journal[1:]))
-        # The front of a report, as a fault of its sink leaves, lacks lines and says nothing by that.
+        # A prefix of a report, as a fault of its sink leaves it, lacks lines and says nothing by that.
         self.is_front = not report.of_replicas('mode')
         # Whether every line of the journal so far was there; else nothing is said of what follows from all of them.
         self.is_whole = not report.unread
@@ -257,7 +257,7 @@ class Checker:
         lines = [line for line in self.report.lines if isinstance(line, OfReplica) and line.group != 'open']
         modes = [line for line in lines if line.group == 'mode']
         if self.is_front:
-            self.say(None, 'has no modes at its end: it is the front of a report')
+            self.say(None, 'has no modes at its end: it is a prefix of a report')
             return
         if [line.replica for line in modes] != list(range(len(modes))):
             self.say(modes[0], 'begins modes of %s, where each replica has one, in order',

@@ -165,7 +165,7 @@ class Check(unittest.TestCase):
 
     def test_a_front_of_a_report_is_called_so_and_nothing_else(self):
         found = journal.check(read_report(''.join(ONE_STREAM.splitlines(True)[:7])))
-        self.assertEqual(found, 'the report has no modes at its end: it is the front of a report\n')
+        self.assertEqual(found, 'the report has no modes at its end: it is a prefix of a report\n')
 
     def test_a_missing_line_says_nothing_of_what_follows_from_it(self):
         found = journal.check(read_report(COMMANDS.replace('2 2 0 2 snapshot t ok\n', '')))
@@ -221,7 +221,7 @@ class CommandLine(unittest.TestCase):
 
     def test_check_ends_with_1_where_something_is_odd(self):
         self.assertEqual(self.run_tool('check', given=ONE_STREAM), (0, ''))
-        self.assertEqual(self.run_tool('check', given=''), (1, 'the report has no modes at its end: it is the front of a report\n'))
+        self.assertEqual(self.run_tool('check', given=''), (1, 'the report has no modes at its end: it is a prefix of a report\n'))
 
     def test_table_and_picture_print(self):
         self.assertIn('write 4095+1', self.run_tool('table', given=ONE_STREAM)[1])
