@@ -1,6 +1,5 @@
 -- The search for the first layer that can go.
-use Rattle.std.proofs.Common.{◌≡◌, ◌≢◌, ◌⊎◌, inl, inr, ⊎_elim, ℕ, ◌+◌, ◌<◌, Bool, true, false, List, [], ◌∷◌, length, Option, None, Some, MatchOption, sym, refl, ap, ◌∙◌, subst, arith}
-use Rattle.std.specs.Prelude.{if◌then◌else◌}
+use Rattle.std.proofs.Common.{◌≡◌, ◌≢◌, ◌⊎◌, inl, inr, ⊎_elim, ℕ, ◌+◌, ◌<◌, ◌≤◌, Bool, true, false, List, [], ◌∷◌, length, Option, None, Some, MatchOption, sym, refl, ap, ◌∙◌, subst, arith}
 use Rattle.std.proofs.lemmas.Bool.{cases_eq, false_from_ne_true, false≢true}
 use Rattle.layer_chain.specs.Children.{Stands, Tells}
 use Rattle.layer_chain.specs.Tree.{Tree, name_of, layer_at, IsWholeTree}
@@ -10,11 +9,11 @@ use Rattle.layer_chain.specs.declared.children.Child.TheVariants as child
 use Rattle.layer_chain.specs.declared.children.Children.TheVariants as children
 use Rattle.layer_chain.proofs.TreeLemmas.{one_place}
 use Rattle.volume_model.proofs.PurgeLemmas.{before_trans, before_itself, is_marked, no_head}
-use Rattle.volume_model.specs.Purge.{IsMarked, CanFold, CanBeDone, IsPurged, gone, is_before, first_of, IsFirst}
+use Rattle.volume_model.specs.Purge.{IsMarked, CanFold, CanBeDone, IsPurged, gone, is_before, IsFirst}
 use Rattle.volume_model.specs.declared.mark.FoldOrDrop.{FoldOrDrop}
 use Rattle.volume_model.specs.declared.mark.FoldOrDrop.TheVariants as part
 use Rattle.coalesce.specs.Folding.{snapshots_in}
-use Rattle.coalesce.specs.Search.{GoesAt, StaysAt, IsFirstBelow, IsBest}
+use Rattle.coalesce.specs.Search.{GoesAt, StaysAt, IsFirstFrom, IsBest, goes_before}
 use Rattle.coalesce.proofs.ChildLemmas.{child_only, children_none, children_one}
 use Rattle.coalesce.proofs.PlaceLemmas.{any_at, at_any, drop_leaf}
 
@@ -84,55 +83,53 @@ stays_under t i within w a b other s u (part.Drop p) goes = drop_leaf t p i (rec
 pub stays_more : (t : Tree) (i : ℕ) → i < length t.layers → IsWholeTree t → Tells t.layers t.on (length t.layers) i children.More → StaysAt t i
 stays_more t i within w told = stays_under t i within w told.0 told.1 told.2 told.3 told.4
 
--- ---- one place after another
+-- ---- one place after another, from the oldest layer
 
-upto : (q i : ℕ) → q < i + 1 → (q ≡ i) ⊎ (q < i)
-upto q i h = ⊎_elim (λ e. inl e) (λ n. inr (omega (arith, h, n))) (cases_eq q i)
+from_here : (q i : ℕ) → i ≤ q → (q ≡ i) ⊎ (i + 1 ≤ q)
+from_here q i h = ⊎_elim (λ e. inl e) (λ n. inr (omega (arith, h, n))) (cases_eq q i)
 
 module _ (t : Tree) (i : ℕ) where
-  best_stays : (b : Option FoldOrDrop) → StaysAt t i → IsBest t i b → IsBest t (i + 1) (first_of b None)
-  best_stays None stays best = λ q h. ⊎_elim (λ e. subst (λ (n : ℕ). StaysAt t n) (sym e) stays) (λ l. best q l) (upto q i h)
+  -- a layer that stays leaves the best as it was
+  pub best_stays : (b : Option FoldOrDrop) → StaysAt t i → IsBest t (i + 1) b → IsBest t i b
+  best_stays None stays best = λ q h w. ⊎_elim (λ e. subst (λ (n : ℕ). StaysAt t n) (sym e) stays) (λ l. best q l w) (from_here q i h)
   best_stays (Some b) stays best = record {
     can = best.can;
-    first = λ q g h goes. ⊎_elim (λ e. absurd (stays g (subst (λ (n : ℕ). GoesAt t n g) e goes))) (λ l. best.first q g l goes) (upto q i h);
+    first = λ q g h w goes. ⊎_elim (λ e. absurd (stays g (subst (λ (n : ℕ). GoesAt t n g) e goes))) (λ l. best.first q g l w goes) (from_here q i h);
+  }
+
+  -- so does one whose name comes later
+  pub best_before : (b : Option FoldOrDrop) → goes_before (name_of (layer_at t.layers i)) b ≡ false → IsBest t (i + 1) b → IsBest t i b
+  best_before None later best = absurd (false≢true (sym later))
+  best_before (Some b) later best = record {
+    can = best.can;
+    first = λ q g h w goes. ⊎_elim
+        (λ e. ap (λ (n : List ℕ). is_before n (gone b)) (goes.named ∙ ap (λ (n : ℕ). name_of (layer_at t.layers n)) e) ∙ later)
+        (λ l. best.first q g l w goes)
+        (from_here q i h);
   }
 
   module _ (f : FoldOrDrop) (found : GoesAt t i f) where
     -- what goes at this place has the same name
-    here : (q : ℕ) (g : FoldOrDrop) → q ≡ i → GoesAt t q g → gone g ≡ gone f
-    here q g e goes = goes.named ∙ ap (λ (n : ℕ). name_of (layer_at t.layers n)) e ∙ sym found.named
+    here : (q : ℕ) (g : FoldOrDrop) → q ≡ i → GoesAt t q g → is_before (gone g) (gone f) ≡ false
+    here q g e goes =
+        ap (λ (n : List ℕ). is_before n (gone f)) (goes.named ∙ ap (λ (n : ℕ). name_of (layer_at t.layers n)) e ∙ sym found.named) ∙ before_itself (gone f)
 
-    best_new : ((q : ℕ) → q < i → StaysAt t q) → IsFirstBelow t (i + 1) f
-    best_new none = record {
+    -- one that goes before the best is the best
+    pub best_found : (b : Option FoldOrDrop) → goes_before (name_of (layer_at t.layers i)) b ≡ true → IsBest t (i + 1) b → IsFirstFrom t i f
+    best_found None sooner best = record { can = found.can; first = λ q g h w goes. ⊎_elim (λ e. here q g e goes) (λ l. absurd (best q l w g goes)) (from_here q i h) }
+    best_found (Some b) sooner best = record {
       can = found.can;
-      first = λ q g h goes. ⊎_elim (λ e. ap (λ (n : List ℕ). is_before n (gone f)) (here q g e goes) ∙ before_itself (gone f)) (λ l. absurd (none q l g goes)) (upto q i h);
+      first = λ q g h w goes. ⊎_elim
+          (λ e. here q g e goes)
+          (λ l. false_from_ne_true (is_before (gone g) (gone f))
+          (λ u. false≢true (sym (best.first q g l w goes) ∙ before_trans (gone g) (gone f) (gone b) u (ap (λ (n : List ℕ). is_before n (gone b)) found.named ∙ sooner))))
+          (from_here q i h);
     }
-
-    best_chosen : (b : FoldOrDrop) (s : Bool) → s ≡ is_before (gone f) (gone b) → IsFirstBelow t i b → IsBest t (i + 1) (if s then Some f else Some b)
-    best_chosen b true s_is best = record {
-      can = found.can;
-      first = λ q g h goes. ⊎_elim
-          (λ e. ap (λ (n : List ℕ). is_before n (gone f)) (here q g e goes) ∙ before_itself (gone f))
-          (λ l. false_from_ne_true (is_before (gone g) (gone f)) (λ u. false≢true (sym (best.first q g l goes) ∙ before_trans (gone g) (gone f) (gone b) u (sym s_is))))
-          (upto q i h);
-    }
-    best_chosen b false s_is best = record {
-      can = best.can;
-      first = λ q g h goes. ⊎_elim (λ e. ap (λ (n : List ℕ). is_before n (gone b)) (here q g e goes) ∙ sym s_is) (λ l. best.first q g l goes) (upto q i h);
-    }
-
-    best_found : (b : Option FoldOrDrop) → IsBest t i b → IsBest t (i + 1) (first_of b (Some f))
-    best_found None best = best_new best
-    best_found (Some b) best = best_chosen b (is_before (gone f) (gone b)) refl best
-
-  pub best_more : (found b : Option FoldOrDrop) → MatchOption found (StaysAt t i) (λ f. GoesAt t i f) → IsBest t i b → IsBest t (i + 1) (first_of b found)
-  best_more None b stays best = best_stays b stays best
-  best_more (Some f) b goes best = best_found f goes b best
 
 -- the best of all places is the first of all that can go
-pub best_is : (t : Tree) (b : Option FoldOrDrop) → IsBest t (length t.layers) b → MatchOption b (IsPurged (snapshots_in t) t.on) (λ f. IsFirst (snapshots_in t) t.on f)
-best_is t None best = λ f can. let g = goes_somewhere t f can in best g.0 g.1 f g.2
+pub best_is : (t : Tree) (b : Option FoldOrDrop) → IsBest t 0 b → MatchOption b (IsPurged (snapshots_in t) t.on) (λ f. IsFirst (snapshots_in t) t.on f)
+best_is t None best = λ f can. let g = goes_somewhere t f can in best g.0 (omega arith) g.1 f g.2
 best_is t (Some b) best = record {
   can = best.can;
-  first = λ f can. let g = goes_somewhere t f can in best.first g.0 f g.1 g.2;
+  first = λ f can. let g = goes_somewhere t f can in best.first g.0 f (omega arith) g.1 g.2;
 }

@@ -1,8 +1,8 @@
-ghost use Rattle.std.specs.Prelude.{◌≡◌, ◌<◌, length, MatchOption};
+ghost use Rattle.std.specs.Prelude.{◌≡◌, ◌+◌, ◌<◌, length, MatchOption};
 ghost use Rattle.layer_chain.specs.Tree.{IsWholeTree};
-ghost use Rattle.volume_model.specs.Purge.{IsPurged, IsFirst, gone, is_before, first_of};
+ghost use Rattle.volume_model.specs.Purge.{IsPurged, IsFirst, gone};
 ghost use Rattle.coalesce.specs.Folding.{snapshots_in};
-ghost use Rattle.coalesce.specs.Search.{GoesAt, StaysAt};
+ghost use Rattle.coalesce.specs.Search.{GoesAt, StaysAt, IsBest, goes_before};
 
 use layer_chain::{Child, Children, LayerTree};
 use vol_units::LayerName;
@@ -14,11 +14,40 @@ pub fn next_fold(tree: &LayerTree) -> Option<FoldOrDrop>
         (IsPurged (snapshots_in tree.now) tree.now.on)
         (λ part. IsFirst (snapshots_in tree.now) tree.now.on part) }
 {
-    let mut best: Option<FoldOrDrop> = None;
-    for place in 0..tree.count() - 1 {
-        best = first_of(best, goes_at(tree, place));
+    let mut best = None;
+    let mut place = tree.count() - 1;
+    while place > 0 {
+        // The oldest layer comes first: where names grow with time, a look at the later ones' names is enough.
+        place -= 1;
+        best = best_from(tree, place, best);
     }
     best
+}
+
+/// The first from this place on, of the first from the place behind it on.
+fn best_from(tree: &LayerTree, place: usize, best: Option<FoldOrDrop>) -> Option<FoldOrDrop>
+    requires within { place < length tree.now.layers }
+    requires whole { IsWholeTree tree.now }
+    requires best { IsBest tree.now (place + 1) best }
+    ensures { IsBest tree.now place result }
+{
+    if !goes_before(&tree.meta(place).name, &best) {
+        return best;
+    }
+    match goes_at(tree, place) {
+        Some(found) => Some(found),
+        None => best,
+    }
+}
+
+/// Whether a layer of that name would go before the best so far.
+fn goes_before(name: &LayerName, best: &Option<FoldOrDrop>) -> bool
+    ensures { result ≡ goes_before name.now best.now }
+{
+    match best {
+        Some(best) => name.as_bytes().cmp(gone(best).as_bytes()).is_lt(),
+        None => true,
+    }
 }
 
 /// How the layer at a place can go.
@@ -40,24 +69,6 @@ fn goes_at(tree: &LayerTree, place: usize) -> Option<FoldOrDrop>
         Children::One(Child::Head) => None,
         Children::More => None,
     }
-}
-
-/// Of two, the one whose layer's name comes first.
-fn first_of(best: Option<FoldOrDrop>, found: Option<FoldOrDrop>) -> Option<FoldOrDrop>
-    ensures { result ≡ first_of best found }
-{
-    match (best, found) {
-        (Some(a), Some(b)) => { if is_before(&b, &a) { found } else { best } }
-        (Some(_), None) => best,
-        (None, _) => found,
-    }
-}
-
-/// Whether the first's layer has the name that comes first.
-fn is_before(a: &FoldOrDrop, b: &FoldOrDrop) -> bool
-    ensures { result ≡ is_before (gone a.now) (gone b.now) }
-{
-    gone(a).as_bytes().cmp(gone(b).as_bytes()).is_lt()
 }
 
 /// The layer that goes.
