@@ -1,4 +1,4 @@
--- Where each replica that is read and written is one volume, what is written of them is the end of that volume's report.
+-- Where each replica that is read and written is one volume, what is written of them is the end of its report.
 use Rattle.std.proofs.Common.{◌≡◌, ℕ, zero, suc, List, [], ◌∷◌, ◌++◌, length, get_or, refl, ap, ◌∙◌, arith}
 use Rattle.volume_model.specs.declared.mode.Mode.{Mode}
 use Rattle.volume_model.specs.declared.mode.Mode.TheVariants.{Rw, Wo, Err}

@@ -17,7 +17,7 @@ abbrev pub replica_line : EndLine → ℕ → Volume → List ℕ
 replica_line Chain r volume = chain_line (Some r) (chain_of volume.snapshots)
 replica_line Digest r volume = head_line r (digest_text volume.disk)
 
--- a line of this kind for each of the replicas that is read and written, of the volume that it is; the first replica is r
+-- a line of this kind for each of the replicas that is read and written, of the volume that it is; the first is r
 abbrev pub replica_lines : EndLine → ℕ → List Mode → List Volume → List ℕ
 replica_lines kind r [] volumes = []
 replica_lines kind r (m ∷ ms) [] = []
@@ -26,7 +26,8 @@ replica_lines kind r (m ∷ ms) (v ∷ vs) = replica_lines kind (suc r) ms vs
 
 -- what a run leaves of replicas that are these volumes: modes, chains, and the digests of the heads
 abbrev pub end_text : List Mode → List Volume → List ℕ
-end_text modes volumes = mode_lines 0 modes ++ replica_lines Chain 0 modes volumes ++ replica_lines Digest 0 modes volumes
+end_text modes volumes =
+    mode_lines 0 modes ++ replica_lines Chain 0 modes volumes ++ replica_lines Digest 0 modes volumes
 
 -- the lines of the calls of streams whose frames have these headers, and then of the replicas, which are these volumes
 abbrev pub written_text : List (List Head) → Book → List Volume → List ℕ

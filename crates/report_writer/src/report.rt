@@ -18,8 +18,8 @@ use run_report::{print_entry, print_reply};
 use std::alloc::Global;
 use volume_model::{Answer, Entry, Sequence};
 
-/// Writes the report of a run on these replicas, at most 255, as they are at its end. The headers are those of each stream's
-/// frames: a control stream has none.
+/// Writes the report of a run on these replicas, at most 255, as they are at its end. The headers are those of each
+/// stream's frames: a control stream has none.
 pub fn write_report<K: Sink>(
     alloc: Global,
     heads: &[Sequence<Head>],

@@ -78,7 +78,8 @@ part_text (part.Drop p) = codes "dropped " ++ p
 -- the snapshot that was taken
 abbrev pub mark_text : Mark → List ℕ
 mark_text (mark.Purged part) = part_text part
-mark_text (mark.Fault stream r count) = codes "fault " ++ word (decimal stream) ++ word (replica_text r) ++ decimal count
+mark_text (mark.Fault stream r count) =
+    codes "fault " ++ word (decimal stream) ++ word (replica_text r) ++ decimal count
 mark_text (mark.Failed r) = codes "failed " ++ replica_text r
 mark_text (mark.Added r source name) = codes "added " ++ word (replica_text r) ++ word (replica_text source) ++ name
 mark_text (mark.Promoted r) = codes "promoted " ++ replica_text r

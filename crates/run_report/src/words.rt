@@ -6,7 +6,8 @@ use itoa::Buffer;
 use std::alloc::AllocError;
 use volume_model::{Mode, Reply};
 
-/// What the printing of a line came to, which began at `start`. Where it failed, the part that was printed is taken back.
+/// What the printing of a line came to, which began at `start`. Where it failed, the part that was printed is taken
+/// back.
 pub fn whole_or_none(
     printed: Result<(), AllocError>,
     start: usize,
