@@ -1,5 +1,4 @@
 use Rattle.std.proofs.Common.{◌≤◌, length}
-use Rattle.layer_chain.specs.Tree.{IsWholeTree}
 use Rattle.coalesce.specs.Search.{IsBest}
 use Rattle.coalesce.proofs.next.next_fold.Given as goal
 

@@ -1,6 +1,4 @@
-use Rattle.std.proofs.Common.{◌≡◌, ◌*◌, ◌<◌, length, ap, ◌∙◌, arith}
-use Rattle.replica_node.specs.Node.{node_of}
-use Rattle.replica_node.specs.Fold.{page_folded, FoldsPages}
+use Rattle.std.proofs.Common.{◌*◌, arith}
 use Rattle.replica_node.proofs.AllFolded.{no_pages, has_page, one_page, all_pages}
 use Rattle.replica_node.proofs.fold.fold_pages.Goals as goal
 

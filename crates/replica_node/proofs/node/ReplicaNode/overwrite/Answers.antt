@@ -1,4 +1,4 @@
-use Rattle.std.proofs.Common.{◌≡◌, ◌/◌, ◌<◌, sym, ap, ◌∙◌, arith}
+use Rattle.std.proofs.Common.{◌/◌, ◌<◌, sym, ap, ◌∙◌, arith}
 use Rattle.replica_node.specs.Node.{has_own}
 use Rattle.replica_node.proofs.OwnLemmas.{own_at}
 use Rattle.replica_node.proofs.ReadLemmas.{length-node}
