@@ -1,4 +1,4 @@
--- One answer is true of a line, but for want of memory.
+-- One answer is true of a line, unless memory runs out.
 use Rattle.std.proofs.Common.{◌≡◌, ◌≢◌, ◌∙◌, List, [], ◌∷◌, ℕ, Result, Ok, Err, inl, inr, refl, sym, ap, subst}
 use Rattle.serde_json.specs.Data.{Data}
 use Rattle.serde_json.specs.Read.{read}

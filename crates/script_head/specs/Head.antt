@@ -56,7 +56,7 @@ HasFirstBad line m = (d : Data) × IsObject line d × IsFirstBad d m
 abbrev pub IsNoObject : List ℕ → Type 0
 IsNoObject line = (d : Data) → IsObject line d → ⊥
 
--- why a line is refused; want of memory is free
+-- why a line is refused; out of memory is free
 abbrev pub RefusesLine : List ℕ → HeadError → Type 0
 RefusesLine line Json = IsNoObject line
 RefusesLine line (BadMember m) = HasFirstBad line m

@@ -60,7 +60,7 @@ pub fn read_head(alloc: Global, line: &[u8]) -> Result<ScriptHead, HeadError>
     ensures found { IfOk result (Says line.now) }
     ensures refused { IfErr result (RefusesLine line.now) }
 
-    // But for want of memory no other answer is true of the line.
+    // Unless memory runs out, no other answer is true of the line.
     ensures only { IsOnlyAnswer HeadError.NoMemory (AnswersLine line.now) result }
 {
     head_of(alloc, line)

@@ -57,7 +57,7 @@ one_frame_more bytes hs h rest begin holds is front within calls =
     let stands = subst (λ r. BeginsWithFrame r (frame_under h r) (drop (span h) r)) is front in
     let more =
     subst (λ fs. BeginWithCalls bytes fs (drop (span h) at)) (sym (frames-push hs h bytes))
-        (one_call_more bytes (frames_under hs bytes) (frame_under h at) at (drop (span h) at) begins stands calls) in (
+    (one_call_more bytes (frames_under hs bytes) (frame_under h at) at (drop (span h) at) begins stands calls) in (
       subst (λ r. BeginWithCalls bytes (frames_under (hs ++ h ∷ []) bytes) (drop (span h) r)) (sym is) more,
       holds-push hs h bytes holds (subst (λ r. span h ≤ length r) is within),
       ap (drop (span h)) is ∙ sym (behind-push hs h bytes),

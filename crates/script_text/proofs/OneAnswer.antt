@@ -1,4 +1,4 @@
--- One answer is true of an input, but for want of memory.
+-- One answer is true of an input, unless memory runs out.
 use Rattle.std.proofs.Common.{◌≡◌, ◌≢◌, ◌⊎◌, ◌∙◌, ℕ, ◌+◌, ◌-◌, ◌<◌, ◌≤◌, min, List, ◌∷◌, length, sum_by, Result, Ok, Err, refl, sym, ap, subst, inl, inr, arith, length-append}
 use Rattle.script_head.specs.declared.error.HeadError.{HeadError}
 use Rattle.script_head.specs.declared.error.HeadError.TheVariants as fault

@@ -62,7 +62,7 @@ IsNoScript input place what.Calls =
     (HasTooManyCommands input × (place ≡ 0)) ⊎ HasBadStream input place what.Calls
 IsNoScript input place what.Frame = HasBadStream input place what.Frame
 
--- why an input is refused; want of memory is free
+-- why an input is refused; out of memory is free
 abbrev pub RefusesInput : List ℕ → ScriptError → Type 0
 RefusesInput input (Bad place why) = IsNoScript input place why
 RefusesInput input NoMemory = Unit {0}

@@ -6,9 +6,7 @@ use frame_stream::{Bytes, Frame};
 use frame_wire::{Decoded, HEADER_LENGTH, Head, decode};
 use std::alloc::AllocError;
 use std::marker::Model;
-
-/// The most bytes of data in a frame: as many as a call may have.
-pub const MOST_DATA: u32 = 1_048_576;
+use vol_units::LONGEST_CALL;
 
 /// The frames of a stream: their headers, and the stream's bytes, from which each frame's data is taken as it is wanted.
 /// A contract sees it as the list of the frames.
@@ -107,7 +105,8 @@ pub(crate) fn front(bytes: &[u8]) -> Option<Head>
     ensures within { IfSome result (λ head. span head ≤ length bytes.now) }
     ensures none { IfNone result (HasNoFrame bytes.now) }
 {
-    match decode(bytes, MOST_DATA) {
+    // A frame has as much data as a call may have.
+    match decode(bytes, LONGEST_CALL) {
         Decoded::Frame(head, _) => Some(head),
         Decoded::Short | Decoded::BadMagic(_) | Decoded::TooLong(_) => None,
     }

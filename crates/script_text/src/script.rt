@@ -52,7 +52,7 @@ pub fn read_script(alloc: Global, input: &Bytes) -> Result<Script, ScriptError>
     ensures found { IfOk result (IsScript input.now) }
     ensures refused { IfErr result (RefusesInput input.now) }
 
-    // But for want of memory no other answer is true of the input.
+    // Unless memory runs out, no other answer is true of the input.
     ensures only { IsOnlyAnswer ScriptError.NoMemory (AnswersInput input.now) result }
 {
     script_in(alloc, input)

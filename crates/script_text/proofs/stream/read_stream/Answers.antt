@@ -17,8 +17,8 @@ returns-in_default c =
     let heads = c.loop-rest.heads.items in
     let rest = c.loop-rest.rest.now in
     bad_here c.args.room c.args.place (c.args.place + c.len.result) c.args.bytes (frames_under heads c.args.bytes) rest so_far.0
-        (omega (arith, length-frames heads c.args.bytes, so_far.1)) so_far.2
-        (some_bytes rest _ c.loop-rest-test.ensures refl) c.in_default.ensures.none
+    (omega (arith, length-frames heads c.args.bytes, so_far.1)) so_far.2
+    (some_bytes rest _ c.loop-rest-test.ensures refl) c.in_default.ensures.none
 
 pub returns-then-head-eq-CLOSE : goal.returns-then-head-eq-CLOSE
 returns-then-head-eq-CLOSE c =
@@ -29,9 +29,9 @@ returns-then-head-eq-CLOSE c =
     let behind = drop (span head) rest in
     let some = some_bytes c.split_at.result.1.now _ c.if-is_empty.ensures refl in
     subst (λ more. IsNoStream c.args.room c.args.place c.args.bytes (c.args.place + c.len.result - length more) what.Frame) (sym c.split_at.ensures.back)
-        (bad_behind_close c.args.room c.args.place (c.args.place + c.len.result) c.args.bytes (frames_under heads c.args.bytes) rest so_far.0
-        (omega (arith, length-frames heads c.args.bytes, so_far.1)) so_far.2
-        (frame_under head rest) behind c.in-Some.ensures.some c.if-head-eq-CLOSE.true (λ none. some (c.split_at.ensures.back ∙ none)))
+    (bad_behind_close c.args.room c.args.place (c.args.place + c.len.result) c.args.bytes (frames_under heads c.args.bytes) rest so_far.0
+    (omega (arith, length-frames heads c.args.bytes, so_far.1)) so_far.2
+    (frame_under head rest) behind c.in-Some.ensures.some c.if-head-eq-CLOSE.true (λ none. some (c.split_at.ensures.back ∙ none)))
 
 pub returns-then-len-room : goal.returns-then-len-room
 returns-then-len-room c =
@@ -40,9 +40,9 @@ returns-then-len-room c =
     let rest = c.loop-rest.rest.now in
     let head = c.in-Some.head in
     call_too_many c.args.room c.args.place (c.args.place + c.len.result) c.args.bytes (frames_under heads c.args.bytes) rest so_far.0
-        (omega (arith, length-frames heads c.args.bytes, so_far.1)) so_far.2
-        (frame_under head rest) (drop (span head) rest) c.in-Some.ensures.some c.if-head-eq-CLOSE.false
-        (omega (arith, length-frames heads c.args.bytes, c.if-len-room.true, c.len-in-loop-rest.ensures))
+    (omega (arith, length-frames heads c.args.bytes, so_far.1)) so_far.2
+    (frame_under head rest) (drop (span head) rest) c.in-Some.ensures.some c.if-head-eq-CLOSE.false
+    (omega (arith, length-frames heads c.args.bytes, c.if-len-room.true, c.len-in-loop-rest.ensures))
 
 pub loop-rest-preserved : goal.loop-rest-preserved
 loop-rest-preserved c =
@@ -53,8 +53,8 @@ loop-rest-preserved c =
     let pushed : c.push.new.self.items ≡ heads ++ head ∷ [] = c.in_ok-push.ensures.items in
     let more = one_frame_more c.args.bytes heads head rest so_far.0 so_far.3 so_far.4 c.in-Some.ensures.some c.in-Some.ensures.within c.if-head-eq-CLOSE.false in
     subst (λ after. BeginWithCalls c.args.bytes (frames_under c.push.new.self.items c.args.bytes) after × (length c.push.new.self.items ≤ c.args.room)
-        × (c.args.place + c.len.result ≡ c.args.place + length c.args.bytes) × HoldFrames c.push.new.self.items c.args.bytes
-        × (after ≡ behind c.push.new.self.items c.args.bytes)) (sym c.split_at.ensures.back) (
+    × (c.args.place + c.len.result ≡ c.args.place + length c.args.bytes) × HoldFrames c.push.new.self.items c.args.bytes
+    × (after ≡ behind c.push.new.self.items c.args.bytes)) (sym c.split_at.ensures.back) (
       subst (λ hs. BeginWithCalls c.args.bytes (frames_under hs c.args.bytes) (drop (span head) rest)) (sym pushed) more.0,
       omega (arith, ap length pushed, length_push heads head),
       so_far.2,
@@ -69,7 +69,7 @@ returns c =
     let rest = c.loop-rest.rest.now in
     let end : IsEnd rest =
     elim c.loop-rest-test.branch [
-      else-loop-rest-test w ↦ inl (no_bytes rest w.loop-rest-test.ensures)
+      | else-loop-rest-test w ↦ inl (no_bytes rest w.loop-rest-test.ensures)
       | then-loop-rest-test+in-Some+then-head-eq-CLOSE+then-is_empty w ↦
           inr (
             frame_under w.in-Some.head rest,
@@ -79,4 +79,4 @@ returns c =
           )
     ] in
     subst (λ (fs : List Frame). ((x : List ℕ) × BeginWithCalls c.args.bytes fs x × IsEnd x) × (length fs ≤ c.args.room)) (sym c.of.ensures)
-        ((rest, so_far.0, end), omega (arith, length-frames heads c.args.bytes, so_far.1))
+    ((rest, so_far.0, end), omega (arith, length-frames heads c.args.bytes, so_far.1))
