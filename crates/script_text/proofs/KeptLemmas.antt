@@ -8,19 +8,19 @@ use Rattle.frame_wire.specs.Decoding.{HoldsFrame}
 use Rattle.volume_model.specs.PlainStep.{longest_call}
 use Rattle.frame_stream.specs.declared.frame.Frame.{Frame}
 use Rattle.script_text.specs.Frames.{IsClose, BeginsWithFrame, BeginWithCalls}
-use Rattle.script_text.specs.Kept.{span, frame_under, frames_under, behind, HoldFrames}
+use Rattle.script_text.specs.Kept.{span, frame_under, frames_under, behind_frames, HoldFrames}
 use Rattle.script_text.proofs.FramesLemmas.{one_call_more}
 
 -- one more header takes the frame that stands behind those before
-pub behind-push : (hs : List Head) (h : Head) (bytes : List ℕ) → behind (hs ++ h ∷ []) bytes ≡ drop (span h) (behind hs bytes)
-behind-push [] h bytes = refl
-behind-push (g ∷ gs) h bytes = behind-push gs h (drop (span g) bytes)
+pub behind_frames-push : (hs : List Head) (h : Head) (bytes : List ℕ) → behind_frames (hs ++ h ∷ []) bytes ≡ drop (span h) (behind_frames hs bytes)
+behind_frames-push [] h bytes = refl
+behind_frames-push (g ∷ gs) h bytes = behind_frames-push gs h (drop (span g) bytes)
 
-pub frames-push : (hs : List Head) (h : Head) (bytes : List ℕ) → frames_under (hs ++ h ∷ []) bytes ≡ frames_under hs bytes ++ frame_under h (behind hs bytes) ∷ []
+pub frames-push : (hs : List Head) (h : Head) (bytes : List ℕ) → frames_under (hs ++ h ∷ []) bytes ≡ frames_under hs bytes ++ frame_under h (behind_frames hs bytes) ∷ []
 frames-push [] h bytes = refl
 frames-push (g ∷ gs) h bytes = ap (λ fs. frame_under g bytes ∷ fs) (frames-push gs h (drop (span g) bytes))
 
-pub holds-push : (hs : List Head) (h : Head) (bytes : List ℕ) → HoldFrames hs bytes → span h ≤ length (behind hs bytes) → HoldFrames (hs ++ h ∷ []) bytes
+pub holds-push : (hs : List Head) (h : Head) (bytes : List ℕ) → HoldFrames hs bytes → span h ≤ length (behind_frames hs bytes) → HoldFrames (hs ++ h ∷ []) bytes
 holds-push [] h bytes holds more = (more, tt)
 holds-push (g ∷ gs) h bytes holds more = (holds.0, holds-push gs h (drop (span g) bytes) holds.1 more)
 
@@ -48,11 +48,11 @@ front_frame bytes h (rest, begin, long, most) =
     }
 
 -- one call more is kept by its header
-pub one_frame_more : (bytes : List ℕ) (hs : List Head) (h : Head) (rest : List ℕ) → BeginWithCalls bytes (frames_under hs bytes) rest → HoldFrames hs bytes → rest ≡ behind hs bytes
+pub one_frame_more : (bytes : List ℕ) (hs : List Head) (h : Head) (rest : List ℕ) → BeginWithCalls bytes (frames_under hs bytes) rest → HoldFrames hs bytes → rest ≡ behind_frames hs bytes
     → BeginsWithFrame rest (frame_under h rest) (drop (span h) rest) → span h ≤ length rest → (IsClose (frame_under h rest) → ⊥)
-    → BeginWithCalls bytes (frames_under (hs ++ h ∷ []) bytes) (drop (span h) rest) × HoldFrames (hs ++ h ∷ []) bytes × (drop (span h) rest ≡ behind (hs ++ h ∷ []) bytes)
+    → BeginWithCalls bytes (frames_under (hs ++ h ∷ []) bytes) (drop (span h) rest) × HoldFrames (hs ++ h ∷ []) bytes × (drop (span h) rest ≡ behind_frames (hs ++ h ∷ []) bytes)
 one_frame_more bytes hs h rest begin holds is front within calls =
-    let at = behind hs bytes in
+    let at = behind_frames hs bytes in
     let begins = subst (λ r. BeginWithCalls bytes (frames_under hs bytes) r) is begin in
     let stands = subst (λ r. BeginsWithFrame r (frame_under h r) (drop (span h) r)) is front in
     let more =
@@ -60,5 +60,5 @@ one_frame_more bytes hs h rest begin holds is front within calls =
     (one_call_more bytes (frames_under hs bytes) (frame_under h at) at (drop (span h) at) begins stands calls) in (
       subst (λ r. BeginWithCalls bytes (frames_under (hs ++ h ∷ []) bytes) (drop (span h) r)) (sym is) more,
       holds-push hs h bytes holds (subst (λ r. span h ≤ length r) is within),
-      ap (drop (span h)) is ∙ sym (behind-push hs h bytes),
+      ap (drop (span h)) is ∙ sym (behind_frames-push hs h bytes),
     )

@@ -18,9 +18,9 @@ frames_under [] bytes = []
 frames_under (h ∷ hs) bytes = frame_under h bytes ∷ frames_under hs (drop (span h) bytes)
 
 -- what stands behind them
-abbrev pub behind : List Head → List ℕ → List ℕ
-behind [] bytes = bytes
-behind (h ∷ hs) bytes = behind hs (drop (span h) bytes)
+abbrev pub behind_frames : List Head → List ℕ → List ℕ
+behind_frames [] bytes = bytes
+behind_frames (h ∷ hs) bytes = behind_frames hs (drop (span h) bytes)
 
 -- the bytes hold them all
 abbrev pub HoldFrames : List Head → List ℕ → Type 0

@@ -51,7 +51,8 @@ fn a_script_is_read(rt: HostRuntime) -> Result<(), Fail> {
         return Err(Fail::from("other streams"));
     };
     assert_eq!(rt; commands.as_slice(), [Command::Status].as_slice());
-    let frame = frames.as_slice().first().ok_or("no frame")?;
+    let mut left = frames.reader()?;
+    let frame = left.next()?.ok_or("no frame")?;
     assert_eq!(rt;
         (frames.len(), frame.head.seq, frame.body.as_slice()),
         (1, 2, b"a".as_slice())

@@ -4,7 +4,7 @@ use Rattle.frame_wire.specs.declared.head.Head.{Head}
 use Rattle.frame_stream.specs.declared.frame.Frame.{Frame}
 use Rattle.script_text.specs.declared.what.What.TheVariants as what
 use Rattle.script_text.specs.Frames.{BeginWithCalls, BeginsWithFrame}
-use Rattle.script_text.specs.Kept.{span, frame_under, frames_under, behind, HoldFrames}
+use Rattle.script_text.specs.Kept.{span, frame_under, frames_under, behind_frames, HoldFrames}
 use Rattle.script_text.specs.Streams.{IsEnd, IsNoStream}
 use Rattle.script_text.proofs.KeptLemmas.{length-frames, one_frame_more}
 use Rattle.script_text.proofs.StreamLemmas.{some_bytes, no_bytes, bad_here, bad_behind_close, call_too_many}
@@ -54,12 +54,12 @@ loop-rest-preserved c =
     let more = one_frame_more c.args.bytes heads head rest so_far.0 so_far.3 so_far.4 c.in-Some.ensures.some c.in-Some.ensures.within c.if-head-eq-CLOSE.false in
     subst (λ after. BeginWithCalls c.args.bytes (frames_under c.push.new.self.items c.args.bytes) after × (length c.push.new.self.items ≤ c.args.room)
     × (c.args.place + c.len.result ≡ c.args.place + length c.args.bytes) × HoldFrames c.push.new.self.items c.args.bytes
-    × (after ≡ behind c.push.new.self.items c.args.bytes)) (sym c.split_at.ensures.back) (
+    × (after ≡ behind_frames c.push.new.self.items c.args.bytes)) (sym c.split_at.ensures.back) (
       subst (λ hs. BeginWithCalls c.args.bytes (frames_under hs c.args.bytes) (drop (span head) rest)) (sym pushed) more.0,
       omega (arith, ap length pushed, length_push heads head),
       so_far.2,
       subst (λ hs. HoldFrames hs c.args.bytes) (sym pushed) more.1,
-      subst (λ hs. drop (span head) rest ≡ behind hs c.args.bytes) (sym pushed) more.2,
+      subst (λ hs. drop (span head) rest ≡ behind_frames hs c.args.bytes) (sym pushed) more.2,
     )
 
 pub returns : goal.returns
