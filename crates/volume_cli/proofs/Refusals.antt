@@ -10,13 +10,12 @@ use Rattle.script_text.specs.declared.script.Script.{Script}
 use Rattle.script_text.specs.declared.what.What.{What}
 use Rattle.script_text.specs.Script.{IsScript, IsNoScript}
 use Rattle.script_text.proofs.OneAnswer.{one_truth}
-use Rattle.volume_model.specs.declared.entry.Entry.{Entry}
 use Rattle.volume_cli.specs.declared.status.Status.{Status}
 use Rattle.volume_cli.specs.declared.status.Status.TheVariants as status
 use Rattle.volume_cli.specs.declared.stop.Stop.{Stop}
 use Rattle.volume_cli.specs.declared.stop.Stop.TheVariants.{BadScript, WriteFault}
 use Rattle.volume_cli.specs.Headline.{IsStatus}
-use Rattle.volume_cli.specs.Stops.{stop_of, IsRun, RunLeaves, StopLeaves, PrintsPrefix, HadNoScript}
+use Rattle.volume_cli.specs.Stops.{stop_of, RunFact, RunLeaves, StopLeaves, PrintsPrefix, HadScript, HadNoScript}
 
 -- what is asked is a run: there is nothing else yet
 a_run : (asked : Option Words) (words : Words) → asked ≡ Some words → (workers : Workers) × (asked ≡ Some (Run workers))
@@ -53,11 +52,11 @@ not_both input script place why is bad = apart (one_truth input (Ok script) (bad
     apart_too e = cc
 
 -- what a run has read is refused nowhere
-pub no_refusal : (left : Option (List ℕ)) (script : Script) (journal : List Entry) (answer : Status) → IsRun left script journal
+pub no_refusal : (left : Option (List ℕ)) (script : Script) (answer : Status) → HadScript left script
     → IfSome left (λ input. (place : ℕ) (why : What) → IsNoScript input place why → IsStatus answer (status.Script place why))
-no_refusal None script journal answer run = tt
-no_refusal (Some told) script journal answer run =
-    λ place why bad. absurd (not_both run.read.0 script place why run.read.1 (subst (λ input. IsNoScript input place why) run.read.2 bad))
+no_refusal None script answer had = tt
+no_refusal (Some told) script answer (input, is, same) =
+    λ place why bad. absurd (not_both input script place why is (subst (λ input. IsNoScript input place why) same bad))
 
 -- what is refused is refused for one reason at one place
 pub one_refusal : (left : Option (List ℕ)) (place : ℕ) (why : What) → HadNoScript left place why
@@ -73,20 +72,20 @@ no_completion None place why answer had = tt
 no_completion (Some told) place why answer had = λ script is. absurd (not_both told script place why is had)
 
 -- what a run had that ends so
-pub stopped_at : (stop : Stop) (place : ℕ) (why : What) (same : Type 0) (left old new : Option (List ℕ)) → stop ≡ BadScript place why
-    → StopLeaves stop same left old new → HadNoScript left place why
-stopped_at stop place why same left old new is leaves = (subst (λ stop. StopLeaves stop same left old new) is leaves).1
+pub stopped_at : (Runs : RunFact) (stop : Stop) (place : ℕ) (why : What) (same : Type 0) (left old new : Option (List ℕ)) → stop ≡ BadScript place why
+    → StopLeaves Runs stop same left old new → HadNoScript left place why
+stopped_at Runs stop place why same left old new is leaves = (subst (λ stop. StopLeaves Runs stop same left old new) is leaves).1
 
-pub stopped_writing : (stop : Stop) (same : Type 0) (left old new : Option (List ℕ)) → stop ≡ WriteFault → StopLeaves stop same left old new
-    → PrintsPrefix left old new
-stopped_writing stop same left old new is leaves = subst (λ stop. StopLeaves stop same left old new) is leaves
+pub stopped_writing : (Runs : RunFact) (stop : Stop) (same : Type 0) (left old new : Option (List ℕ)) → stop ≡ WriteFault → StopLeaves Runs stop same left old new
+    → PrintsPrefix Runs left old new
+stopped_writing Runs stop same left old new is leaves = subst (λ stop. StopLeaves Runs stop same left old new) is leaves
 
 -- what a refused script leaves
-pub refused_leaves : {T : Type 0} (result : Result T Stop) (fault : ScriptError) (same : Type 0) (left old new : Option (List ℕ))
+pub refused_leaves : {T : Type 0} (Runs : RunFact) (result : Result T Stop) (fault : ScriptError) (same : Type 0) (left old new : Option (List ℕ))
     → IsErrAnd result (λ e. e ≡ stop_of fault) → same → ((place : ℕ) (why : What) → fault ≡ script_error.Bad place why → HadNoScript left place why)
-    → RunLeaves result same left old new
-refused_leaves (Ok x) fault same left old new is kept had = absurd is
-refused_leaves (Err e) (script_error.Bad place why) same left old new is kept had =
-    subst (λ stop. StopLeaves stop same left old new) (sym is) (kept, had place why refl)
-refused_leaves (Err e) script_error.NoMemory same left old new is kept had =
-    subst (λ stop. StopLeaves stop same left old new) (sym is) (inl kept)
+    → RunLeaves Runs result same left old new
+refused_leaves Runs (Ok x) fault same left old new is kept had = absurd is
+refused_leaves Runs (Err e) (script_error.Bad place why) same left old new is kept had =
+    subst (λ stop. StopLeaves Runs stop same left old new) (sym is) (kept, had place why refl)
+refused_leaves Runs (Err e) script_error.NoMemory same left old new is kept had =
+    subst (λ stop. StopLeaves Runs stop same left old new) (sym is) (inl kept)

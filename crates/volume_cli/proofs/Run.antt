@@ -25,7 +25,7 @@ use Rattle.volume_cli.specs.declared.stop.Stop.{Stop}
 use Rattle.volume_cli.specs.declared.stop.Stop.TheVariants.{BadScript, ReadFault, WriteFault, NoMemory}
 use Rattle.solo_worker.specs.Volume.{opening_of, calls_in, heads_in}
 use Rattle.solo_worker.specs.Serving.{IsServed}
-use Rattle.volume_cli.specs.Stops.{WriteCounts, Counts, IsRun, report_text, RunLeaves, HadNoScript, no_faults}
+use Rattle.volume_cli.specs.Stops.{WriteCounts, Counts, RunFact, HadScript, IsRun, report_text, RunLeaves, HadNoScript, no_faults}
 use Rattle.solo_worker.proofs.ScriptLemmas.{one_replica, all_calls, all_proper}
 use Rattle.solo_worker.proofs.AnswerLemmas.{call_count-in}
 
@@ -65,14 +65,14 @@ history input script is = served_is_history (opening_of script) no_faults (calls
     (all_proper (length (opening_of script).modes) script.streams (all_calls input script is)) (λ number low most. refl)
     (omega (arith, call_count-in script.streams, is.calls))
 
--- a script that was read, and its journal
-pub is_run : (left rest : Option (List ℕ)) (input : List ℕ) (script : Script) (s : Served) → Consumes left rest input → IsWhole rest input
-    → IsScript input script → IsServed script s → IsRun left script s.journal.entries
-is_run left rest input script s given end is done = record {
-  read = (input, is, Consumes-whole left rest input (λ told. told ≡ input) given (end is.headed.cut.most) refl);
-  history = subst (IsHistory (opening_of script) no_faults (stream_of (calls_in script))) (sym done.journal) (history input script is);
-  turns = done.journal;
-}
+-- a script that was read
+pub had_script : (left rest : Option (List ℕ)) (input : List ℕ) (script : Script) → Consumes left rest input → IsWhole rest input
+    → IsScript input script → HadScript left script
+had_script left rest input script given end is = (input, is, Consumes-whole left rest input (λ told. told ≡ input) given (end is.headed.cut.most) refl)
+
+-- and its journal
+pub is_run : (input : List ℕ) (script : Script) (s : Served) → IsScript input script → IsServed script s → IsRun script s.journal.entries
+is_run input script s is done = subst (IsHistory (opening_of script) no_faults (stream_of (calls_in script))) (sym done.journal) (history input script is)
 
 -- it has one replica
 pub one_mode : (input : List ℕ) (script : Script) (s : Served) → IsScript input script → IsServed script s → length (modes_of s.journal) ≡ 1
@@ -93,14 +93,14 @@ written_is script s one done =
     same_text hs gs es ms ns v w p q r = cc
 
 -- what is written of the report of a run
-pub leaves : {T : Type 0} (result : Result T Stop) (same : Type 0) (left old new : Option (List ℕ)) (script : Script) (journal : List Entry) (text : List ℕ) (before now : ℕ)
-    → IsRun left script journal → text ≡ report_text script journal
-    → OnOk result (Appends old new text) → WritesPrefix old new text → WriteCounts result before now → RunLeaves result same left old new
-leaves (Ok x) same left old new script journal text before now run is whole prefix counts = (script, journal, run, subst (Appends old new) is whole)
-leaves (Err (BadScript place why)) same left old new script journal text before now run is whole prefix counts = absurd counts
-leaves (Err ReadFault) same left old new script journal text before now run is whole prefix counts = absurd counts
-leaves (Err WriteFault) same left old new script journal text before now run is whole prefix counts = (script, journal, run, subst (WritesPrefix old new) is prefix)
-leaves (Err NoMemory) same left old new script journal text before now run is whole prefix counts = inr (script, journal, run, subst (WritesPrefix old new) is prefix)
+pub leaves : {T : Type 0} (Runs : RunFact) (result : Result T Stop) (same : Type 0) (left old new : Option (List ℕ)) (script : Script) (journal : List Entry) (text : List ℕ) (before now : ℕ)
+    → HadScript left script → Runs script journal → text ≡ report_text script journal
+    → OnOk result (Appends old new text) → WritesPrefix old new text → WriteCounts result before now → RunLeaves Runs result same left old new
+leaves Runs (Ok x) same left old new script journal text before now had run is whole prefix counts = (script, journal, had, run, subst (Appends old new) is whole)
+leaves Runs (Err (BadScript place why)) same left old new script journal text before now had run is whole prefix counts = absurd counts
+leaves Runs (Err ReadFault) same left old new script journal text before now had run is whole prefix counts = absurd counts
+leaves Runs (Err WriteFault) same left old new script journal text before now had run is whole prefix counts = (script, journal, had, run, subst (WritesPrefix old new) is prefix)
+leaves Runs (Err NoMemory) same left old new script journal text before now had run is whole prefix counts = inr (script, journal, had, run, subst (WritesPrefix old new) is prefix)
 
 -- what the counts say of a run that has read its input, and then wrote
 pub run_counts : {T : Type 0} (result : Result T Stop) (s t k l : ℕ) → t ≡ s → WriteCounts result k l → Counts result s t k l

@@ -5,7 +5,7 @@ use Rattle.program_words.specs.declared.words.Words.TheVariants.{Run}
 use Rattle.program_words.specs.Asked.{asked_by}
 use Rattle.volume_cli.specs.declared.status.Status.{Status}
 use Rattle.volume_cli.specs.declared.status.Status.TheVariants.{Done, Usage, Script, ReadFault, WriteFault, NoMemory}
-use Rattle.volume_cli.specs.Stops.{HadNoScript, Prints, PrintsPrefix}
+use Rattle.volume_cli.specs.Stops.{RunFact, HadNoScript, Prints, PrintsPrefix}
 
 -- the words ask for a run
 abbrev pub AskRun : {A : Type 0} → List (String A) → Type 0
@@ -32,11 +32,11 @@ ScriptRefusal ReadFault words left = Unit {0}
 ScriptRefusal WriteFault words left = Unit {0}
 ScriptRefusal NoMemory words left = Unit {0}
 
--- what the sink holds then, `same` being that it is as it was
-abbrev pub Leaves : Status → Type 0 → Option (List ℕ) → Option (List ℕ) → Option (List ℕ) → Type 0
-Leaves Done same left old new = Prints left old new
-Leaves Usage same left old new = same
-Leaves (Script place what) same left old new = same
-Leaves ReadFault same left old new = same
-Leaves WriteFault same left old new = PrintsPrefix left old new
-Leaves NoMemory same left old new = same ⊎ PrintsPrefix left old new
+-- what the sink holds then, of a run that is so, `same` being that it is as it was
+abbrev pub Leaves : RunFact → Status → Type 0 → Option (List ℕ) → Option (List ℕ) → Option (List ℕ) → Type 0
+Leaves Runs Done same left old new = Prints Runs left old new
+Leaves Runs Usage same left old new = same
+Leaves Runs (Script place what) same left old new = same
+Leaves Runs ReadFault same left old new = same
+Leaves Runs WriteFault same left old new = PrintsPrefix Runs left old new
+Leaves Runs NoMemory same left old new = same ⊎ PrintsPrefix Runs left old new

@@ -61,25 +61,34 @@ Counts (Err e) s t k l = StopCounts e s t k l
 abbrev pub no_faults : ℕ → ℕ → ℕ
 no_faults stream replica = 0
 
--- A run of a script, which is what the source had where it tells that. Its journal is one legal history of the
--- script's calls: one stream after another, in the order of their numbers, until there are threads.
-pub record IsRun (left : Option (List ℕ)) (script : Script) (journal : List Entry) : Type 0 where
-  pub read : (input : List ℕ) × IsScript input script × IfSome left (λ told. told ≡ input)
-  pub history : IsHistory (opening_of script) no_faults (stream_of (calls_in script)) journal
-  pub turns : journal ≡ served (opening_of script) (calls_in script)
+-- the source had this script, where it tells what it had
+abbrev pub HadScript : Option (List ℕ) → Script → Type 0
+HadScript left script = (input : List ℕ) × IsScript input script × IfSome left (λ told. told ≡ input)
+
+-- what may be so of a script and the journal of its run
+abbrev pub RunFact : Type 1
+RunFact = Script → List Entry → Type 0
+
+-- the journal is one legal history of the script's calls
+abbrev pub IsRun : RunFact
+IsRun script journal = IsHistory (opening_of script) no_faults (stream_of (calls_in script)) journal
+
+-- It is the one that a single worker makes: one stream after another, in the order of their numbers.
+abbrev pub IsOneWorkersRun : RunFact
+IsOneWorkersRun script journal = journal ≡ served (opening_of script) (calls_in script)
 
 -- what such a run prints
 abbrev pub report_text : Script → List Entry → List ℕ
 report_text script journal = report_of (heads_in script) (opening_of script) journal
 
--- The sink has got the whole report of a run.
-abbrev pub Prints : Option (List ℕ) → Option (List ℕ) → Option (List ℕ) → Type 0
-Prints left old new = (script : Script) × (journal : List Entry) × IsRun left script journal
+-- The sink has got the whole report of a run of the script that the source had.
+abbrev pub Prints : RunFact → Option (List ℕ) → Option (List ℕ) → Option (List ℕ) → Type 0
+Prints Runs left old new = (script : Script) × (journal : List Entry) × HadScript left script × Runs script journal
     × Appends old new (report_text script journal)
 
--- The sink has got a prefix of the report of a run.
-abbrev pub PrintsPrefix : Option (List ℕ) → Option (List ℕ) → Option (List ℕ) → Type 0
-PrintsPrefix left old new = (script : Script) × (journal : List Entry) × IsRun left script journal
+-- The sink has got a prefix of that report.
+abbrev pub PrintsPrefix : RunFact → Option (List ℕ) → Option (List ℕ) → Option (List ℕ) → Type 0
+PrintsPrefix Runs left old new = (script : Script) × (journal : List Entry) × HadScript left script × Runs script journal
     × WritesPrefix old new (report_text script journal)
 
 -- what the source had is no script, for this reason first, at this place
@@ -87,13 +96,13 @@ abbrev pub HadNoScript : Option (List ℕ) → ℕ → What → Type 0
 HadNoScript left place what = IfSome left (λ told. IsNoScript told place what)
 
 -- What each way to stop says of what the source had and of what the sink has got, `same` being that it is as it was.
-abbrev pub StopLeaves : Stop → Type 0 → Option (List ℕ) → Option (List ℕ) → Option (List ℕ) → Type 0
-StopLeaves (BadScript place what) same left old new = same × HadNoScript left place what
-StopLeaves ReadFault same left old new = same
-StopLeaves WriteFault same left old new = PrintsPrefix left old new
-StopLeaves NoMemory same left old new = same ⊎ PrintsPrefix left old new
+abbrev pub StopLeaves : RunFact → Stop → Type 0 → Option (List ℕ) → Option (List ℕ) → Option (List ℕ) → Type 0
+StopLeaves Runs (BadScript place what) same left old new = same × HadNoScript left place what
+StopLeaves Runs ReadFault same left old new = same
+StopLeaves Runs WriteFault same left old new = PrintsPrefix Runs left old new
+StopLeaves Runs NoMemory same left old new = same ⊎ PrintsPrefix Runs left old new
 
 -- the same of how a run ended
-abbrev pub RunLeaves : {T : Type 0} → Result T Stop → Type 0 → Option (List ℕ) → Option (List ℕ) → Option (List ℕ) → Type 0
-RunLeaves (Ok x) same left old new = Prints left old new
-RunLeaves (Err e) same left old new = StopLeaves e same left old new
+abbrev pub RunLeaves : {T : Type 0} → RunFact → Result T Stop → Type 0 → Option (List ℕ) → Option (List ℕ) → Option (List ℕ) → Type 0
+RunLeaves Runs (Ok x) same left old new = Prints Runs left old new
+RunLeaves Runs (Err e) same left old new = StopLeaves Runs e same left old new

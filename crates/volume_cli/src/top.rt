@@ -5,7 +5,7 @@ ghost use Rattle.script_text.specs.Script.{IsScript, IsNoScript};
 ghost use Rattle.script_text.specs.declared.script.Script.{Script};
 ghost use Rattle.script_text.specs.declared.what.What.{What};
 ghost use Rattle.volume_cli.specs.Headline.{AskRun, IsUsageError, ExactlyWhere, ScriptRefusal, Leaves, IsStatus};
-ghost use Rattle.volume_cli.specs.Stops.{Counts, RunLeaves};
+ghost use Rattle.volume_cli.specs.Stops.{Counts, IsOneWorkersRun, IsRun, RunLeaves};
 
 use crate::edge::{read_input, write_output};
 use crate::status::Status;
@@ -49,7 +49,10 @@ pub fn longhorn<S: Source, K: Sink>(
 
     // At Done the sink has the report of one legal history of the script's calls. After a write fault it has a
     // prefix of it, and after a refusal and a read fault it is as it was.
-    ensures printed { Leaves result (sink.new ≡ sink.old) (S.left source.old) (K.contents sink.old) (K.contents sink.new) }
+    ensures printed { Leaves IsRun result (sink.new ≡ sink.old) (S.left source.old) (K.contents sink.old) (K.contents sink.new) }
+
+    // Until there are threads that history is the one of a single worker: one stream after another, by their numbers.
+    ensures turns { Leaves IsOneWorkersRun result (sink.new ≡ sink.old) (S.left source.old) (K.contents sink.old) (K.contents sink.new) }
 {
     match read_words(alloc, words) {
         Ok(Words::Run { .. }) => match run(alloc, source, sink) {
@@ -68,7 +71,8 @@ fn run<S: Source, K: Sink>(alloc: Global, source: &mut S, sink: &mut K) -> Resul
     ensures counts { Counts result (S.faults source.old) (S.faults source.new) (K.faults sink.old) (K.faults sink.new) }
     ensures whole { OnOk result (IsAtEnd (S.left source.new)) }
     ensures most { GivesAtMost (S.left source.old) (S.left source.new) 268435457 }
-    ensures leaves { RunLeaves result (sink.new ≡ sink.old) (S.left source.old) (K.contents sink.old) (K.contents sink.new) }
+    ensures leaves { RunLeaves IsRun result (sink.new ≡ sink.old) (S.left source.old) (K.contents sink.old) (K.contents sink.new) }
+    ensures turns { RunLeaves IsOneWorkersRun result (sink.new ≡ sink.old) (S.left source.old) (K.contents sink.old) (K.contents sink.new) }
 {
     let input = read_input(alloc, source)?;
     let script = read_script(alloc, &input)?;
