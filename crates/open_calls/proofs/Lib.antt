@@ -1,0 +1,9 @@
+pub mod ByteLemmas
+pub mod ListLemmas
+pub mod FreeLemmas
+pub mod PartLemmas
+pub mod SeenLemmas
+pub mod OneCall
+pub mod Enrolled
+pub mod Started
+pub mod Gone
