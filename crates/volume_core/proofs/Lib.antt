@@ -1,0 +1,6 @@
+pub mod Told
+pub mod Opens
+pub mod Answered
+pub mod Rows
+pub mod Ends
+pub mod Now

@@ -1,0 +1,32 @@
+use Rattle.std.proofs.Common.{◌≡◌, refl, sym, subst, rules}
+use Rattle.volume_model.specs.declared.mode.Mode.TheVariants.{Rw}
+use Rattle.volume_model.specs.declared.call.Reply.TheVariants as reply
+use Rattle.volume_model.specs.declared.call.Refusal.TheVariants.{NoReplica}
+use Rattle.volume_model.specs.Modes.{mode_of, HasNoSource}
+use Rattle.range_turns.specs.Order.{ticket_at, IsClear}
+use Rattle.volume_core.specs.Answers.{Begins}
+use Rattle.volume_core.specs.State.{State, state_of, modes_in}
+use Rattle.volume_core.specs.Steps.{with_place, ended}
+use Rattle.volume_core.specs.Sound.{IsSound}
+use Rattle.volume_core.proofs.Rows.{begins_sound}
+use Rattle.volume_core.proofs.Ends.{refused_start_sound}
+use Rattle.volume_core.proofs.world.World.admit.Goals as goal
+
+pub returns-in_ok-begin-in-Some-source-clause-sound : goal.returns-in_ok-begin-in-Some-source-clause-sound
+returns-in_ok-begin-in-Some-source-clause-sound c =
+    let s : State = state_of c.args.self.now in
+    let at = c.waiting_at-i.ensures in
+    let clear : IsClear s.tickets c.waiting_at-i.result = search rules in
+    let placed : state_of c.make_place.new.self ≡ with_place s = search rules in
+    let read : mode_of (modes_in s) c.in-Some-source.source ≡ Rw = search rules in
+    let begun : Begins (with_place s) c.waiting_at-i.result c.in-Some-source.source (state_of c.begin.new.self) =
+    subst (λ (x : State). Begins x c.waiting_at-i.result c.in-Some-source.source (state_of c.begin.new.self)) placed c.in_ok-begin-in-Some-source.ensures.ok in
+    begins_sound s (state_of c.begin.new.self) c.waiting_at-i.result c.in-Some-source.source c.requires.sound at.stands.within at.waits clear read (ticket_at s.tickets c.waiting_at-i.result).kind refl begun
+
+pub returns-in-None-clause-sound : goal.returns-in-None-clause-sound
+returns-in-None-clause-sound c =
+    let s : State = state_of c.args.self.now in
+    let at = c.waiting_at-i.ensures in
+    let none : HasNoSource (modes_in s) = search rules in
+    let e : state_of c.end_at.new.self ≡ ended (with_place s) c.waiting_at-i.result (reply.Refused NoReplica) = search rules in
+    subst IsSound (sym e) (refused_start_sound s c.waiting_at-i.result c.requires.sound at.stands.within at.range none)

@@ -1,0 +1,14 @@
+use Rattle.std.proofs.Common.{◌≢◌, ◌<◌, sym, subst, rules}
+use Rattle.volume_model.specs.declared.mode.Mode.TheVariants.{Err}
+use Rattle.volume_model.specs.Faults.{last_count}
+use Rattle.volume_model.specs.Modes.{mode_of}
+use Rattle.volume_core.specs.State.{state_of, modes_in}
+use Rattle.volume_core.specs.Sound.{IsSound}
+use Rattle.volume_core.proofs.Ends.{faulted_sound}
+use Rattle.volume_core.proofs.world.World.fault.Goals as goal
+
+pub returns-clause-sound : goal.returns-clause-sound
+returns-clause-sound c =
+    let up : mode_of (modes_in (state_of c.args.self.now)) c.args.replica ≢ Err = search rules in
+    let above : last_count c.args.stream c.args.replica c.args.self.now.journal.entries < c.args.count = search rules in
+    subst IsSound (sym c.mark_fault.ensures) (faulted_sound (state_of c.args.self.now) c.args.stream c.args.replica c.args.count c.requires.sound up above)

@@ -1,0 +1,10 @@
+use Rattle.std.proofs.Common.{sym, subst}
+use Rattle.volume_core.specs.State.{state_of}
+use Rattle.volume_core.specs.Sound.{IsSound}
+use Rattle.volume_core.proofs.Rows.{withdrawn_sound}
+use Rattle.volume_core.proofs.world.World.withdraw.Goals as goal
+
+pub returns-clause-sound : goal.returns-clause-sound
+returns-clause-sound c =
+    subst IsSound (sym c.take_out.ensures)
+    (withdrawn_sound (state_of c.args.self.now) c.waiting_at.result c.requires.sound c.waiting_at.ensures.stands.within c.waiting_at.ensures.waits)

@@ -1,0 +1,58 @@
+-- What is true of a World before and after each step: the invariant.
+use Rattle.std.specs.Prelude.{◌≡◌, ℕ, ◌+◌, ◌<◌, ◌≤◌, List, length, Bool, true, false, count_by, Option, None}
+use Rattle.volume_model.specs.declared.mode.Mode.{Mode}
+use Rattle.volume_model.specs.declared.mode.Mode.TheVariants.{Rw, Wo, Err}
+use Rattle.volume_model.specs.Faults.{CountsRise}
+use Rattle.volume_model.specs.History.{Spot, IsLegal, SeenInOrder, answers_of}
+use Rattle.volume_model.specs.Names.{TellOf, AreNamed, AreOwnFree}
+use Rattle.volume_model.specs.Rebuilds.{IsOpenOnly}
+use Rattle.volume_model.specs.Replay.{replay}
+use Rattle.volume_model.specs.Snapshots.{layer_count}
+use Rattle.journal_book.specs.declared.opening.Opening.{Opening}
+use Rattle.volume_model.specs.declared.entry.Entry.{Entry}
+use Rattle.open_calls.specs.Clients.{AreClients}
+use Rattle.volume_core.specs.State.{State, opening_of, told_of, modes_in, index_at}
+
+-- the largest number that a volume's head may begin with
+abbrev pub largest_number : ℕ
+largest_number = 999999
+
+-- What the journal was told of how the run began is so; no two snapshots had one name, and each name was taken.
+pub record IsOpened (o : Spot) (opening : Opening) : Type 0 where
+  pub layers : opening.layers ≡ layer_count o.state.volume.snapshots
+  pub names : TellOf opening.names o.state
+  pub named : AreNamed o.state
+  pub number : o.state.volume.snapshots.number ≤ largest_number
+
+-- Faults rise in the journal, and each stream's calls stand in their order; as many are counted of it as it has
+-- answers. The engine's own names are free from the head's number on. That rebuild is open, or none is.
+pub record IsOrdered (o : Spot) (entries : List Entry) (indices : List ℕ) (open_rebuild : Option (ℕ × ℕ)) : Type 0 where
+  pub rise : CountsRise entries
+  pub order : SeenInOrder entries
+  pub index : (stream : ℕ) → stream < length indices → index_at indices stream ≡ length (answers_of stream entries)
+  pub few : (stream : ℕ) → stream < length indices → index_at indices stream ≤ length entries
+  pub own : AreOwnFree (replay o.state entries)
+  pub rebuild : IsOpenOnly entries open_rebuild
+
+-- the journal is one legal history so far
+pub record IsTold (o : Spot) (entries : List Entry) (indices : List ℕ) (open_rebuild : Option (ℕ × ℕ)) : Type 0 where
+  pub legal : IsLegal o entries
+  pub ordered : IsOrdered o entries indices open_rebuild
+
+-- the replica has not failed
+abbrev pub is_up : Mode → Bool
+is_up Rw = true
+is_up Wo = true
+is_up Err = false
+
+-- the entries that may come without places being made: one for each started call, and one for each replica to fail
+abbrev pub owed_entries : State → ℕ
+owed_entries s = count_by (λ t. t.started) s.tickets + count_by is_up (modes_in s)
+
+-- the invariant
+pub record IsSound (s : State) : Type 0 where
+  pub opened : IsOpened (opening_of s) s.book.opening
+  pub told : IsTold (opening_of s) s.book.entries s.indices None
+  pub clients : AreClients (told_of s).volume s.size (length s.indices) s.book.entries (modes_in s)
+      s.tickets s.calls s.nodes
+  pub spare : owed_entries s ≤ s.book.spare

@@ -1,0 +1,90 @@
+-- What each step makes of a World.
+use Rattle.std.specs.Prelude.{ℕ, ◌+◌, ◌-◌, List, [], ◌∷◌, ◌++◌, slice_set, remove}
+use Rattle.volume_model.specs.declared.call.Call.{Call}
+use Rattle.volume_model.specs.declared.call.Reply.{Reply}
+use Rattle.volume_model.specs.declared.entry.Entry.{Entry}
+use Rattle.volume_model.specs.declared.entry.Entry.TheVariants as entry
+use Rattle.volume_model.specs.declared.mark.Mark.TheVariants as mark
+use Rattle.journal_book.specs.Book.{Book}
+use Rattle.range_turns.specs.declared.ticket.Ticket.{Ticket}
+use Rattle.range_turns.specs.Order.{ticket_at, with_started}
+use Rattle.replica_node.specs.Node.{Node}
+use Rattle.replica_node.specs.Room.{put_at}
+use Rattle.open_calls.specs.declared.open_call.OpenCall.{OpenCall}
+use Rattle.open_calls.specs.declared.parts.Part.TheVariants.{Taken, Acked}
+use Rattle.open_calls.specs.Calls.{open_at, node_at, asked_by, whole_of, with_part, read_from, begun}
+use Rattle.volume_core.specs.State.{State, modes_in, index_at}
+
+-- ---- the journal
+
+-- one entry more, in a place that was made before
+abbrev pub with_entry : Book → Entry → Book
+with_entry b e = record b { entries = b.entries ++ e ∷ []; spare = b.spare - 1 }
+
+-- a place more
+abbrev pub with_place : State → State
+with_place s = record s { book = record s.book { spare = s.book.spare + 1 } }
+
+-- the answer of a stream's next call
+abbrev pub answer_entry : State → ℕ → ℕ → Call → Reply → Entry
+answer_entry s stream saw c r = entry.Answer (record {
+  call = c;
+  reply = r;
+  index = index_at s.indices stream;
+  saw = saw;
+  stream = stream;
+})
+
+-- a stream's next call, which saw so much, is answered
+abbrev pub answered : State → ℕ → ℕ → Call → Reply → State
+answered s stream saw c r = record s {
+  indices = slice_set s.indices stream (index_at s.indices stream + 1);
+  book = with_entry s.book (answer_entry s stream saw c r);
+}
+
+-- the line of a stream to the replica failed, so the replica did
+abbrev pub faulted : State → ℕ → ℕ → ℕ → State
+faulted s stream r count = record s { book = with_entry s.book (entry.Mark (mark.Fault stream r count)) }
+
+-- the replica was told to fail
+abbrev pub failed : State → ℕ → State
+failed s r = record s { book = with_entry s.book (entry.Mark (mark.Failed r)) }
+
+-- ---- the call at a place
+
+-- one is enrolled behind all others
+abbrev pub enrolled : State → Ticket → OpenCall → State
+enrolled s t c = record s { tickets = s.tickets ++ t ∷ []; calls = s.calls ++ c ∷ [] }
+
+-- it is gone
+abbrev pub without_call : State → ℕ → State
+without_call s i = record s { tickets = remove s.tickets i; calls = remove s.calls i }
+
+-- it starts on these replicas, with these edges and this buffer
+abbrev pub started : State → ℕ → List Node → List ℕ → List ℕ → List ℕ → State
+started s i nodes front back buffer = record s {
+  nodes = nodes;
+  tickets = with_started s.tickets i;
+  calls = slice_set s.calls i (begun (open_at s.calls i) (modes_in s) front back buffer);
+}
+
+-- the replica takes the bytes of the write
+abbrev pub wrote : State → ℕ → ℕ → State
+wrote s i r = record s {
+  nodes = slice_set s.nodes r
+      (put_at (node_at s.nodes r) (ticket_at s.tickets i).range.first (whole_of (open_at s.calls i)));
+  calls = slice_set s.calls i (with_part (open_at s.calls i) r Taken);
+}
+
+-- the replica gives the bytes of the read
+abbrev pub has_read : State → ℕ → ℕ → State
+has_read s i r = record s { calls = slice_set s.calls i (read_from (open_at s.calls i) r (node_at s.nodes r)) }
+
+-- the replica acknowledges its part
+abbrev pub acked : State → ℕ → ℕ → State
+acked s i r = record s { calls = slice_set s.calls i (with_part (open_at s.calls i) r Acked) }
+
+-- it ends with that reply
+abbrev pub ended : State → ℕ → Reply → State
+ended s i r = answered (without_call s i) (open_at s.calls i).stream (open_at s.calls i).saw
+    (asked_by (ticket_at s.tickets i).kind (open_at s.calls i)) r

@@ -1,0 +1,44 @@
+//! A line fails, and so its replica.
+
+ghost use Rattle.std.specs.Prelude.{◌≡◌, ◌<◌, length, OnOk, IfErr, OnErr};
+ghost use Rattle.volume_core.specs.State.{state_of};
+ghost use Rattle.volume_core.specs.Steps.{faulted};
+ghost use Rattle.volume_core.specs.Sound.{IsSound};
+ghost use Rattle.volume_core.specs.Against.{AgainstFault};
+
+use crate::world::{NotThis, World};
+use journal_book::{Entry, Mark, Mode};
+
+impl World {
+    /// The line of a stream to a replica has failed, so the replica does: the line's count of faults. It takes no
+    /// memory.
+    pub fn fault(&mut self, stream: u8, replica: u8, count: u64) -> Result<(), NotThis>
+        requires sound { IsSound (state_of self.old) }
+        ensures sound { IsSound (state_of self.new) }
+        ensures ok { OnOk result (state_of self.new ≡ faulted (state_of self.old) stream replica count) }
+        ensures why { IfErr result (AgainstFault (state_of self.old) stream replica count) }
+        ensures err { OnErr result (state_of self.new ≡ state_of self.old) }
+    {
+        let mode = self.journal.mode(replica);
+        if mode == Mode::Err {
+            return Err(NotThis::Mode(mode));
+        }
+        let last = self.journal.last_count(stream, replica);
+        if count <= last {
+            return Err(NotThis::Count(last));
+        }
+        self.mark_fault(stream, replica, count);
+        Ok(())
+    }
+
+    fn mark_fault(&mut self, stream: u8, replica: u8, count: u64)
+        requires { 0 < self.old.journal.spare }
+        ensures { state_of self.new ≡ faulted (state_of self.old) stream replica count }
+    {
+        self.journal.push_reserved(Entry::Mark(Mark::Fault {
+            stream,
+            replica,
+            count,
+        }));
+    }
+}

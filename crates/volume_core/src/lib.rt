@@ -1,0 +1,29 @@
+//! The core of a volume: a World of several replicas, whose every step keeps its journal one legal history.
+#![tactic(auto)]
+
+mod admit;
+mod answer_now;
+mod apply;
+mod end;
+mod enrol;
+mod fault;
+mod first;
+mod job;
+mod open;
+mod places;
+mod world;
+
+pub use admit::Admit;
+pub use enrol::Enrolled;
+pub use first::FirstNode;
+pub use job::Job;
+pub use journal_book::{
+    Bytes, Call, Command, Entry, Journal, Mode, ModeTable, Opening, Refusal, Reply, TakenNames,
+};
+pub use open_calls::{Buffer, OpenCall, Part, Parts};
+pub use range_turns::{BlockRange, Kind, TicketNumber, Turns};
+pub use replica_node::{Blocks, ReplicaNode, VolumeSize};
+pub use world::{NotThis, World};
+
+#[cfg(test)]
+mod tests;
