@@ -4,3 +4,5 @@ pub mod Answered
 pub mod Rows
 pub mod Ends
 pub mod Now
+pub mod CallLemmas
+pub mod Moves

@@ -5,3 +5,4 @@ pub mod Opened
 pub mod Places
 pub mod Answers
 pub mod Against
+pub mod Streams

@@ -11,6 +11,7 @@ ghost use Rattle.volume_core.specs.Steps.{started};
 ghost use Rattle.volume_core.specs.Sound.{IsSound};
 ghost use Rattle.volume_core.specs.Places.{IsWaitingAt};
 ghost use Rattle.volume_core.specs.Answers.{IsAdmit, IsRoomier, IsJobOf, Begins, BeginsRead, BeginsWrite, HasEdges};
+ghost use Rattle.volume_core.specs.Streams.{ForOwner, MayGo, Stays, SeesAdmit};
 
 use crate::job::Job;
 use crate::world::World;
@@ -40,6 +41,11 @@ impl World {
         ensures sound { IsSound (state_of self.new) }
         ensures ok { IfOk result (λ a. IsAdmit (state_of self.old) t a (state_of self.new)) }
         ensures err { OnErr result (IsRoomier (state_of self.old) (state_of self.new)) }
+        ensures may { ForOwner t (state_of self.old) (λ n c. MayGo n (state_of self.old) (state_of self.new)) }
+        ensures sees { IfOk result (λ a.
+            ForOwner t (state_of self.old) (λ n c. SeesAdmit n t c a (state_of self.old) (state_of self.new))) }
+        ensures stays { OnErr result
+            (ForOwner t (state_of self.old) (λ n c. Stays n (state_of self.old) (state_of self.new))) }
     {
         let i = self.waiting_at(t);
         if let Some(j) = self.turns.in_way(i) {

@@ -6,6 +6,7 @@ ghost use Rattle.open_calls.specs.Clients.{IsIdle};
 ghost use Rattle.volume_core.specs.State.{state_of, modes_in, told_of};
 ghost use Rattle.volume_core.specs.Steps.{failed};
 ghost use Rattle.volume_core.specs.Sound.{IsSound};
+ghost use Rattle.volume_core.specs.Streams.{MayGo, Stays, IsAnsweredTo};
 ghost use Rattle.volume_core.specs.Answers.{IsNow, IsAnsweredNow, failed_by, after_fail};
 
 use crate::world::World;
@@ -24,6 +25,9 @@ impl World {
         ensures ok { IfOk result (λ place.
             IsAnsweredNow (state_of self.old) stream call.now place (state_of self.new)) }
         ensures err { OnErr result (state_of self.new ≡ state_of self.old) }
+        ensures may { MayGo stream (state_of self.old) (state_of self.new) }
+        ensures sees { IfOk result (λ place. IsAnsweredTo stream call.now (state_of self.old) (state_of self.new)) }
+        ensures stays { OnErr result (Stays stream (state_of self.old) (state_of self.new)) }
     {
         let saw = self.journal.len();
         let reply = self.reply_now(alloc, call)?;

@@ -12,6 +12,7 @@ ghost use Rattle.volume_core.specs.Steps.{wrote, has_read, acked};
 ghost use Rattle.volume_core.specs.Sound.{IsSound};
 ghost use Rattle.volume_core.specs.Places.{IsWriteAt, IsReadAt, IsCallAt};
 ghost use Rattle.volume_core.specs.Answers.{AreBlocksOf};
+ghost use Rattle.volume_core.specs.Streams.{ForOwner, MayGo, Stays};
 ghost use Rattle.volume_core.specs.Against.{AgainstWrite, AgainstRead, AgainstAck};
 
 use crate::world::{NotThis, World};
@@ -38,6 +39,8 @@ impl World {
         ensures why { IfErr result (AgainstWrite (state_of self.old) t replica) }
         ensures err { OnErr result (state_of self.new ≡ state_of self.old) }
         ensures count { length blocks.new ≡ length blocks.old }
+        ensures may { ForOwner t (state_of self.old) (λ n c. MayGo n (state_of self.old) (state_of self.new)) }
+        ensures stays { ForOwner t (state_of self.old) (λ n c. Stays n (state_of self.old) (state_of self.new)) }
     {
         let Some(i) = self.write_at(t) else {
             return Err(NotThis::Ticket);
@@ -84,6 +87,8 @@ impl World {
         ensures why { IfErr result (AgainstRead (state_of self.old) t replica) }
         ensures err { OnErr result (state_of self.new ≡ state_of self.old) }
         ensures same { OnErr result (into.new ≡ into.old) }
+        ensures may { ForOwner t (state_of self.old) (λ n c. MayGo n (state_of self.old) (state_of self.new)) }
+        ensures stays { ForOwner t (state_of self.old) (λ n c. Stays n (state_of self.old) (state_of self.new)) }
     {
         let Some(i) = self.read_at(t) else {
             return Err(NotThis::Ticket);
@@ -119,6 +124,8 @@ impl World {
             × (state_of self.new ≡ acked (state_of self.old) i replica)) }
         ensures why { IfErr result (AgainstAck (state_of self.old) t replica) }
         ensures err { OnErr result (state_of self.new ≡ state_of self.old) }
+        ensures may { ForOwner t (state_of self.old) (λ n c. MayGo n (state_of self.old) (state_of self.new)) }
+        ensures stays { ForOwner t (state_of self.old) (λ n c. Stays n (state_of self.old) (state_of self.new)) }
     {
         let Some(i) = self.started_at(t) else {
             return Err(NotThis::Ticket);
@@ -128,10 +135,17 @@ impl World {
                 self.ack_on(i, replica);
                 Ok(())
             }
-            Part::Apart | Part::Owed => match self.journal.mode(replica) {
-                Mode::Err => Err(NotThis::Mode(Mode::Err)),
-                Mode::Rw | Mode::Wo => Err(NotThis::Pending(replica)),
-            },
+            Part::Apart | Part::Owed => Err(self.without_step(replica)),
+        }
+    }
+
+    /// Why a replica that had no step of a call cannot acknowledge it.
+    fn without_step(&self, replica: u8) -> NotThis
+        ensures { (t : ℕ) → AgainstAck (state_of self.now) t replica result }
+    {
+        match self.journal.mode(replica) {
+            Mode::Err => NotThis::Mode(Mode::Err),
+            Mode::Rw | Mode::Wo => NotThis::Pending(replica),
         }
     }
 

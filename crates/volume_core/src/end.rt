@@ -10,6 +10,7 @@ ghost use Rattle.volume_core.specs.Steps.{ended, without_call};
 ghost use Rattle.volume_core.specs.Sound.{IsSound};
 ghost use Rattle.volume_core.specs.Places.{IsWriteAt, IsReadAt, IsWaitingAt};
 ghost use Rattle.volume_core.specs.Answers.{EndsWrite, EndsRead, Completes};
+ghost use Rattle.volume_core.specs.Streams.{ForOwner, MayGo, Stays, IsAnsweredTo, IsTakenBack};
 ghost use Rattle.volume_core.specs.Against.{AgainstEnd, IsPendingWrite, IsPendingRead};
 
 use crate::world::{NotThis, World};
@@ -26,6 +27,11 @@ impl World {
         ensures ok { OnOk result (Completes (state_of self.old) t (state_of self.new)) }
         ensures why { IfErr result (AgainstEnd (state_of self.old) t) }
         ensures err { OnErr result (state_of self.new ≡ state_of self.old) }
+        ensures may { ForOwner t (state_of self.old) (λ n c. MayGo n (state_of self.old) (state_of self.new)) }
+        ensures sees { IfOk result (λ place.
+            ForOwner t (state_of self.old) (λ n c. IsAnsweredTo n c (state_of self.old) (state_of self.new))) }
+        ensures stays { OnErr result
+            (ForOwner t (state_of self.old) (λ n c. Stays n (state_of self.old) (state_of self.new))) }
     {
         if let Some(i) = self.write_at(t) {
             return match self.complete_write(i) {
@@ -132,6 +138,9 @@ impl World {
         ensures sound { IsSound (state_of self.new) }
         ensures gone { (i : ℕ) × IsWaitingAt (state_of self.old) t i
             × (state_of self.new ≡ without_call (state_of self.old) i) }
+        ensures may { ForOwner t (state_of self.old) (λ n c. MayGo n (state_of self.old) (state_of self.new)) }
+        ensures sees { ForOwner t (state_of self.old)
+            (λ n c. IsTakenBack n (state_of self.old) (state_of self.new)) }
     {
         self.take_out(self.waiting_at(t));
     }

@@ -8,6 +8,7 @@ ghost use Rattle.volume_core.specs.State.{state_of, modes_in, told_of};
 ghost use Rattle.volume_core.specs.Steps.{enrolled};
 ghost use Rattle.volume_core.specs.Sound.{IsSound};
 ghost use Rattle.volume_core.specs.Answers.{IsOnRange, IsEnrolled};
+ghost use Rattle.volume_core.specs.Streams.{MayGo, Stays, SeesEnrolled};
 
 use crate::world::World;
 use journal_book::{Bytes, Call, Refusal, Reply};
@@ -35,6 +36,9 @@ impl World {
         ensures sound { IsSound (state_of self.new) }
         ensures ok { IfOk result (λ e. IsEnrolled (state_of self.old) stream call.now e (state_of self.new)) }
         ensures err { OnErr result (state_of self.new ≡ state_of self.old) }
+        ensures may { MayGo stream (state_of self.old) (state_of self.new) }
+        ensures sees { IfOk result (λ e. SeesEnrolled stream call.now e (state_of self.old) (state_of self.new)) }
+        ensures stays { OnErr result (Stays stream (state_of self.old) (state_of self.new)) }
     {
         match call {
             Call::Read { offset, length } => self.enrol_read(alloc, stream, *offset, *length),
@@ -61,6 +65,10 @@ impl World {
         ensures ok { IfOk result (λ e.
             IsEnrolled (state_of self.old) stream (Call.Read offset count) e (state_of self.new)) }
         ensures err { OnErr result (state_of self.new ≡ state_of self.old) }
+        ensures may { MayGo stream (state_of self.old) (state_of self.new) }
+        ensures sees { IfOk result (λ e.
+            SeesEnrolled stream (Call.Read offset count) e (state_of self.old) (state_of self.new)) }
+        ensures stays { OnErr result (Stays stream (state_of self.old) (state_of self.new)) }
     {
         let size = self.size.bytes() as usize;
         let Some(at) = place_within(offset, count as usize, size) else {
@@ -94,6 +102,10 @@ impl World {
         ensures ok { IfOk result (λ e.
             IsEnrolled (state_of self.old) stream (Call.Write offset bytes) e (state_of self.new)) }
         ensures err { OnErr result (state_of self.new ≡ state_of self.old) }
+        ensures may { MayGo stream (state_of self.old) (state_of self.new) }
+        ensures sees { IfOk result (λ e.
+            SeesEnrolled stream (Call.Write offset bytes) e (state_of self.old) (state_of self.new)) }
+        ensures stays { OnErr result (Stays stream (state_of self.old) (state_of self.new)) }
     {
         let size = self.size.bytes() as usize;
         let count = bytes.len();
@@ -138,6 +150,10 @@ impl World {
         ensures sound { IsSound (state_of self.new) }
         ensures ok { IfOk result (λ e. IsEnrolled (state_of self.old) stream call e (state_of self.new)) }
         ensures err { OnErr result (state_of self.new ≡ state_of self.old) }
+        ensures may { MayGo stream (state_of self.old) (state_of self.new) }
+        ensures sees { IfOk result (λ e.
+            SeesEnrolled stream call e (state_of self.old) (state_of self.new)) }
+        ensures stays { OnErr result (Stays stream (state_of self.old) (state_of self.new)) }
     {
         let saw = self.journal.len();
         self.make_place()?;

@@ -4,6 +4,7 @@ ghost use Rattle.std.specs.Prelude.{◌≡◌, ◌<◌, length, OnOk, IfErr, OnE
 ghost use Rattle.volume_core.specs.State.{state_of};
 ghost use Rattle.volume_core.specs.Steps.{faulted};
 ghost use Rattle.volume_core.specs.Sound.{IsSound};
+ghost use Rattle.volume_core.specs.Streams.{MayGo, Stays, HasFault};
 ghost use Rattle.volume_core.specs.Against.{AgainstFault};
 
 use crate::world::{NotThis, World};
@@ -18,6 +19,9 @@ impl World {
         ensures ok { OnOk result (state_of self.new ≡ faulted (state_of self.old) stream replica count) }
         ensures why { IfErr result (AgainstFault (state_of self.old) stream replica count) }
         ensures err { OnErr result (state_of self.new ≡ state_of self.old) }
+        ensures may { MayGo stream (state_of self.old) (state_of self.new) }
+        ensures sees { OnOk result (HasFault stream replica count (state_of self.old) (state_of self.new)) }
+        ensures stays { OnErr result (Stays stream (state_of self.old) (state_of self.new)) }
     {
         let mode = self.journal.mode(replica);
         if mode == Mode::Err {

@@ -1,4 +1,4 @@
-use Rattle.std.proofs.Common.{◌≡◌, refl, sym, subst, rules}
+use Rattle.std.proofs.Common.{◌≡◌, ◌+◌, refl, sym, subst, rules}
 use Rattle.volume_model.specs.declared.mode.Mode.TheVariants.{Rw}
 use Rattle.volume_model.specs.declared.call.Reply.TheVariants as reply
 use Rattle.volume_model.specs.declared.call.Refusal.TheVariants.{NoReplica}
@@ -10,6 +10,7 @@ use Rattle.volume_core.specs.Steps.{with_place, ended}
 use Rattle.volume_core.specs.Sound.{IsSound}
 use Rattle.volume_core.proofs.Rows.{begins_sound}
 use Rattle.volume_core.proofs.Ends.{refused_start_sound}
+use Rattle.volume_core.proofs.Moves.{begins_may, begins_sees, ended_may, ended_sees}
 use Rattle.volume_core.proofs.world.World.admit.Goals as goal
 
 pub returns-in_ok-begin-in-Some-source-clause-sound : goal.returns-in_ok-begin-in-Some-source-clause-sound
@@ -30,3 +31,33 @@ returns-in-None-clause-sound c =
     let none : HasNoSource (modes_in s) = search rules in
     let e : state_of c.end_at.new.self ≡ ended (with_place s) c.waiting_at-i.result (reply.Refused NoReplica) = search rules in
     subst IsSound (sym e) (refused_start_sound s c.waiting_at-i.result c.requires.sound at.stands.within at.range none)
+
+pub returns-in_ok-begin-in-Some-source-clause-may : goal.returns-in_ok-begin-in-Some-source-clause-may
+returns-in_ok-begin-in-Some-source-clause-may c =
+    let s : State = state_of c.args.self.now in
+    let i = c.waiting_at-i.result in
+    let placed : state_of c.make_place.new.self ≡ with_place s = search rules in
+    let begun : Begins (with_place s) i c.in-Some-source.source (state_of c.begin.new.self) =
+    subst (λ (x : State). Begins x i c.in-Some-source.source (state_of c.begin.new.self)) placed c.in_ok-begin-in-Some-source.ensures.ok in
+    begins_may s (state_of c.begin.new.self) c.args.t i c.in-Some-source.source c.requires.sound (returns-in_ok-begin-in-Some-source-clause-sound c) c.waiting_at-i.ensures.stands (ticket_at s.tickets i).kind begun
+
+pub returns-in_ok-begin-in-Some-source-clause-sees : goal.returns-in_ok-begin-in-Some-source-clause-sees
+returns-in_ok-begin-in-Some-source-clause-sees c =
+    let s : State = state_of c.args.self.now in
+    let i = c.waiting_at-i.result in
+    let placed : state_of c.make_place.new.self ≡ with_place s = search rules in
+    let begun : Begins (with_place s) i c.in-Some-source.source (state_of c.begin.new.self) =
+    subst (λ (x : State). Begins x i c.in-Some-source.source (state_of c.begin.new.self)) placed c.in_ok-begin-in-Some-source.ensures.ok in
+    begins_sees s (state_of c.begin.new.self) c.args.t i c.in-Some-source.source c.requires.sound (returns-in_ok-begin-in-Some-source-clause-sound c) c.waiting_at-i.ensures.stands (ticket_at s.tickets i).kind begun
+
+pub returns-in-None-clause-may : goal.returns-in-None-clause-may
+returns-in-None-clause-may c =
+    let s : State = state_of c.args.self.now in
+    let e : state_of c.end_at.new.self ≡ ended (with_place s) c.waiting_at-i.result (reply.Refused NoReplica) = search rules in
+    ended_may s (state_of c.end_at.new.self) c.args.t c.waiting_at-i.result c.requires.sound (returns-in-None-clause-sound c) c.waiting_at-i.ensures.stands (s.book.spare + 1) (reply.Refused NoReplica) e
+
+pub returns-in-None-clause-sees : goal.returns-in-None-clause-sees
+returns-in-None-clause-sees c =
+    let s : State = state_of c.args.self.now in
+    let e : state_of c.end_at.new.self ≡ ended (with_place s) c.waiting_at-i.result (reply.Refused NoReplica) = search rules in
+    ended_sees s (state_of c.end_at.new.self) c.args.t c.waiting_at-i.result c.requires.sound (returns-in-None-clause-sound c) c.waiting_at-i.ensures.stands (s.book.spare + 1) (reply.Refused NoReplica) e

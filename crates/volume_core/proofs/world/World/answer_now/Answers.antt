@@ -5,6 +5,8 @@ use Rattle.volume_core.specs.State.{State, state_of, told_of, modes_in}
 use Rattle.volume_core.specs.Steps.{with_place, answered}
 use Rattle.volume_core.specs.Sound.{IsSound}
 use Rattle.volume_core.proofs.Now.{now_sound}
+use Rattle.volume_core.specs.Answers.{IsAnsweredNow}
+use Rattle.volume_core.proofs.Moves.{may_same, now_may, now_sees}
 use Rattle.volume_core.proofs.world.World.answer_now.Goals as goal
 
 pub returns-clause-sound : goal.returns-clause-sound
@@ -13,3 +15,16 @@ returns-clause-sound c =
     let call = c.args.call.now in
     let e : state_of c.push_answer.new.self ≡ answered (after_fail (with_place s) (failed_by call)) c.args.stream (length s.book.entries) call (plain_step (modes_in s) (told_of s) call).1 = search rules in
     subst IsSound (sym e) (now_sound s c.args.stream call c.requires.sound c.requires.stream c.requires.idle c.requires.now)
+
+pub returns-clause-may : goal.returns-clause-may
+returns-clause-may c =
+    let is : IsAnsweredNow (state_of c.args.self.now) c.args.stream c.args.call.now c.push_answer.result (state_of c.push_answer.new.self) = search rules in
+    now_may c.args.stream (state_of c.args.self.now) (state_of c.push_answer.new.self) c.args.call.now c.push_answer.result is (returns-clause-sound c)
+
+pub returns-clause-sees : goal.returns-clause-sees
+returns-clause-sees c =
+    let is : IsAnsweredNow (state_of c.args.self.now) c.args.stream c.args.call.now c.push_answer.result (state_of c.push_answer.new.self) = search rules in
+    now_sees c.args.stream (state_of c.args.self.now) (state_of c.push_answer.new.self) c.args.call.now c.push_answer.result is c.requires.idle
+
+pub returns-in_err-reply-clause-may : goal.returns-in_err-reply-clause-may
+returns-in_err-reply-clause-may c = may_same c.args.stream (state_of c.args.self.now) c.requires.sound

@@ -4,6 +4,15 @@ use Rattle.volume_model.specs.Modes.{mode_of}
 use Rattle.volume_core.specs.State.{state_of, modes_in}
 use Rattle.volume_core.specs.Sound.{IsSound}
 use Rattle.volume_core.proofs.Rows.{wrote_sound}
+use Rattle.std.proofs.Common.{refl, length-set}
+use Rattle.range_turns.specs.Order.{ticket_at}
+use Rattle.open_calls.specs.declared.parts.Part.TheVariants.{Taken}
+use Rattle.open_calls.specs.Calls.{open_at, node_at, with_part, whole_of}
+use Rattle.replica_node.specs.Node.{Node}
+use Rattle.replica_node.specs.Room.{put_at}
+use Rattle.volume_core.specs.State.{State}
+use Rattle.volume_core.specs.Steps.{wrote}
+use Rattle.volume_core.proofs.Moves.{refused_may, refused_stays, step_may, step_stays, parted}
 use Rattle.volume_core.proofs.world.World.apply_write.Goals as goal
 
 pub returns-clause-sound : goal.returns-clause-sound
@@ -11,3 +20,30 @@ returns-clause-sound c =
     let up : mode_of (modes_in (state_of c.args.self.now)) c.args.replica ≢ Err = search rules in
     subst IsSound (sym c.write_on.ensures.state)
     (wrote_sound (state_of c.args.self.now) c.in-Some.i c.args.replica c.requires.sound c.in-Some.ensures.stands.within c.in-Some.ensures.writes up)
+
+pub returns-clause-may : goal.returns-clause-may
+returns-clause-may c =
+    let s : State = state_of c.args.self.now in
+    let i = c.in-Some.i in
+    let new : Node = put_at (node_at s.nodes c.args.replica) (ticket_at s.tickets i).range.first (whole_of (open_at s.calls i)) in
+    step_may s (state_of c.write_on.new.self) c.args.t i c.requires.sound (returns-clause-sound c) c.in-Some.ensures.stands
+    (with_part (open_at s.calls i) c.args.replica Taken) (wrote s i c.args.replica).nodes refl (length-set s.nodes c.args.replica new) c.write_on.ensures.state
+
+pub returns-clause-stays : goal.returns-clause-stays
+returns-clause-stays c =
+    let s : State = state_of c.args.self.now in
+    let i = c.in-Some.i in
+    step_stays s (state_of c.write_on.new.self) c.args.t i c.requires.sound (returns-clause-sound c) c.in-Some.ensures.stands
+    (with_part (open_at s.calls i) c.args.replica Taken) (wrote s i c.args.replica).nodes refl (parted (ticket_at s.tickets i) (open_at s.calls i) c.args.replica Taken) c.write_on.ensures.state
+
+pub returns-in_default-clause-may : goal.returns-in_default-clause-may
+returns-in_default-clause-may c = refused_may c.args.t (state_of c.args.self.now) c.requires.sound
+
+pub returns-in_default-clause-stays : goal.returns-in_default-clause-stays
+returns-in_default-clause-stays c = refused_stays c.args.t (state_of c.args.self.now)
+
+pub returns-then-eq-clause-may : goal.returns-then-eq-clause-may
+returns-then-eq-clause-may c = refused_may c.args.t (state_of c.args.self.now) c.requires.sound
+
+pub returns-then-eq-clause-stays : goal.returns-then-eq-clause-stays
+returns-then-eq-clause-stays c = refused_stays c.args.t (state_of c.args.self.now)

@@ -5,6 +5,9 @@ use Rattle.volume_core.specs.State.{state_of}
 use Rattle.volume_core.specs.Steps.{enrolled}
 use Rattle.volume_core.specs.Sound.{IsSound}
 use Rattle.volume_core.proofs.Rows.{call_enrolled}
+use Rattle.volume_model.specs.declared.call.Call.TheVariants as call
+use Rattle.volume_core.specs.Answers.{IsBehind}
+use Rattle.volume_core.proofs.Moves.{behind_may, behind_sees}
 use Rattle.volume_core.proofs.world.World.enrol_read.Goals as goal
 
 no_write : kind.Read ≡ kind.Write → ⊥
@@ -21,3 +24,15 @@ returns-clause-sound c =
     (record { stream = c.args.stream; saw = length s.book.entries; at = at; length = c.args.count; bytes = []; front = []; back = []; buffer = []; parts = [] }) = search rules in
     subst IsSound (sym e)
     (call_enrolled s kind.Read c.in_ok-number.number c.args.stream at c.args.count range [] c.requires.sound c.bytes-size.ensures.size.whole around good (λ _. c.requires.short) (λ w. absurd (no_write w)) c.requires.stream c.requires.idle c.in_ok-number.ensures.fresh)
+
+pub returns-clause-may : goal.returns-clause-may
+returns-clause-may c =
+    let s = state_of c.args.self.now in
+    let is : IsBehind s c.args.stream (call.Read c.args.offset c.args.count) c.in_ok-number.number (state_of c.put_behind.new.self) = search rules in
+    behind_may c.args.stream c.in_ok-number.number (call.Read c.args.offset c.args.count) s (state_of c.put_behind.new.self) is c.requires.sound (returns-clause-sound c)
+
+pub returns-clause-sees : goal.returns-clause-sees
+returns-clause-sees c =
+    let s = state_of c.args.self.now in
+    let is : IsBehind s c.args.stream (call.Read c.args.offset c.args.count) c.in_ok-number.number (state_of c.put_behind.new.self) = search rules in
+    behind_sees c.args.stream c.in_ok-number.number (call.Read c.args.offset c.args.count) s (state_of c.put_behind.new.self) is c.requires.idle c.requires.sound

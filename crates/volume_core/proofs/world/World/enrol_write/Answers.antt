@@ -5,6 +5,9 @@ use Rattle.volume_core.specs.State.{state_of}
 use Rattle.volume_core.specs.Steps.{enrolled}
 use Rattle.volume_core.specs.Sound.{IsSound}
 use Rattle.volume_core.proofs.Rows.{call_enrolled}
+use Rattle.volume_model.specs.declared.call.Call.TheVariants as call
+use Rattle.volume_core.specs.Answers.{IsBehind}
+use Rattle.volume_core.proofs.Moves.{behind_may, behind_sees}
 use Rattle.volume_core.proofs.world.World.enrol_write.Goals as goal
 
 no_read : kind.Write ≡ kind.Read → ⊥
@@ -22,3 +25,15 @@ returns-clause-sound c =
     (record { stream = c.args.stream; saw = length s.book.entries; at = at; length = n; bytes = c.args.bytes; front = []; back = []; buffer = []; parts = [] }) = search rules in
     subst IsSound (sym e)
     (call_enrolled s kind.Write c.in_ok-number.number c.args.stream at n range c.args.bytes c.requires.sound c.bytes-size.ensures.size.whole around good (λ r. absurd (no_read r)) (λ _. refl) c.requires.stream c.requires.idle c.in_ok-number.ensures.fresh)
+
+pub returns-clause-may : goal.returns-clause-may
+returns-clause-may c =
+    let s = state_of c.args.self.now in
+    let is : IsBehind s c.args.stream (call.Write c.args.offset c.args.bytes) c.in_ok-number.number (state_of c.put_behind.new.self) = search rules in
+    behind_may c.args.stream c.in_ok-number.number (call.Write c.args.offset c.args.bytes) s (state_of c.put_behind.new.self) is c.requires.sound (returns-clause-sound c)
+
+pub returns-clause-sees : goal.returns-clause-sees
+returns-clause-sees c =
+    let s = state_of c.args.self.now in
+    let is : IsBehind s c.args.stream (call.Write c.args.offset c.args.bytes) c.in_ok-number.number (state_of c.put_behind.new.self) = search rules in
+    behind_sees c.args.stream c.in_ok-number.number (call.Write c.args.offset c.args.bytes) s (state_of c.put_behind.new.self) is c.requires.idle c.requires.sound

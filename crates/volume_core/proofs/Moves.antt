@@ -1,0 +1,368 @@
+-- What each step leaves to other streams, and what its own sees.
+use Rattle.std.proofs.Common.{◌≡◌, ℕ, ◌+◌, ◌<◌, ⊎_elim, true, false, List, [], ◌∷◌, ◌++◌, length, length-set, map, set, subst, sym, refl, ap, ◌∙◌, arith, append-nil, append_assoc}
+use Rattle.std.specs.Prelude.{Option, None, Some}
+use lib.Seq.{set-get_or}
+use Rattle.vol_units.specs.declared.range.BlockRange.{BlockRange}
+use Rattle.volume_model.specs.declared.call.Call.{Call}
+use Rattle.volume_model.specs.declared.call.Reply.{Reply}
+use Rattle.volume_model.specs.declared.entry.Answer.{Answer}
+use Rattle.volume_model.specs.declared.entry.Entry.{Entry}
+use Rattle.volume_model.specs.declared.entry.Entry.TheVariants as entry
+use Rattle.volume_model.specs.declared.mark.Mark.TheVariants as mark
+use Rattle.volume_model.specs.declared.mode.Mode.{Mode}
+use Rattle.volume_model.specs.declared.mode.Mode.TheVariants.{Rw, Wo, Err}
+use Rattle.volume_model.specs.Modes.{mode_of}
+use Rattle.range_turns.specs.declared.ticket.Kind.{Kind}
+use Rattle.range_turns.specs.declared.ticket.Kind.TheVariants as kind
+use Rattle.range_turns.specs.declared.ticket.Ticket.{Ticket}
+use Rattle.range_turns.specs.Order.{ticket_at, no_ticket, StandsAt}
+use Rattle.replica_node.specs.Node.{Node}
+use Rattle.open_calls.specs.declared.open_call.OpenCall.{OpenCall}
+use Rattle.open_calls.specs.Calls.{open_at, asked_by, whole_of, begun, with_part, read_from}
+use Rattle.open_calls.specs.declared.parts.Part.{Part}
+use Rattle.open_calls.specs.Clients.{IsIdle}
+use Rattle.volume_core.specs.State.{State, modes_in, index_at}
+use Rattle.volume_core.specs.Steps.{with_place, answered, ended, without_call, started, faulted, answer_entry}
+use Rattle.volume_core.specs.Sound.{IsSound}
+use Rattle.volume_core.specs.Answers.{IsRoomier, IsBehind, IsAnsweredNow, Completes, BeginsBy, failed_by, failed_in, after_fail}
+use Rattle.volume_core.specs.Streams.{calls_in, running, Open, open_of, opens, IsOpen, MayAppend, MayGo, Stays, Begun, IsAnsweredTo, IsTakenBack, ForOwner, origin_of}
+use Rattle.volume_core.proofs.CallLemmas.{calls-set_other, calls-set_own, calls-push_other, calls-push_own, calls-remove_other, calls-remove_own, calls-one, calls-place, calls-idle}
+
+-- ---- nothing but places
+
+pub may_same : (n : ℕ) (s : State) → IsSound s → MayGo n s s
+may_same n s ok = record { sound = ok; origin = refl; added = ([], sym (append-nil s.book.entries), tt); others = λ m h. refl }
+
+pub may_roomier : (n : ℕ) (s s2 : State) → IsSound s2 → IsRoomier s s2 → MayGo n s s2
+may_roomier n s s2 ok r = record {
+  sound = ok;
+  origin = ap origin_of r.state ∙ ap (λ k. record { first = s.first; opening = s.book.opening; size = s.size; streams = length s.indices; replicas = k }) r.keeps.count;
+  added = ([], ap (λ (x : State). x.book.entries) r.state ∙ sym (append-nil s.book.entries), tt);
+  others = λ m h. ap (λ (x : State). running x m) r.state;
+}
+
+pub stays_same : (n : ℕ) (s : State) → Stays n s s
+stays_same n s = record { entries = refl; same = refl }
+
+pub stays_roomier : (n : ℕ) (s s2 : State) → IsRoomier s s2 → Stays n s s2
+stays_roomier n s s2 r = record { entries = ap (λ (x : State). x.book.entries) r.state; same = ap (λ (x : State). opens x n) r.state }
+
+-- ---- the call of a ticket is the stream's
+
+-- what is open of a stream with one call
+one_running : (n : ℕ) (xs : List (Ticket × OpenCall)) (o : Open) → map open_of xs ≡ o ∷ [] → (x : Ticket × OpenCall) × (xs ≡ x ∷ []) × (open_of x ≡ o)
+one_running n [] o e = absurd cc
+one_running n (x ∷ []) o e = (x, refl, cc)
+one_running n (x ∷ y ∷ xs) o e = absurd cc
+
+-- the stream's one open call stands where its ticket does
+pub record IsOwnAt (n : ℕ) (c : Call) (s : State) (i : ℕ) : Type 0 where
+  pub x : Ticket × OpenCall
+  pub runs : running s n ≡ x ∷ []
+  pub stream : (open_at s.calls i).stream ≡ n
+  pub is : (ticket_at s.tickets i, open_at s.calls i) ≡ x
+  pub asked : asked_by (ticket_at s.tickets i).kind (open_at s.calls i) ≡ c
+
+pub own_at : (n t : ℕ) (c : Call) (s : State) (i : ℕ) → IsSound s → IsOpen n t c s → StandsAt s.tickets t i → IsOwnAt n c s i
+own_at n t c s i ok open' stands =
+    let one = one_running n (running s n) _ open'.is in
+    let x = one.0 in
+    let at = calls-place n s.tickets s.calls x one.1 in
+    let there = calls-one n s.tickets s.calls at.0 x one.1 at.1 at.2 at.3 in
+    let number : (ticket_at s.tickets at.0).number ≡ t = ap (λ (p : Ticket × OpenCall). p.0.number) there ∙ ap (λ (o : Open). o.number) one.2 in
+    let here : at.0 ≡ i = stands.only at.0 at.1 number in
+    let is : (ticket_at s.tickets i, open_at s.calls i) ≡ x = subst (λ k. (ticket_at s.tickets k, open_at s.calls k) ≡ x) here there in
+    record {
+      x = x;
+      runs = one.1;
+      stream = subst (λ k. (open_at s.calls k).stream ≡ n) here at.3;
+      is = is;
+      asked = ap (λ (p : Ticket × OpenCall). asked_by p.0.kind p.1) is ∙ ap (λ (o : Open). o.call) one.2;
+    }
+
+-- ---- a call is changed
+
+module _ (n : ℕ) (c : Call) (s : State) (i : ℕ) (ok : IsSound s) (h : i < length s.tickets) (own : IsOwnAt n c s i) where
+  call_in : i < length s.calls
+  call_in = omega (arith, h, ok.clients.paired)
+
+  -- with its ticket, on these replicas, with places for so many entries
+  pub may_set : (s2 : State) (t : Ticket) (y : OpenCall) (nodes : List Node) (spare : ℕ) → y.stream ≡ (open_at s.calls i).stream → length nodes ≡ length s.nodes
+      → s2 ≡ record s { nodes = nodes; tickets = set s.tickets i t; calls = set s.calls i y; book = record s.book { spare = spare } } → IsSound s2 → MayGo n s s2
+  may_set s2 t y nodes spare same many is ok2 = record {
+    sound = ok2;
+    origin = ap origin_of is ∙ ap (λ k. record { first = s.first; opening = s.book.opening; size = s.size; streams = length s.indices; replicas = k }) many;
+    added = ([], ap (λ (x : State). x.book.entries) is ∙ sym (append-nil s.book.entries), tt);
+    others = λ m other. ap (λ (x : State). running x m) is
+        ∙ calls-set_other m s.tickets s.calls i t y (λ e. other (sym e ∙ own.stream)) (λ e. other (sym e ∙ same ∙ own.stream));
+  }
+
+  -- what the stream then has open
+  pub opens_set : (s2 : State) (t : Ticket) (y : OpenCall) (nodes : List Node) (spare : ℕ) → y.stream ≡ (open_at s.calls i).stream
+      → s2 ≡ record s { nodes = nodes; tickets = set s.tickets i t; calls = set s.calls i y; book = record s.book { spare = spare } } → opens s2 n ≡ open_of (t, y) ∷ []
+  opens_set s2 t y nodes spare same is =
+      ap (λ (x : State). opens x n) is ∙ ap (map open_of) (calls-set_own n s.tickets s.calls i t y own.x own.runs h call_in own.stream (same ∙ own.stream))
+
+  -- what it had
+  pub opens_had : opens s n ≡ open_of (ticket_at s.tickets i, open_at s.calls i) ∷ []
+  opens_had = ap (map open_of) own.runs ∙ ap (λ p. open_of p ∷ []) (sym own.is)
+
+  same_ticket : set s.tickets i (ticket_at s.tickets i) ≡ s.tickets
+  same_ticket = set-get_or s.tickets i no_ticket
+
+  -- where the ticket stays
+  with_ticket : (y : OpenCall) (nodes : List Node) → record s { nodes = nodes; calls = set s.calls i y }
+      ≡ record s { nodes = nodes; tickets = set s.tickets i (ticket_at s.tickets i); calls = set s.calls i y; book = record s.book { spare = s.book.spare } }
+  with_ticket y nodes = ap (λ ts. record s { nodes = nodes; tickets = ts; calls = set s.calls i y; book = record s.book { spare = s.book.spare } }) (sym same_ticket)
+
+  pub may_step : (s2 : State) (y : OpenCall) (nodes : List Node) → y.stream ≡ (open_at s.calls i).stream → length nodes ≡ length s.nodes
+      → s2 ≡ record s { nodes = nodes; calls = set s.calls i y } → IsSound s2 → MayGo n s s2
+  may_step s2 y nodes same many is ok2 = may_set s2 (ticket_at s.tickets i) y nodes s.book.spare same many (is ∙ with_ticket y nodes) ok2
+
+  pub stays_step : (s2 : State) (y : OpenCall) (nodes : List Node) → y.stream ≡ (open_at s.calls i).stream → open_of (ticket_at s.tickets i, y) ≡ open_of (ticket_at s.tickets i, open_at s.calls i)
+      → s2 ≡ record s { nodes = nodes; calls = set s.calls i y } → Stays n s s2
+  stays_step s2 y nodes same alike is = record {
+    entries = ap (λ (x : State). x.book.entries) is;
+    same = opens_set s2 (ticket_at s.tickets i) y nodes s.book.spare same (is ∙ with_ticket y nodes) ∙ ap (λ o. o ∷ []) alike ∙ sym opens_had;
+  }
+
+  -- ---- it is gone
+
+  pub may_without : (s2 : State) → s2 ≡ without_call s i → IsSound s2 → MayGo n s s2
+  may_without s2 is ok2 = record {
+    sound = ok2;
+    origin = ap origin_of is;
+    added = ([], ap (λ (x : State). x.book.entries) is ∙ sym (append-nil s.book.entries), tt);
+    others = λ m other. ap (λ (x : State). running x m) is ∙ calls-remove_other m s.tickets s.calls i ok.clients.paired (λ e. other (sym e ∙ own.stream));
+  }
+
+  none_left : running (without_call s i) n ≡ []
+  none_left = calls-remove_own n s.tickets s.calls i own.x own.runs ok.clients.paired h own.stream
+
+  pub idle_without : (s2 : State) → s2 ≡ without_call s i → opens s2 n ≡ []
+  idle_without s2 is = ap (λ (x : State). opens x n) is ∙ ap (map open_of) none_left
+
+  -- ---- it ends, with places for so many entries
+
+  pub may_ended : (s2 : State) (spare : ℕ) (r : Reply) → s2 ≡ ended (record s { book = record s.book { spare = spare } }) i r → IsSound s2 → MayGo n s s2
+  may_ended s2 spare r is ok2 = record {
+    sound = ok2;
+    origin = ap origin_of is
+        ∙ ap (λ k. record { first = s.first; opening = s.book.opening; size = s.size; streams = k; replicas = length s.nodes }) (length-set s.indices (open_at s.calls i).stream (index_at s.indices (open_at s.calls i).stream + 1));
+    added = (answer_entry (without_call s i) (open_at s.calls i).stream (open_at s.calls i).saw (asked_by (ticket_at s.tickets i).kind (open_at s.calls i)) r ∷ [], ap (λ (x : State). x.book.entries) is, (own.stream, tt));
+    others = λ m other. ap (λ (x : State). running x m) is ∙ calls-remove_other m s.tickets s.calls i ok.clients.paired (λ e. other (sym e ∙ own.stream));
+  }
+
+  pub answered_ended : (s2 : State) (spare : ℕ) (r : Reply) → s2 ≡ ended (record s { book = record s.book { spare = spare } }) i r → IsAnsweredTo n c s s2
+  answered_ended s2 spare r is = record {
+    marks = [];
+    answer = record { call = asked_by (ticket_at s.tickets i).kind (open_at s.calls i); reply = r; index = index_at s.indices (open_at s.calls i).stream; saw = (open_at s.calls i).saw; stream = (open_at s.calls i).stream };
+    call = own.asked;
+    by = own.stream;
+    entries = ap (λ (x : State). x.book.entries) is;
+    idle = ap (λ (x : State). opens x n) is ∙ ap (map open_of) none_left;
+  }
+
+abbrev as_open : ℕ → BlockRange → Call → List ℕ → Open
+as_open number range c whole = record { number = number; range = range; call = c; whole = whole }
+
+-- ---- the steps of a started call, for the stream that has it open
+
+module _ (s s2 : State) (t i : ℕ) (ok : IsSound s) (ok2 : IsSound s2) (stands : StandsAt s.tickets t i) where
+  pub step_may : (y : OpenCall) (nodes : List Node) → y.stream ≡ (open_at s.calls i).stream → length nodes ≡ length s.nodes → s2 ≡ record s { nodes = nodes; calls = set s.calls i y }
+      → ForOwner t s (λ n c. MayGo n s s2)
+  step_may y nodes same many is = λ n c o. may_step n c s i ok stands.within (own_at n t c s i ok o stands) s2 y nodes same many is ok2
+
+  pub step_stays : (y : OpenCall) (nodes : List Node) → y.stream ≡ (open_at s.calls i).stream → open_of (ticket_at s.tickets i, y) ≡ open_of (ticket_at s.tickets i, open_at s.calls i)
+      → s2 ≡ record s { nodes = nodes; calls = set s.calls i y } → ForOwner t s (λ n c. Stays n s s2)
+  step_stays y nodes same alike is = λ n c o. stays_step n c s i ok stands.within (own_at n t c s i ok o stands) s2 y nodes same alike is
+
+  pub withdrawn_may : s2 ≡ without_call s i → ForOwner t s (λ n c. MayGo n s s2)
+  withdrawn_may is = λ n c o. may_without n c s i ok stands.within (own_at n t c s i ok o stands) s2 is ok2
+
+  pub withdrawn_sees : s2 ≡ without_call s i → ForOwner t s (λ n c. IsTakenBack n s s2)
+  withdrawn_sees is = λ n c o. record {
+    entries = ap (λ (x : State). x.book.entries) is;
+    idle = idle_without n c s i ok stands.within (own_at n t c s i ok o stands) s2 is;
+  }
+
+  pub ended_may : (spare : ℕ) (r : Reply) → s2 ≡ ended (record s { book = record s.book { spare = spare } }) i r → ForOwner t s (λ n c. MayGo n s s2)
+  ended_may spare r is = λ n c o. may_ended n c s i ok stands.within (own_at n t c s i ok o stands) s2 spare r is ok2
+
+  pub ended_sees : (spare : ℕ) (r : Reply) → s2 ≡ ended (record s { book = record s.book { spare = spare } }) i r → ForOwner t s (λ n c. IsAnsweredTo n c s s2)
+  ended_sees spare r is = λ n c o. answered_ended n c s i ok stands.within (own_at n t c s i ok o stands) s2 spare r is
+
+  -- and of one that starts
+  pub started_may : (nodes : List Node) (front back buffer : List ℕ) → length nodes ≡ length s.nodes → s2 ≡ started (with_place s) i nodes front back buffer → ForOwner t s (λ n c. MayGo n s s2)
+  started_may nodes front back buffer many is = λ n c o. may_set n c s i ok stands.within (own_at n t c s i ok o stands) s2 (record (ticket_at s.tickets i) { started = true })
+      (begun (open_at s.calls i) (modes_in s) front back buffer) nodes (s.book.spare + 1) refl many is ok2
+
+  pub started_sees : (nodes : List Node) (front back buffer : List ℕ) → s2 ≡ started (with_place s) i nodes front back buffer → ForOwner t s (λ n c. Begun n t c s s2)
+  started_sees nodes front back buffer is = λ n c o. let own = own_at n t c s i ok o stands in
+      let y = begun (open_at s.calls i) (modes_in s) front back buffer in
+      record {
+        entries = ap (λ (x : State). x.book.entries) is;
+        is_open = record {
+          range = (ticket_at s.tickets i).range;
+          whole = whole_of y;
+          is = opens_set n c s i ok stands.within own s2 (record (ticket_at s.tickets i) { started = true }) y nodes (s.book.spare + 1) refl is
+              ∙ one_open (ticket_at s.tickets i).number t (asked_by (ticket_at s.tickets i).kind y) c (ticket_at s.tickets i).range (whole_of y) stands.is (asked_same (ticket_at s.tickets i).kind ∙ own.asked);
+        };
+      }
+    where
+      asked_same : (k : Kind) → asked_by k (begun (open_at s.calls i) (modes_in s) front back buffer) ≡ asked_by k (open_at s.calls i)
+      asked_same kind.Read = refl
+      asked_same kind.Write = refl
+      asked_same kind.Whole = refl
+
+      one_open : (a b : ℕ) (x y : Call) (r : BlockRange) (w : List ℕ) → a ≡ b → x ≡ y → as_open a r x w ∷ [] ≡ as_open b r y w ∷ []
+      one_open a b x y r w p q = cc
+
+-- ---- what is appended without a call
+
+-- a World with more entries, and the same calls
+pub record Appends (n : ℕ) (s s1 : State) : Type 0 where
+  pub marks : List Entry
+  pub entries : s1.book.entries ≡ s.book.entries ++ marks
+  pub may : MayAppend n marks
+  pub origin : origin_of s1 ≡ origin_of s
+  pub tickets : s1.tickets ≡ s.tickets
+  pub calls : s1.calls ≡ s.calls
+
+failed_appends : (n : ℕ) (m : Mode) (s : State) (r : ℕ) → Appends n s (failed_in m s r)
+failed_appends n Err s r = record { marks = []; entries = sym (append-nil s.book.entries); may = tt; origin = refl; tickets = refl; calls = refl }
+failed_appends n Rw s r = record { marks = entry.Mark (mark.Failed r) ∷ []; entries = refl; may = (tt, tt); origin = refl; tickets = refl; calls = refl }
+failed_appends n Wo s r = record { marks = entry.Mark (mark.Failed r) ∷ []; entries = refl; may = (tt, tt); origin = refl; tickets = refl; calls = refl }
+
+fail_appends : (n : ℕ) (s : State) (r : Option ℕ) → Appends n s (after_fail s r)
+fail_appends n s None = record { marks = []; entries = sym (append-nil s.book.entries); may = tt; origin = refl; tickets = refl; calls = refl }
+fail_appends n s (Some r) = failed_appends n (mode_of (modes_in s) r) s r
+
+may_append : (n : ℕ) (xs : List Entry) (a : Answer) → MayAppend n xs → a.stream ≡ n → MayAppend n (xs ++ entry.Answer a ∷ [])
+may_append n [] a may by = (by, tt)
+may_append n (entry.Answer b ∷ xs) a may by = (may.0, may_append n xs a may.1 by)
+may_append n (entry.Mark m ∷ xs) a may by = (may.0, may_append n xs a may.1 by)
+
+-- a call of a stream that has none open is answered behind them
+module _ (n : ℕ) (s s1 s2 : State) (saw : ℕ) (c : Call) (r : Reply) (more : Appends n s s1) (is : s2 ≡ answered s1 n saw c r) where
+  entries_now : s2.book.entries ≡ s.book.entries ++ (more.marks ++ answer_entry s1 n saw c r ∷ [])
+  entries_now = ap (λ (x : State). x.book.entries) is ∙ ap (λ l. l ++ answer_entry s1 n saw c r ∷ []) more.entries ∙ append_assoc s.book.entries more.marks (answer_entry s1 n saw c r ∷ [])
+
+  runs_now : (m : ℕ) → running s2 m ≡ running s m
+  runs_now m = ap (λ (x : State). running x m) is ∙ ap (λ ts. calls_in m ts s1.calls) more.tickets ∙ ap (calls_in m s.tickets) more.calls
+
+  pub answered_may : IsSound s2 → MayGo n s s2
+  answered_may ok2 = record {
+    sound = ok2;
+    origin = ap origin_of is ∙ ap (λ k. record { first = s1.first; opening = s1.book.opening; size = s1.size; streams = k; replicas = length s1.nodes }) (length-set s1.indices n (index_at s1.indices n + 1)) ∙ more.origin;
+    added = (more.marks ++ answer_entry s1 n saw c r ∷ [], entries_now, may_append n more.marks (record { call = c; reply = r; index = index_at s1.indices n; saw = saw; stream = n }) more.may refl);
+    others = λ m other. runs_now m;
+  }
+
+  pub answered_sees : IsIdle n s.calls → IsAnsweredTo n c s s2
+  answered_sees idle = record {
+    marks = more.marks;
+    answer = record { call = c; reply = r; index = index_at s1.indices n; saw = saw; stream = n };
+    call = refl;
+    by = refl;
+    entries = entries_now;
+    idle = ap (map open_of) (runs_now n ∙ calls-idle n s.tickets s.calls idle);
+  }
+
+pub now_may : (n : ℕ) (s s2 : State) (c : Call) (place : ℕ) → IsAnsweredNow s n c place s2 → IsSound s2 → MayGo n s s2
+now_may n s s2 c place a ok2 = answered_may n s (after_fail (with_place s) (failed_by c)) s2 (length s.book.entries) c _ (placed (fail_appends n (with_place s) (failed_by c))) a.state ok2
+  where
+    placed : {s1 : State} → Appends n (with_place s) s1 → Appends n s s1
+    placed a = record { marks = a.marks; entries = a.entries; may = a.may; origin = a.origin; tickets = a.tickets; calls = a.calls }
+
+pub now_sees : (n : ℕ) (s s2 : State) (c : Call) (place : ℕ) → IsAnsweredNow s n c place s2 → IsIdle n s.calls → IsAnsweredTo n c s s2
+now_sees n s s2 c place a idle = answered_sees n s (after_fail (with_place s) (failed_by c)) s2 (length s.book.entries) c _ (placed (fail_appends n (with_place s) (failed_by c))) a.state idle
+  where
+    placed : {s1 : State} → Appends n (with_place s) s1 → Appends n s s1
+    placed a = record { marks = a.marks; entries = a.entries; may = a.may; origin = a.origin; tickets = a.tickets; calls = a.calls }
+
+pub fault_may : (n : ℕ) (s s2 : State) (r count : ℕ) → s2 ≡ faulted s n r count → IsSound s2 → MayGo n s s2
+fault_may n s s2 r count is ok2 = record {
+  sound = ok2;
+  origin = ap origin_of is;
+  added = (entry.Mark (mark.Fault n r count) ∷ [], ap (λ (x : State). x.book.entries) is, (refl, tt));
+  others = λ m other. ap (λ (x : State). running x m) is;
+}
+
+-- ---- an enrolment
+
+pub nothing_more : (n : ℕ) (s : State) → Appends n s (with_place s)
+nothing_more n s = record { marks = []; entries = sym (append-nil s.book.entries); may = tt; origin = refl; tickets = refl; calls = refl }
+
+pub behind_may : (n t : ℕ) (c : Call) (s s2 : State) → IsBehind s n c t s2 → IsSound s → IsSound s2 → MayGo n s s2
+behind_may n t c s s2 b ok ok2 = record {
+  sound = ok2;
+  origin = ap origin_of b.state;
+  added = ([], ap (λ (x : State). x.book.entries) b.state ∙ sym (append-nil s.book.entries), tt);
+  others = λ m other. ap (λ (x : State). running x m) b.state
+      ∙ calls-push_other m s.tickets s.calls (record { number = t; range = b.range; kind = b.kind; started = false }) b.new ok.clients.paired (λ e. other (sym e ∙ b.by));
+}
+
+pub behind_sees : (n t : ℕ) (c : Call) (s s2 : State) → IsBehind s n c t s2 → IsIdle n s.calls → IsSound s → Begun n t c s s2
+behind_sees n t c s s2 b idle ok = record {
+  entries = ap (λ (x : State). x.book.entries) b.state;
+  is_open = record {
+    range = b.range;
+    whole = whole_of b.new;
+    is = ap (λ (x : State). opens x n) b.state
+        ∙ ap (map open_of) (calls-push_own n s.tickets s.calls (record { number = t; range = b.range; kind = b.kind; started = false }) b.new ok.clients.paired b.by (calls-idle n s.tickets s.calls idle))
+        ∙ ap (λ x. as_open t b.range x (whole_of b.new) ∷ []) b.is;
+  };
+}
+
+-- ---- the end of a call
+
+pub complete_may : (s s2 : State) (t : ℕ) → Completes s t s2 → IsSound s → IsSound s2 → ForOwner t s (λ n c. MayGo n s s2)
+complete_may s s2 t done ok ok2 = ⊎_elim
+    (λ w. ended_may s s2 t done.0 ok ok2 w.0.stands s.book.spare done.1 done.2)
+    (λ r. ended_may s s2 t done.0 ok ok2 r.0.stands s.book.spare done.1 done.2)
+    done.3
+
+pub complete_sees : (s s2 : State) (t : ℕ) → Completes s t s2 → IsSound s → IsSound s2 → ForOwner t s (λ n c. IsAnsweredTo n c s s2)
+complete_sees s s2 t done ok ok2 = ⊎_elim
+    (λ w. ended_sees s s2 t done.0 ok ok2 w.0.stands s.book.spare done.1 done.2)
+    (λ r. ended_sees s s2 t done.0 ok ok2 r.0.stands s.book.spare done.1 done.2)
+    done.3
+
+-- ---- the start of a call
+
+pub begins_may : (s s2 : State) (t i source : ℕ) → IsSound s → IsSound s2 → StandsAt s.tickets t i → (k : Kind) → BeginsBy k (with_place s) i source s2 → ForOwner t s (λ n c. MayGo n s s2)
+begins_may s s2 t i source ok ok2 stands kind.Read b = started_may s s2 t i ok ok2 stands s.nodes [] [] b.buffer refl b.state
+begins_may s s2 t i source ok ok2 stands kind.Write b = started_may s s2 t i ok ok2 stands b.nodes b.front b.back [] b.keeps.count b.state
+begins_may s s2 t i source ok ok2 stands kind.Whole b = absurd b
+
+pub begins_sees : (s s2 : State) (t i source : ℕ) → IsSound s → IsSound s2 → StandsAt s.tickets t i → (k : Kind) → BeginsBy k (with_place s) i source s2 → ForOwner t s (λ n c. Begun n t c s s2)
+begins_sees s s2 t i source ok ok2 stands kind.Read b = started_sees s s2 t i ok ok2 stands s.nodes [] [] b.buffer b.state
+begins_sees s s2 t i source ok ok2 stands kind.Write b = started_sees s s2 t i ok ok2 stands b.nodes b.front b.back [] b.state
+begins_sees s s2 t i source ok ok2 stands kind.Whole b = absurd b
+
+-- ---- how far the replicas are of a call does not show
+
+pub parted : (t : Ticket) (c : OpenCall) (r : ℕ) (part : Part) → open_of (t, with_part c r part) ≡ open_of (t, c)
+parted t c r part = ap (λ x. record { number = t.number; range = t.range; call = x; whole = whole_of c }) (same t.kind)
+  where
+    same : (k : Kind) → asked_by k (with_part c r part) ≡ asked_by k c
+    same kind.Read = refl
+    same kind.Write = refl
+    same kind.Whole = refl
+
+pub given : (t : Ticket) (c : OpenCall) (r : ℕ) (node : Node) → open_of (t, read_from c r node) ≡ open_of (t, c)
+given t c r node = ap (λ x. record { number = t.number; range = t.range; call = x; whole = whole_of c }) (same t.kind)
+  where
+    same : (k : Kind) → asked_by k (read_from c r node) ≡ asked_by k c
+    same kind.Read = refl
+    same kind.Write = refl
+    same kind.Whole = refl
+
+-- ---- a step that was refused
+
+pub refused_may : (t : ℕ) (s : State) → IsSound s → ForOwner t s (λ n c. MayGo n s s)
+refused_may t s ok = λ n c o. may_same n s ok
+
+pub refused_stays : (t : ℕ) (s : State) → ForOwner t s (λ n c. Stays n s s)
+refused_stays t s = λ n c o. stays_same n s
