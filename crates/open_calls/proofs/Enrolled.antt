@@ -14,7 +14,7 @@ use Rattle.range_turns.proofs.OrderLemmas.{AreInOrder-push}
 use Rattle.replica_node.specs.Node.{Node}
 use Rattle.open_calls.specs.declared.open_call.OpenCall.{OpenCall}
 use Rattle.open_calls.specs.Calls.{no_call, open_at}
-use Rattle.open_calls.specs.Clients.{AreClients, Fits, WritesOn, ReadsFrom, Writes, Reads, IsIdle}
+use Rattle.open_calls.specs.Clients.{AreClients, Fits, WritesOn, ReadsFrom, IsWriting, IsReading, IsIdle}
 use Rattle.open_calls.proofs.ListLemmas.{at_push}
 use Rattle.open_calls.proofs.FreeLemmas.{not_both}
 use Rattle.open_calls.proofs.SeenLemmas.{seen_push}
@@ -45,10 +45,10 @@ module _ (v : Volume) (size streams : ℕ) (entries : List Entry) (modes : List 
           sizes = a.sizes;
           tree = a.tree;
           copies = a.copies;
-          bytes = λ r k e free. a.bytes r k e (λ i l. subst (λ (x : Ticket). Writes x → from_of x ≤ k → until_of x ≤ k) (get_or_append_left tickets (t ∷ []) no_ticket i l) (free i (omega (arith, length_push tickets t))));
+          bytes = λ r k e free. a.bytes r k e (λ i l. subst (λ (x : Ticket). IsWriting x → from_of x ≤ k → until_of x ≤ k) (get_or_append_left tickets (t ∷ []) no_ticket i l) (free i (omega (arith, length_push tickets t))));
         };
-        writes = λ i l. each_pushed (λ x y. Writes x → WritesOn v.disk modes nodes x y) i l (ok.writes i) (λ w. absurd (not_new w.started));
-        reads = λ i l. each_pushed (λ x y. Reads x → ReadsFrom v.disk modes y) i l (ok.reads i) (λ w. absurd (not_new w.started));
+        writes = λ i l. each_pushed (λ x y. IsWriting x → WritesOn v.disk modes nodes x y) i l (ok.writes i) (λ w. absurd (not_new w.started));
+        reads = λ i l. each_pushed (λ x y. IsReading x → ReadsFrom v.disk modes y) i l (ok.reads i) (λ w. absurd (not_new w.started));
         seen = seen_push entries calls ok.seen c idle saw;
       }
 

@@ -16,7 +16,7 @@ use Rattle.replica_node.specs.Node.{Node}
 use Rattle.open_calls.specs.declared.open_call.OpenCall.{OpenCall}
 use Rattle.open_calls.specs.Parts.{part_at, is_pending_at}
 use Rattle.open_calls.specs.Calls.{no_call, open_at, node_at}
-use Rattle.open_calls.specs.Clients.{AreClients, AreSeen, Fits, WritesOn, ReadsFrom, Writes, Reads, IsFree, byte_of}
+use Rattle.open_calls.specs.Clients.{AreClients, AreSeen, Fits, WritesOn, ReadsFrom, IsWriting, IsReading, IsUnheld, byte_of}
 use Rattle.open_calls.proofs.ByteLemmas.{length-put, get_or-put_in, get_or-put_out, same_bytes_at}
 use Rattle.open_calls.proofs.ListLemmas.{skip, skip-other, skip-in, get_or-remove}
 use Rattle.open_calls.proofs.FreeLemmas.{free_before, held_apart}
@@ -39,7 +39,7 @@ same_merged d e at k bytes long inside same =
 -- what the disk owes that is there once the call at i is gone
 record IsLeft (v : Volume) (size : ℕ) (modes : List Mode) (tickets : List Ticket) (nodes : List Node) (i : ℕ) (disk : List ℕ) : Type 0 where
   long : length disk ≡ size
-  bytes : (r k : ℕ) → mode_of modes r ≡ Rw → IsFree (remove tickets i) k → byte_of (node_at nodes r).disk k ≡ byte_of disk k
+  bytes : (r k : ℕ) → mode_of modes r ≡ Rw → IsUnheld (remove tickets i) k → byte_of (node_at nodes r).disk k ≡ byte_of disk k
   kept : (j k : ℕ) → j ≢ i → j < length tickets → (ticket_at tickets j).started ≡ true → from_of (ticket_at tickets j) ≤ k → k < until_of (ticket_at tickets j)
       → byte_of disk k ≡ byte_of v.disk k
 
@@ -70,7 +70,7 @@ module _ (v : Volume) (size streams : ℕ) (entries : List Entry) (modes : List 
         order = AreInOrder-remove tickets i h ok.order;
         fits = λ j l. each_left (λ x y. Fits size streams (length nodes) x y) j (ok.fits (skip i j) (left_in j l));
         agree = record { disk = g.long; as_many = a.as_many; sizes = a.sizes; tree = a.tree; copies = a.copies; bytes = g.bytes };
-        writes = λ j l. each_left (λ x y. Writes x → WritesOn disk modes nodes x y) j
+        writes = λ j l. each_left (λ x y. IsWriting x → WritesOn disk modes nodes x y) j
             (λ w. let o = ok.writes (skip i j) (left_in j l) w in
             let f = ok.fits (skip i j) (left_in j l) in
             let y = open_at calls (skip i j) in
@@ -81,7 +81,7 @@ module _ (v : Volume) (size streams : ℕ) (entries : List Entry) (modes : List 
               merged = λ k low high. o.merged k low high
                   ∙ sym (same_merged disk v.disk y.at k y.bytes (omega (arith, g.long, a.disk)) (omega (arith, g.long, f.lies.good, f.count w.writes)) (g.kept (skip i j) k (skip-other i j) (left_in j l) w.started low high));
             });
-        reads = λ j l. each_left (λ x y. Reads x → ReadsFrom disk modes y) j
+        reads = λ j l. each_left (λ x y. IsReading x → ReadsFrom disk modes y) j
             (λ w. let o = ok.reads (skip i j) (left_in j l) w in
             let f = ok.fits (skip i j) (left_in j l) in
             let y = open_at calls (skip i j) in
@@ -95,7 +95,7 @@ module _ (v : Volume) (size streams : ℕ) (entries : List Entry) (modes : List 
       }
 
   -- a call that held nothing, or where no replica is read
-  pub left_clients : ((r : ℕ) → mode_of modes r ≡ Rw → Writes t → ⊥) → AreClients v size streams entries modes (remove tickets i) (remove calls i) nodes
+  pub left_clients : ((r : ℕ) → mode_of modes r ≡ Rw → IsWriting t → ⊥) → AreClients v size streams entries modes (remove tickets i) (remove calls i) nodes
   left_clients none = gone_clients v.disk (record {
     long = ok.agree.disk;
     bytes = λ r k e free. ok.agree.bytes r k e (free_before tickets i k h free (λ w. absurd (none r e w)));
@@ -103,7 +103,7 @@ module _ (v : Volume) (size streams : ℕ) (entries : List Entry) (modes : List 
   })
 
   -- a write that each replica has acknowledged which has not failed
-  pub written_clients : Writes t → ((q : ℕ) → q < length nodes → is_pending_at (mode_of modes q) (part_at c.parts q) ≡ false)
+  pub written_clients : IsWriting t → ((q : ℕ) → q < length nodes → is_pending_at (mode_of modes q) (part_at c.parts q) ≡ false)
       → AreClients (record v { disk = with_bytes_at v.disk c.at c.bytes }) size streams entries modes (remove tickets i) (remove calls i) nodes
   written_clients w acknowledged =
       let f = ok.fits i h in

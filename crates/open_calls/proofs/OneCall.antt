@@ -17,8 +17,8 @@ use Rattle.open_calls.specs.declared.parts.Part.{Part}
 use Rattle.open_calls.specs.declared.parts.Part.TheVariants.{Taken, Acked}
 use Rattle.open_calls.specs.declared.open_call.OpenCall.{OpenCall}
 use Rattle.open_calls.specs.Parts.{part_at, IsTaken}
-use Rattle.open_calls.specs.Calls.{no_call, open_at, node_at, whole_of, with_part, read_from}
-use Rattle.open_calls.specs.Clients.{AreClients, WritesOn, ReadsFrom, HasBytes, Writes, Reads, Fits, byte_of}
+use Rattle.open_calls.specs.Calls.{no_call, open_at, node_at, whole_of, with_part_at, read_from}
+use Rattle.open_calls.specs.Clients.{AreClients, WritesOn, ReadsFrom, HasBytes, IsWriting, IsReading, Fits, byte_of}
 use Rattle.open_calls.proofs.ByteLemmas.{length-put, get_or-put_in, get_or-put_out, same_bytes_at, length-bytes_at}
 use Rattle.open_calls.proofs.ListLemmas.{each_set}
 use Rattle.open_calls.proofs.FreeLemmas.{held_apart, read_free, write_no_read, write_no_whole}
@@ -26,7 +26,7 @@ use Rattle.open_calls.proofs.PartLemmas.{up_in, rw_up, taken_in, part_owed, part
 use Rattle.open_calls.proofs.SeenLemmas.{seen_set}
 
 -- a call with another part fits as before
-fits_part : (size streams replicas r : ℕ) (t : Ticket) (c : OpenCall) (part : Part) → Fits size streams replicas t c → Fits size streams replicas t (with_part c r part)
+fits_part : (size streams replicas r : ℕ) (t : Ticket) (c : OpenCall) (part : Part) → Fits size streams replicas t c → Fits size streams replicas t (with_part_at c r part)
 fits_part size streams replicas r t c part f = record {
   lies = record { up = f.lies.up; within = f.lies.within; good = f.lies.good; covers = f.lies.covers; empty = f.lies.empty };
   stream = f.stream;
@@ -52,16 +52,16 @@ module _ (v : Volume) (size streams : ℕ) (entries : List Entry) (modes : List 
   each_call Q x j here other = each_set Q calls i j x no_call call_in here other
 
   -- the replica acknowledges its part
-  pub acked_clients : IsTaken (part_at c.parts r) → AreClients v size streams entries modes tickets (set calls i (with_part c r Acked)) nodes
+  pub acked_clients : IsTaken (part_at c.parts r) → AreClients v size streams entries modes tickets (set calls i (with_part_at c r Acked)) nodes
   acked_clients mine =
-      let x : OpenCall = with_part c r Acked in
+      let x : OpenCall = with_part_at c r Acked in
       let part_in : r < length c.parts = taken_in c.parts r mine in
       record {
         paired = length-set calls i x ∙ ok.paired;
         order = ok.order;
         fits = λ j l. each_call (λ n y. Fits size streams (length nodes) (ticket_at tickets n) y) x j (fits_part size streams (length nodes) r t c Acked (ok.fits i h)) (λ _. ok.fits j l);
         agree = ok.agree;
-        writes = λ j l. each_call (λ n y. Writes (ticket_at tickets n) → WritesOn v.disk modes nodes (ticket_at tickets n) y) x j
+        writes = λ j l. each_call (λ n y. IsWriting (ticket_at tickets n) → WritesOn v.disk modes nodes (ticket_at tickets n) y) x j
             (λ w. let o = ok.writes i h w in record {
               owed = λ q up. part_owed c.parts r q Acked part_in acked≢apart (o.owed q up);
               room = o.room;
@@ -69,7 +69,7 @@ module _ (v : Volume) (size streams : ℕ) (entries : List Entry) (modes : List 
               merged = o.merged;
             })
             (λ _. ok.writes j l);
-        reads = λ j l. each_call (λ n y. Reads (ticket_at tickets n) → ReadsFrom v.disk modes y) x j
+        reads = λ j l. each_call (λ n y. IsReading (ticket_at tickets n) → ReadsFrom v.disk modes y) x j
             (λ w. let o = ok.reads i h w in record {
               owed = λ q up. part_owed c.parts r q Acked part_in acked≢apart (o.owed q up);
               read = λ q tk. o.read q (acked_was c.parts r q mine tk);
@@ -79,9 +79,9 @@ module _ (v : Volume) (size streams : ℕ) (entries : List Entry) (modes : List 
       }
 
   -- the replica takes the bytes of the write
-  pub wrote_clients : Writes t → mode_of modes r ≢ Err → AreClients v size streams entries modes tickets (set calls i (with_part c r Taken)) (set nodes r (put_at (node_at nodes r) t.range.first (whole_of c)))
+  pub wrote_clients : IsWriting t → mode_of modes r ≢ Err → AreClients v size streams entries modes tickets (set calls i (with_part_at c r Taken)) (set nodes r (put_at (node_at nodes r) t.range.first (whole_of c)))
   wrote_clients w up =
-      let x : OpenCall = with_part c r Taken in
+      let x : OpenCall = with_part_at c r Taken in
       let f = ok.fits i h in
       let a = ok.agree in
       let node_in : r < length nodes = omega (arith, up_in modes r up, a.as_many) in
@@ -107,7 +107,7 @@ module _ (v : Volume) (size streams : ℕ) (entries : List Entry) (modes : List 
           bytes = λ q k e free. each_node (λ m n. mode_of modes m ≡ Rw → byte_of n.disk k ≡ byte_of v.disk k) q
               (λ e. get_or-put_out old.disk from (whole_of c) k 0 fit (λ g. omega (arith, free i h w g, whole)) ∙ a.bytes r k e free) (λ _ e. a.bytes q k e free) e;
         };
-        writes = λ j l. each_call (λ n y. Writes (ticket_at tickets n) → WritesOn v.disk modes (set nodes r new) (ticket_at tickets n) y) x j
+        writes = λ j l. each_call (λ n y. IsWriting (ticket_at tickets n) → WritesOn v.disk modes (set nodes r new) (ticket_at tickets n) y) x j
             (λ w1. let o = ok.writes i h w1 in record {
               owed = λ q up. part_owed c.parts r q Taken part_in taken≢apart (o.owed q up);
               room = λ q. each_node (λ m n. mode_of modes m ≢ Err → HasRoom n t.range) q (o.room r) (λ _. o.room q);
@@ -126,12 +126,12 @@ module _ (v : Volume) (size streams : ℕ) (entries : List Entry) (modes : List 
                   (λ _ tk2. o.taken q tk2) tk;
               merged = o.merged;
             });
-        reads = λ j l. each_call (λ n y. Reads (ticket_at tickets n) → ReadsFrom v.disk modes y) x j (λ b. absurd (write_no_read t.kind w.writes b.reads)) (λ _. ok.reads j l);
+        reads = λ j l. each_call (λ n y. IsReading (ticket_at tickets n) → ReadsFrom v.disk modes y) x j (λ b. absurd (write_no_read t.kind w.writes b.reads)) (λ _. ok.reads j l);
         seen = seen_set entries calls ok.seen i x call_in refl refl;
       }
 
   -- the replica gives the bytes of the read
-  pub read_clients : Reads t → mode_of modes r ≡ Rw → AreClients v size streams entries modes tickets (set calls i (read_from c r (node_at nodes r))) nodes
+  pub read_clients : IsReading t → mode_of modes r ≡ Rw → AreClients v size streams entries modes tickets (set calls i (read_from c r (node_at nodes r))) nodes
   read_clients w rw' =
       let f = ok.fits i h in
       let a = ok.agree in
@@ -141,7 +141,7 @@ module _ (v : Volume) (size streams : ℕ) (entries : List Entry) (modes : List 
       let count : length c.buffer ≡ c.length = f.buffer w in
       let part_in : r < length c.parts = omega (arith, f.parts w.started (Rattle.open_calls.proofs.FreeLemmas.read_no_whole t.kind w.reads), up_in modes r up, a.as_many) in
       let x : OpenCall = read_from c r n in
-      let no_write = λ (b : Writes t). write_no_read t.kind b.writes w.reads in
+      let no_write = λ (b : IsWriting t). write_no_read t.kind b.writes w.reads in
       let same : bytes_at n.disk c.at (length c.buffer) ≡ bytes_at v.disk c.at c.length =
       ap (bytes_at n.disk c.at) count ∙ same_bytes_at n.disk v.disk c.at c.length (omega (arith, long, f.lies.good)) (omega (arith, a.disk, f.lies.good))
       (λ k g u. let in' = f.lies.covers k g u in a.bytes r k rw' (read_free tickets i k ok.order.apart h w in'.0 in'.1)) in
@@ -160,8 +160,8 @@ module _ (v : Volume) (size streams : ℕ) (entries : List Entry) (modes : List 
             })
             (λ _. ok.fits j l);
         agree = a;
-        writes = λ j l. each_call (λ n y. Writes (ticket_at tickets n) → WritesOn v.disk modes nodes (ticket_at tickets n) y) x j (λ b. absurd (no_write b)) (λ _. ok.writes j l);
-        reads = λ j l. each_call (λ n y. Reads (ticket_at tickets n) → ReadsFrom v.disk modes y) x j
+        writes = λ j l. each_call (λ n y. IsWriting (ticket_at tickets n) → WritesOn v.disk modes nodes (ticket_at tickets n) y) x j (λ b. absurd (no_write b)) (λ _. ok.writes j l);
+        reads = λ j l. each_call (λ n y. IsReading (ticket_at tickets n) → ReadsFrom v.disk modes y) x j
             (λ b. let o = ok.reads i h b in record { owed = λ q up. part_owed c.parts r q Taken part_in taken≢apart (o.owed q up); read = λ q tk. same })
             (λ _. ok.reads j l);
         seen = seen_set entries calls ok.seen i x call_in refl refl;

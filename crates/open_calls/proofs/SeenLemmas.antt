@@ -12,7 +12,7 @@ use Rattle.volume_model.specs.History.{answers_of, answers_from}
 use Rattle.volume_model.proofs.LegalLemmas.{answers_from-append}
 use Rattle.open_calls.specs.declared.open_call.OpenCall.{OpenCall}
 use Rattle.open_calls.specs.Calls.{no_call, open_at}
-use Rattle.open_calls.specs.Clients.{behind, behind_last, IsIdle, AreSeen}
+use Rattle.open_calls.specs.Clients.{place_behind, behind_last, IsIdle, AreSeen}
 use Rattle.open_calls.proofs.ListLemmas.{at_set, at_push, skip, skip-other, skip-in, skip-more, get_or-remove}
 
 -- ---- the answers of a stream, with an entry more
@@ -35,14 +35,14 @@ mark_more es m stream = answers_from-append stream 0 es (entry.Mark m ∷ []) �
 -- ---- the place behind them
 
 -- each answer stands in the journal
-behind_below : (stream least place : ℕ) (es : List Entry) → least ≤ place → behind least (answers_from stream place es) ≤ place + length es
+behind_below : (stream least place : ℕ) (es : List Entry) → least ≤ place → place_behind least (answers_from stream place es) ≤ place + length es
 behind_below stream least place [] low = omega arith
 behind_below stream least place (entry.Mark m ∷ es) low = omega (arith, behind_below stream least (suc place) es (omega arith))
 behind_below stream least place (entry.Answer a ∷ es) low =
     one (eqb a.stream stream) (omega (arith, behind_below stream (suc place) (suc place) es (omega arith))) (omega (arith, behind_below stream least (suc place) es (omega arith)))
   where
-    one : (b : Bool) → behind (suc place) (answers_from stream (suc place) es) ≤ place + suc (length es) → behind least (answers_from stream (suc place) es) ≤ place + suc (length es)
-        → behind least (cond b ((place, a) ∷ answers_from stream (suc place) es) (answers_from stream (suc place) es)) ≤ place + suc (length es)
+    one : (b : Bool) → place_behind (suc place) (answers_from stream (suc place) es) ≤ place + suc (length es) → place_behind least (answers_from stream (suc place) es) ≤ place + suc (length es)
+        → place_behind least (cond b ((place, a) ∷ answers_from stream (suc place) es) (answers_from stream (suc place) es)) ≤ place + suc (length es)
     one true own other = own
     one false own other = other
 
@@ -105,7 +105,7 @@ module _ (es : List Entry) (calls : List OpenCall) (ok : AreSeen es calls) where
   pub seen_mark : (m : Mark) → AreSeen (es ++ entry.Mark m ∷ []) calls
   seen_mark m = record {
     alone = ok.alone;
-    past = λ j l. subst (λ xs. behind 0 xs ≤ (open_at calls j).saw) (sym (mark_more es m (open_at calls j).stream)) (ok.past j l);
+    past = λ j l. subst (λ xs. place_behind 0 xs ≤ (open_at calls j).saw) (sym (mark_more es m (open_at calls j).stream)) (ok.past j l);
     saw = λ j l. omega (arith, ok.saw j l, length-append es (entry.Mark m ∷ []));
   }
 
@@ -113,6 +113,6 @@ module _ (es : List Entry) (calls : List OpenCall) (ok : AreSeen es calls) where
   pub seen_answer : (a : Answer) → IsIdle a.stream calls → AreSeen (es ++ entry.Answer a ∷ []) calls
   seen_answer a idle = record {
     alone = ok.alone;
-    past = λ j l. subst (λ xs. behind 0 xs ≤ (open_at calls j).saw) (sym (other_more es a (open_at calls j).stream (λ e. idle j l (sym e)))) (ok.past j l);
+    past = λ j l. subst (λ xs. place_behind 0 xs ≤ (open_at calls j).saw) (sym (other_more es a (open_at calls j).stream (λ e. idle j l (sym e)))) (ok.past j l);
     saw = λ j l. omega (arith, ok.saw j l, length-append es (entry.Answer a ∷ []));
   }

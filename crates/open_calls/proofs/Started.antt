@@ -18,7 +18,7 @@ use Rattle.replica_state.specs.Volume.{copies_in}
 use Rattle.open_calls.specs.declared.open_call.OpenCall.{OpenCall}
 use Rattle.open_calls.specs.Parts.{part_for, part_at, IsTaken}
 use Rattle.open_calls.specs.Calls.{no_call, open_at, node_at, whole_of, begun}
-use Rattle.open_calls.specs.Clients.{AreClients, Fits, WritesOn, ReadsFrom, Writes, Reads, IsMerged, byte_of}
+use Rattle.open_calls.specs.Clients.{AreClients, Fits, WritesOn, ReadsFrom, IsWriting, IsReading, IsMerged, byte_of}
 use Rattle.open_calls.specs.Starts.{KeepsNodes, HaveRoom, AreEdges}
 use Rattle.open_calls.proofs.ByteLemmas.{get_or-put_in, get_or-put_out, get_or-bytes_at}
 use Rattle.open_calls.proofs.ListLemmas.{at_set}
@@ -145,15 +145,15 @@ module _ (v : Volume) (size streams : ℕ) (entries : List Entry) (modes : List 
           sizes = a.sizes;
           tree = a.tree;
           copies = a.copies;
-          bytes = λ r k e free. a.bytes r k e (λ j l. at_set (λ (y : Ticket). (Writes y → from_of y ≤ k → until_of y ≤ k) → Writes (ticket_at tickets j) → from_of (ticket_at tickets j) ≤ k → until_of (ticket_at tickets j) ≤ k) tickets i j started no_ticket h
-              (λ e. subst (λ (n : ℕ). (Writes started → from_of started ≤ k → until_of started ≤ k) → Writes (ticket_at tickets n) → from_of (ticket_at tickets n) ≤ k → until_of (ticket_at tickets n) ≤ k) (sym e) (λ g w. g (record { started = refl; writes = w.writes })))
+          bytes = λ r k e free. a.bytes r k e (λ j l. at_set (λ (y : Ticket). (IsWriting y → from_of y ≤ k → until_of y ≤ k) → IsWriting (ticket_at tickets j) → from_of (ticket_at tickets j) ≤ k → until_of (ticket_at tickets j) ≤ k) tickets i j started no_ticket h
+              (λ e. subst (λ (n : ℕ). (IsWriting started → from_of started ≤ k → until_of started ≤ k) → IsWriting (ticket_at tickets n) → from_of (ticket_at tickets n) ≤ k → until_of (ticket_at tickets n) ≤ k) (sym e) (λ g w. g (record { started = refl; writes = w.writes })))
               (λ _ g. g)
               (free j (omega (arith, length-set tickets i started))));
         };
-        writes = λ j l. each_begun (λ n y z. Writes y → WritesOn v.disk modes nodes y z) j
+        writes = λ j l. each_begun (λ n y z. IsWriting y → WritesOn v.disk modes nodes y z) j
             (λ w. record { owed = owed; room = room w.writes; taken = λ q tk. absurd (new q tk); merged = merged w.writes })
             (λ _. ok.writes j (still j l));
-        reads = λ j l. each_begun (λ n y z. Reads y → ReadsFrom v.disk modes z) j
+        reads = λ j l. each_begun (λ n y z. IsReading y → ReadsFrom v.disk modes z) j
             (λ w. record { owed = owed; read = λ q tk. absurd (new q tk) })
             (λ _. ok.reads j (still j l));
         seen = seen_set entries calls ok.seen i x (omega (arith, ok.paired)) refl refl;

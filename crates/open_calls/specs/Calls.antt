@@ -25,10 +25,10 @@ abbrev pub node_at : List Node → ℕ → Node
 node_at nodes r = slice_index_or nodes r (blank 0)
 
 -- what the client asked; a ticket for the whole volume has a command, of which nothing is kept here
-abbrev pub asked_by : Kind → OpenCall → Call
-asked_by kind.Read c = call.Read (pos c.at) c.length
-asked_by kind.Write c = call.Write (pos c.at) c.bytes
-asked_by kind.Whole c = call.Ping
+abbrev pub call_asked : Kind → OpenCall → Call
+call_asked kind.Read c = call.Read (pos c.at) c.length
+call_asked kind.Write c = call.Write (pos c.at) c.bytes
+call_asked kind.Whole c = call.Ping
 
 -- all bytes of the blocks of a started write: those that stay before it, its own, and those that stay behind it
 abbrev pub whole_of : OpenCall → List ℕ
@@ -37,8 +37,8 @@ whole_of c = (c.front ++ c.bytes) ++ c.back
 -- ---- what steps make of one
 
 -- its part of a replica is that now
-abbrev pub with_part : OpenCall → ℕ → Part → OpenCall
-with_part c r part = record c { parts = slice_set c.parts r part }
+abbrev pub with_part_at : OpenCall → ℕ → Part → OpenCall
+with_part_at c r part = record c { parts = slice_set c.parts r part }
 
 -- the replica of that number gave its bytes
 abbrev pub read_from : OpenCall → ℕ → Node → OpenCall

@@ -28,12 +28,12 @@ byte_of disk k = slice_index_or disk k 0
 -- ---- a ticket and its call
 
 -- a write that has started
-pub record Writes (t : Ticket) : Type 0 where
+pub record IsWriting (t : Ticket) : Type 0 where
   pub started : t.started ≡ true
   pub writes : t.kind ≡ kind.Write
 
 -- a read that has started
-pub record Reads (t : Ticket) : Type 0 where
+pub record IsReading (t : Ticket) : Type 0 where
   pub started : t.started ≡ true
   pub reads : t.kind ≡ kind.Read
 
@@ -52,14 +52,14 @@ pub record Fits (size streams replicas : ℕ) (t : Ticket) (c : OpenCall) : Type
   pub short : t.kind ≡ kind.Read → c.length ≤ longest_call
   pub count : t.kind ≡ kind.Write → length c.bytes ≡ c.length
   pub parts : t.started ≡ true → t.kind ≢ kind.Whole → length c.parts ≡ replicas
-  pub buffer : Reads t → length c.buffer ≡ c.length
-  pub whole : Writes t → from_of t + length (whole_of c) ≡ until_of t
+  pub buffer : IsReading t → length c.buffer ≡ c.length
+  pub whole : IsWriting t → from_of t + length (whole_of c) ≡ until_of t
 
 -- ---- the replicas
 
 -- no write that has started holds the byte
-abbrev pub IsFree : List Ticket → ℕ → Type 0
-IsFree tickets k = (i : ℕ) → i < length tickets → Writes (ticket_at tickets i)
+abbrev pub IsUnheld : List Ticket → ℕ → Type 0
+IsUnheld tickets k = (i : ℕ) → i < length tickets → IsWriting (ticket_at tickets i)
     → from_of (ticket_at tickets i) ≤ k → until_of (ticket_at tickets i) ≤ k
 
 -- The volume has the size. Each replica that has not failed has it too, and the volume's snapshots. Each that is read
@@ -71,7 +71,7 @@ pub record Agree (volume : Volume) (size : ℕ) (modes : List Mode) (tickets : L
   pub sizes : (r : ℕ) → mode_of modes r ≢ Err → length (node_at nodes r).disk ≡ size
   pub tree : (r : ℕ) → mode_of modes r ≢ Err → snapshots_of (node_at nodes r) ≡ volume.snapshots
   pub copies : (r : ℕ) → mode_of modes r ≡ Rw → copies_in (node_at nodes r).layers ≡ volume.copies
-  pub bytes : (r k : ℕ) → mode_of modes r ≡ Rw → IsFree tickets k
+  pub bytes : (r k : ℕ) → mode_of modes r ≡ Rw → IsUnheld tickets k
       → byte_of (node_at nodes r).disk k ≡ byte_of volume.disk k
 
 -- ---- started calls
@@ -101,13 +101,13 @@ pub record ReadsFrom (disk : List ℕ) (modes : List Mode) (c : OpenCall) : Type
 -- ---- the streams
 
 -- the place behind the last of these answers, each with its place, and where there is none the one before them
-abbrev pub behind : ℕ → List (ℕ × Answer) → ℕ
-behind place [] = place
-behind place (p ∷ more) = behind (suc p.0) more
+abbrev pub place_behind : ℕ → List (ℕ × Answer) → ℕ
+place_behind place [] = place
+place_behind place (p ∷ more) = place_behind (suc p.0) more
 
 -- the place behind the last answer of a stream
 abbrev pub behind_last : ℕ → List Entry → ℕ
-behind_last stream entries = behind 0 (answers_of stream entries)
+behind_last stream entries = place_behind 0 (answers_of stream entries)
 
 -- no open call is the stream's
 abbrev pub IsIdle : ℕ → List OpenCall → Type 0
@@ -128,8 +128,8 @@ pub record AreClients (volume : Volume) (size streams : ℕ) (entries : List Ent
   pub order : AreInOrder tickets
   pub fits : (i : ℕ) → i < length tickets → Fits size streams (length nodes) (ticket_at tickets i) (open_at calls i)
   pub agree : Agree volume size modes tickets nodes
-  pub writes : (i : ℕ) → i < length tickets → Writes (ticket_at tickets i)
+  pub writes : (i : ℕ) → i < length tickets → IsWriting (ticket_at tickets i)
       → WritesOn volume.disk modes nodes (ticket_at tickets i) (open_at calls i)
-  pub reads : (i : ℕ) → i < length tickets → Reads (ticket_at tickets i)
+  pub reads : (i : ℕ) → i < length tickets → IsReading (ticket_at tickets i)
       → ReadsFrom volume.disk modes (open_at calls i)
   pub seen : AreSeen entries calls

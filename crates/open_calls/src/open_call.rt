@@ -1,5 +1,5 @@
 ghost use Rattle.std.specs.Prelude.{◌≡◌, ◌≢◌, []};
-ghost use Rattle.open_calls.specs.Calls.{asked_by};
+ghost use Rattle.open_calls.specs.Calls.{call_asked};
 
 use crate::buffer::Buffer;
 use crate::parts::Parts;
@@ -59,7 +59,7 @@ impl OpenCall {
     /// What the client asked, by a ticket of that kind. It takes no memory.
     pub fn into_call(self, kind: Kind) -> Call
         requires { kind ≢ Kind.Whole }
-        ensures { result ≡ asked_by kind self }
+        ensures { result ≡ call_asked kind self }
     {
         let offset = i64::from(self.at);
         match kind {

@@ -23,22 +23,22 @@ use Rattle.volume_model.proofs.StepLemmas.{says-plain_step}
 use Rattle.range_turns.specs.declared.ticket.Kind.{Kind}
 use Rattle.range_turns.specs.declared.ticket.Kind.TheVariants as kind
 use Rattle.open_calls.specs.declared.open_call.OpenCall.{OpenCall}
-use Rattle.open_calls.specs.Calls.{asked_by}
+use Rattle.open_calls.specs.Calls.{call_asked}
 use Rattle.open_calls.proofs.FreeLemmas.{not_both}
 
 -- ---- a call of a ticket is no command
 
-pub no_command : (k : Kind) (x : OpenCall) (c : Command) → asked_by k x ≡ call.Command c → ⊥
+pub no_command : (k : Kind) (x : OpenCall) (c : Command) → call_asked k x ≡ call.Command c → ⊥
 no_command kind.Read x c e = cc
 no_command kind.Write x c e = cc
 no_command kind.Whole x c e = cc
 
-pub no_add : (k : Kind) (x : OpenCall) → added_by (asked_by k x) ≡ None
+pub no_add : (k : Kind) (x : OpenCall) → added_by (call_asked k x) ≡ None
 no_add kind.Read x = refl
 no_add kind.Write x = refl
 no_add kind.Whole x = refl
 
-pub asks_one : (k : Kind) (x : OpenCall) → k ≢ kind.Whole → asks_replica (asked_by k x) ≡ true
+pub asks_one : (k : Kind) (x : OpenCall) → k ≢ kind.Whole → asks_replica (call_asked k x) ≡ true
 asks_one kind.Read x n = refl
 asks_one kind.Write x n = refl
 asks_one kind.Whole x n = absurd (n refl)

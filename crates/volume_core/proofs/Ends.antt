@@ -35,8 +35,8 @@ use Rattle.replica_node.specs.Node.{Node}
 use Rattle.open_calls.specs.declared.open_call.OpenCall.{OpenCall}
 use Rattle.open_calls.specs.declared.parts.Part.TheVariants.{Acked}
 use Rattle.open_calls.specs.Parts.{part_at, IsTaken}
-use Rattle.open_calls.specs.Calls.{open_at, asked_by}
-use Rattle.open_calls.specs.Clients.{AreClients, Writes, Reads, IsIdle, behind_last}
+use Rattle.open_calls.specs.Calls.{open_at, call_asked}
+use Rattle.open_calls.specs.Clients.{AreClients, IsWriting, IsReading, IsIdle, behind_last}
 use Rattle.open_calls.proofs.FreeLemmas.{not_both, write_no_read, write_no_whole}
 use Rattle.open_calls.proofs.Gone.{left_clients, written_clients, failed_clients, seen_clients}
 use Rattle.open_calls.proofs.PartLemmas.{up_in}
@@ -114,7 +114,7 @@ module _ (s : State) (i : ℕ) (ok : IsSound s) (h : i < length s.tickets) where
   k = (ticket_at s.tickets i).kind
 
   abbrev its : Reply → Answer
-  its r = record { call = asked_by k c; reply = r; index = index_at s.indices c.stream; saw = c.saw; stream = c.stream }
+  its r = record { call = call_asked k c; reply = r; index = index_at s.indices c.stream; saw = c.saw; stream = c.stream }
 
   call_in : i < length s.calls
   call_in = omega (arith, ok.clients.paired)
@@ -123,7 +123,7 @@ module _ (s : State) (i : ℕ) (ok : IsSound s) (h : i < length s.tickets) where
       → AreClients v s.size (length s.indices) s.book.entries (modes_in s) (remove s.tickets i) (remove s.calls i) s.nodes
       → count_by (λ t. t.started) (remove s.tickets i) + count_by is_up (modes_in s) + 1 ≤ s.book.spare → IsSound (ended s i r)
   ended_sound r v may after clients room =
-      answered_sound s ok c.stream c.saw (asked_by k c) r (remove s.tickets i) (remove s.calls i) v
+      answered_sound s ok c.stream c.saw (call_asked k c) r (remove s.tickets i) (remove s.calls i) v
       (idle_once_gone s.book.entries s.calls ok.clients.seen i call_in) (ok.clients.fits i h).stream (ok.clients.seen.past i call_in) (ok.clients.seen.saw i call_in)
       (no_add k c) (λ name e. absurd (no_command k c (command.Snapshot name) e)) may after clients room
 
@@ -132,7 +132,7 @@ module _ (s : State) (i : ℕ) (ok : IsSound s) (h : i < length s.tickets) where
   started_room e = omega (arith, ok.spare, sum_by-remove (λ (t : Ticket). cond t.started 1 0) s.tickets i no_ticket h, counts (ticket_at s.tickets i).started e)
 
   -- nothing stands against a call on a range
-  on_range : (x : Kind) → k ≡ x → x ≢ kind.Whole → refusal_of (modes_in s) (told_of s) (asked_by x c) ≡ None
+  on_range : (x : Kind) → k ≡ x → x ≢ kind.Whole → refusal_of (modes_in s) (told_of s) (call_asked x c) ≡ None
   on_range kind.Read e n = let f = ok.clients.fits i h in read_free (modes_in s) (told_of s) c.at c.length (omega (arith, f.lies.good, ok.clients.agree.disk)) (f.short e)
   on_range kind.Write e n = let f = ok.clients.fits i h in write_free (modes_in s) (told_of s) c.at c.bytes (omega (arith, f.lies.good, f.count e, ok.clients.agree.disk))
   on_range kind.Whole e n = absurd (n refl)
@@ -144,10 +144,10 @@ module _ (s : State) (i : ℕ) (ok : IsSound s) (h : i < length s.tickets) where
       (none_answered (modes_in s) (told_of s) (its (reply.Refused NoReplica)) (on_range k refl range) (asks_one k c range) (λ x e. no_command k c x e) refl none) refl
       (left_clients (told_of s).volume s.size (length s.indices) s.book.entries (modes_in s) s.tickets s.calls s.nodes i ok.clients h (λ r e w. none r e)) room
 
-  as_asked : (x : Kind) → k ≡ x → asked_by k c ≡ asked_by x c
-  as_asked x e = ap (λ y. asked_by y c) e
+  as_asked : (x : Kind) → k ≡ x → call_asked k c ≡ call_asked x c
+  as_asked x e = ap (λ y. call_asked y c) e
 
-  pub write_sound : Writes (ticket_at s.tickets i) → (r : Reply) → EndsWrite s i r → IsSound (ended s i r)
+  pub write_sound : IsWriting (ticket_at s.tickets i) → (r : Reply) → EndsWrite s i r → IsSound (ended s i r)
   write_sound w reply.Done end =
       let is = as_asked kind.Write w.writes in
       let p = told_of s in
@@ -164,14 +164,14 @@ module _ (s : State) (i : ℕ) (ok : IsSound s) (h : i < length s.tickets) where
       subst (λ x. IsSound (ended s i (reply.Refused x))) (sym end.reply.0) (none_sound (write_no_whole k w.writes) end.reply.1 (started_room w.started))
 
   -- a read that a replica acknowledged
-  pub read_sound : Reads (ticket_at s.tickets i) → (r : ℕ) → part_at c.parts r ≡ Acked → IsSound (ended s i (reply.Read c.buffer))
+  pub read_sound : IsReading (ticket_at s.tickets i) → (r : ℕ) → part_at c.parts r ≡ Acked → IsSound (ended s i (reply.Read c.buffer))
   read_sound w r acked =
       let is = as_asked kind.Read w.reads in
       let p = told_of s in
       let bytes = (ok.clients.reads i h w).read r (subst IsTaken (sym acked) tt) in
       ended_sound (reply.Read c.buffer) p.volume
       (done_plainly (modes_in s) p (its (reply.Read c.buffer)) (ap (refusal_of (modes_in s) p) is ∙ on_range kind.Read w.reads (λ e. cc)) (ap reply.Read bytes ∙ sym (ap (λ x. (step_unless None (modes_in s) p x).1) is)) (λ x e. no_command k c x e)
-      (λ change. absurd (not_both (is_change (asked_by k c)) (ap is_change is) change)))
+      (λ change. absurd (not_both (is_change (call_asked k c)) (ap is_change is) change)))
       (ap (λ x. (after_call p x).volume) is)
       (left_clients p.volume s.size (length s.indices) s.book.entries (modes_in s) s.tickets s.calls s.nodes i ok.clients h (λ q e v. write_no_read k v.writes w.reads))
       (started_room w.started)

@@ -18,7 +18,7 @@ use Rattle.range_turns.specs.declared.ticket.Ticket.{Ticket}
 use Rattle.range_turns.specs.Order.{ticket_at, no_ticket, StandsAt}
 use Rattle.replica_node.specs.Node.{Node}
 use Rattle.open_calls.specs.declared.open_call.OpenCall.{OpenCall}
-use Rattle.open_calls.specs.Calls.{open_at, asked_by, whole_of, begun, with_part, read_from}
+use Rattle.open_calls.specs.Calls.{open_at, call_asked, whole_of, begun, with_part_at, read_from}
 use Rattle.open_calls.specs.declared.parts.Part.{Part}
 use Rattle.open_calls.specs.Clients.{IsIdle}
 use Rattle.volume_core.specs.State.{State, modes_in, index_at}
@@ -61,7 +61,7 @@ pub record IsOwnAt (n : ℕ) (c : Call) (s : State) (i : ℕ) : Type 0 where
   pub runs : running s n ≡ x ∷ []
   pub stream : (open_at s.calls i).stream ≡ n
   pub is : (ticket_at s.tickets i, open_at s.calls i) ≡ x
-  pub asked : asked_by (ticket_at s.tickets i).kind (open_at s.calls i) ≡ c
+  pub asked : call_asked (ticket_at s.tickets i).kind (open_at s.calls i) ≡ c
 
 pub own_at : (n t : ℕ) (c : Call) (s : State) (i : ℕ) → IsSound s → IsOpen n t c s → StandsAt s.tickets t i → IsOwnAt n c s i
 own_at n t c s i ok open' stands =
@@ -77,7 +77,7 @@ own_at n t c s i ok open' stands =
       runs = one.1;
       stream = subst (λ k. (open_at s.calls k).stream ≡ n) here at.3;
       is = is;
-      asked = ap (λ (p : Ticket × OpenCall). asked_by p.0.kind p.1) is ∙ ap (λ (o : Open). o.call) one.2;
+      asked = ap (λ (p : Ticket × OpenCall). call_asked p.0.kind p.1) is ∙ ap (λ (o : Open). o.call) one.2;
     }
 
 -- ---- a call is changed
@@ -149,14 +149,14 @@ module _ (n : ℕ) (c : Call) (s : State) (i : ℕ) (ok : IsSound s) (h : i < le
     sound = ok2;
     origin = ap origin_of is
         ∙ ap (λ k. record { first = s.first; opening = s.book.opening; size = s.size; streams = k; replicas = length s.nodes }) (length-set s.indices (open_at s.calls i).stream (index_at s.indices (open_at s.calls i).stream + 1));
-    added = (answer_entry (without_call s i) (open_at s.calls i).stream (open_at s.calls i).saw (asked_by (ticket_at s.tickets i).kind (open_at s.calls i)) r ∷ [], ap (λ (x : State). x.book.entries) is, (own.stream, tt));
+    added = (answer_entry (without_call s i) (open_at s.calls i).stream (open_at s.calls i).saw (call_asked (ticket_at s.tickets i).kind (open_at s.calls i)) r ∷ [], ap (λ (x : State). x.book.entries) is, (own.stream, tt));
     others = λ m other. ap (λ (x : State). running x m) is ∙ calls-remove_other m s.tickets s.calls i ok.clients.paired (λ e. other (sym e ∙ own.stream));
   }
 
   pub answered_ended : (s2 : State) (spare : ℕ) (r : Reply) → s2 ≡ ended (record s { book = record s.book { spare = spare } }) i r → IsAnsweredTo n c s s2
   answered_ended s2 spare r is = record {
     marks = [];
-    answer = record { call = asked_by (ticket_at s.tickets i).kind (open_at s.calls i); reply = r; index = index_at s.indices (open_at s.calls i).stream; saw = (open_at s.calls i).saw; stream = (open_at s.calls i).stream };
+    answer = record { call = call_asked (ticket_at s.tickets i).kind (open_at s.calls i); reply = r; index = index_at s.indices (open_at s.calls i).stream; saw = (open_at s.calls i).saw; stream = (open_at s.calls i).stream };
     call = own.asked;
     by = own.stream;
     entries = ap (λ (x : State). x.book.entries) is;
@@ -206,11 +206,11 @@ module _ (s s2 : State) (t i : ℕ) (ok : IsSound s) (ok2 : IsSound s2) (stands 
           range = (ticket_at s.tickets i).range;
           whole = whole_of y;
           is = opens_set n c s i ok stands.within own s2 (record (ticket_at s.tickets i) { started = true }) y nodes (s.book.spare + 1) refl is
-              ∙ one_open (ticket_at s.tickets i).number t (asked_by (ticket_at s.tickets i).kind y) c (ticket_at s.tickets i).range (whole_of y) stands.is (asked_same (ticket_at s.tickets i).kind ∙ own.asked);
+              ∙ one_open (ticket_at s.tickets i).number t (call_asked (ticket_at s.tickets i).kind y) c (ticket_at s.tickets i).range (whole_of y) stands.is (asked_same (ticket_at s.tickets i).kind ∙ own.asked);
         };
       }
     where
-      asked_same : (k : Kind) → asked_by k (begun (open_at s.calls i) (modes_in s) front back buffer) ≡ asked_by k (open_at s.calls i)
+      asked_same : (k : Kind) → call_asked k (begun (open_at s.calls i) (modes_in s) front back buffer) ≡ call_asked k (open_at s.calls i)
       asked_same kind.Read = refl
       asked_same kind.Write = refl
       asked_same kind.Whole = refl
@@ -343,10 +343,10 @@ begins_sees s s2 t i source ok ok2 stands kind.Whole b = absurd b
 
 -- ---- how far the replicas are of a call does not show
 
-pub parted : (t : Ticket) (c : OpenCall) (r : ℕ) (part : Part) → open_of (t, with_part c r part) ≡ open_of (t, c)
+pub parted : (t : Ticket) (c : OpenCall) (r : ℕ) (part : Part) → open_of (t, with_part_at c r part) ≡ open_of (t, c)
 parted t c r part = ap (λ x. record { number = t.number; range = t.range; call = x; whole = whole_of c }) (same t.kind)
   where
-    same : (k : Kind) → asked_by k (with_part c r part) ≡ asked_by k c
+    same : (k : Kind) → call_asked k (with_part_at c r part) ≡ call_asked k c
     same kind.Read = refl
     same kind.Write = refl
     same kind.Whole = refl
@@ -354,7 +354,7 @@ parted t c r part = ap (λ x. record { number = t.number; range = t.range; call 
 pub given : (t : Ticket) (c : OpenCall) (r : ℕ) (node : Node) → open_of (t, read_from c r node) ≡ open_of (t, c)
 given t c r node = ap (λ x. record { number = t.number; range = t.range; call = x; whole = whole_of c }) (same t.kind)
   where
-    same : (k : Kind) → asked_by k (read_from c r node) ≡ asked_by k c
+    same : (k : Kind) → call_asked k (read_from c r node) ≡ call_asked k c
     same kind.Read = refl
     same kind.Write = refl
     same kind.Whole = refl

@@ -27,7 +27,7 @@ use Rattle.volume_model.proofs.PushLemmas.{modes_after-push}
 use Rattle.volume_model.proofs.RebuildLemmas.{open_failed}
 use Rattle.volume_model.proofs.StepLemmas.{replay-push}
 use Rattle.journal_book.specs.Book.{layers_of}
-use Rattle.open_calls.specs.Clients.{IsIdle, behind}
+use Rattle.open_calls.specs.Clients.{IsIdle, place_behind}
 use Rattle.open_calls.proofs.FreeLemmas.{not_both}
 use Rattle.open_calls.proofs.Gone.{failed_clients, seen_clients}
 use Rattle.open_calls.proofs.PartLemmas.{up_in}
@@ -87,7 +87,7 @@ fails_sound s stream r ok within idle up =
             ));
         ordered = answer_ordered o es1 s.indices None a
             (mark_ordered o es s.indices None None m ok.told.ordered tt (rise-failed es r ok.told.ordered.rise) (open_failed es r None ok.told.ordered.rebuild))
-            (λ name e. absurd cc) refl within refl (subst (λ xs. behind 0 xs ≤ length es) (sym (mark_more es m stream)) (behind_within stream es)) (omega (arith, longer));
+            (λ name e. absurd cc) refl within refl (subst (λ xs. place_behind 0 xs ≤ length es) (sym (mark_more es m stream)) (behind_within stream es)) (omega (arith, longer));
       };
       clients = same_clients v (replay o.state es2).volume s.size (length s.indices) (length (set s.indices stream (index_at s.indices stream + 1))) es2 (set (modes_in s) r Err) (modes_after o.modes es2) s.tickets s.calls s.nodes
           volume (sym (length-set s.indices stream (index_at s.indices stream + 1))) modes2

@@ -16,7 +16,7 @@ use Rattle.open_calls.specs.Clients.{byte_of}
 use Rattle.open_calls.proofs.PartLemmas.{up_in, rw_up}
 use Rattle.volume_core.specs.State.{State}
 use Rattle.volume_core.specs.Sound.{IsSound, is_up}
-use Rattle.volume_core.specs.Opened.{MayBegin, MayOpen, IsOpenedOn, blank_opening}
+use Rattle.volume_core.specs.Opened.{FitsOpening, MayOpen, IsOpenedOn, blank_opening}
 
 read_where_up : (m : Mode) → m ≢ Err → m ≢ Wo → m ≡ Rw
 read_where_up Rw e w = refl
@@ -67,7 +67,7 @@ opened_sound size streams opening nodes s may is =
 
 -- ---- blank replicas
 
-blank_begins : (size : ℕ) (modes : List Mode) → MayBegin size (record { modes = modes; layers = 1; names = [] }) (blank size)
+blank_begins : (size : ℕ) (modes : List Mode) → FitsOpening size (record { modes = modes; layers = 1; names = [] }) (blank size)
 blank_begins size modes = record {
   long = length-zeros size;
   number = omega arith;
@@ -85,7 +85,7 @@ blank_may_open size n some =
       as_many = length-replicate n Rw ∙ sym (length-replicate n (blank size));
       source = (0, subst (λ m. 0 < m) (sym (length-replicate n Rw)) some, get_or-replicate n 0 Rw Rw some);
       rebuilt = λ r. not_written n r;
-      each = λ r e. subst (MayBegin size (blank_opening n)) (sym (one r (within r e))) (blank_begins size (replicate n Rw));
+      each = λ r e. subst (FitsOpening size (blank_opening n)) (sym (one r (within r e))) (blank_begins size (replicate n Rw));
       agree = λ r q e f. ap volume_of_node (one r (within r e) ∙ sym (one q (within q f)));
     }
   where

@@ -16,7 +16,7 @@ use Rattle.replica_node.specs.Node.{Node}
 use Rattle.open_calls.specs.declared.open_call.OpenCall.{OpenCall}
 use Rattle.open_calls.specs.Parts.{part_at, IsTaken}
 use Rattle.open_calls.specs.Calls.{open_at, begun}
-use Rattle.open_calls.specs.Clients.{AreClients, Writes, Reads, Fits, IsIdle}
+use Rattle.open_calls.specs.Clients.{AreClients, IsWriting, IsReading, Fits, IsIdle}
 use Rattle.open_calls.proofs.Enrolled.{enrolled_clients, enrolled_fits}
 use Rattle.open_calls.proofs.FreeLemmas.{not_both, write_no_read}
 use Rattle.open_calls.proofs.Gone.{left_clients}
@@ -75,7 +75,7 @@ acked_sound s i r ok h mine = record {
   spare = ok.spare;
 }
 
-pub wrote_sound : (s : State) (i r : ℕ) → IsSound s → i < length s.tickets → Writes (ticket_at s.tickets i) → mode_of (modes_in s) r ≢ Err → IsSound (wrote s i r)
+pub wrote_sound : (s : State) (i r : ℕ) → IsSound s → i < length s.tickets → IsWriting (ticket_at s.tickets i) → mode_of (modes_in s) r ≢ Err → IsSound (wrote s i r)
 wrote_sound s i r ok h w up = record {
   opened = ok.opened;
   told = ok.told;
@@ -83,7 +83,7 @@ wrote_sound s i r ok h w up = record {
   spare = ok.spare;
 }
 
-pub has_read_sound : (s : State) (i r : ℕ) → IsSound s → i < length s.tickets → Reads (ticket_at s.tickets i) → mode_of (modes_in s) r ≡ Rw → IsSound (has_read s i r)
+pub has_read_sound : (s : State) (i r : ℕ) → IsSound s → i < length s.tickets → IsReading (ticket_at s.tickets i) → mode_of (modes_in s) r ≡ Rw → IsSound (has_read s i r)
 has_read_sound s i r ok h w read = record {
   opened = ok.opened;
   told = ok.told;

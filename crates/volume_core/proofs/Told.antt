@@ -18,16 +18,16 @@ use Rattle.volume_model.proofs.OwnNames.{IsOwn, own_entry}
 use Rattle.volume_model.proofs.PushLemmas.{IsLegal-push}
 use Rattle.volume_model.proofs.RebuildLemmas.{open_answer}
 use Rattle.volume_model.proofs.StepLemmas.{replay-push}
-use Rattle.open_calls.specs.Clients.{behind, behind_last}
+use Rattle.open_calls.specs.Clients.{place_behind, behind_last}
 use Rattle.open_calls.proofs.SeenLemmas.{own_more, other_more, mark_more}
 use Rattle.volume_core.specs.State.{index_at}
 use Rattle.volume_core.specs.Sound.{IsOrdered, IsTold}
 
 -- answers in order, and more of them behind these
-order-append : (index least : ℕ) (xs ys : List (ℕ × Answer)) → InOrderFrom index least xs → InOrderFrom (index + length xs) (behind least xs) ys → InOrderFrom index least (xs ++ ys)
+order-append : (index least : ℕ) (xs ys : List (ℕ × Answer)) → InOrderFrom index least xs → InOrderFrom (index + length xs) (place_behind least xs) ys → InOrderFrom index least (xs ++ ys)
 order-append index least [] ys h k = subst (λ n. InOrderFrom n least ys) (omega arith) k
 order-append index least (x ∷ xs) ys h k =
-    (h.0, h.1, h.2, order-append (suc index) (suc x.0) xs ys h.3 (subst (λ n. InOrderFrom n (behind (suc x.0) xs) ys) (further index (length xs)) k))
+    (h.0, h.1, h.2, order-append (suc index) (suc x.0) xs ys h.3 (subst (λ n. InOrderFrom n (place_behind (suc x.0) xs) ys) (further index (length xs)) k))
   where
     further : (i n : ℕ) → i + suc n ≡ suc i + n
     further i n = omega arith

@@ -20,7 +20,7 @@ use Rattle.replica_node.specs.Room.{bytes_in}
 use Rattle.open_calls.specs.declared.open_call.OpenCall.{OpenCall}
 use Rattle.open_calls.specs.declared.parts.Part.TheVariants.{Acked}
 use Rattle.open_calls.specs.Parts.{part_at, is_pending_at}
-use Rattle.open_calls.specs.Calls.{open_at, node_at, asked_by, whole_of}
+use Rattle.open_calls.specs.Calls.{open_at, node_at, call_asked, whole_of}
 use Rattle.open_calls.specs.Starts.{KeepsNodes, HaveRoom, AreEdges}
 use Rattle.volume_core.specs.declared.admit.Admit.{Admit}
 use Rattle.volume_core.specs.declared.admit.Admit.TheVariants as admit
@@ -45,16 +45,16 @@ pub record IsBehind (s : State) (stream : ℕ) (c : Call) (number : ℕ) (s2 : S
   pub kind : Kind
   pub new : OpenCall
   pub fresh : IsFresh s.tickets number
-  pub is : asked_by kind new ≡ c
+  pub is : call_asked kind new ≡ c
   pub by : new.stream ≡ stream
   pub saw : new.saw ≡ length s.book.entries
   pub state : s2 ≡ enrolled s (record { number = number; range = range; kind = kind; started = false }) new
 
 -- what an enrolment comes to
-abbrev pub IsEnrolled : State → ℕ → Call → Enrolled → State → Type 0
-IsEnrolled s stream c (enrol.Ticket number) s2 =
+abbrev pub EnrolsAs : State → ℕ → Call → Enrolled → State → Type 0
+EnrolsAs s stream c (enrol.Ticket number) s2 =
     (refusal_of (modes_in s) (told_of s) c ≡ None) × IsBehind s stream c number s2
-IsEnrolled s stream c (enrol.OutOfRange place) s2 = (refusal_of (modes_in s) (told_of s) c ≡ Some OutOfRange)
+EnrolsAs s stream c (enrol.OutOfRange place) s2 = (refusal_of (modes_in s) (told_of s) c ≡ Some OutOfRange)
     × (place ≡ length s.book.entries) × (s2 ≡ answered (with_place s) stream place c (reply.Refused OutOfRange))
 
 -- ---- more places
@@ -122,7 +122,7 @@ IsAdmit s t (admit.NoReplica place) s2 = (i : ℕ) × IsWaitingAt s t i × IsCle
     × (place ≡ length s.book.entries) × (s2 ≡ ended (with_place s) i (reply.Refused NoReplica))
 
 -- the blocks are those of the write of that ticket
-pub record AreBlocksOf (t : Ticket) (c : OpenCall) (blocks : List (Option (List ℕ))) : Type 0 where
+pub record AreBlocksOfWrite (t : Ticket) (c : OpenCall) (blocks : List (Option (List ℕ))) : Type 0 where
   pub full : All (λ b. is_some b ≡ true) blocks
   pub count : t.range.first + length blocks ≡ t.range.end
   pub bytes : bytes_in blocks ≡ whole_of c

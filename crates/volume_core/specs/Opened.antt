@@ -17,7 +17,7 @@ abbrev pub state_with : Node → Opening → PlainState
 state_with node opening = record { volume = volume_of_node node; used = names_in opening.names }
 
 -- what is asked of each replica that is read and written: it has the size, and the opening tells of its snapshots
-pub record MayBegin (size : ℕ) (opening : Opening) (node : Node) : Type 0 where
+pub record FitsOpening (size : ℕ) (opening : Opening) (node : Node) : Type 0 where
   pub long : length node.disk ≡ size
   pub number : node.number ≤ largest_number
   pub own : AreOwnFree (state_with node opening)
@@ -31,7 +31,7 @@ pub record MayOpen (size : ℕ) (opening : Opening) (nodes : List Node) : Type 0
   pub as_many : length opening.modes ≡ length nodes
   pub source : HasSource opening.modes
   pub rebuilt : (r : ℕ) → mode_of opening.modes r ≢ Wo
-  pub each : (r : ℕ) → mode_of opening.modes r ≡ Rw → MayBegin size opening (node_at nodes r)
+  pub each : (r : ℕ) → mode_of opening.modes r ≡ Rw → FitsOpening size opening (node_at nodes r)
   pub agree : (r q : ℕ) → mode_of opening.modes r ≡ Rw → mode_of opening.modes q ≡ Rw
       → volume_of_node (node_at nodes r) ≡ volume_of_node (node_at nodes q)
 

@@ -2,18 +2,18 @@
 use Rattle.std.specs.Prelude.{◌≡◌, ◌≢◌, ℕ, true, false}
 use Rattle.range_turns.specs.declared.ticket.Kind.TheVariants as kind
 use Rattle.range_turns.specs.Order.{ticket_at, StandsAt}
-use Rattle.open_calls.specs.Clients.{Writes, Reads}
+use Rattle.open_calls.specs.Clients.{IsWriting, IsReading}
 use Rattle.volume_core.specs.State.{State}
 
 -- a started write
 pub record IsWriteAt (s : State) (t i : ℕ) : Type 0 where
   pub stands : StandsAt s.tickets t i
-  pub writes : Writes (ticket_at s.tickets i)
+  pub writes : IsWriting (ticket_at s.tickets i)
 
 -- a started read
 pub record IsReadAt (s : State) (t i : ℕ) : Type 0 where
   pub stands : StandsAt s.tickets t i
-  pub reads : Reads (ticket_at s.tickets i)
+  pub reads : IsReading (ticket_at s.tickets i)
 
 -- a read or a write that has not started
 pub record IsWaitingAt (s : State) (t i : ℕ) : Type 0 where

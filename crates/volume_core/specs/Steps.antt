@@ -12,7 +12,7 @@ use Rattle.replica_node.specs.Node.{Node}
 use Rattle.replica_node.specs.Room.{put_at}
 use Rattle.open_calls.specs.declared.open_call.OpenCall.{OpenCall}
 use Rattle.open_calls.specs.declared.parts.Part.TheVariants.{Taken, Acked}
-use Rattle.open_calls.specs.Calls.{open_at, node_at, asked_by, whole_of, with_part, read_from, begun}
+use Rattle.open_calls.specs.Calls.{open_at, node_at, call_asked, whole_of, with_part_at, read_from, begun}
 use Rattle.volume_core.specs.State.{State, modes_in, index_at}
 
 -- ---- the journal
@@ -73,7 +73,7 @@ abbrev pub wrote : State → ℕ → ℕ → State
 wrote s i r = record s {
   nodes = slice_set s.nodes r
       (put_at (node_at s.nodes r) (ticket_at s.tickets i).range.first (whole_of (open_at s.calls i)));
-  calls = slice_set s.calls i (with_part (open_at s.calls i) r Taken);
+  calls = slice_set s.calls i (with_part_at (open_at s.calls i) r Taken);
 }
 
 -- the replica gives the bytes of the read
@@ -82,9 +82,9 @@ has_read s i r = record s { calls = slice_set s.calls i (read_from (open_at s.ca
 
 -- the replica acknowledges its part
 abbrev pub acked : State → ℕ → ℕ → State
-acked s i r = record s { calls = slice_set s.calls i (with_part (open_at s.calls i) r Acked) }
+acked s i r = record s { calls = slice_set s.calls i (with_part_at (open_at s.calls i) r Acked) }
 
 -- it ends with that reply
 abbrev pub ended : State → ℕ → Reply → State
 ended s i r = answered (without_call s i) (open_at s.calls i).stream (open_at s.calls i).saw
-    (asked_by (ticket_at s.tickets i).kind (open_at s.calls i)) r
+    (call_asked (ticket_at s.tickets i).kind (open_at s.calls i)) r

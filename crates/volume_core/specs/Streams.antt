@@ -11,7 +11,7 @@ use Rattle.journal_book.specs.declared.opening.Opening.{Opening}
 use Rattle.range_turns.specs.declared.ticket.Ticket.{Ticket}
 use Rattle.replica_node.specs.Node.{Node}
 use Rattle.open_calls.specs.declared.open_call.OpenCall.{OpenCall}
-use Rattle.open_calls.specs.Calls.{asked_by, whole_of}
+use Rattle.open_calls.specs.Calls.{call_asked, whole_of}
 use Rattle.volume_core.specs.declared.admit.Admit.{Admit}
 use Rattle.volume_core.specs.declared.admit.Admit.TheVariants as admit
 use Rattle.volume_core.specs.declared.enrol.Enrolled.{Enrolled}
@@ -39,7 +39,7 @@ pub record Open : Type 0 where
   pub whole : List ℕ
 
 abbrev pub open_of : Ticket × OpenCall → Open
-open_of p = record { number = p.0.number; range = p.0.range; call = asked_by p.0.kind p.1; whole = whole_of p.1 }
+open_of p = record { number = p.0.number; range = p.0.range; call = call_asked p.0.kind p.1; whole = whole_of p.1 }
 
 abbrev pub opens : State → ℕ → List Open
 opens s stream = map open_of (running s stream)

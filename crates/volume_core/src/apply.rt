@@ -11,7 +11,7 @@ ghost use Rattle.volume_core.specs.State.{state_of};
 ghost use Rattle.volume_core.specs.Steps.{wrote, has_read, acked};
 ghost use Rattle.volume_core.specs.Sound.{IsSound};
 ghost use Rattle.volume_core.specs.Places.{IsWriteAt, IsReadAt, IsCallAt};
-ghost use Rattle.volume_core.specs.Answers.{AreBlocksOf};
+ghost use Rattle.volume_core.specs.Answers.{AreBlocksOfWrite};
 ghost use Rattle.volume_core.specs.Streams.{ForOwner, MayGo, Stays};
 ghost use Rattle.volume_core.specs.Against.{AgainstWrite, AgainstRead, AgainstAck};
 
@@ -32,7 +32,7 @@ impl World {
     ) -> Result<(), NotThis>
         requires sound { IsSound (state_of self.old) }
         requires blocks { (i : ℕ) → IsWriteAt (state_of self.old) t i
-            → AreBlocksOf (ticket_at self.old.turns.tickets i) (open_at self.old.calls.items i) blocks.old }
+            → AreBlocksOfWrite (ticket_at self.old.turns.tickets i) (open_at self.old.calls.items i) blocks.old }
         ensures sound { IsSound (state_of self.new) }
         ensures ok { OnOk result ((i : ℕ) × IsWriteAt (state_of self.old) t i
             × (state_of self.new ≡ wrote (state_of self.old) i replica)) }
@@ -57,7 +57,7 @@ impl World {
         requires call { i < length self.old.calls.items }
         requires ticket { i < length self.old.turns.tickets }
         requires node { replica < length self.old.nodes.items }
-        requires blocks { AreBlocksOf (ticket_at self.old.turns.tickets i) (open_at self.old.calls.items i) blocks.old }
+        requires blocks { AreBlocksOfWrite (ticket_at self.old.turns.tickets i) (open_at self.old.calls.items i) blocks.old }
         requires room { HasRoom (node_at self.old.nodes.items replica) (ticket_at self.old.turns.tickets i).range }
         requires fits { (ticket_at self.old.turns.tickets i).range.end * BLOCK_BYTES
             ≤ length (node_at self.old.nodes.items replica).disk }

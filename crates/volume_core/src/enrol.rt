@@ -7,7 +7,7 @@ ghost use Rattle.open_calls.specs.Clients.{IsIdle};
 ghost use Rattle.volume_core.specs.State.{state_of, modes_in, told_of};
 ghost use Rattle.volume_core.specs.Steps.{enrolled};
 ghost use Rattle.volume_core.specs.Sound.{IsSound};
-ghost use Rattle.volume_core.specs.Answers.{IsOnRange, IsEnrolled};
+ghost use Rattle.volume_core.specs.Answers.{IsOnRange, EnrolsAs};
 ghost use Rattle.volume_core.specs.Streams.{MayGo, Stays, SeesEnrolled};
 
 use crate::world::World;
@@ -34,7 +34,7 @@ impl World {
         requires idle { IsIdle stream self.old.calls.items }
         requires range { IsOnRange call.now }
         ensures sound { IsSound (state_of self.new) }
-        ensures ok { IfOk result (λ e. IsEnrolled (state_of self.old) stream call.now e (state_of self.new)) }
+        ensures ok { IfOk result (λ e. EnrolsAs (state_of self.old) stream call.now e (state_of self.new)) }
         ensures err { OnErr result (state_of self.new ≡ state_of self.old) }
         ensures may { MayGo stream (state_of self.old) (state_of self.new) }
         ensures sees { IfOk result (λ e. SeesEnrolled stream call.now e (state_of self.old) (state_of self.new)) }
@@ -63,7 +63,7 @@ impl World {
         requires short { count ≤ longest_call }
         ensures sound { IsSound (state_of self.new) }
         ensures ok { IfOk result (λ e.
-            IsEnrolled (state_of self.old) stream (Call.Read offset count) e (state_of self.new)) }
+            EnrolsAs (state_of self.old) stream (Call.Read offset count) e (state_of self.new)) }
         ensures err { OnErr result (state_of self.new ≡ state_of self.old) }
         ensures may { MayGo stream (state_of self.old) (state_of self.new) }
         ensures sees { IfOk result (λ e.
@@ -100,7 +100,7 @@ impl World {
         requires short { length bytes ≤ longest_call }
         ensures sound { IsSound (state_of self.new) }
         ensures ok { IfOk result (λ e.
-            IsEnrolled (state_of self.old) stream (Call.Write offset bytes) e (state_of self.new)) }
+            EnrolsAs (state_of self.old) stream (Call.Write offset bytes) e (state_of self.new)) }
         ensures err { OnErr result (state_of self.new ≡ state_of self.old) }
         ensures may { MayGo stream (state_of self.old) (state_of self.new) }
         ensures sees { IfOk result (λ e.
@@ -148,7 +148,7 @@ impl World {
             ≡ Some Refusal.OutOfRange }
         requires range { IsOnRange call }
         ensures sound { IsSound (state_of self.new) }
-        ensures ok { IfOk result (λ e. IsEnrolled (state_of self.old) stream call e (state_of self.new)) }
+        ensures ok { IfOk result (λ e. EnrolsAs (state_of self.old) stream call e (state_of self.new)) }
         ensures err { OnErr result (state_of self.new ≡ state_of self.old) }
         ensures may { MayGo stream (state_of self.old) (state_of self.new) }
         ensures sees { IfOk result (λ e.

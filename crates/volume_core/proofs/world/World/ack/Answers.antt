@@ -2,7 +2,7 @@ use Rattle.std.proofs.Common.{◌≡◌, refl, sym, subst, rules, arith}
 use Rattle.std.proofs.lemmas.Grind.{elements}
 use Rattle.open_calls.specs.declared.open_call.OpenCall.{OpenCall}
 use Rattle.open_calls.specs.Parts.{part_at, IsTaken}
-use Rattle.open_calls.specs.Calls.{open_at, with_part}
+use Rattle.open_calls.specs.Calls.{open_at, with_part_at}
 use Rattle.open_calls.specs.declared.parts.Part.TheVariants.{Acked}
 use Rattle.volume_core.specs.State.{state_of}
 use Rattle.volume_core.specs.Sound.{IsSound}
@@ -21,12 +21,12 @@ returns-in-Taken-clause-sound c =
 pub returns-in-Taken-clause-may : goal.returns-in-Taken-clause-may
 returns-in-Taken-clause-may c =
     step_may (state_of c.args.self.now) (state_of c.ack_on.new.self) c.args.t c.in-Some.i c.requires.sound (returns-in-Taken-clause-sound c) c.in-Some.ensures.stands
-    (with_part (open_at c.args.self.now.calls.items c.in-Some.i) c.args.replica Acked) c.args.self.now.nodes.items refl refl c.ack_on.ensures
+    (with_part_at (open_at c.args.self.now.calls.items c.in-Some.i) c.args.replica Acked) c.args.self.now.nodes.items refl refl c.ack_on.ensures
 
 pub returns-in-Taken-clause-stays : goal.returns-in-Taken-clause-stays
 returns-in-Taken-clause-stays c =
     step_stays (state_of c.args.self.now) (state_of c.ack_on.new.self) c.args.t c.in-Some.i c.requires.sound (returns-in-Taken-clause-sound c) c.in-Some.ensures.stands
-    (with_part (open_at c.args.self.now.calls.items c.in-Some.i) c.args.replica Acked) c.args.self.now.nodes.items refl
+    (with_part_at (open_at c.args.self.now.calls.items c.in-Some.i) c.args.replica Acked) c.args.self.now.nodes.items refl
     (parted (ticket_at c.args.self.now.turns.tickets c.in-Some.i) (open_at c.args.self.now.calls.items c.in-Some.i) c.args.replica Acked) c.ack_on.ensures
 
 pub returns-in_default-clause-may : goal.returns-in_default-clause-may

@@ -7,7 +7,7 @@ use Rattle.volume_core.proofs.Rows.{wrote_sound}
 use Rattle.std.proofs.Common.{refl, length-set}
 use Rattle.range_turns.specs.Order.{ticket_at}
 use Rattle.open_calls.specs.declared.parts.Part.TheVariants.{Taken}
-use Rattle.open_calls.specs.Calls.{open_at, node_at, with_part, whole_of}
+use Rattle.open_calls.specs.Calls.{open_at, node_at, with_part_at, whole_of}
 use Rattle.replica_node.specs.Node.{Node}
 use Rattle.replica_node.specs.Room.{put_at}
 use Rattle.volume_core.specs.State.{State}
@@ -27,14 +27,14 @@ returns-clause-may c =
     let i = c.in-Some.i in
     let new : Node = put_at (node_at s.nodes c.args.replica) (ticket_at s.tickets i).range.first (whole_of (open_at s.calls i)) in
     step_may s (state_of c.write_on.new.self) c.args.t i c.requires.sound (returns-clause-sound c) c.in-Some.ensures.stands
-    (with_part (open_at s.calls i) c.args.replica Taken) (wrote s i c.args.replica).nodes refl (length-set s.nodes c.args.replica new) c.write_on.ensures.state
+    (with_part_at (open_at s.calls i) c.args.replica Taken) (wrote s i c.args.replica).nodes refl (length-set s.nodes c.args.replica new) c.write_on.ensures.state
 
 pub returns-clause-stays : goal.returns-clause-stays
 returns-clause-stays c =
     let s : State = state_of c.args.self.now in
     let i = c.in-Some.i in
     step_stays s (state_of c.write_on.new.self) c.args.t i c.requires.sound (returns-clause-sound c) c.in-Some.ensures.stands
-    (with_part (open_at s.calls i) c.args.replica Taken) (wrote s i c.args.replica).nodes refl (parted (ticket_at s.tickets i) (open_at s.calls i) c.args.replica Taken) c.write_on.ensures.state
+    (with_part_at (open_at s.calls i) c.args.replica Taken) (wrote s i c.args.replica).nodes refl (parted (ticket_at s.tickets i) (open_at s.calls i) c.args.replica Taken) c.write_on.ensures.state
 
 pub returns-in_default-clause-may : goal.returns-in_default-clause-may
 returns-in_default-clause-may c = refused_may c.args.t (state_of c.args.self.now) c.requires.sound
