@@ -1,4 +1,4 @@
-ghost use Rattle.std.specs.Prelude.{◌↔◌, IsTrue};
+ghost use Rattle.std.specs.Prelude.{◌≡◌, ◌↔◌, IsTrue};
 ghost use Rattle.range_turns.specs.Order.{Conflict};
 
 use std::marker::Model;
@@ -27,6 +27,15 @@ impl Model for TicketNumber {
     ghost view = { λ n. n.number };
 
     ghost inverse = { λ number. record { number = number } };
+}
+
+impl TicketNumber {
+    /// That number, whether a ticket has it or not: a list of steps is made before its tickets are.
+    pub fn of(number: u64) -> TicketNumber
+        ensures { result ≡ number }
+    {
+        TicketNumber { number }
+    }
 }
 
 /// A call that was enrolled and has not ended.
