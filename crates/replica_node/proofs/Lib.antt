@@ -7,6 +7,7 @@ pub mod FoldedNode
 pub mod GoneLemmas
 pub mod ListedLemmas
 pub mod NodeLemmas
+pub mod OverLemmas
 pub mod OwnLemmas
 pub mod PageLemmas
 pub mod ReadLemmas

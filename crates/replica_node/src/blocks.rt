@@ -1,4 +1,4 @@
-ghost use Rattle.std.specs.Prelude.{◌≡◌, ◌↔◌, ◌+◌, ◌*◌, ◌/◌, ◌≤◌, ◌<◌, ◌^◌, ◌∷◌, ◌++◌, [], length, Some, IsTrue, OnOk, OnErr, All, is_some, true};
+ghost use Rattle.std.specs.Prelude.{◌≡◌, ◌↔◌, ◌+◌, ◌*◌, ◌/◌, ◌≤◌, ◌<◌, ◌^◌, ◌∷◌, ◌++◌, [], length, Some, IsTrue, IfOk, OnOk, OnErr, All, is_some, true};
 ghost use Rattle.sparse_image.specs.Disk.{bytes_of};
 ghost use Rattle.sparse_image.specs.Image.{ChangesBlock, block_at, has_page};
 ghost use Rattle.layer_chain.specs.Changes.{with_head};
@@ -55,6 +55,18 @@ impl Blocks {
         Blocks {
             slots: Vec::new(alloc),
         }
+    }
+
+    /// So many boxes of zeros, to be filled.
+    pub fn with_count(alloc: Global, count: usize) -> Result<Blocks, AllocError>
+        ensures count { IfOk result (λ blocks. length blocks ≡ count) }
+        ensures full { IfOk result (All (λ b. is_some b ≡ true)) }
+    {
+        let mut blocks = Blocks::new(alloc);
+        for _i in 0..count {
+            blocks.push(Box::new(alloc, [0; BLOCK_BYTES])?)?;
+        }
+        Ok(blocks)
     }
 
     pub fn push(&mut self, block: Box<Block>) -> Result<(), AllocError>
