@@ -1,13 +1,14 @@
 //! The steps of a started call on one replica.
 
-ghost use Rattle.std.specs.Prelude.{◌≡◌, ℕ, ◌+◌, ◌*◌, ◌<◌, ◌≤◌, length, OnOk, IfErr, OnErr};
+ghost use Rattle.std.specs.Prelude.{◌≡◌, ◌≢◌, ℕ, ◌+◌, ◌*◌, ◌<◌, ◌≤◌, length, OnOk, IfErr, OnErr};
 ghost use Rattle.vol_units.specs.Bytes.{bytes_at};
 ghost use Rattle.vol_units.specs.declared.size.TheConstants.{BLOCK_BYTES};
+ghost use Rattle.volume_model.specs.Modes.{mode_of};
 ghost use Rattle.range_turns.specs.Order.{ticket_at};
 ghost use Rattle.replica_node.specs.Room.{HasRoom, head_blocks};
 ghost use Rattle.open_calls.specs.Parts.{IsTaken, part_at};
 ghost use Rattle.open_calls.specs.Calls.{open_at, node_at};
-ghost use Rattle.volume_core.specs.State.{state_of};
+ghost use Rattle.volume_core.specs.State.{state_of, modes_in};
 ghost use Rattle.volume_core.specs.Steps.{wrote, has_read, acked};
 ghost use Rattle.volume_core.specs.Sound.{IsSound};
 ghost use Rattle.volume_core.specs.Places.{IsWriteAt, IsReadAt, IsCallAt};
@@ -36,6 +37,7 @@ impl World {
         ensures sound { IsSound (state_of self.new) }
         ensures ok { OnOk result ((i : ℕ) × IsWriteAt (state_of self.old) t i
             × (state_of self.new ≡ wrote (state_of self.old) i replica)) }
+        ensures guard { OnOk result (mode_of (modes_in (state_of self.old)) replica ≢ Mode.Err) }
         ensures why { IfErr result (AgainstWrite (state_of self.old) t replica) }
         ensures err { OnErr result (state_of self.new ≡ state_of self.old) }
         ensures count { length blocks.new ≡ length blocks.old }
@@ -84,6 +86,7 @@ impl World {
         ensures ok { OnOk result ((i : ℕ) × IsReadAt (state_of self.old) t i
             × (state_of self.new ≡ has_read (state_of self.old) i replica)
             × (into.new ≡ (open_at self.new.calls.items i).buffer)) }
+        ensures guard { OnOk result (mode_of (modes_in (state_of self.old)) replica ≡ Mode.Rw) }
         ensures why { IfErr result (AgainstRead (state_of self.old) t replica) }
         ensures err { OnErr result (state_of self.new ≡ state_of self.old) }
         ensures same { OnErr result (into.new ≡ into.old) }

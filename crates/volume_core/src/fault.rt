@@ -1,7 +1,9 @@
 //! A line fails, and so its replica.
 
-ghost use Rattle.std.specs.Prelude.{◌≡◌, ◌<◌, length, OnOk, IfErr, OnErr};
-ghost use Rattle.volume_core.specs.State.{state_of};
+ghost use Rattle.std.specs.Prelude.{◌≡◌, ◌≢◌, ◌<◌, length, OnOk, IfErr, OnErr};
+ghost use Rattle.volume_model.specs.Faults.{last_count};
+ghost use Rattle.volume_model.specs.Modes.{mode_of};
+ghost use Rattle.volume_core.specs.State.{state_of, modes_in};
 ghost use Rattle.volume_core.specs.Steps.{faulted};
 ghost use Rattle.volume_core.specs.Sound.{IsSound};
 ghost use Rattle.volume_core.specs.Streams.{MayGo, Stays, HasFault};
@@ -17,6 +19,8 @@ impl World {
         requires sound { IsSound (state_of self.old) }
         ensures sound { IsSound (state_of self.new) }
         ensures ok { OnOk result (state_of self.new ≡ faulted (state_of self.old) stream replica count) }
+        ensures guard { OnOk result ((mode_of (modes_in (state_of self.old)) replica ≢ Mode.Err)
+            × (last_count stream replica self.old.journal.entries < count)) }
         ensures why { IfErr result (AgainstFault (state_of self.old) stream replica count) }
         ensures err { OnErr result (state_of self.new ≡ state_of self.old) }
         ensures may { MayGo stream (state_of self.old) (state_of self.new) }

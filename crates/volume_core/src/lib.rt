@@ -8,6 +8,7 @@ mod end;
 mod enrol;
 mod fault;
 mod first;
+mod in_place;
 mod job;
 mod open;
 mod places;
@@ -24,6 +25,3 @@ pub use open_calls::{Buffer, OpenCall, Part, Parts};
 pub use range_turns::{BlockRange, Kind, TicketNumber, Turns};
 pub use replica_node::{Blocks, ReplicaNode, VolumeSize};
 pub use world::{NotThis, World};
-
-#[cfg(test)]
-mod tests;

@@ -9,7 +9,7 @@ use range_turns::{Kind, TicketNumber};
 
 impl World {
     /// Where the started write of that ticket stands, if it is one.
-    pub(crate) fn write_at(&self, t: TicketNumber) -> Option<usize>
+    pub fn write_at(&self, t: TicketNumber) -> Option<usize>
         ensures { MatchOption result
             ((i : ℕ) → IsWriteAt (state_of self.now) t i → ⊥) (IsWriteAt (state_of self.now) t) }
     {
