@@ -1,0 +1,119 @@
+//! Whether a step may be asked for.
+
+ghost use Rattle.std.specs.Prelude.{◌≡◌, ℕ, ◌<◌, length, true, false};
+ghost use Rattle.open_calls.specs.Clients.{IsIdle};
+ghost use Rattle.volume_core.specs.Answers.{IsOnRange, IsNow};
+ghost use Rattle.volume_core.specs.State.{state_of};
+ghost use Rattle.commands_at_rest.specs.AtRest.{IsForRest};
+ghost use Rattle.core_laws.specs.Guards.{IsFreeStream, MayEnrol, MayAnswer, IsWaiting, MayRest};
+
+use vol_units::LONGEST_CALL;
+use volume_core::{Call, Command, Kind, TicketNumber, World};
+
+/// Whether the stream may enrol the call.
+pub(crate) fn may_enrol(world: &World, stream: u8, call: &Call) -> bool
+    ensures yes { result ≡ true → MayEnrol (state_of world.now) stream call.now }
+    ensures no { result ≡ false → MayEnrol (state_of world.now) stream call.now → ⊥ }
+{
+    is_free(world, stream) && is_on_range(call)
+}
+
+/// Whether the stream may have the call answered at once.
+pub(crate) fn may_answer(world: &World, stream: u8, call: &Call) -> bool
+    ensures yes { result ≡ true → MayAnswer (state_of world.now) stream call.now }
+    ensures no { result ≡ false → MayAnswer (state_of world.now) stream call.now → ⊥ }
+{
+    is_free(world, stream) && is_now(call)
+}
+
+/// Whether the command may be carried out at rest for the stream.
+pub(crate) fn may_rest(world: &World, stream: u8, command: &Command) -> bool
+    ensures yes { result ≡ true → MayRest (state_of world.now) stream command.now }
+    ensures no { result ≡ false → MayRest (state_of world.now) stream command.now → ⊥ }
+{
+    (stream as usize) < world.indices.len() && world.turns.is_empty() && is_for_rest(command)
+}
+
+fn is_for_rest(command: &Command) -> bool
+    ensures yes { result ≡ true → IsForRest command.now }
+    ensures no { result ≡ false → IsForRest command.now → ⊥ }
+{
+    match command {
+        Command::Snapshot(name) => {
+            // That it is a user's name, a proof learns here.
+            let _name = name.as_bytes();
+            true
+        }
+        Command::Remove(_) | Command::Revert(_) | Command::Purge => true,
+        Command::Status | Command::Fail(_) | Command::Add(_) => false,
+    }
+}
+
+/// Whether the ticket is one of a call that waits.
+pub(crate) fn is_waiting(world: &World, ticket: TicketNumber) -> bool
+    ensures yes { result ≡ true → IsWaiting (state_of world.now) ticket }
+    ensures no { result ≡ false → IsWaiting (state_of world.now) ticket → ⊥ }
+{
+    let Some(place) = world.turns.place(ticket) else {
+        return false;
+    };
+    let found = world.turns.ticket(place);
+    !found.started && found.kind != Kind::Whole
+}
+
+/// Whether there is the stream, and it has no call open.
+fn is_free(world: &World, stream: u8) -> bool
+    ensures yes { result ≡ true → IsFreeStream (state_of world.now) stream }
+    ensures no { result ≡ false → IsFreeStream (state_of world.now) stream → ⊥ }
+{
+    (stream as usize) < world.indices.len() && is_idle(world, stream)
+}
+
+fn is_idle(world: &World, stream: u8) -> bool
+    ensures yes { result ≡ true → IsIdle stream world.now.calls.items }
+    ensures no { result ≡ false → IsIdle stream world.now.calls.items → ⊥ }
+{
+    for i in 0..world.calls.len() {
+        if world.calls[i].stream == stream {
+            return false;
+        }
+    }
+    true
+}
+
+fn is_on_range(call: &Call) -> bool
+    ensures yes { result ≡ true → IsOnRange call.now }
+    ensures no { result ≡ false → IsOnRange call.now → ⊥ }
+{
+    match call {
+        Call::Read { length, .. } => *length <= LONGEST_CALL,
+        Call::Write { bytes, .. } => bytes.len() <= LONGEST_CALL as usize,
+        Call::Ping | Call::Other(_) | Call::Command(_) => false,
+    }
+}
+
+fn is_now(call: &Call) -> bool
+    ensures yes { result ≡ true → IsNow call.now }
+    ensures no { result ≡ false → IsNow call.now → ⊥ }
+{
+    match call {
+        Call::Read { length, .. } => *length > LONGEST_CALL,
+        Call::Write { .. } => false,
+        Call::Ping | Call::Other(_) => true,
+        Call::Command(command) => is_command_now(command),
+    }
+}
+
+fn is_command_now(command: &Command) -> bool
+    ensures yes { result ≡ true → IsNow (Call.Command command.now) }
+    ensures no { result ≡ false → IsNow (Call.Command command.now) → ⊥ }
+{
+    match command {
+        Command::Fail(_) | Command::Status => true,
+        Command::Snapshot(_)
+        | Command::Remove(_)
+        | Command::Revert(_)
+        | Command::Purge
+        | Command::Add(_) => false,
+    }
+}
