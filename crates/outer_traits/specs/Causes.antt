@@ -17,6 +17,12 @@ pub record HasCause {T E : Type 0} (before now : ℕ) (result : Result T E) : Ty
   pub failed : OnErr result (now ≡ one_more before)
   pub done : OnOk result (now ≡ before)
 
+-- The same of a line, whose failures always show: with its count at its type's end it fails no more.
+pub record HasLineCause {T E : Type 0} (before now : ℕ) (result : Result T E) : Type 0 where
+  pub later : before ≤ now
+  pub failed : OnErr result (now ≡ before + 1)
+  pub done : OnOk result (now ≡ before)
+
 -- what an error says of the count
 abbrev pub ErrorCause : ℕ → ℕ → OuterError → Type 0
 ErrorCause before now Failed = now ≡ one_more before

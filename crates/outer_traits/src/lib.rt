@@ -3,14 +3,22 @@
 //! a sink piece by piece.
 #![tactic(auto)]
 
+mod ends;
 mod error;
 mod input;
+mod line;
 mod output;
 mod sink;
 mod source;
+mod taken_back;
+mod wiring;
 
+pub use ends::Ends;
 pub use error::{Failed, Outer, OuterError};
 pub use input::read_whole;
+pub use line::Line;
 pub use output::{PIECE, pass_on, write_all};
 pub use sink::Sink;
 pub use source::Source;
+pub use taken_back::{BlankRecord, LineRecord, TakenBack};
+pub use wiring::{Wiring, take_back_all};
