@@ -1,2 +1,4 @@
+pub mod Frames
 pub mod Held
 pub mod Plan
+pub mod Told
