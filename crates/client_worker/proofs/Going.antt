@@ -1,0 +1,117 @@
+-- How an open call goes on: what each step adds to what its worker knows.
+use Rattle.std.proofs.Common.{◌≡◌, ℕ, zero, suc, arith, List, [], ◌∷◌, ◌++◌, Option, Some, None, Result, Ok, Err, OnOk, OnErr, set, length, subst, sym, refl, ap, ◌∙◌, append_assoc, append-nil}
+use Rattle.std.specs.Prelude.{All}
+use Rattle.std.proofs.lemmas.List.Elements.{All-append}
+use Rattle.std.proofs.lemmas.List.{map-append}
+use Rattle.volume_model.specs.declared.entry.Entry.{Entry}
+use Rattle.volume_model.specs.declared.entry.Entry.TheVariants as entry
+use Rattle.volume_model.specs.declared.mark.Mark.TheVariants as mark
+use Rattle.open_calls.specs.declared.parts.Part.{Part}
+use Rattle.open_calls.specs.declared.parts.Part.TheVariants.{Taken, Acked}
+use Rattle.client_worker.specs.Mine.{Placed, Mine, OwnCall, IsOwn, entries_in, longer, with_more, with_running, fault_placed}
+use Rattle.client_worker.specs.Steps.{TakesTo, AcksTo, FaultsTo}
+use Rattle.client_worker.specs.Serving.{IsOwnFault, StaysOpen, KeepsOpen}
+
+-- ---- more entries
+
+longer_none : (log : Option (List Entry)) → longer log [] ≡ log
+longer_none None = refl
+longer_none (Some l) = ap Some (append-nil l)
+
+longer_twice : (log : Option (List Entry)) (xs ys : List Entry) → longer (longer log xs) ys ≡ longer log (xs ++ ys)
+longer_twice None xs ys = refl
+longer_twice (Some l) xs ys = ap Some (append_assoc l xs ys)
+
+pub entries-append : (xs ys : List Placed) → entries_in (xs ++ ys) ≡ entries_in xs ++ entries_in ys
+entries-append xs ys = map-append (λ (p : Placed). p.entry) xs ys
+
+pub more_none : (m : Mine) (os : List OwnCall) → with_more m [] os ≡ with_running m os
+more_none m os = λ i. record { stream = m.stream; replicas = m.replicas; entries = append-nil m.entries i; running = os; log = longer_none m.log i }
+
+pub more_twice : (m : Mine) (xs ys : List Placed) (os ps : List OwnCall) → with_more (with_more m xs os) ys ps ≡ with_more m (xs ++ ys) ps
+more_twice m xs ys os ps =
+    let log = longer_twice m.log (entries_in xs) (entries_in ys) ∙ ap (longer m.log) (sym (entries-append xs ys)) in
+    λ i. record { stream = m.stream; replicas = m.replicas; entries = append_assoc m.entries xs ys i; running = ps; log = log i }
+
+-- no marks, and one
+pub no_faults : (stream : ℕ) → All (IsOwnFault stream) []
+no_faults stream = λ k d l. absurd (omega (arith, l))
+
+one_fault : (stream r count : ℕ) → All (IsOwnFault stream) (entry.Mark (mark.Fault stream r count) ∷ [])
+one_fault stream r count zero d l = refl
+one_fault stream r count (suc k) d l = absurd (omega (arith, l))
+
+-- ---- the open call
+
+one_of : (x y : OwnCall) → x ∷ [] ≡ y ∷ [] → x ≡ y
+one_of x y e = cc
+
+-- the one that there is has the number
+pub own_of : (t : ℕ) (m : Mine) (o : OwnCall) → ((x : OwnCall) × IsOwn t x m) → m.running ≡ o ∷ [] → IsOwn t o m
+own_of t m o op e = record { is = e; number = ap (λ (x : OwnCall). x.number) (one_of o op.0 (sym e ∙ op.1.is)) ∙ op.1.number }
+
+abbrev pub after : (o : OwnCall) (m m2 : Mine) → StaysOpen o m m2 → OwnCall
+after o m m2 g = record o { buffer = g.buffer; parts = g.parts }
+
+pub goes_running : (o : OwnCall) (m m2 : Mine) (g : StaysOpen o m m2) → m2.running ≡ after o m m2 g ∷ []
+goes_running o m m2 g = ap (λ (x : Mine). x.running) g.is
+
+-- and keeps it
+pub goes_own : (t : ℕ) (a b : Mine) → KeepsOpen a b → ((o : OwnCall) × IsOwn t o a) → (o : OwnCall) × IsOwn t o b
+goes_own t a b goes op = let g = goes op.0 op.1.is in (after op.0 a b g, record { is = goes_running op.0 a b g; number = op.1.number })
+
+pub same_own : (t : ℕ) (a b : Mine) → b ≡ a → ((o : OwnCall) × IsOwn t o a) → (o : OwnCall) × IsOwn t o b
+same_own t a b e op = (op.0, subst (IsOwn t op.0) (sym e) op.1)
+
+pub goes_step : (o : OwnCall) (buffer : List ℕ) (parts : List Part) (a b : Mine) → length buffer ≡ length o.buffer → b ≡ with_running a (record o { buffer = buffer; parts = parts } ∷ []) → StaysOpen o a b
+goes_step o buffer parts a b long e = record { marks = []; buffer = buffer; parts = parts; long = long; faults = no_faults a.stream; is = e ∙ sym (more_none a _) }
+
+pub goes_same : (a b : Mine) → b ≡ a → KeepsOpen a b
+goes_same a b e = λ o r. goes_step o o.buffer o.parts a b refl (e ∙ ap (with_running a) r)
+
+pub goes_then : (a b c : Mine) → KeepsOpen a b → KeepsOpen b c → KeepsOpen a c
+goes_then a b c f h = λ o r.
+    let g = f o r in
+    let k = h (after o a b g) (goes_running o a b g) in
+    record {
+      marks = g.marks ++ k.marks;
+      buffer = k.buffer;
+      parts = k.parts;
+      long = k.long ∙ g.long;
+      faults = subst (All (IsOwnFault a.stream)) (sym (entries-append g.marks k.marks))
+          (All-append (IsOwnFault a.stream) (entries_in g.marks) (entries_in k.marks) g.faults (subst (λ n. All (IsOwnFault n) (entries_in k.marks)) (ap (λ (m : Mine). m.stream) g.is) k.faults));
+      is = k.is ∙ ap (λ (m : Mine). with_more m k.marks (after (after o a b g) b c k ∷ [])) g.is
+          ∙ more_twice a g.marks k.marks (after o a b g ∷ []) (after (after o a b g) b c k ∷ []);
+    }
+
+pub goes_fault : (r count : ℕ) (a b : Mine) → FaultsTo r count a b → KeepsOpen a b
+goes_fault r count a b f = λ o e. record {
+  marks = fault_placed f.modes a.stream r count ∷ [];
+  buffer = o.buffer;
+  parts = o.parts;
+  long = refl;
+  faults = one_fault a.stream r count;
+  is = f.is ∙ ap (with_more a (fault_placed f.modes a.stream r count ∷ [])) e;
+}
+
+pub goes_told : {E : Type 0} (res : Result (Unit {0}) E) (r count : ℕ) (a b : Mine) → OnOk res (FaultsTo r count a b) → OnErr res (b ≡ a) → KeepsOpen a b
+goes_told (Ok u) r count a b ok err = goes_fault r count a b ok
+goes_told (Err e) r count a b ok err = goes_same a b err
+
+-- a replica took the write
+pub goes_taken : {E : Type 0} (res : Result (Unit {0}) E) (t r : ℕ) (a b : Mine) → ((o : OwnCall) × IsOwn t o a)
+    → OnOk res ((o : OwnCall) → IsOwn t o a → TakesTo o r o.buffer a b) → OnErr res (b ≡ a) → KeepsOpen a b
+goes_taken (Ok u) t r a b op ok err = λ o e. goes_step o o.buffer (set o.parts r Taken) a b refl (ok o (own_of t a o op e))
+goes_taken (Err e) t r a b op ok err = goes_same a b err
+
+-- a replica gave the bytes of the read
+pub goes_read : {E : Type 0} (res : Result (Unit {0}) E) (t r : ℕ) (buffer : List ℕ) (a b : Mine) (op : (o : OwnCall) × IsOwn t o a) → length buffer ≡ length op.0.buffer
+    → OnOk res ((o : OwnCall) → IsOwn t o a → TakesTo o r buffer a b) → OnErr res (b ≡ a) → KeepsOpen a b
+goes_read (Ok u) t r buffer a b op long ok err = λ o e.
+    goes_step o buffer (set o.parts r Taken) a b (long ∙ ap (λ (x : OwnCall). length x.buffer) (one_of op.0 o (sym op.1.is ∙ e))) (ok o (own_of t a o op e))
+goes_read (Err e) t r buffer a b op long ok err = goes_same a b err
+
+pub goes_acked : {E : Type 0} (res : Result (Unit {0}) E) (t r : ℕ) (a b : Mine) → ((o : OwnCall) × IsOwn t o a)
+    → OnOk res ((o : OwnCall) → IsOwn t o a → AcksTo o r a b) → OnErr res (b ≡ a) → KeepsOpen a b
+goes_acked (Ok u) t r a b op ok err = λ o e. goes_step o o.buffer (set o.parts r Acked) a b refl (ok o (own_of t a o op e))
+goes_acked (Err e) t r a b op ok err = goes_same a b err

@@ -1,0 +1,39 @@
+use Rattle.std.proofs.Common.{rules, ◌≡◌, ◌≤◌, ◌*◌, length, None, Some, refl, sym, subst, arith}
+use Rattle.vol_units.specs.declared.range.BlockRange.{BlockRange}
+use Rattle.client_worker.specs.Rooms.{IsRoomFor, BeginsIn}
+use Rattle.client_worker.specs.Steps.{StartsCall}
+use Rattle.client_worker.proofs.Writing.{not_begun, begun, whole_long, begins_in, only_own}
+use Rattle.client_worker.proofs.serve.begin_write.Goals as goal
+
+pub returns-in_default-clause-ok : goal.returns-in_default-clause-ok
+returns-in_default-clause-ok g c =
+    let e : c.in_ok-job.field-0 ≡ None = search rules in
+    not_begun c.args.t (g.C.ClientSteps.mine c.args.steps.now) (g.C.ClientSteps.mine c.range-range.new.self) (g.C.ClientSteps.mine c.start.new.steps) c.in_ok-job.field-0 c.range-range.ensures.same c.in_ok-job.ensures.ok e
+
+pub fill_request-requires-clause-room : goal.fill_request-requires-clause-room
+fill_request-requires-clause-room g c =
+    let op = c.requires.waits in
+    let e : c.in_ok-job.field-0 ≡ Some c.in-Some.job = search rules in
+    let s : StartsCall op.0 c.in-Some.job (g.C.ClientSteps.mine c.args.steps.now) (g.C.ClientSteps.mine c.start.new.steps) =
+    begun c.args.t (g.C.ClientSteps.mine c.args.steps.now) (g.C.ClientSteps.mine c.range-range.new.self) (g.C.ClientSteps.mine c.start.new.steps) c.in_ok-job.field-0 c.range-range.ensures.same c.in_ok-job.ensures.ok c.in-Some.job e op.0 op.1 in
+    let range = c.range-range.ensures.is op.0 op.1 in
+    let up = subst (λ (r : BlockRange). r.first ≤ r.end) range c.range-range.ensures.up in
+    let fits : IsRoomFor op.0.range c.args.replicas c.in-Ok.room = subst (λ r. IsRoomFor r c.args.replicas c.in-Ok.room) range c.in-Ok.ensures in
+    let long = whole_long op.0 c.in-Some.job (g.C.ClientSteps.mine c.args.steps.now) (g.C.ClientSteps.mine c.start.new.steps) s op.3.0 c.args.bytes.now op.3.1 up in
+    let one : length c.as_slice.result.now ≡ length c.in-Some.job.front = search rules in
+    let two : length c.as_slice-2.result.now ≡ length c.args.bytes.now = search rules in
+    let three : length c.as_slice-3.result.now ≡ length c.in-Some.job.back = search rules in
+    omega (arith, long, fits.request, one, two, three)
+
+pub returns-clause-ok : goal.returns-clause-ok
+returns-clause-ok g c = λ o own.
+    let op = c.requires.waits in
+    let e : c.in_ok-job.field-0 ≡ Some c.in-Some.job = search rules in
+    let s : StartsCall op.0 c.in-Some.job (g.C.ClientSteps.mine c.args.steps.now) (g.C.ClientSteps.mine c.start.new.steps) =
+    begun c.args.t (g.C.ClientSteps.mine c.args.steps.now) (g.C.ClientSteps.mine c.range-range.new.self) (g.C.ClientSteps.mine c.start.new.steps) c.in_ok-job.field-0 c.range-range.ensures.same c.in_ok-job.ensures.ok c.in-Some.job e op.0 op.1 in
+    let range = c.range-range.ensures.is op.0 op.1 in
+    let up = subst (λ (r : BlockRange). r.first ≤ r.end) range c.range-range.ensures.up in
+    let inside = subst (λ (r : BlockRange). r.end * 4096 ≤ 1073741824) range c.range-range.ensures.inside in
+    let fits : IsRoomFor op.0.range c.args.replicas c.in-Ok.room = subst (λ r. IsRoomFor r c.args.replicas c.in-Ok.room) range c.in-Ok.ensures in
+    subst (λ x. BeginsIn x c.args.replicas (record { first = c.in-Ok.room.first; request = c.fill_request.new.request; arrivals = c.in-Ok.room.arrivals; sets = c.in-Ok.room.sets }) (g.C.ClientSteps.mine c.args.steps.now) (g.C.ClientSteps.mine c.start.new.steps)) (sym (only_own c.args.t (g.C.ClientSteps.mine c.args.steps.now) op.0 o op.1 own))
+    (begins_in op.0 c.in-Some.job (g.C.ClientSteps.mine c.args.steps.now) (g.C.ClientSteps.mine c.start.new.steps) s op.3.0 c.args.bytes.now op.3.1 c.args.replicas c.in-Ok.room (record { first = c.in-Ok.room.first; request = c.fill_request.new.request; arrivals = c.in-Ok.room.arrivals; sets = c.in-Ok.room.sets }) up inside fits refl refl refl (search rules) (search rules))

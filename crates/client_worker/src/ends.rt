@@ -1,0 +1,73 @@
+//! How an open call starts, and how it ends.
+
+ghost use Rattle.std.specs.Prelude.{◌≡◌, ℕ, [], true, false, List, IfOk, OnErr};
+ghost use Rattle.client_worker.specs.Mine.{OwnCall, IsOwn, with_running};
+ghost use Rattle.client_worker.specs.Steps.{Answers, HasNotStarted};
+ghost use Rattle.client_worker.specs.Serving.{Counted};
+ghost use Rattle.client_worker.specs.Rooms.{StartsOr};
+
+use crate::steps::ClientSteps;
+use std::alloc::{AllocError, Global};
+use std::sync::Wait;
+use volume_core::{Admit, Job, TicketNumber};
+
+/// Waits until the open call starts, or is answered that there is no replica. Out of memory takes it back.
+pub(crate) fn start<R: Wait, C: ClientSteps>(
+    rt: &R,
+    alloc: Global,
+    steps: &mut C,
+    t: TicketNumber,
+) -> Result<Option<Job>, AllocError>
+    requires ready { C.ready steps.old }
+    requires waits { (o : OwnCall) × IsOwn t o (C.mine steps.old) × HasNotStarted o }
+    ensures ready { C.ready steps.new }
+    ensures home { C.home steps.new ≡ C.home steps.old }
+    ensures counted { (counts : List ℕ) → Counted (C.mine steps.old) counts → Counted (C.mine steps.new) counts }
+    ensures ok { IfOk result (λ job.
+        (o : OwnCall) → IsOwn t o (C.mine steps.old) → StartsOr o job (C.mine steps.old) (C.mine steps.new)) }
+    ensures err { OnErr result (C.mine steps.new ≡ with_running (C.mine steps.old) []) }
+{
+    for _ in rt.forever() {
+        match steps.admit(rt, alloc, t) {
+            Ok(Admit::Go(job)) => return Ok(Some(job)),
+            Ok(Admit::NoReplica(_)) => return Ok(None),
+            Ok(Admit::After(_)) => {}
+            Err(error) => {
+                steps.withdraw(rt, t);
+                return Err(error);
+            }
+        }
+    }
+    unreachable!()
+}
+
+/// Whether the open call is answered now.
+pub(crate) fn finish<R: Wait, C: ClientSteps>(rt: &R, steps: &mut C, t: TicketNumber) -> bool
+    requires ready { C.ready steps.old }
+    requires own { (o : OwnCall) × IsOwn t o (C.mine steps.old) }
+    ensures ready { C.ready steps.new }
+    ensures home { C.home steps.new ≡ C.home steps.old }
+    ensures counted { (counts : List ℕ) → Counted (C.mine steps.old) counts → Counted (C.mine steps.new) counts }
+    ensures done { result ≡ true → (o : OwnCall) → IsOwn t o (C.mine steps.old)
+        → Answers o (C.mine steps.old) (C.mine steps.new) }
+    ensures open { result ≡ false → C.mine steps.new ≡ C.mine steps.old }
+{
+    steps.complete(rt, t).is_ok()
+}
+
+/// Waits until the open call is answered.
+pub(crate) fn await_end<R: Wait, C: ClientSteps>(rt: &R, steps: &mut C, t: TicketNumber)
+    requires ready { C.ready steps.old }
+    requires own { (o : OwnCall) × IsOwn t o (C.mine steps.old) }
+    ensures ready { C.ready steps.new }
+    ensures home { C.home steps.new ≡ C.home steps.old }
+    ensures counted { (counts : List ℕ) → Counted (C.mine steps.old) counts → Counted (C.mine steps.new) counts }
+    ensures done { (o : OwnCall) → IsOwn t o (C.mine steps.old) → Answers o (C.mine steps.old) (C.mine steps.new) }
+{
+    for _ in rt.forever() {
+        if finish(rt, steps, t) {
+            return;
+        }
+    }
+    unreachable!()
+}

@@ -1,0 +1,22 @@
+//! One stream's worker: it takes the stream's calls one after another, and carries each to the replicas.
+#![tactic(auto)]
+
+mod asks;
+mod carry;
+mod channel;
+mod ends;
+mod frames;
+pub mod laws;
+mod rooms;
+mod serve;
+mod steps;
+mod stream;
+
+pub use channel::Channel;
+pub use outer_traits::Line;
+pub use script_text::Frames;
+pub use steps::ClientSteps;
+pub use stream::{run_stream, serve_call};
+pub use volume_core::{
+    Admit, BlockRange, Blocks, Call, Enrolled, Job, Mode, NotThis, TicketNumber,
+};

@@ -1,0 +1,279 @@
+//! The calls of a stream are carried to the replicas, one after another.
+
+ghost use Rattle.std.specs.Prelude.{◌≡◌, ℕ, ℤ, List, ◌+◌, ◌≤◌, ◌<◌, ◌^◌, [], length, map, vec_capacity, OnOk, OnErr, IfOk};
+ghost use Rattle.vol_units.specs.declared.size.TheConstants.{BLOCK_BYTES};
+ghost use Rattle.volume_model.specs.PlainStep.{longest_call};
+ghost use Rattle.frame_wire.specs.Spelling.{header_length};
+ghost use Rattle.client_worker.specs.Mine.{OwnCall, IsOwn, with_running};
+ghost use Rattle.client_worker.specs.Steps.{Answers, HasNotStarted};
+ghost use Rattle.client_worker.specs.Serving.{Counted, KeepsOpen, EndsTo};
+ghost use Rattle.client_worker.specs.Rooms.{CarriesAll, CarriesRead, IsFilled, BeginsOr, ReadsOr};
+
+use crate::asks::{ask_read, ask_write};
+use crate::channel::Channel;
+use crate::ends::{await_end, finish, start};
+use crate::rooms::{ReadRoom, WriteRoom, fill_request, read_room, write_room};
+use crate::steps::ClientSteps;
+use outer_traits::Line;
+use std::alloc::{AllocError, Global};
+use std::sync::Wait;
+use volume_core::{Blocks, Call, TicketNumber};
+use volume_model::Bytes;
+
+/// Asks each replica, in rising number, for its part of the open write.
+fn ask_all<R: Wait, C: ClientSteps, L: Line + Drop>(
+    rt: &R,
+    steps: &mut C,
+    channels: &mut [Channel<L>],
+    t: TicketNumber,
+    first: u32,
+    request: &mut [u8],
+    sets: &mut [Blocks],
+    room: &mut Vec<u8>,
+)
+    requires ready { C.ready steps.old }
+    requires lines { (length channels.old ≤ 8) × (length sets.old ≡ length channels.old) }
+    requires room { header_length + length request.old ≤ vec_capacity room.old }
+    requires own { (o : OwnCall) × (n : ℕ) × IsOwn t o (C.mine steps.old)
+        × CarriesAll o first n request.old sets.old }
+    requires counted { Counted (C.mine steps.old) (map (λ c. L.count c.line) channels.old) }
+    ensures ready { C.ready steps.new }
+    ensures home { C.home steps.new ≡ C.home steps.old }
+    ensures count { length channels.new ≡ length channels.old }
+    ensures counted { Counted (C.mine steps.new) (map (λ c. L.count c.line) channels.new) }
+    ensures goes { KeepsOpen (C.mine steps.old) (C.mine steps.new) }
+{
+    for r in 0..channels.len() {
+        ask_write(
+            rt,
+            steps,
+            channels,
+            t,
+            r as u8,
+            first,
+            request,
+            &mut sets[r],
+            room,
+        );
+    }
+}
+
+/// Carries the open write to its replicas, and waits for its end.
+fn carry_write<R: Wait, C: ClientSteps, L: Line + Drop>(
+    rt: &R,
+    steps: &mut C,
+    channels: &mut [Channel<L>],
+    t: TicketNumber,
+    mut room: WriteRoom,
+)
+    requires ready { C.ready steps.old }
+    requires lines { length channels.old ≤ 8 }
+    requires own { (o : OwnCall) × IsOwn t o (C.mine steps.old) × IsFilled o (length channels.old) room }
+    requires counted { Counted (C.mine steps.old) (map (λ c. L.count c.line) channels.old) }
+    ensures ready { C.ready steps.new }
+    ensures home { C.home steps.new ≡ C.home steps.old }
+    ensures count { length channels.new ≡ length channels.old }
+    ensures counted { Counted (C.mine steps.new) (map (λ c. L.count c.line) channels.new) }
+    ensures ends { (o : OwnCall) → IsOwn t o (C.mine steps.old) → EndsTo o (C.mine steps.old) (C.mine steps.new) }
+{
+    let first = room.first;
+    ask_all(
+        rt,
+        steps,
+        channels,
+        t,
+        first,
+        &mut room.request,
+        &mut room.sets,
+        &mut room.arrivals,
+    );
+    await_end(rt, steps, t);
+}
+
+/// Starts the open write, in room that is made before. Out of memory takes it back.
+fn begin_write<R: Wait, C: ClientSteps>(
+    rt: &R,
+    alloc: Global,
+    steps: &mut C,
+    t: TicketNumber,
+    bytes: &Bytes,
+    replicas: usize,
+) -> Result<Option<WriteRoom>, AllocError>
+    requires ready { C.ready steps.old }
+    requires waits { (o : OwnCall) × IsOwn t o (C.mine steps.old) × HasNotStarted o
+        × ((offset : ℤ) × (o.call ≡ Call.Write offset bytes.now)) }
+    ensures ready { C.ready steps.new }
+    ensures home { C.home steps.new ≡ C.home steps.old }
+    ensures counted { (counts : List ℕ) → Counted (C.mine steps.old) counts → Counted (C.mine steps.new) counts }
+    ensures ok { IfOk result (λ room. (o : OwnCall) → IsOwn t o (C.mine steps.old)
+        → BeginsOr o replicas room (C.mine steps.old) (C.mine steps.new)) }
+    ensures err { OnErr result (C.mine steps.new ≡ with_running (C.mine steps.old) []) }
+{
+    let range = steps.range(rt, t);
+    let mut room = match write_room(alloc, range, replicas) {
+        Ok(room) => room,
+        Err(error) => {
+            steps.withdraw(rt, t);
+            return Err(error);
+        }
+    };
+    let Some(job) = start(rt, alloc, steps, t)? else {
+        return Ok(None);
+    };
+    let request = &mut room.request;
+    fill_request(
+        request,
+        job.front.as_slice(),
+        bytes.as_slice(),
+        job.back.as_slice(),
+    );
+    Ok(Some(room))
+}
+
+/// Takes the open write to its end. Out of memory takes it back.
+pub(crate) fn serve_write<R: Wait, C: ClientSteps, L: Line + Drop>(
+    rt: &R,
+    alloc: Global,
+    steps: &mut C,
+    channels: &mut [Channel<L>],
+    t: TicketNumber,
+    bytes: &Bytes,
+) -> Result<(), AllocError>
+    requires ready { C.ready steps.old }
+    requires lines { length channels.old ≤ 8 }
+    requires waits { (o : OwnCall) × IsOwn t o (C.mine steps.old) × HasNotStarted o
+        × ((offset : ℤ) × (o.call ≡ Call.Write offset bytes.now)) }
+    requires counted { Counted (C.mine steps.old) (map (λ c. L.count c.line) channels.old) }
+    ensures ready { C.ready steps.new }
+    ensures home { C.home steps.new ≡ C.home steps.old }
+    ensures count { length channels.new ≡ length channels.old }
+    ensures counted { Counted (C.mine steps.new) (map (λ c. L.count c.line) channels.new) }
+    ensures ok { OnOk result ((o : OwnCall) → IsOwn t o (C.mine steps.old)
+        → EndsTo o (C.mine steps.old) (C.mine steps.new)) }
+    ensures err { OnErr result (C.mine steps.new ≡ with_running (C.mine steps.old) []) }
+{
+    let Some(room) = begin_write(rt, alloc, steps, t, bytes, channels.len())? else {
+        return Ok(());
+    };
+    carry_write(rt, steps, channels, t, room);
+    Ok(())
+}
+
+/// Asks the lowest replica that is read and written for the bytes of the open read.
+fn read_round<R: Wait, C: ClientSteps, L: Line + Drop>(
+    rt: &R,
+    steps: &mut C,
+    channels: &mut [Channel<L>],
+    t: TicketNumber,
+    offset: i64,
+    reply: &mut [u8],
+    room: &mut Vec<u8>,
+)
+    requires ready { C.ready steps.old }
+    requires lines { length channels.old ≡ (C.mine steps.old).replicas }
+    requires room { header_length + length reply.old ≤ vec_capacity room.old }
+    requires own { (o : OwnCall) × IsOwn t o (C.mine steps.old) × CarriesRead o offset reply.old }
+    requires counted { Counted (C.mine steps.old) (map (λ c. L.count c.line) channels.old) }
+    ensures ready { C.ready steps.new }
+    ensures home { C.home steps.new ≡ C.home steps.old }
+    ensures count { length channels.new ≡ length channels.old }
+    ensures room { vec_capacity room.old ≤ vec_capacity room.new }
+    ensures counted { Counted (C.mine steps.new) (map (λ c. L.count c.line) channels.new) }
+    ensures goes { KeepsOpen (C.mine steps.old) (C.mine steps.new) }
+{
+    if let Some(replica) = steps.source(rt) {
+        ask_read(rt, steps, channels, t, replica, offset, reply, room);
+    }
+}
+
+/// Carries the open read to the lowest replica that is left, until it is answered.
+fn carry_read<R: Wait, C: ClientSteps, L: Line + Drop>(
+    rt: &R,
+    steps: &mut C,
+    channels: &mut [Channel<L>],
+    t: TicketNumber,
+    offset: i64,
+    reply: &mut [u8],
+    room: &mut Vec<u8>,
+)
+    requires ready { C.ready steps.old }
+    requires lines { length channels.old ≡ (C.mine steps.old).replicas }
+    requires room { header_length + length reply.old ≤ vec_capacity room.old }
+    requires own { (o : OwnCall) × IsOwn t o (C.mine steps.old) × CarriesRead o offset reply.old }
+    requires counted { Counted (C.mine steps.old) (map (λ c. L.count c.line) channels.old) }
+    ensures ready { C.ready steps.new }
+    ensures home { C.home steps.new ≡ C.home steps.old }
+    ensures count { length channels.new ≡ length channels.old }
+    ensures counted { Counted (C.mine steps.new) (map (λ c. L.count c.line) channels.new) }
+    ensures ends { (o : OwnCall) → IsOwn t o (C.mine steps.old) → EndsTo o (C.mine steps.old) (C.mine steps.new) }
+{
+    for _ in rt.forever() {
+        read_round(rt, steps, channels, t, offset, reply, room);
+        if finish(rt, steps, t) {
+            return;
+        }
+    }
+    unreachable!()
+}
+
+/// Starts the open read, in room that is made before. Out of memory takes it back.
+fn begin_read<R: Wait, C: ClientSteps>(
+    rt: &R,
+    alloc: Global,
+    steps: &mut C,
+    t: TicketNumber,
+    count: u32,
+) -> Result<Option<ReadRoom>, AllocError>
+    requires ready { C.ready steps.old }
+    requires waits { (o : OwnCall) × IsOwn t o (C.mine steps.old) × HasNotStarted o }
+    ensures ready { C.ready steps.new }
+    ensures home { C.home steps.new ≡ C.home steps.old }
+    ensures counted { (counts : List ℕ) → Counted (C.mine steps.old) counts → Counted (C.mine steps.new) counts }
+    ensures ok { IfOk result (λ room. (o : OwnCall) → IsOwn t o (C.mine steps.old)
+        → ReadsOr o count room (C.mine steps.old) (C.mine steps.new)) }
+    ensures err { OnErr result (C.mine steps.new ≡ with_running (C.mine steps.old) []) }
+{
+    let room = match read_room(alloc, count) {
+        Ok(room) => room,
+        Err(error) => {
+            steps.withdraw(rt, t);
+            return Err(error);
+        }
+    };
+    match start(rt, alloc, steps, t)? {
+        Some(_job) => Ok(Some(room)),
+        None => Ok(None),
+    }
+}
+
+/// Takes the open read to its end. Out of memory takes it back.
+pub(crate) fn serve_read<R: Wait, C: ClientSteps, L: Line + Drop>(
+    rt: &R,
+    alloc: Global,
+    steps: &mut C,
+    channels: &mut [Channel<L>],
+    t: TicketNumber,
+    offset: i64,
+    count: u32,
+) -> Result<(), AllocError>
+    requires ready { C.ready steps.old }
+    requires lines { length channels.old ≡ (C.mine steps.old).replicas }
+    requires short { count ≤ longest_call }
+    requires waits { (o : OwnCall) × IsOwn t o (C.mine steps.old) × HasNotStarted o
+        × (o.call ≡ Call.Read offset count) }
+    requires counted { Counted (C.mine steps.old) (map (λ c. L.count c.line) channels.old) }
+    ensures ready { C.ready steps.new }
+    ensures home { C.home steps.new ≡ C.home steps.old }
+    ensures count { length channels.new ≡ length channels.old }
+    ensures counted { Counted (C.mine steps.new) (map (λ c. L.count c.line) channels.new) }
+    ensures ok { OnOk result ((o : OwnCall) → IsOwn t o (C.mine steps.old)
+        → EndsTo o (C.mine steps.old) (C.mine steps.new)) }
+    ensures err { OnErr result (C.mine steps.new ≡ with_running (C.mine steps.old) []) }
+{
+    let Some(mut room) = begin_read(rt, alloc, steps, t, count)? else {
+        return Ok(());
+    };
+    let arrivals = &mut room.arrivals;
+    carry_read(rt, steps, channels, t, offset, &mut room.reply, arrivals);
+    Ok(())
+}

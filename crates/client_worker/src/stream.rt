@@ -1,0 +1,136 @@
+//! A stream's calls, one after another.
+
+ghost use Rattle.std.specs.Prelude.{◌≡◌, ℕ, ◌+◌, ◌<◌, ◌≤◌, [], length, map, All, true, false, OnOk, OnErr};
+ghost use Rattle.volume_core.specs.Answers.{IsNow, IsOnRange};
+ghost use Rattle.frame_stream.specs.Asked.{asked_of, call_of};
+ghost use Rattle.frame_stream.specs.declared.asked.Asked.TheVariants as asked;
+ghost use Rattle.client_worker.specs.Asks.{IsAsked, IsFrameCall, IsShort};
+ghost use Rattle.client_worker.specs.Mine.{OwnCall, IsOwn, with_running};
+ghost use Rattle.client_worker.specs.Steps.{HasNotStarted};
+ghost use Rattle.client_worker.specs.Serving.{Counted, EndsTo, GrewBy, Grew, GrewSome};
+
+use crate::channel::Channel;
+use crate::serve::{serve_read, serve_write};
+use crate::steps::ClientSteps;
+use frame_stream::{Asked, Frame, of_frame};
+use outer_traits::Line;
+use script_text::Frames;
+use std::alloc::{AllocError, Global};
+use std::sync::Wait;
+use vol_units::LONGEST_CALL;
+use volume_core::{Call, Enrolled, TicketNumber};
+
+/// Takes the calls of a stream's frames one after another, and carries each to the replicas. Out of memory leaves
+/// none of them open, and what was done before it stands.
+pub fn run_stream<R: Wait, C: ClientSteps, L: Line + Drop>(
+    rt: &R,
+    alloc: Global,
+    steps: &mut C,
+    channels: &mut [Channel<L>],
+    frames: &Frames,
+) -> Result<(), AllocError>
+    requires ready { C.ready steps.old }
+    requires lines { (length channels.old ≤ 8) × (length channels.old ≡ (C.mine steps.old).replicas) }
+    requires idle { (C.mine steps.old).running ≡ [] }
+    requires asked { All IsAsked frames.now }
+    requires counted { Counted (C.mine steps.old) (map (λ c. L.count c.line) channels.old) }
+    ensures ready { C.ready steps.new }
+    ensures home { C.home steps.new ≡ C.home steps.old }
+    ensures count { length channels.new ≡ length channels.old }
+    ensures counted { Counted (C.mine steps.new) (map (λ c. L.count c.line) channels.new) }
+    ensures ok { OnOk result (Grew (map call_of frames.now) (C.mine steps.old) (C.mine steps.new)) }
+    ensures err { OnErr result (GrewSome (map call_of frames.now) (C.mine steps.old) (C.mine steps.new)) }
+{
+    let mut left = frames.reader()?;
+    while let Some(frame) = left.next()? {
+        serve_call(rt, alloc, steps, channels, call_in(frame))?;
+    }
+    Ok(())
+}
+
+/// Takes one call of the stream to its answer. Out of memory leaves it unasked.
+pub fn serve_call<R: Wait, C: ClientSteps, L: Line + Drop>(
+    rt: &R,
+    alloc: Global,
+    steps: &mut C,
+    channels: &mut [Channel<L>],
+    call: Call,
+) -> Result<(), AllocError>
+    requires ready { C.ready steps.old }
+    requires lines { (length channels.old ≤ 8) × (length channels.old ≡ (C.mine steps.old).replicas) }
+    requires idle { (C.mine steps.old).running ≡ [] }
+    requires frame { IsFrameCall call }
+    requires short { IsShort call }
+    requires counted { Counted (C.mine steps.old) (map (λ c. L.count c.line) channels.old) }
+    ensures ready { C.ready steps.new }
+    ensures home { C.home steps.new ≡ C.home steps.old }
+    ensures count { length channels.new ≡ length channels.old }
+    ensures counted { Counted (C.mine steps.new) (map (λ c. L.count c.line) channels.new) }
+    ensures ok { OnOk result (GrewBy call (C.mine steps.old) (C.mine steps.new)) }
+    ensures err { OnErr result (C.mine steps.new ≡ C.mine steps.old) }
+{
+    if is_now(&call) {
+        steps.answer_now(rt, alloc, &call)?;
+        return Ok(());
+    }
+    match steps.enrol(rt, alloc, &call)? {
+        Enrolled::OutOfRange(_) => Ok(()),
+        Enrolled::Ticket(t) => serve_open(rt, alloc, steps, channels, t, &call),
+    }
+}
+
+/// Takes the open call to its answer. Out of memory takes it back.
+fn serve_open<R: Wait, C: ClientSteps, L: Line + Drop>(
+    rt: &R,
+    alloc: Global,
+    steps: &mut C,
+    channels: &mut [Channel<L>],
+    t: TicketNumber,
+    call: &Call,
+) -> Result<(), AllocError>
+    requires ready { C.ready steps.old }
+    requires lines { (length channels.old ≤ 8) × (length channels.old ≡ (C.mine steps.old).replicas) }
+    requires range { IsOnRange call.now }
+    requires waits { (o : OwnCall) × IsOwn t o (C.mine steps.old) × HasNotStarted o × (o.call ≡ call.now) }
+    requires counted { Counted (C.mine steps.old) (map (λ c. L.count c.line) channels.old) }
+    ensures ready { C.ready steps.new }
+    ensures home { C.home steps.new ≡ C.home steps.old }
+    ensures count { length channels.new ≡ length channels.old }
+    ensures counted { Counted (C.mine steps.new) (map (λ c. L.count c.line) channels.new) }
+    ensures ok { OnOk result ((o : OwnCall) → IsOwn t o (C.mine steps.old)
+        → EndsTo o (C.mine steps.old) (C.mine steps.new)) }
+    ensures err { OnErr result (C.mine steps.new ≡ with_running (C.mine steps.old) []) }
+{
+    match call {
+        Call::Read { offset, length } => {
+            serve_read(rt, alloc, steps, channels, t, *offset, *length)
+        }
+        Call::Write { bytes, .. } => serve_write(rt, alloc, steps, channels, t, bytes),
+        Call::Ping | Call::Other(_) | Call::Command(_) => unreachable!(),
+    }
+}
+
+/// Whether a frame's call asks nothing of a replica's blocks.
+fn is_now(call: &Call) -> bool
+    requires frame { IsFrameCall call.now }
+    requires short { IsShort call.now }
+    ensures now { result ≡ true → IsNow call.now }
+    ensures range { result ≡ false → IsOnRange call.now }
+{
+    match call {
+        Call::Read { length, .. } => *length > LONGEST_CALL,
+        Call::Write { .. } => false,
+        Call::Ping | Call::Other(_) | Call::Command(_) => true,
+    }
+}
+
+/// The call that a frame is.
+fn call_in(frame: Frame) -> Call
+    requires { asked_of frame ≡ asked.Call (call_of frame) }
+    ensures { result ≡ call_of frame }
+{
+    match of_frame(frame) {
+        Asked::Call(call) => call,
+        Asked::End => unreachable!(),
+    }
+}
