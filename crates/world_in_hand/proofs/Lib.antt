@@ -1,0 +1,3 @@
+pub mod OwnLemmas
+pub mod StepLemmas
+pub mod Answered

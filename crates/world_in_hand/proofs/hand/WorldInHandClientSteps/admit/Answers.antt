@@ -1,0 +1,15 @@
+use Rattle.volume_core.specs.State.{state_of}
+use Rattle.world_in_hand.proofs.OwnLemmas.{open_from}
+use Rattle.world_in_hand.proofs.Answered.{admits_mine, admit_owners, waits_at}
+use Rattle.world_in_hand.proofs.hand.WorldInHandClientSteps.admit.Goals as goal
+
+pub admit-requires-clause-waits : goal.admit-requires-clause-waits
+admit-requires-clause-waits g c = let op = c.requires.waits in waits_at c.args.self.now.stream c.args.t op.0 (state_of c.args.self.now.world) c.requires.ready.0 op.1 op.2
+
+pub returns-clause-ok : goal.returns-clause-ok
+returns-clause-ok g c =
+    let n = c.args.self.now.stream in
+    let s = state_of c.args.self.now.world in
+    admits_mine n c.args.t s (state_of c.admit.new.self) c.admit.result c.requires.ready.0
+    (λ o own. c.admit.ensures.may n o.call (open_from n c.args.t o s own)) c.admit.ensures.ok
+    (admit_owners n c.args.t s (state_of c.admit.new.self) c.admit.result c.admit.ensures.sees)

@@ -1,0 +1,14 @@
+use Rattle.volume_core.specs.State.{state_of}
+use Rattle.world_in_hand.proofs.OwnLemmas.{open_from}
+use Rattle.world_in_hand.proofs.Answered.{reads_mine, buffer_at}
+use Rattle.world_in_hand.proofs.hand.WorldInHandClientSteps.apply_read.Goals as goal
+
+pub apply_read-requires-clause-into : goal.apply_read-requires-clause-into
+apply_read-requires-clause-into g c = let op = c.requires.own in buffer_at c.args.self.now.stream c.args.t op.0 (state_of c.args.self.now.world) c.args.into.now c.requires.ready.0 op.1 op.2
+
+pub returns-clause-ok : goal.returns-clause-ok
+returns-clause-ok g c =
+    let n = c.args.self.now.stream in
+    let s = state_of c.args.self.now.world in
+    reads_mine n c.args.t c.args.replica s (state_of c.apply_read.new.self) c.apply_read.result c.requires.ready.0
+    (λ o own. c.apply_read.ensures.may n o.call (open_from n c.args.t o s own)) c.apply_read.new.into c.apply_read.ensures.ok
