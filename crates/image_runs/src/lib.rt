@@ -8,6 +8,3 @@ mod run;
 mod table;
 
 pub use print::print_runs;
-
-#[cfg(test)]
-mod tests;

@@ -12,6 +12,3 @@ mod reading;
 pub use children::{Child, Children};
 pub use layer::{Layer, LayerMeta};
 pub use layer_tree::LayerTree;
-
-#[cfg(test)]
-mod tests;

@@ -5,6 +5,3 @@ mod table;
 
 pub use table::{MOST_REPLICAS, ModeTable};
 pub use volume_model::{Mark, Mode};
-
-#[cfg(test)]
-mod tests;

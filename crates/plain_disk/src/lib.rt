@@ -11,6 +11,3 @@ pub use disk::PlainDisk;
 pub use volume_model::{
     Bytes, Call, Command, FoldOrDrop, LayerName, Mark, Mode, Refusal, Reply, Sequence, SnapName,
 };
-
-#[cfg(test)]
-mod tests;

@@ -6,6 +6,3 @@ pub mod rows;
 mod words;
 
 pub use words::{Words, WordsError, Workers, read_words};
-
-#[cfg(test)]
-mod tests;

@@ -10,6 +10,3 @@ pub use disk::ReplicaDisk;
 pub use volume_model::{
     Bytes, Call, Command, FoldOrDrop, LayerName, Mode, Refusal, Reply, Sequence, SnapName,
 };
-
-#[cfg(test)]
-mod tests;

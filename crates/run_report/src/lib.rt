@@ -14,6 +14,3 @@ pub use digest::Digest;
 pub use end_lines::{print_chain, print_head, print_mode};
 pub use entry_line::print_entry;
 pub use reply_line::print_reply;
-
-#[cfg(test)]
-mod tests;

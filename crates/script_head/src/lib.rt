@@ -14,6 +14,3 @@ pub use head::{ScriptHead, StreamHead, read_head};
 pub use member::Member;
 pub use vol_units::TimeText;
 pub use volume_model::Sequence;
-
-#[cfg(test)]
-mod tests;

@@ -18,6 +18,3 @@ pub use script_head::limits::{MOST_CALLS, MOST_INPUT};
 pub use script_head::{Command, Member, Sequence, TimeText};
 pub use vol_units::{PlainName, VolumeSize};
 pub use what::What;
-
-#[cfg(test)]
-mod tests;

@@ -6,6 +6,3 @@ mod spare;
 
 pub use ops::{mark, revert, snapshot};
 pub use spare::Spare;
-
-#[cfg(test)]
-mod tests;

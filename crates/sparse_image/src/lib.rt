@@ -8,6 +8,3 @@ mod place;
 
 pub use block::{BLOCK_BYTES, Block, PAGE_BLOCKS};
 pub use image::Image;
-
-#[cfg(test)]
-mod tests;

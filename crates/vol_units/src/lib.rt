@@ -21,6 +21,3 @@ pub use range::BlockRange;
 pub use size::{BLOCK_BYTES, LARGEST_SIZE, PAGE_BYTES, VolumeSize};
 pub use snap_name::SnapName;
 pub use time_text::TimeText;
-
-#[cfg(test)]
-mod tests;

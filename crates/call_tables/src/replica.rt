@@ -1,6 +1,6 @@
 ghost use Rattle.replica_disk.specs.Step.{HasNewName};
 
-use super::*;
+use replica_disk::{Bytes, Call, Command, LayerName, Mode, Refusal, ReplicaDisk, Reply, SnapName};
 use std::alloc::Global;
 use std::test::Fail;
 use vol_units::VolumeSize;

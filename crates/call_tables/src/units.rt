@@ -1,5 +1,5 @@
-use super::*;
 use std::test::Fail;
+use vol_units::{LayerName, PlainName, SnapName, TimeText};
 
 #[test]
 fn names_are_read_by_their_grammar(rt: HostRuntime) {

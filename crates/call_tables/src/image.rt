@@ -1,17 +1,9 @@
-use super::*;
-use crate::page::Page;
-use crate::place::Place;
-use std::mem::size_of;
+use sparse_image::{BLOCK_BYTES, Image, PAGE_BLOCKS};
 use std::test::Fail;
 use vol_units::BlockRange;
 
 // The first block of the second page.
 const FIRST: u32 = PAGE_BLOCKS;
-
-#[test]
-fn a_page_that_is_not_made_costs_little(rt: HostRuntime) {
-    assert_eq!(rt; (size_of::<Page>(), size_of::<Place>()), (24, 16));
-}
 
 #[test]
 fn room_is_made_where_a_range_lies(rt: HostRuntime) -> Result<(), Fail> {

@@ -1,5 +1,5 @@
-use super::*;
 use command_text::LayerName;
+use script_head::{Command, HeadError, Member, StreamHead, read_head};
 use std::test::Fail;
 
 /// A good line, but for its end.

@@ -1,4 +1,4 @@
-use super::*;
+use script_text::{Bytes, Command, Member, ScriptError, Stream, What, read_script};
 use std::alloc::{AllocError, Global};
 use std::test::Fail;
 

@@ -1,4 +1,4 @@
-use super::*;
+use run_report::{Digest, print_chain, print_entry, print_head, print_mode};
 use std::test::Fail;
 use vol_units::LayerName;
 use volume_model::{Answer, Call, Entry, FoldOrDrop, Mark, Mode, Reply};

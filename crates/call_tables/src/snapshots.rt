@@ -1,5 +1,5 @@
-use super::*;
 use layer_chain::LayerTree;
+use snapshot_ops::{Spare, mark, revert, snapshot};
 use std::test::Fail;
 use vol_units::{LayerName, MOST_LAYERS};
 

@@ -1,4 +1,4 @@
-use crate::{Words, WordsError, Workers, read_words};
+use program_words::{Words, WordsError, Workers, read_words};
 use std::test::Fail;
 
 #[test]

@@ -1,4 +1,4 @@
-use super::*;
+use mode_table::{Mark, Mode, ModeTable};
 use std::test::Fail;
 use volume_model::LayerName;
 

@@ -1,4 +1,4 @@
-use super::*;
+use layer_chain::LayerTree;
 use sparse_image::Image;
 use std::test::Fail;
 use vol_units::{BlockRange, LayerName, MOST_LAYERS};

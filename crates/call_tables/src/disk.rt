@@ -1,4 +1,4 @@
-use super::*;
+use plain_disk::{Bytes, Call, Command, FoldOrDrop, LayerName, Mark, Mode, PlainDisk, SnapName};
 use std::test::Fail;
 
 /// What happens to a disk, with what it answers.

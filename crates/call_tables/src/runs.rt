@@ -1,4 +1,4 @@
-use super::*;
+use image_runs::print_runs;
 use std::test::Fail;
 
 const MANY: [u8; 4096] = [255; 4096];

@@ -1,0 +1,33 @@
+//! Tables of public calls of the lower crates, with values from outside and with ample memory.
+#![tactic(auto)]
+
+#[cfg(test)]
+mod commands;
+#[cfg(test)]
+mod disk;
+#[cfg(test)]
+mod head;
+#[cfg(test)]
+mod image;
+#[cfg(test)]
+mod journal;
+#[cfg(test)]
+mod layers;
+#[cfg(test)]
+mod lines;
+#[cfg(test)]
+mod meaning;
+#[cfg(test)]
+mod modes;
+#[cfg(test)]
+mod replica;
+#[cfg(test)]
+mod runs;
+#[cfg(test)]
+mod script;
+#[cfg(test)]
+mod snapshots;
+#[cfg(test)]
+mod units;
+#[cfg(test)]
+mod words;
