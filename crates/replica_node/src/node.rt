@@ -1,4 +1,5 @@
-ghost use Rattle.std.specs.Prelude.{◌≡◌, ℕ, ◌+◌, ◌*◌, ◌/◌, ◌^◌, ◌<◌, ◌≤◌, ◌++◌, length, Some, IfOk, OnOk, OnErr, All, is_some, true, false};
+ghost use Rattle.std.specs.Prelude.{◌≡◌, ◌↔◌, ℕ, ◌+◌, ◌*◌, ◌/◌, ◌^◌, ◌<◌, ◌≤◌, ◌++◌, length, Some, IfOk, OnOk, OnErr, All, IsTrue, is_some, true, false};
+ghost use Rattle.std.specs.Option.{option_copied};
 ghost use Rattle.vol_units.specs.Bytes.{zeros, bytes_at, with_bytes_at};
 ghost use Rattle.vol_units.specs.declared.size.TheConstants.{LARGEST_SIZE, PAGE_BYTES};
 ghost use Rattle.sparse_image.specs.Disk.{bytes_of};
@@ -300,6 +301,17 @@ impl ReplicaNode {
         let _size = self.size();
         block_of(&self.tree, layer, block)
     }
+
+    /// Whether two heads read the same at a block. It looks at no byte where both have no such block, not
+    /// even below them.
+    pub fn same_block(&self, other: &ReplicaNode, block: u32) -> bool
+        requires inside { block * BLOCK_BYTES < length self.now.disk }
+        requires other { block * BLOCK_BYTES < length other.now.disk }
+        ensures { let start = block * BLOCK_BYTES in IsTrue result
+            ↔ (bytes_at self.now.disk start BLOCK_BYTES ≡ bytes_at other.now.disk start BLOCK_BYTES) }
+    {
+        reads_same(self.tree.read_head(block), other.tree.read_head(block))
+    }
 }
 
 /// What a block that is not there reads as.
@@ -313,6 +325,23 @@ fn block_of<'a>(tree: &'a LayerTree, layer: &Option<LayerName>, block: u32) -> &
         Some(name) => tree.read_at(name, block),
         None => tree.read_head(block),
     };
+    bytes_or_zeros(found)
+}
+
+/// Whether two blocks read the same.
+fn reads_same(one: Option<&Block>, other: Option<&Block>) -> bool
+    ensures { IsTrue result ↔ (bytes_of (option_copied one.entry) ≡ bytes_of (option_copied other.entry)) }
+{
+    match (one, other) {
+        (None, None) => true,
+        _ => bytes_or_zeros(one) == bytes_or_zeros(other),
+    }
+}
+
+/// What a block reads as, where it may not be there.
+fn bytes_or_zeros(found: Option<&Block>) -> &[u8]
+    ensures { result.now ≡ bytes_of (option_copied found.entry) }
+{
     match found {
         Some(bytes) => bytes,
         None => zero_block(),
