@@ -80,6 +80,7 @@ enrolled_fits size streams replicas t c whole is new good short count stream =
     let w = around_within size c.at c.length (size / 4096) good blocks in
     record {
       lies = record {
+        around = is;
         up = rw is w.0;
         within = rw is w.1;
         good = good;

@@ -28,7 +28,7 @@ use Rattle.open_calls.proofs.SeenLemmas.{seen_set}
 -- a call with another part fits as before
 fits_part : (size streams replicas r : ℕ) (t : Ticket) (c : OpenCall) (part : Part) → Fits size streams replicas t c → Fits size streams replicas t (with_part_at c r part)
 fits_part size streams replicas r t c part f = record {
-  lies = record { up = f.lies.up; within = f.lies.within; good = f.lies.good; covers = f.lies.covers; empty = f.lies.empty };
+  lies = record { around = f.lies.around; up = f.lies.up; within = f.lies.within; good = f.lies.good; covers = f.lies.covers; empty = f.lies.empty };
   stream = f.stream;
   short = f.short;
   count = f.count;
@@ -150,7 +150,7 @@ module _ (v : Volume) (size streams : ℕ) (entries : List Entry) (modes : List 
         order = ok.order;
         fits = λ j l. each_call (λ n y. Fits size streams (length nodes) (ticket_at tickets n) y) x j
             (record {
-              lies = record { up = f.lies.up; within = f.lies.within; good = f.lies.good; covers = f.lies.covers; empty = f.lies.empty };
+              lies = record { around = f.lies.around; up = f.lies.up; within = f.lies.within; good = f.lies.good; covers = f.lies.covers; empty = f.lies.empty };
               stream = f.stream;
               short = f.short;
               count = f.count;

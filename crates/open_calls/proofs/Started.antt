@@ -130,7 +130,7 @@ module _ (v : Volume) (size streams : ℕ) (entries : List Entry) (modes : List 
         order = AreInOrder-with_started tickets i clear ok.order;
         fits = λ j l. each_begun (λ n y z. Fits size streams (length nodes) y z) j
             (record {
-              lies = record { up = f.lies.up; within = f.lies.within; good = f.lies.good; covers = f.lies.covers; empty = f.lies.empty };
+              lies = record { around = f.lies.around; up = f.lies.up; within = f.lies.within; good = f.lies.good; covers = f.lies.covers; empty = f.lies.empty };
               stream = f.stream;
               short = f.short;
               count = f.count;

@@ -1,6 +1,7 @@
 -- What is true of the open calls and of the replicas, at every moment: of the plain volume as the journal tells it.
 use Rattle.std.specs.Prelude.{◌≡◌, ◌≢◌, ℕ, suc, ◌+◌, ◌-◌, ◌<◌, ◌≤◌, List, [], ◌∷◌, length, true, slice_index_or}
 use Rattle.vol_units.specs.Bytes.{bytes_at, with_bytes_at}
+use Rattle.vol_units.specs.Range.{blocks_around}
 use Rattle.volume_model.specs.declared.entry.Answer.{Answer}
 use Rattle.volume_model.specs.declared.entry.Entry.{Entry}
 use Rattle.volume_model.specs.declared.mode.Mode.{Mode}
@@ -37,8 +38,9 @@ pub record IsReading (t : Ticket) : Type 0 where
   pub started : t.started ≡ true
   pub reads : t.kind ≡ kind.Read
 
--- the bytes of the call lie on the disk, and in the blocks of its ticket
+-- the bytes of the call lie on the disk, and in the blocks of its ticket, which are those around them
 pub record Lies (size : ℕ) (t : Ticket) (c : OpenCall) : Type 0 where
+  pub around : t.range ≡ blocks_around c.at c.length
   pub up : from_of t ≤ until_of t
   pub within : until_of t ≤ size
   pub good : c.at + c.length ≤ size

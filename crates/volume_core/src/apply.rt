@@ -138,13 +138,14 @@ impl World {
                 self.ack_on(i, replica);
                 Ok(())
             }
-            Part::Apart | Part::Owed => Err(self.without_step(replica)),
+            Part::Apart | Part::Owed => Err(self.without_step(i, replica)),
         }
     }
 
-    /// Why a replica that had no step of a call cannot acknowledge it.
-    fn without_step(&self, replica: u8) -> NotThis
-        ensures { (t : ℕ) → AgainstAck (state_of self.now) t replica result }
+    /// Why a replica that had no step of the call at i cannot acknowledge it.
+    fn without_step(&self, i: usize, replica: u8) -> NotThis
+        requires { ¬ IsTaken (part_at (open_at self.now.calls.items i).parts replica) }
+        ensures { (t : ℕ) → IsCallAt (state_of self.now) t i → AgainstAck (state_of self.now) t replica result }
     {
         match self.journal.mode(replica) {
             Mode::Err => NotThis::Mode(Mode::Err),

@@ -42,4 +42,4 @@ pub returns-in-Apart-clause-stays : goal.returns-in-Apart-clause-stays
 returns-in-Apart-clause-stays c = refused_stays c.args.t (state_of c.args.self.now)
 
 pub returns-in-Apart-clause-why : goal.returns-in-Apart-clause-why
-returns-in-Apart-clause-why c = c.without_step.ensures c.args.t
+returns-in-Apart-clause-why c = c.without_step.ensures c.args.t c.in-Some.ensures
