@@ -2,3 +2,4 @@ pub mod Readers
 pub mod OneValue
 pub mod Lists
 pub mod OneAnswer
+pub mod LinePlansLemmas

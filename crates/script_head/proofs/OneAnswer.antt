@@ -1,32 +1,38 @@
 -- One answer is true of a line, unless memory runs out.
-use Rattle.std.proofs.Common.{◌≡◌, ◌≢◌, ◌∙◌, List, [], ◌∷◌, ℕ, Result, Ok, Err, inl, inr, refl, sym, ap, subst}
+use Rattle.std.proofs.Common.{◌≡◌, ◌≢◌, ◌∙◌, List, [], ◌∷◌, ℕ, length, Result, Ok, Err, inl, inr, refl, sym, ap, subst}
 use Rattle.serde_json.specs.Data.{Data}
 use Rattle.serde_json.specs.Read.{read}
 use Rattle.script_head.specs.declared.error.HeadError.{HeadError}
 use Rattle.script_head.specs.declared.error.HeadError.TheVariants.{Json, BadMember, NoMemory}
 use Rattle.script_head.specs.declared.head.ScriptHead.{ScriptHead}
 use Rattle.script_head.specs.declared.head.StreamHead.{StreamHead}
+use Rattle.script_head.specs.declared.line_plan.LinePlan.{LinePlan}
 use Rattle.script_head.specs.declared.member.Member.{Member}
-use Rattle.script_head.specs.Members.{IsGood, IsFirstBadOf, in_order}
+use Rattle.script_head.specs.Members.{HasStreams, HasLines, IsGood, IsFirstBadOf, in_order}
 use Rattle.script_head.specs.Head.{IsObject, IsScriptHead, IsFirstBad, Says, HasFirstBad, IsNoObject, AnswersLine}
 use Rattle.script_head.specs.Answers.{IsOnlyAnswer}
 use Rattle.script_head.specs.Refusals.{AnswersObject}
-use Rattle.script_head.proofs.OneValue.{same_value, same_streams}
+use Rattle.script_head.proofs.OneValue.{same_value, same_streams, same_plans}
 
 same_object : (line : List ℕ) (d e : Data) → IsObject line d → IsObject line e → d ≡ e
 same_object line d e p q = same_value (read line) p.value q.value
 
-abbrev head_of : List StreamHead → List ℕ → List ℕ → ℕ → ℕ → ScriptHead
-head_of streams now volume size replicas = record { streams = streams; now = now; volume = volume; size = size; replicas = replicas }
+abbrev head_of : List StreamHead → List LinePlan → List ℕ → List ℕ → ℕ → ℕ → ScriptHead
+head_of streams lines now volume size replicas = record { streams = streams; lines = lines; now = now; volume = volume; size = size; replicas = replicas }
 
-same_parts : {streams ss : List StreamHead} {now n volume v : List ℕ} {size s replicas r : ℕ} → streams ≡ ss → now ≡ n → volume ≡ v → size ≡ s → replicas ≡ r
-    → head_of streams now volume size replicas ≡ head_of ss n v s r
-same_parts a b c d e = cc
+same_parts : {streams ss : List StreamHead} {lines ls : List LinePlan} {now n volume v : List ℕ} {size s replicas r : ℕ}
+    → streams ≡ ss → lines ≡ ls → now ≡ n → volume ≡ v → size ≡ s → replicas ≡ r
+    → head_of streams lines now volume size replicas ≡ head_of ss ls n v s r
+same_parts a b c d e f = cc
 
 pub same_head : (d : Data) (a b : ScriptHead) → IsScriptHead d a → IsScriptHead d b → a ≡ b
 same_head d a b p q =
-    same_parts (same_streams _ a.streams b.streams p.streams.0 q.streams.0) (same_value _ p.now.0 q.now.0) (same_value _ p.volume.0 q.volume.0)
-    (same_value _ p.size.0 q.size.0) (same_value _ p.replicas.0 q.replicas.0)
+    let replicas : a.replicas ≡ b.replicas = same_value _ p.replicas.0 q.replicas.0 in
+    let streams = same_streams b.replicas _ a.streams b.streams (subst (λ n. HasStreams d n a.streams) replicas p.streams).0 q.streams.0 in
+    let lines : HasLines d (length b.streams) b.replicas a.lines =
+    subst (λ (ss : List StreamHead). HasLines d (length ss) b.replicas a.lines) streams (subst (λ n. HasLines d (length a.streams) n a.lines) replicas p.lines) in
+    same_parts streams (same_plans (length b.streams) b.replicas _ a.lines b.lines lines q.lines) (same_value _ p.now.0 q.now.0) (same_value _ p.volume.0 q.volume.0)
+    (same_value _ p.size.0 q.size.0) replicas
 
 -- these members are all good
 AreGood : Data → List Member → Type 0
@@ -45,7 +51,7 @@ all_good d head is = (
         is.open_flag,
         (
           is.save_flag,
-          ((head.now, is.now), ((head.streams, is.streams), (is.lines, tt))),
+          ((head.now, is.now), ((head.replicas, head.streams, is.replicas, is.streams), ((head.replicas, head.streams, head.lines, is.replicas, is.streams, is.lines), tt))),
         ),
       ),
     ),

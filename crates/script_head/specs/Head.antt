@@ -29,7 +29,7 @@ pub record IsObject (line : List ℕ) (d : Data) : Type 0 where
   pub value : read line ≡ Some d
   pub object : is_some (as_object d) ≡ true
 
--- the object's members say this; those that no field tells are good
+-- the object's members say this; flags, which no field tells, are good
 pub record IsScriptHead (d : Data) (head : ScriptHead) : Type 0 where
   pub volume : HasVolume d head.volume
   pub size : HasSize d head.size
@@ -37,8 +37,8 @@ pub record IsScriptHead (d : Data) (head : ScriptHead) : Type 0 where
   pub open_flag : (flag : Bool) × HasFlag d (codes "open") may_open flag
   pub save_flag : (flag : Bool) × HasFlag d (codes "save") may_save flag
   pub now : HasNow d head.now
-  pub streams : HasStreams d head.streams
-  pub lines : (count : ℕ) × HasLines d count
+  pub streams : HasStreams d head.replicas head.streams
+  pub lines : HasLines d (length head.streams) head.replicas head.lines
 
 -- it is the object's first member, in their order, that is missing or has another value
 abbrev pub IsFirstBad : Data → Member → Type 0

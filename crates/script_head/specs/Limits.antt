@@ -12,7 +12,7 @@ longest_line = 1048576
 
 -- the most replicas of a volume
 abbrev pub most_replicas : ℕ
-most_replicas = 1
+most_replicas = 8
 
 -- the most streams
 abbrev pub most_streams : ℕ
@@ -22,9 +22,13 @@ most_streams = 16
 abbrev pub most_calls : ℕ
 most_calls = 65536
 
--- the most lines of which failures are planned
-abbrev pub most_lines : ℕ
-most_lines = 0
+-- the most failures that are planned of one line
+abbrev pub most_failures : ℕ
+most_failures = 1024
+
+-- the largest number of a carry that is planned to fail
+abbrev pub largest_carry : ℕ
+largest_carry = 4294967295
 
 -- whether a run may open the replicas' folders, and save them
 abbrev pub may_open : Bool

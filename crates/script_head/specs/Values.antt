@@ -1,17 +1,12 @@
 -- Values of JSON, as a script's members want them.
-use Rattle.std.specs.Prelude.{◌≡◌, ℕ, List, [], ◌∷◌, Option, Some, option_map, option_and_then}
+use Rattle.std.specs.Prelude.{◌≡◌, ℕ, List, [], ◌∷◌, Option, Some, option_and_then}
 use Rattle.std.specs.Option.{option_map_or}
 use Rattle.serde_json.specs.Data.{Data, Items, no_items, item}
-use Rattle.serde_json.specs.Events.{items_len}
 use Rattle.serde_json.specs.Find.{get, as_array, as_number, as_u64}
 
 -- a whole number, written without sign, fraction or exponent
 abbrev pub whole : Data → Option ℕ
 whole d = option_and_then as_u64 (as_number d)
-
--- how many items a list has
-abbrev pub item_count : Data → Option ℕ
-item_count d = option_map items_len (as_array d)
 
 -- what each of the items is
 abbrev pub AreItems : {A : Type 0} → (Data → A → Type 0) → Items → List A → Type 0

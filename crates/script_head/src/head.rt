@@ -6,6 +6,8 @@ ghost use Rattle.script_head.specs.Refusals.{AnswersObject};
 
 use crate::error::HeadError;
 use crate::limits::{MAY_OPEN, MAY_SAVE};
+use crate::line_plan::LinePlan;
+use crate::lines::lines_in;
 use crate::member::Member;
 use crate::members;
 use command_text::Command;
@@ -49,6 +51,8 @@ impl StreamHead {
 #[derive(Debug, Drop)]
 pub struct ScriptHead {
     pub streams: Sequence<StreamHead>,
+    /// The lines that fail, no line twice.
+    pub lines: Sequence<LinePlan>,
     pub now: TimeText,
     pub volume: PlainName,
     pub size: VolumeSize,
@@ -86,10 +90,11 @@ fn head_in(alloc: Global, line: &Value) -> Result<ScriptHead, HeadError>
     members::flag_in(line, "open", MAY_OPEN, Member::Open)?;
     members::flag_in(line, "save", MAY_SAVE, Member::Save)?;
     let now = members::now_in(alloc, line)?;
-    let streams = members::streams_in(alloc, line)?;
-    members::lines_in(line)?;
+    let streams = members::streams_in(alloc, line, replicas)?;
+    let lines = lines_in(alloc, line, streams.len() as u8, replicas)?;
     Ok(ScriptHead {
         streams,
+        lines,
         now,
         volume,
         size,

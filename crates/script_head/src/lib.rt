@@ -4,6 +4,8 @@
 mod error;
 mod head;
 pub mod limits;
+mod line_plan;
+mod lines;
 mod member;
 mod members;
 mod streams;
@@ -11,6 +13,7 @@ mod streams;
 pub use command_text::Command;
 pub use error::HeadError;
 pub use head::{ScriptHead, StreamHead, read_head};
+pub use line_plan::{LinePlan, plan_of};
 pub use member::Member;
 pub use vol_units::TimeText;
 pub use volume_model::Sequence;

@@ -7,7 +7,7 @@ pub const MOST_INPUT: usize = 268_435_456;
 pub const LONGEST_LINE: usize = 1_048_576;
 
 /// The most replicas of a volume.
-pub const MOST_REPLICAS: u64 = 1;
+pub const MOST_REPLICAS: u64 = 8;
 
 /// The most streams.
 pub const MOST_STREAMS: usize = 16;
@@ -21,5 +21,8 @@ pub const MAY_OPEN: bool = false;
 /// Whether a run may save the replicas' folders.
 pub const MAY_SAVE: bool = false;
 
-/// The most lines of which failures are planned.
-pub const MOST_LINES: usize = 0;
+/// The most failures that are planned of one line.
+pub const MOST_FAILURES: usize = 1_024;
+
+/// The largest number of a carry that is planned to fail.
+pub const LARGEST_CARRY: u64 = 4_294_967_295;

@@ -1,13 +1,10 @@
-ghost use Rattle.std.specs.Prelude.{◌≡◌, Some, option_map};
-ghost use Rattle.std.specs.Option.{option_map_or};
 ghost use Rattle.serde_json.specs.View.{view};
 ghost use Rattle.script_head.specs.Refusals.{Reads};
 ghost use Rattle.script_head.specs.Members as spec;
-ghost use Rattle.script_head.specs.Values.{item_count};
 
 use crate::error::HeadError;
 use crate::head::StreamHead;
-use crate::limits::{MOST_LINES, MOST_REPLICAS, MOST_STREAMS};
+use crate::limits::{MOST_REPLICAS, MOST_STREAMS};
 use crate::member::Member;
 use crate::streams::streams_from;
 use serde_json::Value;
@@ -70,31 +67,18 @@ pub(crate) fn now_in(alloc: Global, line: &Value) -> Result<TimeText, HeadError>
     TimeText::read(alloc, text)?.ok_or(HeadError::BadMember(Member::Now))
 }
 
-pub(crate) fn streams_in(alloc: Global, line: &Value) -> Result<Sequence<StreamHead>, HeadError>
-    ensures { Reads Member.Streams (spec.HasStreams (view line.now)) result }
+/// The streams, where there are so many replicas.
+pub(crate) fn streams_in(
+    alloc: Global,
+    line: &Value,
+    replicas: u8,
+) -> Result<Sequence<StreamHead>, HeadError>
+    ensures { Reads Member.Streams (spec.HasStreams (view line.now) replicas) result }
 {
     let bad = HeadError::BadMember(Member::Streams);
     let items = line.get("streams").and_then(Value::as_array).ok_or(bad)?;
     if items.is_empty() || items.len() > MOST_STREAMS {
         return Err(bad);
     }
-    streams_from(alloc, items)
-}
-
-pub(crate) fn lines_in(line: &Value) -> Result<usize, HeadError>
-    ensures { Reads Member.Lines (spec.HasLines (view line.now)) result }
-{
-    match line_count(line.get("lines")) {
-        Some(count) if count <= MOST_LINES => Ok(count),
-        _ => Err(HeadError::BadMember(Member::Lines)),
-    }
-}
-
-fn line_count(lines: Option<&Value>) -> Option<usize>
-    ensures { result ≡ option_map_or item_count (option_map (λ v. view v.now) lines.entry) (Some 0) }
-{
-    match lines {
-        None => Some(0),
-        Some(value) => value.as_array().map(|items| items.len()),
-    }
+    streams_from(alloc, items, replicas)
 }

@@ -1,10 +1,10 @@
 //! The items of `streams`. One that is no stream makes the member a bad one.
 
-ghost use Rattle.std.specs.Prelude.{◌≡◌, ◌≤◌, Some, length};
+ghost use Rattle.std.specs.Prelude.{◌≡◌, ◌↔◌, ◌≤◌, IsTrue, Some, length};
 ghost use Rattle.serde_json.specs.View.{view, items_view};
 ghost use Rattle.script_head.specs.Refusals.{Reads};
 ghost use Rattle.script_head.specs.Limits.{most_calls, most_input};
-ghost use Rattle.script_head.specs.Members.{IsCommandItem, IsStreamItem};
+ghost use Rattle.script_head.specs.Members.{IsCommandItem, IsStreamItem, NamesReplica};
 ghost use Rattle.script_head.specs.Values.{whole, AreItems, HasItems};
 
 use crate::error::HeadError;
@@ -21,22 +21,23 @@ const BAD: HeadError = HeadError::BadMember(Member::Streams);
 pub(crate) fn streams_from(
     alloc: Global,
     items: &[Value],
+    replicas: u8,
 ) -> Result<Sequence<StreamHead>, HeadError>
-    ensures { Reads Member.Streams (AreItems IsStreamItem (items_view items.now)) result }
+    ensures { Reads Member.Streams (AreItems (IsStreamItem replicas) (items_view items.now)) result }
 {
     let mut streams = Vec::new(alloc);
     for item in items {
-        streams.push(stream_of(alloc, item)?)?;
+        streams.push(stream_of(alloc, item, replicas)?)?;
     }
     Ok(Sequence::of(streams))
 }
 
-fn stream_of(alloc: Global, item: &Value) -> Result<StreamHead, HeadError>
-    ensures { Reads Member.Streams (IsStreamItem (view item.now)) result }
+fn stream_of(alloc: Global, item: &Value, replicas: u8) -> Result<StreamHead, HeadError>
+    ensures { Reads Member.Streams (IsStreamItem replicas (view item.now)) result }
 {
     match (item.get("frames"), item.get("control")) {
         (Some(frames), None) => Ok(StreamHead::Frames(bytes_of(frames)?)),
-        (None, Some(control)) => Ok(StreamHead::Control(commands_in(alloc, control)?)),
+        (None, Some(control)) => Ok(StreamHead::Control(commands_in(alloc, control, replicas)?)),
         _ => Err(BAD),
     }
 }
@@ -52,9 +53,9 @@ fn bytes_of(frames: &Value) -> Result<u64, HeadError>
     }
 }
 
-fn commands_in(alloc: Global, control: &Value) -> Result<Sequence<Command>, HeadError>
+fn commands_in(alloc: Global, control: &Value, replicas: u8) -> Result<Sequence<Command>, HeadError>
     ensures { Reads Member.Streams
-        (λ commands. HasItems IsCommandItem (Some (view control.now)) commands
+        (λ commands. HasItems (IsCommandItem replicas) (Some (view control.now)) commands
         × (length commands ≤ most_calls)) result }
 {
     let items = control.as_array().ok_or(BAD)?;
@@ -62,22 +63,39 @@ fn commands_in(alloc: Global, control: &Value) -> Result<Sequence<Command>, Head
     if items.len() > MOST_CALLS {
         return Err(BAD);
     }
-    commands_from(alloc, items)
+    commands_from(alloc, items, replicas)
 }
 
-fn commands_from(alloc: Global, items: &[Value]) -> Result<Sequence<Command>, HeadError>
-    ensures { Reads Member.Streams (AreItems IsCommandItem (items_view items.now)) result }
+fn commands_from(
+    alloc: Global,
+    items: &[Value],
+    replicas: u8,
+) -> Result<Sequence<Command>, HeadError>
+    ensures { Reads Member.Streams (AreItems (IsCommandItem replicas) (items_view items.now)) result }
 {
     let mut commands = Vec::new(alloc);
     for item in items {
-        commands.push(command_of(item)?)?;
+        commands.push(command_of(item, replicas)?)?;
     }
     Ok(Sequence::of(commands))
 }
 
-fn command_of(item: &Value) -> Result<Command, HeadError>
-    ensures { Reads Member.Streams (IsCommandItem (view item.now)) result }
+fn command_of(item: &Value, replicas: u8) -> Result<Command, HeadError>
+    ensures { Reads Member.Streams (IsCommandItem replicas (view item.now)) result }
 {
     let text = item.as_str().ok_or(BAD)?;
-    Command::read(text.as_bytes()).or(Err(BAD))
+    match Command::read(text.as_bytes()) {
+        Ok(command) if names_replica(&command, replicas) => Ok(command),
+        _ => Err(BAD),
+    }
+}
+
+/// Whether the command is of no replica, or of one that is there.
+fn names_replica(command: &Command, replicas: u8) -> bool
+    ensures { IsTrue result ↔ NamesReplica replicas command.now }
+{
+    match command {
+        Command::Fail(replica) | Command::Add(replica) => *replica < replicas,
+        _ => true,
+    }
 }

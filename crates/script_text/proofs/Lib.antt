@@ -5,3 +5,4 @@ pub mod StreamsLemmas
 pub mod OneStream
 pub mod OneAnswer
 pub mod KeptLemmas
+pub mod GoodLemmas

@@ -4,6 +4,7 @@ use Rattle.script_head.specs.declared.error.HeadError.{HeadError}
 use Rattle.script_head.specs.declared.error.HeadError.TheVariants as fault
 use Rattle.script_head.specs.declared.head.ScriptHead.{ScriptHead}
 use Rattle.script_head.specs.declared.head.StreamHead.{StreamHead}
+use Rattle.script_head.specs.declared.line_plan.LinePlan.{LinePlan}
 use Rattle.script_head.specs.declared.member.Member.{Member}
 use Rattle.script_head.specs.Head.{byte_count, command_count}
 use Rattle.script_head.specs.Head as first
@@ -76,19 +77,19 @@ one_body place heads body r (Err NoMemory) told also x y = absurd (also refl)
 
 -- ---- the whole input
 
-abbrev script_with : List Stream → List ℕ → List ℕ → ℕ → ℕ → Script
-script_with streams now volume size replicas = record { streams = streams; now = now; volume = volume; size = size; replicas = replicas }
+abbrev script_with : List Stream → List LinePlan → List ℕ → List ℕ → ℕ → ℕ → Script
+script_with streams lines now volume size replicas = record { streams = streams; lines = lines; now = now; volume = volume; size = size; replicas = replicas }
 
-same_parts : {ss : List Stream} {now n volume v : List ℕ} {size s replicas r : ℕ} → now ≡ n → volume ≡ v → size ≡ s → replicas ≡ r
-    → script_with ss now volume size replicas ≡ script_with ss n v s r
-same_parts a b c d = cc
+same_parts : {ss : List Stream} {lines ls : List LinePlan} {now n volume v : List ℕ} {size s replicas r : ℕ} → lines ≡ ls → now ≡ n → volume ≡ v → size ≡ s → replicas ≡ r
+    → script_with ss lines now volume size replicas ≡ script_with ss ls n v s r
+same_parts a b c d e = cc
 
 -- the script of a first line and of streams
 abbrev script_of : ScriptHead → List Stream → Script
-script_of head streams = script_with streams head.now head.volume head.size head.replicas
+script_of head streams = script_with streams head.lines head.now head.volume head.size head.replicas
 
 is_script_of : (input : List ℕ) (script : Script) (is : IsScript input script) → script ≡ script_of is.head script.streams
-is_script_of input script is = same_parts is.now is.volume is.size is.replicas
+is_script_of input script is = same_parts is.lines is.now is.volume is.size is.replicas
 
 -- the script of a first line and of what its streams are, or their refusal
 with_head : ScriptHead → Result (List Stream) ScriptError → Result Script ScriptError

@@ -5,3 +5,4 @@ pub mod Streams
 pub mod Script
 pub mod Refusals
 pub mod Kept
+pub mod Good

@@ -22,6 +22,7 @@ pub record IsScript (input : List ℕ) (script : Script) : Type 0 where
   pub body : List ℕ
   pub head : ScriptHead
   pub headed : IsHeaded input line body head
+  pub lines : script.lines ≡ head.lines
   pub now : script.now ≡ head.now
   pub volume : script.volume ≡ head.volume
   pub size : script.size ≡ head.size

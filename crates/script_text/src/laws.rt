@@ -1,8 +1,10 @@
 //! What follows from the definitions alone. Each law is a contract.
 
-ghost use Rattle.std.specs.Prelude.{◌≡◌, ◌≢◌, List, ℕ, All, Err, Result};
+ghost use Rattle.std.specs.Prelude.{◌≡◌, ◌≢◌, ◌≤◌, List, ℕ, length, All, Err, Result};
 ghost use Rattle.frame_stream.specs.Asked.{asked_of, call_of};
-ghost use Rattle.script_text.specs.Script.{AnswersInput};
+ghost use Rattle.script_head.specs.LinePlans.{NoPairTwice, planned};
+ghost use Rattle.script_text.specs.Good.{IsGoodStream, AreCarries, IsGoodPlan};
+ghost use Rattle.script_text.specs.Script.{IsScript, AnswersInput};
 ghost use Rattle.script_text.specs.Streams.{IsStream};
 ghost use Rattle.frame_stream.specs.declared.asked.Asked.TheVariants as asked;
 ghost use Rattle.script_text.specs.declared.error.ScriptError.{ScriptError};
@@ -20,4 +22,40 @@ pub fn an_input_has_one_answer()
 pub fn a_stream_is_calls()
     ensures { (bytes : List ℕ) (frames : List Frame)
         → IsStream bytes frames → All (λ f. asked_of f ≡ asked.Call (call_of f)) frames }
+{}
+
+/// A script is run on one to eight replicas.
+pub fn a_script_has_few_replicas()
+    ensures { (input : List ℕ) (script : Script) → IsScript input script
+        → (1 ≤ script.replicas) × (script.replicas ≤ 8) }
+{}
+
+/// And has one to sixteen streams.
+pub fn a_script_has_few_streams()
+    ensures { (input : List ℕ) (script : Script) → IsScript input script
+        → (1 ≤ length script.streams) × (length script.streams ≤ 16) }
+{}
+
+/// Its frames ask calls, and its commands are such as it may have, of replicas that are there.
+pub fn a_script_has_good_streams()
+    ensures { (input : List ℕ) (script : Script)
+        → IsScript input script → All (IsGoodStream script.replicas) script.streams }
+{}
+
+/// Its plans are of lines that are there.
+pub fn a_script_has_good_plans()
+    ensures { (input : List ℕ) (script : Script) → IsScript input script
+        → All (IsGoodPlan (length script.streams) script.replicas) script.lines }
+{}
+
+/// None of them is of the line of another.
+pub fn a_script_plans_a_line_once()
+    ensures { (input : List ℕ) (script : Script)
+        → IsScript input script → NoPairTwice script.lines }
+{}
+
+/// What is planned of any line are carries that rise.
+pub fn a_script_plans_rising_carries()
+    ensures { (input : List ℕ) (script : Script) (worker replica : ℕ)
+        → IsScript input script → AreCarries (planned script.lines worker replica) }
 {}

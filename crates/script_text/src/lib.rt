@@ -15,6 +15,6 @@ pub use frame_stream::{Asked, Bytes, Call, Frame, Head, of_frame};
 pub use frames::{FrameReader, Frames};
 pub use script::{Script, Stream, read_script};
 pub use script_head::limits::{MOST_CALLS, MOST_INPUT};
-pub use script_head::{Command, Member, Sequence, TimeText};
+pub use script_head::{Command, LinePlan, Member, Sequence, TimeText, plan_of};
 pub use vol_units::{PlainName, VolumeSize};
 pub use what::What;

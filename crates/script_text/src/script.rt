@@ -11,7 +11,7 @@ use crate::streams::{other_end, read_streams, room_beside};
 use crate::what::What;
 use frame_stream::Bytes;
 use script_head::limits::MOST_INPUT;
-use script_head::{Command, ScriptHead, Sequence, StreamHead, TimeText, read_head};
+use script_head::{Command, LinePlan, ScriptHead, Sequence, StreamHead, TimeText, read_head};
 use std::alloc::Global;
 use vol_units::{PlainName, VolumeSize};
 
@@ -40,6 +40,8 @@ impl Stream {
 #[derive(Debug, Drop)]
 pub struct Script {
     pub streams: Sequence<Stream>,
+    /// The lines that fail, no line twice.
+    pub lines: Sequence<LinePlan>,
     /// What the run writes as its time.
     pub now: TimeText,
     pub volume: PlainName,
@@ -75,6 +77,7 @@ fn script_in(alloc: Global, input: &Bytes) -> Result<Script, ScriptError>
     };
     let ScriptHead {
         streams: heads,
+        lines,
         now,
         volume,
         size,
@@ -84,6 +87,7 @@ fn script_in(alloc: Global, input: &Bytes) -> Result<Script, ScriptError>
     let streams = read_body(alloc, heads, body, length as u64 + 1)?;
     Ok(Script {
         streams,
+        lines,
         now,
         volume,
         size,

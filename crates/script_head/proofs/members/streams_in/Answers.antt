@@ -16,7 +16,7 @@ returns-then-is_empty c =
     let there : option_and_then as_array (get (codes "streams") (view c.args.line.now)) ≡ Some (items_view vs) = search rules in (
       refl,
       λ streams has.
-          let long = length-AreItems IsStreamItem vs streams (items_there IsStreamItem (get (codes "streams") (view c.args.line.now)) vs streams there has.0) in
+          let long = length-AreItems (IsStreamItem c.args.replicas) vs streams (items_there (IsStreamItem c.args.replicas) (get (codes "streams") (view c.args.line.now)) vs streams there has.0) in
           elim c.then-is_empty.branch [
             | then-is_empty-via-then-is_empty w ↦ grind (arith, nat_tests, long)
             | then-is_empty-via-else-is_empty+then-len-gt-MOST_STREAMS w ↦ grind (arith, nat_tests, long)
@@ -27,8 +27,8 @@ pub returns : goal.returns
 returns c =
     let vs = c.in_ok-items.items.now.items in
     let there : option_and_then as_array (get (codes "streams") (view c.args.line.now)) ≡ Some (items_view vs) = search rules in
-    Reads-along Streams (AreItems IsStreamItem (items_view vs)) (HasStreams (view c.args.line.now))
+    Reads-along Streams (AreItems (IsStreamItem c.args.replicas) (items_view vs)) (HasStreams (view c.args.line.now) c.args.replicas)
     c.streams_from.result
-    (λ streams are. let long = length-AreItems IsStreamItem vs streams are in ((items_view vs, there, are), grind (arith, nat_tests, long), grind (arith, nat_tests, long)))
-    (λ streams has. items_there IsStreamItem (get (codes "streams") (view c.args.line.now)) vs streams there has.0)
+    (λ streams are. let long = length-AreItems (IsStreamItem c.args.replicas) vs streams are in ((items_view vs, there, are), grind (arith, nat_tests, long), grind (arith, nat_tests, long)))
+    (λ streams has. items_there (IsStreamItem c.args.replicas) (get (codes "streams") (view c.args.line.now)) vs streams there has.0)
     (rw (← c.deref.ensures.value) c.streams_from.ensures)

@@ -5,4 +5,4 @@ use Rattle.script_head.specs.Values.{AreItems}
 use Rattle.script_head.proofs.streams.commands_from.Given as goal
 
 abbrev pub invariant-loop-item : goal.invariant-loop-item
-invariant-loop-item l = AreItems IsCommandItem (items_view (take l.item-index l.items)) l.commands.items
+invariant-loop-item l = AreItems (IsCommandItem l.replicas) (items_view (take l.item-index l.items)) l.commands.items

@@ -13,14 +13,14 @@ pub returns-then-len-gt-MOST_CALLS : goal.returns-then-len-gt-MOST_CALLS
 returns-then-len-gt-MOST_CALLS c =
     let vs = c.in_ok-items.items.now.items in
     let there : as_array (view c.args.control.now) ≡ Some (items_view vs) = search rules in
-    (refl, λ commands has. omega (arith, length-AreItems IsCommandItem vs commands (items_there IsCommandItem (Some (view c.args.control.now)) vs commands there has.0)))
+    (refl, λ commands has. omega (arith, length-AreItems (IsCommandItem c.args.replicas) vs commands (items_there (IsCommandItem c.args.replicas) (Some (view c.args.control.now)) vs commands there has.0)))
 
 pub returns : goal.returns
 returns c =
     let vs = c.in_ok-items.items.now.items in
     let there : as_array (view c.args.control.now) ≡ Some (items_view vs) = search rules in
-    Reads-along Streams (AreItems IsCommandItem (items_view vs)) (λ commands. HasItems IsCommandItem (Some (view c.args.control.now)) commands × (length commands ≤ most_calls))
+    Reads-along Streams (AreItems (IsCommandItem c.args.replicas) (items_view vs)) (λ commands. HasItems (IsCommandItem c.args.replicas) (Some (view c.args.control.now)) commands × (length commands ≤ most_calls))
     c.commands_from.result
-    (λ commands are. ((items_view vs, there, are), omega (arith, length-AreItems IsCommandItem vs commands are)))
-    (λ commands has. items_there IsCommandItem (Some (view c.args.control.now)) vs commands there has.0)
+    (λ commands are. ((items_view vs, there, are), omega (arith, length-AreItems (IsCommandItem c.args.replicas) vs commands are)))
+    (λ commands has. items_there (IsCommandItem c.args.replicas) (Some (view c.args.control.now)) vs commands there has.0)
     (rw (← c.deref.ensures.value) c.commands_from.ensures)

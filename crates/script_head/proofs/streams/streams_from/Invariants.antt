@@ -5,4 +5,4 @@ use Rattle.script_head.specs.Values.{AreItems}
 use Rattle.script_head.proofs.streams.streams_from.Given as goal
 
 abbrev pub invariant-loop-item : goal.invariant-loop-item
-invariant-loop-item l = AreItems IsStreamItem (items_view (take l.item-index l.items)) l.streams.items
+invariant-loop-item l = AreItems (IsStreamItem l.replicas) (items_view (take l.item-index l.items)) l.streams.items

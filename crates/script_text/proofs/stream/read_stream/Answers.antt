@@ -1,6 +1,5 @@
 use Rattle.std.proofs.Common.{◌≡◌, ◌∙◌, ◌+◌, ◌-◌, ◌≤◌, ◌∷◌, ◌++◌, List, ℕ, [], length, drop, refl, sym, ap, subst, inl, inr, arith}
 use Rattle.std.proofs.lemmas.List.{length_push}
-use Rattle.frame_wire.specs.declared.head.Head.{Head}
 use Rattle.frame_stream.specs.declared.frame.Frame.{Frame}
 use Rattle.script_text.specs.declared.what.What.TheVariants as what
 use Rattle.script_text.specs.Frames.{BeginWithCalls, BeginsWithFrame}

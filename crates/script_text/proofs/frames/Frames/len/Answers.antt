@@ -1,4 +1,4 @@
-use Rattle.std.proofs.Common.{◌≡◌, ◌∙◌, length, sym, ap, arith}
+use Rattle.std.proofs.Common.{length, ap, arith}
 use Rattle.script_text.proofs.KeptLemmas.{length-frames}
 use Rattle.script_text.proofs.frames.Frames.len.Goals as goal
 

@@ -1,0 +1,5 @@
+use Rattle.script_text.proofs.GoodLemmas.{good_plans}
+use Rattle.script_text.proofs.laws.a_script_has_good_plans.Goals as goal
+
+pub returns : goal.returns
+returns c = λ input script is. (good_plans input script is).0
