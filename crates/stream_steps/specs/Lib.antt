@@ -1,0 +1,3 @@
+pub mod Mine
+pub mod Against
+pub mod Steps

@@ -1,0 +1,195 @@
+ghost use Rattle.std.specs.Prelude.{◌≡◌, ℕ, ◌*◌, ◌<◌, ◌≤◌, [], length, true, false, Ok, OnOk, OnErr, IfOk, IfErr, IfSome, MatchOption};
+ghost use Rattle.vol_units.specs.declared.size.TheConstants.{BLOCK_BYTES, LARGEST_SIZE};
+ghost use Rattle.volume_model.specs.Modes.{mode_of, IsSource, HasNoSource};
+ghost use Rattle.volume_core.specs.Answers.{IsNow, IsOnRange};
+ghost use Rattle.stream_steps.specs.Mine.{Mine, OwnCall, IsOwn, with_running};
+ghost use Rattle.stream_steps.specs.Against.{AgainstTake, AgainstGive, AgainstAck, AgainstFault, AgainstEnd};
+ghost use Rattle.stream_steps.specs.Steps.{HasNotStarted, HasStarted, IsStartedWrite, IsStartedRead, IsFrameCall, IsOnBlocks, EnrolsTo, AnswersNow, Answers, AdmitsTo, IsNotAfter, AreBlocksOfCall, TakesTo, AcksTo, FaultsTo};
+
+use std::alloc::{AllocError, Global};
+use std::sync::Wait;
+use volume_core::{Admit, BlockRange, Blocks, Call, Enrolled, Mode, NotThis, TicketNumber};
+
+/// The core's steps for one stream, each whole by itself. What others do between two of them is not said.
+pub trait ClientSteps {
+    ghost use Rattle.std.specs.Prelude.{List};
+    ghost use Rattle.volume_model.specs.declared.mode.Mode.{Mode};
+    ghost use Rattle.stream_steps.specs.Mine.{Mine};
+
+    /// What is known of the own stream.
+    ghost mine: { Self → Mine };
+
+    // The mode of each replica, as it was seen last.
+    ghost modes: { Self → List Mode };
+
+    // What no step changes.
+    ghost Home: { Type 0 };
+
+    ghost home: { Self → Home };
+
+    // That the next step can be taken.
+    ghost ready: { Self → Type 0 };
+
+    /// Answers a call of a frame that asks nothing of a replica's blocks.
+    fn answer_now<R: Wait>(&mut self, rt: &R, alloc: Global, call: &Call) -> Result<u64, AllocError>
+        requires ready { ready self.old }
+        requires idle { (mine self.old).running ≡ [] }
+        requires now { IsNow call.now }
+        requires frame { IsFrameCall call.now }
+        ensures ready { ready self.new }
+        ensures home { home self.new ≡ home self.old }
+        ensures ok { OnOk result (AnswersNow call.now (mine self.old) (mine self.new)) }
+        ensures err { OnErr result (mine self.new ≡ mine self.old) };
+
+    /// Puts a read or a write behind all others, or answers it where its range is not good.
+    fn enrol<R: Wait>(&mut self, rt: &R, alloc: Global, call: &Call) -> Result<Enrolled, AllocError>
+        requires ready { ready self.old }
+        requires idle { (mine self.old).running ≡ [] }
+        requires range { IsOnRange call.now }
+        ensures ready { ready self.new }
+        ensures home { home self.new ≡ home self.old }
+        ensures ok { IfOk result (λ e. EnrolsTo call.now e (mine self.old) (mine self.new)) }
+        ensures err { OnErr result (mine self.new ≡ mine self.old) };
+
+    /// The blocks of the open call.
+    fn range<R: Wait>(&mut self, rt: &R, t: TicketNumber) -> BlockRange
+        requires ready { ready self.old }
+        requires own { (o : OwnCall) × IsOwn t o (mine self.old) }
+        ensures ready { ready self.new }
+        ensures home { home self.new ≡ home self.old }
+        ensures same { mine self.new ≡ mine self.old }
+        ensures is { (o : OwnCall) → IsOwn t o (mine self.old) → result ≡ o.range }
+        ensures up { result.first ≤ result.end }
+        ensures inside { result.end * BLOCK_BYTES ≤ LARGEST_SIZE };
+
+    /// Starts the open call, where nothing earlier is in its way.
+    fn admit<R: Wait>(
+        &mut self,
+        rt: &R,
+        alloc: Global,
+        t: TicketNumber,
+    ) -> Result<Admit, AllocError>
+        requires ready { ready self.old }
+        requires waits { (o : OwnCall) × IsOwn t o (mine self.old) × HasNotStarted o }
+        ensures ready { ready self.new }
+        ensures home { home self.new ≡ home self.old }
+        ensures ok { IfOk result (λ a.
+            (o : OwnCall) → IsOwn t o (mine self.old) → AdmitsTo o a (mine self.old) (mine self.new)) }
+        ensures free { IfOk result (λ a. IfSome (mine self.old).log (λ log. IsNotAfter a)) }
+        ensures err { OnErr result (mine self.new ≡ mine self.old) };
+
+    /// Takes the open call back, which has not started.
+    fn withdraw<R: Wait>(&mut self, rt: &R, t: TicketNumber)
+        requires ready { ready self.old }
+        requires waits { (o : OwnCall) × IsOwn t o (mine self.old) × HasNotStarted o }
+        ensures ready { ready self.new }
+        ensures home { home self.new ≡ home self.old }
+        ensures gone { mine self.new ≡ with_running (mine self.old) [] };
+
+    /// The mode of a replica.
+    fn mode<R: Wait>(&mut self, rt: &R, replica: u8) -> Mode
+        requires ready { ready self.old }
+        ensures ready { ready self.new }
+        ensures home { home self.new ≡ home self.old }
+        ensures same { mine self.new ≡ mine self.old }
+        ensures is { result ≡ mode_of (modes self.new) replica };
+
+    /// The lowest replica that is read and written.
+    fn source<R: Wait>(&mut self, rt: &R) -> Option<u8>
+        requires ready { ready self.old }
+        ensures ready { ready self.new }
+        ensures home { home self.new ≡ home self.old }
+        ensures same { mine self.new ≡ mine self.old }
+        ensures is { MatchOption result (HasNoSource (modes self.new)) (IsSource (modes self.new)) }
+        ensures inside { IfSome result (λ r. r < (mine self.old).replicas) };
+
+    /// A replica takes the open write without boxes for its blocks, where that can be done: where it is not, nothing
+    /// changes.
+    fn apply_in_place<R: Wait>(
+        &mut self,
+        rt: &R,
+        t: TicketNumber,
+        replica: u8,
+    ) -> Result<bool, NotThis>
+        requires ready { ready self.old }
+        requires writes { (o : OwnCall) × IsOwn t o (mine self.old) × IsStartedWrite o }
+        ensures ready { ready self.new }
+        ensures home { home self.new ≡ home self.old }
+        ensures done { result ≡ Ok true → (o : OwnCall) → IsOwn t o (mine self.old)
+            → TakesTo o replica o.buffer (mine self.old) (mine self.new) }
+        ensures same { result ≡ Ok false → mine self.new ≡ mine self.old }
+        ensures why { IfErr result (AgainstTake (modes self.new) replica) }
+        ensures err { OnErr result (mine self.new ≡ mine self.old) };
+
+    /// A replica takes the blocks of the open write.
+    fn apply_write<R: Wait>(
+        &mut self,
+        rt: &R,
+        t: TicketNumber,
+        replica: u8,
+        blocks: &mut Blocks,
+    ) -> Result<(), NotThis>
+        requires ready { ready self.old }
+        requires writes { (o : OwnCall) × IsOwn t o (mine self.old) × IsStartedWrite o
+            × AreBlocksOfCall o blocks.old }
+        ensures ready { ready self.new }
+        ensures home { home self.new ≡ home self.old }
+        ensures ok { OnOk result ((o : OwnCall) → IsOwn t o (mine self.old)
+            → TakesTo o replica o.buffer (mine self.old) (mine self.new)) }
+        ensures why { IfErr result (AgainstTake (modes self.new) replica) }
+        ensures err { OnErr result (mine self.new ≡ mine self.old) }
+        ensures count { length blocks.new ≡ length blocks.old };
+
+    /// The first replica that is read gives the bytes of the open read.
+    fn apply_read<R: Wait>(
+        &mut self,
+        rt: &R,
+        t: TicketNumber,
+        replica: u8,
+        into: &mut [u8],
+    ) -> Result<(), NotThis>
+        requires ready { ready self.old }
+        requires source { IsSource (modes self.old) replica }
+        requires reads { (o : OwnCall) × IsOwn t o (mine self.old) × IsStartedRead o
+            × (length into.old ≡ length o.buffer) }
+        ensures ready { ready self.new }
+        ensures home { home self.new ≡ home self.old }
+        ensures ok { OnOk result ((o : OwnCall) → IsOwn t o (mine self.old)
+            → TakesTo o replica into.new (mine self.old) (mine self.new)) }
+        ensures why { IfErr result (AgainstGive (modes self.new) replica) }
+        ensures err { OnErr result (mine self.new ≡ mine self.old) };
+
+    /// A replica has acknowledged its part of the open call.
+    fn ack<R: Wait>(&mut self, rt: &R, t: TicketNumber, replica: u8) -> Result<(), NotThis>
+        requires ready { ready self.old }
+        requires started { (o : OwnCall) × IsOwn t o (mine self.old) × HasStarted o }
+        ensures ready { ready self.new }
+        ensures home { home self.new ≡ home self.old }
+        ensures ok { OnOk result ((o : OwnCall) → IsOwn t o (mine self.old)
+            → AcksTo o replica (mine self.old) (mine self.new)) }
+        ensures why { IfErr result (λ why. (o : OwnCall) → IsOwn t o (mine self.old)
+            → AgainstAck (modes self.new) o replica why) }
+        ensures err { OnErr result (mine self.new ≡ mine self.old) };
+
+    /// The stream's line to a replica has failed, and so the replica.
+    fn fault<R: Wait>(&mut self, rt: &R, replica: u8, count: u64) -> Result<(), NotThis>
+        requires ready { ready self.old }
+        ensures ready { ready self.new }
+        ensures home { home self.new ≡ home self.old }
+        ensures ok { OnOk result (FaultsTo replica count (mine self.old) (mine self.new)) }
+        ensures failed { OnOk result (mode_of (modes self.new) replica ≡ Mode.Err) }
+        ensures why { IfErr result (AgainstFault (modes self.new) (mine self.old) replica count) }
+        ensures err { OnErr result (mine self.new ≡ mine self.old) };
+
+    /// Answers the open call, once its replicas have acknowledged it.
+    fn complete<R: Wait>(&mut self, rt: &R, t: TicketNumber) -> Result<u64, NotThis>
+        requires ready { ready self.old }
+        requires started { (o : OwnCall) × IsOwn t o (mine self.old) × HasStarted o }
+        ensures ready { ready self.new }
+        ensures home { home self.new ≡ home self.old }
+        ensures ok { OnOk result ((o : OwnCall) → IsOwn t o (mine self.old)
+            → Answers o (mine self.old) (mine self.new)) }
+        ensures why { IfErr result (λ why. (o : OwnCall) → IsOwn t o (mine self.old)
+            → AgainstEnd (modes self.new) o why) }
+        ensures err { OnErr result (mine self.new ≡ mine self.old) };
+}

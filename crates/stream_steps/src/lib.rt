@@ -1,0 +1,11 @@
+//! The core's steps, as the worker of one stream takes them.
+#![tactic(auto)]
+
+mod client;
+mod control;
+
+pub use client::ClientSteps;
+pub use control::ControlSteps;
+pub use volume_core::{
+    Admit, BlockRange, Blocks, Call, Command, Enrolled, Job, Mode, NotThis, TicketNumber,
+};
