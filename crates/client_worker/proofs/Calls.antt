@@ -1,5 +1,5 @@
 -- The calls that frames ask, and what taking one up says.
-use Rattle.std.proofs.Common.{◌≡◌, ℕ, Bool, true, false, cond, eqb, List, [], ◌∷◌, ◌++◌, Result, Ok, Err, OnOk, subst, sym, ap, ◌∙◌, append_assoc}
+use Rattle.std.proofs.Common.{◌≡◌, ℕ, Bool, true, false, cond, eqb, List, [], ◌∷◌, ◌++◌, subst, sym, ap, ◌∙◌, append_assoc}
 use Rattle.volume_model.specs.declared.call.Call.{Call}
 use Rattle.volume_model.specs.declared.call.Call.TheVariants as call
 use Rattle.frame_stream.specs.Asked.{call_of}
@@ -7,11 +7,8 @@ use Rattle.frame_stream.specs.declared.frame.Frame.{Frame}
 use Rattle.volume_core.specs.declared.enrol.Enrolled.{Enrolled}
 use Rattle.volume_core.specs.declared.enrol.Enrolled.TheVariants as enrol
 use Rattle.client_worker.specs.Asks.{IsAsked, IsShort}
-use Rattle.client_worker.specs.Mine.{Mine, OwnCall, IsOwn}
-use Rattle.client_worker.specs.Steps.{EnrolsAt, EnrolsTo, AnswersNow}
-use Rattle.client_worker.specs.Serving.{Counted, EndsTo, GrewBy}
-use Rattle.client_worker.proofs.Counts.{counted_answer}
-use Rattle.client_worker.proofs.Served.{grew_enrolled}
+use Rattle.stream_steps.specs.Mine.{Mine}
+use Rattle.stream_steps.specs.Steps.{EnrolsAt, EnrolsTo, AnswersNow}
 
 -- ---- frames
 
@@ -29,15 +26,8 @@ whole_next all xs ys rest x whole is = append_assoc xs (x ∷ []) ys ∙ (ap (λ
 
 -- ---- one call
 
-pub counted_now : (c : Call) (a b : Mine) (counts : List ℕ) → AnswersNow c a b → Counted a counts → Counted b counts
-counted_now c a b counts s h = counted_answer s.modes s.answer [] a b counts s.is h
-
 pub enrol_begun : (t : ℕ) (c : Call) (e : Enrolled) (a b : Mine) → e ≡ enrol.Ticket t → EnrolsTo c e a b → EnrolsAt t c a b
 enrol_begun t c e a b is h = subst (λ x. EnrolsTo c x a b) is h
 
 pub enrol_refused : (p : ℕ) (c : Call) (e : Enrolled) (a b : Mine) → e ≡ enrol.OutOfRange p → EnrolsTo c e a b → AnswersNow c a b
 enrol_refused p c e a b is h = subst (λ x. EnrolsTo c x a b) is h
-
-pub enrol_served : {E : Type 0} (res : Result (Unit {0}) E) (t : ℕ) (c : Call) (a b d : Mine) → EnrolsAt t c a b → OnOk res ((o : OwnCall) → IsOwn t o b → EndsTo o b d) → OnOk res (GrewBy c a d)
-enrol_served (Ok u) t c a b d e ends = grew_enrolled t c a b d e (ends e.own (record { is = ap (λ (m : Mine). m.running) e.is; number = e.number }))
-enrol_served (Err u) t c a b d e ends = tt

@@ -1,14 +1,15 @@
 -- No line has a mark above its count.
-use Rattle.std.proofs.Common.{zero, suc, Result, Ok, Err, OnOk, OnErr, ◌≡◌, ℕ, ◌<◌, ◌≤◌, Bool, true, false, cond, ◌&&◌, eqb, List, [], ◌∷◌, ◌++◌, length, map, get_or, set, ⊎_elim, subst, sym, refl, ap, ◌∙◌, arith, ne_eqb}
+use Rattle.std.proofs.Common.{zero, suc, Result, Ok, Err, is_ok, ◌≡◌, ℕ, ◌+◌, ◌<◌, ◌≤◌, Bool, true, false, cond, ◌&&◌, eqb, List, [], ◌∷◌, ◌++◌, length, map, get_or, set, ⊎_elim, subst, sym, refl, ap, ◌∙◌, arith, ne_eqb}
 use Rattle.std.proofs.lemmas.Bool.{cases_eq}
+use Rattle.outer_traits.specs.Causes.{HasLineCause}
 use Rattle.volume_model.specs.declared.entry.Answer.{Answer}
 use Rattle.volume_model.specs.declared.mode.Mode.{Mode}
 use Rattle.volume_model.specs.Faults.{fault_counts, last_in, last_count}
 use Rattle.volume_model.proofs.FaultLemmas.{last_count-append}
-use Rattle.client_worker.specs.Mine.{Placed, Mine, OwnCall, IsOwn, entries_in, with_more, with_running, answer_placed, fault_placed}
-use Rattle.client_worker.specs.Steps.{TakesTo, AcksTo, FaultsTo, Answers}
+use Rattle.stream_steps.specs.Mine.{Placed, Mine, OwnCall, entries_in, with_more, with_running, answer_placed, fault_placed}
+use Rattle.stream_steps.specs.Steps.{FaultsTo}
+use Rattle.stream_steps.proofs.MineLemmas.{entries-append}
 use Rattle.client_worker.specs.Serving.{Counted}
-use Rattle.client_worker.proofs.Going.{entries-append}
 
 pub counted_same : (a b : Mine) (counts : List ℕ) → b ≡ a → Counted a counts → Counted b counts
 counted_same a b counts e h = subst (λ (m : Mine). Counted m counts) (sym e) h
@@ -45,20 +46,6 @@ counted_fault r count a b counts s low h = counted_same (with_more a (fault_plac
     (first_of (eqb a.stream a.stream && eqb r k) count (last_count a.stream k (entries_in a.entries)) (get_or counts k 0) (h k)
     (λ e. ⊎_elim (λ (same : r ≡ k). subst (λ (j : ℕ). count ≤ get_or counts j 0) same low) (λ other. let f : true ≡ false = sym (and_right (eqb a.stream a.stream) (eqb r k) e) ∙ ne_eqb r k other in absurd (cc)) (cases_eq r k))))
 
-pub counted_told : {E : Type 0} (res : Result (Unit {0}) E) (r count : ℕ) (a b : Mine) (counts : List ℕ) → OnOk res (FaultsTo r count a b) → OnErr res (b ≡ a) → count ≤ get_or counts r 0 → Counted a counts → Counted b counts
-counted_told (Ok u) r count a b counts ok err low h = counted_fault r count a b counts ok low h
-counted_told (Err e) r count a b counts ok err low h = counted_same a b counts err h
-
-pub counted_taken : {E : Type 0} (res : Result (Unit {0}) E) (t r : ℕ) (buffer : OwnCall → List ℕ) (a b : Mine) (counts : List ℕ) → ((o : OwnCall) × IsOwn t o a)
-    → OnOk res ((o : OwnCall) → IsOwn t o a → TakesTo o r (buffer o) a b) → OnErr res (b ≡ a) → Counted a counts → Counted b counts
-counted_taken (Ok u) t r buffer a b counts op ok err h = counted_running a b _ counts (ok op.0 op.1) h
-counted_taken (Err e) t r buffer a b counts op ok err h = counted_same a b counts err h
-
-pub counted_acked : {E : Type 0} (res : Result (Unit {0}) E) (t r : ℕ) (a b : Mine) (counts : List ℕ) → ((o : OwnCall) × IsOwn t o a)
-    → OnOk res ((o : OwnCall) → IsOwn t o a → AcksTo o r a b) → OnErr res (b ≡ a) → Counted a counts → Counted b counts
-counted_acked (Ok u) t r a b counts op ok err h = counted_running a b _ counts (ok op.0 op.1) h
-counted_acked (Err e) t r a b counts op ok err h = counted_same a b counts err h
-
 -- ---- the counts of lines
 
 -- one line's count rose
@@ -74,9 +61,13 @@ at_map faults [] i d h = absurd (omega arith)
 at_map faults (x ∷ xs) zero d h = refl
 at_map faults (x ∷ xs) (suc i) d h = at_map faults xs i d (omega arith)
 
--- ---- the end of a call
+-- and at the line itself
+pub rose_set : {L : Type 0} (faults : L → ℕ) (xs : List L) (i : ℕ) (x d : L) → i < length xs → faults (get_or xs i d) < faults x → get_or (map faults xs) i 0 < get_or (map faults (set xs i x)) i 0
+rose_set faults [] i x d l h = absurd (omega arith)
+rose_set faults (y ∷ ys) zero x d l h = h
+rose_set faults (y ∷ ys) (suc i) x d l h = rose_set faults ys i x d (omega arith) h
 
-pub counted_done : {A E : Type 0} (res : Result A E) (t : ℕ) (a b : Mine) → ((o : OwnCall) × IsOwn t o a) → OnOk res ((o : OwnCall) → IsOwn t o a → Answers o a b) → OnErr res (b ≡ a)
-    → (counts : List ℕ) → Counted a counts → Counted b counts
-counted_done (Ok x) t a b op ok err counts h = let s = ok op.0 op.1 in counted_answer s.modes s.answer [] a b counts s.is h
-counted_done (Err e) t a b op ok err counts h = counted_same a b counts err h
+-- a line that failed
+pub line_rose : {A E : Type 0} (res : Result A E) (before now : ℕ) → is_ok res ≡ false → HasLineCause before now res → before < now
+line_rose (Ok a) before now e h = absurd cc
+line_rose (Err x) before now e h = let more : now ≡ before + 1 = h.failed in omega arith

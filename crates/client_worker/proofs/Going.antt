@@ -1,37 +1,15 @@
 -- How an open call goes on: what each step adds to what its worker knows.
-use Rattle.std.proofs.Common.{◌≡◌, ℕ, zero, suc, arith, List, [], ◌∷◌, ◌++◌, Option, Some, None, Result, Ok, Err, OnOk, OnErr, set, length, subst, sym, refl, ap, ◌∙◌, append_assoc, append-nil}
+use Rattle.std.proofs.Common.{◌≡◌, ℕ, zero, suc, arith, List, [], ◌∷◌, ◌++◌, Result, Ok, Err, OnOk, OnErr, is_err, false, set, length, subst, sym, refl, ap, ◌∙◌}
 use Rattle.std.specs.Prelude.{All}
 use Rattle.std.proofs.lemmas.List.Elements.{All-append}
-use Rattle.std.proofs.lemmas.List.{map-append}
-use Rattle.volume_model.specs.declared.entry.Entry.{Entry}
 use Rattle.volume_model.specs.declared.entry.Entry.TheVariants as entry
 use Rattle.volume_model.specs.declared.mark.Mark.TheVariants as mark
 use Rattle.open_calls.specs.declared.parts.Part.{Part}
 use Rattle.open_calls.specs.declared.parts.Part.TheVariants.{Taken, Acked}
-use Rattle.client_worker.specs.Mine.{Placed, Mine, OwnCall, IsOwn, entries_in, longer, with_more, with_running, fault_placed}
-use Rattle.client_worker.specs.Steps.{TakesTo, AcksTo, FaultsTo}
+use Rattle.stream_steps.specs.Mine.{Mine, OwnCall, IsOwn, entries_in, with_more, with_running, fault_placed}
+use Rattle.stream_steps.specs.Steps.{TakesTo, AcksTo, FaultsTo}
+use Rattle.stream_steps.proofs.MineLemmas.{entries-append, more_none, more_twice}
 use Rattle.client_worker.specs.Serving.{IsOwnFault, StaysOpen, KeepsOpen}
-
--- ---- more entries
-
-longer_none : (log : Option (List Entry)) → longer log [] ≡ log
-longer_none None = refl
-longer_none (Some l) = ap Some (append-nil l)
-
-longer_twice : (log : Option (List Entry)) (xs ys : List Entry) → longer (longer log xs) ys ≡ longer log (xs ++ ys)
-longer_twice None xs ys = refl
-longer_twice (Some l) xs ys = ap Some (append_assoc l xs ys)
-
-pub entries-append : (xs ys : List Placed) → entries_in (xs ++ ys) ≡ entries_in xs ++ entries_in ys
-entries-append xs ys = map-append (λ (p : Placed). p.entry) xs ys
-
-pub more_none : (m : Mine) (os : List OwnCall) → with_more m [] os ≡ with_running m os
-more_none m os = λ i. record { stream = m.stream; replicas = m.replicas; entries = append-nil m.entries i; running = os; log = longer_none m.log i }
-
-pub more_twice : (m : Mine) (xs ys : List Placed) (os ps : List OwnCall) → with_more (with_more m xs os) ys ps ≡ with_more m (xs ++ ys) ps
-more_twice m xs ys os ps =
-    let log = longer_twice m.log (entries_in xs) (entries_in ys) ∙ ap (longer m.log) (sym (entries-append xs ys)) in
-    λ i. record { stream = m.stream; replicas = m.replicas; entries = append_assoc m.entries xs ys i; running = ps; log = log i }
 
 -- no marks, and one
 pub no_faults : (stream : ℕ) → All (IsOwnFault stream) []
@@ -43,7 +21,7 @@ one_fault stream r count (suc k) d l = absurd (omega (arith, l))
 
 -- ---- the open call
 
-one_of : (x y : OwnCall) → x ∷ [] ≡ y ∷ [] → x ≡ y
+pub one_of : (x y : OwnCall) → x ∷ [] ≡ y ∷ [] → x ≡ y
 one_of x y e = cc
 
 -- the one that there is has the number
@@ -98,18 +76,19 @@ pub goes_told : {E : Type 0} (res : Result (Unit {0}) E) (r count : ℕ) (a b : 
 goes_told (Ok u) r count a b ok err = goes_fault r count a b ok
 goes_told (Err e) r count a b ok err = goes_same a b err
 
--- a replica took the write
-pub goes_taken : {E : Type 0} (res : Result (Unit {0}) E) (t r : ℕ) (a b : Mine) → ((o : OwnCall) × IsOwn t o a)
-    → OnOk res ((o : OwnCall) → IsOwn t o a → TakesTo o r o.buffer a b) → OnErr res (b ≡ a) → KeepsOpen a b
-goes_taken (Ok u) t r a b op ok err = λ o e. goes_step o o.buffer (set o.parts r Taken) a b refl (ok o (own_of t a o op e))
-goes_taken (Err e) t r a b op ok err = goes_same a b err
+-- a replica had its step
+pub goes_takes : (t r : ℕ) (buffer : List ℕ) (o : OwnCall) (a b : Mine) → IsOwn t o a → length buffer ≡ length o.buffer → TakesTo o r buffer a b → KeepsOpen a b
+goes_takes t r buffer o a b own long e = λ x run.
+    let same : o ≡ x = one_of o x (sym own.is ∙ run) in
+    subst (λ y. StaysOpen y a b) same (goes_step o buffer (set o.parts r Taken) a b long e)
 
--- a replica gave the bytes of the read
-pub goes_read : {E : Type 0} (res : Result (Unit {0}) E) (t r : ℕ) (buffer : List ℕ) (a b : Mine) (op : (o : OwnCall) × IsOwn t o a) → length buffer ≡ length op.0.buffer
-    → OnOk res ((o : OwnCall) → IsOwn t o a → TakesTo o r buffer a b) → OnErr res (b ≡ a) → KeepsOpen a b
-goes_read (Ok u) t r buffer a b op long ok err = λ o e.
-    goes_step o buffer (set o.parts r Taken) a b (long ∙ ap (λ (x : OwnCall). length x.buffer) (one_of op.0 o (sym op.1.is ∙ e))) (ok o (own_of t a o op e))
-goes_read (Err e) t r buffer a b op long ok err = goes_same a b err
+-- and it is its stream's still
+pub taken_own : (t r : ℕ) (buffer : List ℕ) (o : OwnCall) (a b : Mine) → IsOwn t o a → TakesTo o r buffer a b → IsOwn t (record o { buffer = buffer; parts = set o.parts r Taken }) b
+taken_own t r buffer o a b own e = record { is = ap (λ (m : Mine). m.running) e; number = own.number }
+
+pub done_well : {E P : Type 0} (res : Result (Unit {0}) E) → is_err res ≡ false → OnOk res P → P
+done_well (Ok u) e p = p
+done_well (Err x) e p = absurd cc
 
 pub goes_acked : {E : Type 0} (res : Result (Unit {0}) E) (t r : ℕ) (a b : Mine) → ((o : OwnCall) × IsOwn t o a)
     → OnOk res ((o : OwnCall) → IsOwn t o a → AcksTo o r a b) → OnErr res (b ≡ a) → KeepsOpen a b

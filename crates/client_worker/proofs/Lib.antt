@@ -1,5 +1,8 @@
 pub mod Going
 pub mod Counts
+pub mod Told
+pub mod Shown
+pub mod Asked
 pub mod Served
 pub mod Starting
 pub mod Writing

@@ -12,8 +12,9 @@ use Rattle.frame_stream.specs.declared.asked.Asked.TheVariants as asked
 use Rattle.frame_stream.specs.declared.frame.Frame.{Frame}
 use Rattle.frame_stream.specs.Asked.{call_of, close_kind}
 use Rattle.script_text.specs.Frames.{IsCall}
+use Rattle.stream_steps.specs.Mine.{Log, longer}
 use Rattle.client_worker.specs.Asks.{IsAsked}
-use Rattle.client_worker.specs.Serving.{IsOwnFault, AreServed, place_after}
+use Rattle.client_worker.specs.Serving.{IsOwnFault, AreServed}
 
 -- a frame that a script has as a call is one that a worker takes
 pub asked_call : (f : Frame) → IsCall f → IsAsked f
@@ -37,12 +38,12 @@ calls-faults stream place (entry.Answer a ∷ marks) more all = absurd (All-head
 calls-faults stream place (entry.Mark m ∷ marks) more all = calls-faults stream (suc place) marks more (All-tail (IsOwnFault stream) (entry.Mark m) marks all)
 
 -- a stream's served calls are the calls of its answers, each once and in order
-pub served_calls : (stream : ℕ) (place : Option ℕ) (cs : List Call) (es : List Entry) → AreServed stream place cs es → (at : ℕ) → calls_at stream at es ≡ cs
-served_calls stream place [] es served at = ap (calls_at stream at) served
-served_calls stream place (c ∷ cs) es served at =
+pub served_calls : (stream : ℕ) (log : Option Log) (cs : List Call) (es : List Entry) → AreServed stream log cs es → (at : ℕ) → calls_at stream at es ≡ cs
+served_calls stream log [] es served at = ap (calls_at stream at) served
+served_calls stream log (c ∷ cs) es served at =
     let s = served.3 in
     let parts = served.2 ∙ ap (λ l. l ++ served.1) s.is ∙ append_assoc s.marks (entry.Answer s.answer ∷ []) served.1 in
     let skip = calls-faults stream at s.marks (entry.Answer s.answer ∷ served.1) s.faults in
     ap (calls_at stream at) parts ∙ skip.1 ∙ by_head (eqb s.answer.stream stream) skip.0 s.answer (answers_from stream (suc skip.0) served.1)
     ∙ ap (λ (b : Bool). cond b (s.answer.call ∷ calls_at stream (suc skip.0) served.1) (calls_at stream (suc skip.0) served.1)) (eq-eqb s.answer.stream stream s.by)
-    ∙ (λ i. s.call i ∷ served_calls stream (place_after place served.0) cs served.1 served.4 (suc skip.0) i)
+    ∙ (λ i. s.call i ∷ served_calls stream (longer log served.0) cs served.1 served.4 (suc skip.0) i)

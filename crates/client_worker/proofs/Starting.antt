@@ -1,12 +1,12 @@
 -- Whether a call starts: what the answer says, behind rounds in which it had to wait.
-use Rattle.std.proofs.Common.{◌≡◌, ℕ, List, [], subst}
+use Rattle.std.proofs.Common.{◌≡◌, ℕ, [], ap, subst}
 use Rattle.volume_core.specs.declared.admit.Admit.{Admit}
 use Rattle.volume_core.specs.declared.admit.Admit.TheVariants as admit
 use Rattle.volume_core.specs.declared.job.Job.{Job}
-use Rattle.client_worker.specs.Mine.{Mine, OwnCall, IsOwn}
-use Rattle.client_worker.specs.Steps.{Answers, AdmitsTo, StartsCall, HasNotStarted}
-use Rattle.client_worker.specs.Serving.{Counted}
-use Rattle.client_worker.proofs.Counts.{counted_running, counted_answer}
+use Rattle.stream_steps.specs.Mine.{Mine, OwnCall, IsOwn, with_running}
+use Rattle.stream_steps.specs.Steps.{Refuses, AdmitsTo, StartsCall, HasNotStarted}
+use Rattle.client_worker.specs.Ends.{KeepsShown, Begins}
+use Rattle.client_worker.proofs.Shown.{shown_starts, shown_refuses}
 
 module _ (t : ℕ) (m0 m m2 : Mine) (a : Admit) (same : m ≡ m0) (ok : (o : OwnCall) → IsOwn t o m → AdmitsTo o a m m2) where
   told : (o : OwnCall) → IsOwn t o m0 → AdmitsTo o a m0 m2
@@ -15,14 +15,31 @@ module _ (t : ℕ) (m0 m m2 : Mine) (a : Admit) (same : m ≡ m0) (ok : (o : Own
   pub starts : (job : Job) → a ≡ admit.Go job → (o : OwnCall) → IsOwn t o m0 → StartsCall o job m0 m2
   starts job e o h = subst (λ b. AdmitsTo o b m0 m2) e (told o h)
 
-  pub refused : (place : ℕ) → a ≡ admit.NoReplica place → (o : OwnCall) → IsOwn t o m0 → Answers o m0 m2
+  pub refused : (place : ℕ) → a ≡ admit.NoReplica place → (o : OwnCall) → IsOwn t o m0 → Refuses o m0 m2
   refused place e o h = subst (λ b. AdmitsTo o b m0 m2) e (told o h)
 
   pub waits : (n : ℕ) → a ≡ admit.After n → ((o : OwnCall) × IsOwn t o m0 × HasNotStarted o) → m2 ≡ m0
   waits n e op = subst (λ b. AdmitsTo op.0 b m0 m2) e (told op.0 op.1)
 
-  pub counted_starts : (job : Job) → a ≡ admit.Go job → ((o : OwnCall) × IsOwn t o m0 × HasNotStarted o) → (counts : List ℕ) → Counted m0 counts → Counted m2 counts
-  counted_starts job e op counts h = counted_running m0 m2 _ counts (starts job e op.0 op.1).is h
+  pub starts_shown : (job : Job) → a ≡ admit.Go job → ((o : OwnCall) × IsOwn t o m0 × HasNotStarted o) → KeepsShown (with_running m0 []) m2
+  starts_shown job e op = shown_starts op.0 job m0 m2 (starts job e op.0 op.1)
 
-  pub counted_refused : (place : ℕ) → a ≡ admit.NoReplica place → ((o : OwnCall) × IsOwn t o m0 × HasNotStarted o) → (counts : List ℕ) → Counted m0 counts → Counted m2 counts
-  counted_refused place e op counts h = let s = refused place e op.0 op.1 in counted_answer s.modes s.answer [] m0 m2 counts s.is h
+  pub refused_shown : (place : ℕ) → a ≡ admit.NoReplica place → ((o : OwnCall) × IsOwn t o m0 × HasNotStarted o) → KeepsShown (with_running m0 []) m2
+  refused_shown place e op = shown_refuses op.0 m0 m2 (refused place e op.0 op.1)
+
+-- what the start says of the call
+pub begins : (o : OwnCall) (job : Job) (a b : Mine) (s : StartsCall o job a b) → Begins o s.own a b
+begins o job a b s = record {
+  is = s.is;
+  number = ap (λ (x : OwnCall). x.number) s.same;
+  call = ap (λ (x : OwnCall). x.call) s.same;
+  saw = ap (λ (x : OwnCall). x.saw) s.same;
+  source = s.source;
+}
+
+-- the call that has started is the stream's
+pub begun_own : (t : ℕ) (o p : OwnCall) (a b : Mine) → IsOwn t o a → Begins o p a b → IsOwn t p b
+begun_own t o p a b own g = record { is = ap (λ (m : Mine). m.running) g.is; number = trans_number }
+  where
+    trans_number : p.number ≡ t
+    trans_number = subst (λ n. p.number ≡ n) own.number g.number

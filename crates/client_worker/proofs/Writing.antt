@@ -1,42 +1,84 @@
 -- A write is carried to each replica in its turn, in room that was made before it started.
-use Rattle.std.proofs.Common.{◌≡◌, ℕ, ◌+◌, ◌-◌, ◌*◌, ◌<◌, ◌≤◌, ℤ, List, [], ◌∷◌, ◌++◌, length, drop, get_or, set, vec_capacity, Option, Some, None, subst, sym, ap, ◌∙◌, length-append, arith}
+use Rattle.std.proofs.Common.{◌≡◌, ℕ, ◌+◌, ◌-◌, ◌*◌, ◌<◌, ◌≤◌, ℤ, List, [], ◌∷◌, ◌++◌, length, take, drop, get_or, set, is_some, true, vec_capacity, Option, Some, None, subst, sym, ap, ◌∙◌, length-append, arith, Bool, false}
 use Rattle.std.specs.List.{All}
-use Rattle.std.proofs.lemmas.List.{get_or-set_other}
+use Rattle.std.proofs.lemmas.List.{get_or-set_other, take_rest}
 use Rattle.std.proofs.lemmas.List.Elements.{All-get_or}
 use Rattle.vol_units.specs.declared.size.TheConstants.{BLOCK_BYTES}
 use Rattle.vol_units.specs.declared.range.BlockRange.{BlockRange}
+use Rattle.volume_model.specs.declared.call.Call.{Call}
 use Rattle.volume_model.specs.declared.call.Call.TheVariants as call
+use Rattle.open_calls.specs.declared.parts.Part.TheVariants.{Acked}
+use Rattle.open_calls.specs.Parts.{part_at}
+use Rattle.replica_node.specs.Room.{bytes_in}
 use Rattle.volume_core.specs.declared.job.Job.{Job}
 use Rattle.frame_wire.specs.Spelling.{header_length}
-use Rattle.client_worker.specs.declared.rooms.WriteRoom.{WriteRoom}
-use Rattle.client_worker.specs.declared.rooms.ReadRoom.{ReadRoom}
-use Rattle.client_worker.specs.Mine.{Mine, OwnCall, IsOwn}
-use Rattle.client_worker.specs.Steps.{Answers, StartsCall, IsStarted, IsRounded, IsJobFor}
-use Rattle.client_worker.specs.Serving.{KeepsOpen, EndsTo}
-use Rattle.client_worker.specs.Rooms.{AreBoxes, CarriesWrite, CarriesAll, CarriesRead, IsRoomFor, IsFilled, BeginsIn, BeginsOr, ReadsIn, ReadsOr, StartsOr}
-use Rattle.client_worker.proofs.Going.{after, goes_running, own_of}
-use Rattle.client_worker.proofs.Served.{ends_at_once, ends_started, ends_goes}
+use Rattle.client_worker.specs.declared.rooms.Rooms.{Rooms}
+use Rattle.stream_steps.specs.Mine.{Mine, OwnCall, IsOwn}
+use Rattle.stream_steps.specs.Steps.{Refuses, StartsCall, IsStarted, IsStartedWrite, IsWriteCall, IsRounded, IsJobFor, HasStarted, IsOnBlocks, IsReadCall, AreBlocksOfCall}
+use Rattle.client_worker.specs.Serving.{KeepsOpen}
+use Rattle.client_worker.specs.Ends.{StartsOr, EndsTo, TakesUp}
+use Rattle.client_worker.specs.Rooms.{AreBoxes, CarriesWrite, CarriesRead, HasWriteRoom, HoldsWrite, BeginsIn, BeginsOr, ReadsIn, ReadsOr}
+use Rattle.client_worker.proofs.Going.{one_of, after, goes_running}
+use Rattle.client_worker.proofs.Served.{takes_refused, takes_started}
+use Rattle.client_worker.proofs.Starting.{begins, begun_own}
 
 -- ---- the turn of one replica
 
+-- the bytes of the blocks, as a replica takes them in boxes
+module _ (o : OwnCall) (block n : ℕ) (request : List ℕ) (boxes : List (Option (List ℕ))) (carries : CarriesWrite o block n request) (are : AreBoxes n boxes) where
+  pub fills : length (take (length request - 26) (drop 26 request)) ≡ length boxes * BLOCK_BYTES
+  fills = ap length (take_rest request 26 ∙ carries.whole) ∙ carries.size ∙ ap (λ k. k * BLOCK_BYTES) (sym are.count)
+
+  pub filled_boxes : (filled : List (Option (List ℕ))) → bytes_in filled ≡ take (length request - 26) (drop 26 request) → All (λ b. is_some b ≡ true) filled → length filled ≡ length boxes → AreBlocksOfCall o filled
+  filled_boxes filled bytes full count = record {
+    full = full;
+    count = omega (arith, carries.count, are.count, count);
+    bytes = bytes ∙ take_rest request 26 ∙ carries.whole;
+  }
+
+-- what counts of a request is all but its header
+pub write_same : (o : OwnCall) (block n : ℕ) (request request2 : List ℕ) → drop header_length request2 ≡ drop header_length request → length request2 ≡ length request → CarriesWrite o block n request → CarriesWrite o block n request2
+write_same o block n request request2 same long c = record {
+  writes = c.writes;
+  rounded = c.rounded;
+  header = omega (arith, c.header, long);
+  few = omega (arith, c.few, long);
+  whole = same ∙ c.whole;
+  first = c.first;
+  count = c.count;
+  size = c.size;
+}
+
+-- a write that goes on is carried as before
+write_on : (o : OwnCall) (a b : Mine) (goes : KeepsOpen a b) (t block n : ℕ) (own : IsOwn t o a) (request : List ℕ) → CarriesWrite o block n request → CarriesWrite (after o a b (goes o own.is)) block n request
+write_on o a b goes t block n own request c = record {
+  writes = c.writes;
+  rounded = still_rounded o.call c.rounded;
+  header = c.header;
+  few = c.few;
+  whole = c.whole;
+  first = c.first;
+  count = c.count;
+  size = c.size;
+}
+  where
+    still_rounded : (x : Call) → IsStarted x o → IsStarted x (after o a b (goes o own.is))
+    still_rounded (call.Read offset k) s = (goes o own.is).long ∙ s
+    still_rounded (call.Write offset bytes) s = s
+    still_rounded call.Ping s = s
+    still_rounded (call.Other k) s = s
+    still_rounded (call.Command x) s = s
+
 pub carries_one : (o : OwnCall) (a b : Mine) (goes : KeepsOpen a b) (t block n r : ℕ) (own : IsOwn t o a) (request request2 : List ℕ) (sets sets2 : List (List (Option (List ℕ)))) (d : List (Option (List ℕ)))
-    → CarriesAll o block n request sets → drop header_length request2 ≡ drop header_length request → length request2 ≡ length request → r < length sets → get_or sets2 r d ≡ get_or sets r d
-    → (x : OwnCall) × IsOwn t x b × CarriesWrite x block request2 (get_or sets2 r d)
-carries_one o a b goes t block n r own request request2 sets sets2 d all same long inside set' =
-    let g = goes o own.is in
-    let boxes : AreBoxes n (get_or sets2 r d) = subst (AreBoxes n) (sym set') (All-get_or (AreBoxes n) sets r d inside all.boxes) in (
-      after o a b g,
-      record { is = goes_running o a b g; number = own.number },
-      record {
-        header = omega (arith, all.header, long);
-        few = omega (arith, all.few, long);
-        whole = same ∙ all.whole;
-        first = all.first;
-        full = boxes.full;
-        count = omega (arith, all.count, boxes.count);
-        size = all.size ∙ ap (λ k. k * BLOCK_BYTES) (sym boxes.count);
-      },
-    )
+    → CarriesWrite o block n request → All (AreBoxes n) sets → drop header_length request2 ≡ drop header_length request → length request2 ≡ length request → r < length sets → get_or sets2 r d ≡ get_or sets r d
+    → (x : OwnCall) × (n : ℕ) × IsOwn t x b × CarriesWrite x block n request2 × AreBoxes n (get_or sets2 r d)
+carries_one o a b goes t block n r own request request2 sets sets2 d c boxes same long inside set' = (
+  after o a b (goes o own.is),
+  n,
+  record { is = goes_running o a b (goes o own.is); number = own.number },
+  write_same (after o a b (goes o own.is)) block n request request2 same long (write_on o a b goes t block n own request c),
+  subst (AreBoxes n) (sym set') (All-get_or (AreBoxes n) sets r d inside boxes),
+)
 
 pub sets_left : {A : Type 0} (xs ys : List A) (r : ℕ) (x : A) → ((k : ℕ) (d : A) → r ≤ k → k < length ys → get_or ys k d ≡ get_or xs k d)
     → (k : ℕ) (d : A) → r + 1 ≤ k → k < length (set ys r x) → length (set ys r x) ≡ length ys → get_or (set ys r x) k d ≡ get_or xs k d
@@ -44,18 +86,12 @@ sets_left xs ys r x left k d low high long = get_or-set_other ys r k x d (λ e. 
 
 -- ---- the start
 
-answered_there : (o : OwnCall) (a b c : Mine) → b ≡ a → Answers o b c → Answers o a c
-answered_there o a b c e s = subst (λ (m : Mine). Answers o m c) e s
-
-starts_there : (o : OwnCall) (job : Job) (a b c : Mine) → b ≡ a → StartsCall o job b c → StartsCall o job a c
-starts_there o job a b c e s = subst (λ (m : Mine). StartsCall o job m c) e s
-
 -- what was said of the start, where the call was as it is
 module _ (t : ℕ) (a b c : Mine) (j : Option Job) (same : b ≡ a) (ok : (o : OwnCall) → IsOwn t o b → StartsOr o j b c) where
   told : (o : OwnCall) → IsOwn t o a → StartsOr o j a c
   told = subst (λ (m : Mine). (o : OwnCall) → IsOwn t o m → StartsOr o j m c) same ok
 
-  pub not_begun : j ≡ None → (o : OwnCall) → IsOwn t o a → Answers o a c
+  pub not_begun : j ≡ None → (o : OwnCall) → IsOwn t o a → Refuses o a c
   not_begun e o h = subst (λ x. StartsOr o x a c) e (told o h)
 
   pub begun : (job : Job) → j ≡ Some job → (o : OwnCall) → IsOwn t o a → StartsCall o job a c
@@ -72,92 +108,96 @@ module _ (o : OwnCall) (job : Job) (a b : Mine) (s : StartsCall o job a b) (offs
   same_range : s.own.range ≡ o.range
   same_range = ap (λ (x : OwnCall). x.range) s.same
 
+  same_call : s.own.call ≡ o.call
+  same_call = ap (λ (x : OwnCall). x.call) s.same
+
   pub whole_long : o.range.first ≤ o.range.end → length job.front + length bytes + length job.back ≡ (o.range.end - o.range.first) * BLOCK_BYTES
   whole_long up =
       let parts = ap length whole_is ∙ length-append (job.front ++ bytes) job.back ∙ ap (λ k. k + length job.back) (length-append job.front bytes) in
       let count : o.range.first * BLOCK_BYTES + length s.own.whole ≡ o.range.end * BLOCK_BYTES = subst (λ (r : BlockRange). r.first * BLOCK_BYTES + length s.own.whole ≡ r.end * BLOCK_BYTES) same_range rounded.count in
       omega (arith, parts, count, up)
 
-  pub begins_in : (replicas : ℕ) (room filled : WriteRoom) → o.range.first ≤ o.range.end → o.range.end * BLOCK_BYTES ≤ 1073741824 → IsRoomFor o.range replicas room
-      → filled.first ≡ room.first → filled.sets.items ≡ room.sets.items → vec_capacity filled.arrivals ≡ vec_capacity room.arrivals
+  pub begins_in : (block replicas : ℕ) (rooms filled : Rooms) → block ≡ o.range.first → o.range.first ≤ o.range.end → o.range.end * BLOCK_BYTES ≤ 1073741824 → HasWriteRoom (o.range.end - o.range.first) replicas rooms
+      → filled.sets.items ≡ rooms.sets.items → vec_capacity filled.arrivals ≡ vec_capacity rooms.arrivals
       → drop header_length filled.request.items ≡ (job.front ++ bytes) ++ job.back
       → length filled.request.items ≡ header_length + (length job.front + length bytes + length job.back)
-      → BeginsIn o replicas filled a b
-  begins_in replicas room filled up inside fits first sets arrivals whole count =
+      → BeginsIn o block replicas filled a b
+  begins_in block replicas rooms filled first up inside fits sets arrivals whole count =
       let long = whole_long up in
       record {
         own = s.own;
-        is = s.is;
-        number = ap (λ (x : OwnCall). x.number) s.same;
-        call = ap (λ (x : OwnCall). x.call) s.same;
-        saw = ap (λ (x : OwnCall). x.saw) s.same;
+        begins = begins o job a b s;
         filled = record {
           blocks = o.range.end - o.range.first;
           carries = record {
+            writes = (ap (λ (x : OwnCall). x.started) s.same, subst IsWriteCall (sym (same_call ∙ is)) tt);
+            rounded = subst (λ c. IsStarted c s.own) (sym same_call) s.of;
             header = omega (arith, count);
             few = omega (arith, count, long, inside, up);
             whole = whole ∙ sym whole_is;
-            first = ap (λ (r : BlockRange). r.first) same_range ∙ sym (first ∙ fits.first);
+            first = ap (λ (r : BlockRange). r.first) same_range ∙ sym first;
             count = omega (arith, up, ap (λ (r : BlockRange). r.first) same_range, ap (λ (r : BlockRange). r.end) same_range);
             size = ap length whole_is ∙ length-append (job.front ++ bytes) job.back ∙ ap (λ k. k + length job.back) (length-append job.front bytes) ∙ long;
-            boxes = subst (All (AreBoxes (o.range.end - o.range.first))) (sym sets) fits.boxes;
           };
+          boxes = subst (All (AreBoxes (o.range.end - o.range.first))) (sym sets) fits.boxes;
           arrivals = omega (arith, count, long, fits.arrivals, arrivals);
           sets = ap length sets ∙ fits.sets;
         };
       }
 
+pub reads_begun : (o : OwnCall) (job : Job) (offset : ℤ) (n : ℕ) (a b : Mine) → StartsCall o job a b → o.call ≡ call.Read offset n → ReadsIn o offset n a b
+reads_begun o job offset n a b s is = record {
+  own = s.own;
+  begins = begins o job a b s;
+  none = λ p run r e. s.none r (subst (λ (x : OwnCall). part_at x.parts r ≡ Acked) (one_of p s.own (sym run ∙ ap (λ (m : Mine). m.running) s.is)) e);
+  started = ap (λ (x : OwnCall). x.started) s.same;
+  call = ap (λ (x : OwnCall). x.call) s.same ∙ is;
+  long = subst (λ c. IsStarted c s.own) is s.of;
+}
+
 -- ---- its end
 
-pub begins_none : (t n : ℕ) (a b : Mine) (j : Option WriteRoom) → ((o : OwnCall) → IsOwn t o a → BeginsOr o n j a b) → j ≡ None → (o : OwnCall) → IsOwn t o a → EndsTo o a b
-begins_none t n a b j ok e o h = ends_at_once o a b (subst (λ x. BeginsOr o n x a b) e (ok o h))
+pub only_own : (t : ℕ) (m : Mine) (o p : OwnCall) → IsOwn t o m → IsOwn t p m → p ≡ o
+only_own t m o p a b = one_of p o (sym b.is ∙ a.is)
 
-pub begins_some : (t n : ℕ) (a b : Mine) (j : Option WriteRoom) (room : WriteRoom) → ((o : OwnCall) → IsOwn t o a → BeginsOr o n j a b) → j ≡ Some room → (o : OwnCall) → IsOwn t o a → BeginsIn o n room a b
-begins_some t n a b j room ok e o h = subst (λ x. BeginsOr o n x a b) e (ok o h)
+pub begins_none : (t n : ℕ) (a b : Mine) (j : Option ℕ) (rooms : Rooms) → ((o : OwnCall) → IsOwn t o a → BeginsOr o j n rooms a b) → j ≡ None → (o : OwnCall) → IsOwn t o a → TakesUp o a b
+begins_none t n a b j rooms ok e o h = takes_refused o a b (subst (λ x. BeginsOr o x n rooms a b) e (ok o h))
 
-pub begins_own : (t n : ℕ) (a b : Mine) (room : WriteRoom) (o : OwnCall) → IsOwn t o a → BeginsIn o n room a b → (x : OwnCall) × IsOwn t x b × IsFilled x n room
-begins_own t n a b room o own s = (s.own, record { is = ap (λ (m : Mine). m.running) s.is; number = s.number ∙ own.number }, s.filled)
+pub begins_some : (t n : ℕ) (a b : Mine) (j : Option ℕ) (block : ℕ) (rooms : Rooms) → ((o : OwnCall) → IsOwn t o a → BeginsOr o j n rooms a b) → j ≡ Some block → (o : OwnCall) → IsOwn t o a → BeginsIn o block n rooms a b
+begins_some t n a b j block rooms ok e o h = subst (λ x. BeginsOr o x n rooms a b) e (ok o h)
 
-pub begins_ends : (t n : ℕ) (a b c : Mine) (room : WriteRoom) → ((o : OwnCall) → IsOwn t o a → BeginsIn o n room a b) → ((o : OwnCall) → IsOwn t o b → EndsTo o b c) → (o : OwnCall) → IsOwn t o a → EndsTo o a c
-begins_ends t n a b c room begins ends o own =
+pub begins_own : (t n block : ℕ) (a b : Mine) (rooms : Rooms) (o : OwnCall) → IsOwn t o a → BeginsIn o block n rooms a b → (x : OwnCall) × IsOwn t x b × HoldsWrite x block n rooms
+begins_own t n block a b rooms o own s = (s.own, begun_own t o s.own a b own s.begins, s.filled)
+
+pub begins_ends : (t n block : ℕ) (a b c : Mine) (rooms : Rooms) → ((o : OwnCall) → IsOwn t o a → BeginsIn o block n rooms a b) → ((o : OwnCall) → IsOwn t o b → EndsTo o b c) → (o : OwnCall) → IsOwn t o a → TakesUp o a c
+begins_ends t n block a b c rooms begins ends o own =
     let s = begins o own in
-    ends_started o s.own a b c s.call s.saw s.is (ends s.own (record { is = ap (λ (m : Mine). m.running) s.is; number = s.number ∙ own.number }))
+    takes_started o s.own a b c s.begins (ends s.own (begun_own t o s.own a b own s.begins))
 
-pub reads_none : (t n : ℕ) (a b : Mine) (j : Option ReadRoom) → ((o : OwnCall) → IsOwn t o a → ReadsOr o n j a b) → j ≡ None → (o : OwnCall) → IsOwn t o a → EndsTo o a b
-reads_none t n a b j ok e o h = ends_at_once o a b (subst (λ x. ReadsOr o n x a b) e (ok o h))
+pub reads_none : (t : ℕ) (offset : ℤ) (n : ℕ) (a b : Mine) (started : Bool) (op : (o : OwnCall) × IsOwn t o a) → ReadsOr op.0 started offset n a b → started ≡ false → (o : OwnCall) → IsOwn t o a → TakesUp o a b
+reads_none t offset n a b started op ok e o h =
+    subst (λ x. TakesUp x a b) (only_own t a o op.0 h op.1) (takes_refused op.0 a b (subst (λ x. ReadsOr op.0 x offset n a b) e ok))
 
-pub reads_some : (t n : ℕ) (a b : Mine) (j : Option ReadRoom) (room : ReadRoom) → ((o : OwnCall) → IsOwn t o a → ReadsOr o n j a b) → j ≡ Some room → (o : OwnCall) → IsOwn t o a → ReadsIn o n room a b
-reads_some t n a b j room ok e o h = subst (λ x. ReadsOr o n x a b) e (ok o h)
+pub reads_some : (o : OwnCall) (offset : ℤ) (n : ℕ) (a b : Mine) (started : Bool) → ReadsOr o started offset n a b → started ≡ true → ReadsIn o offset n a b
+reads_some o offset n a b started ok e = subst (λ x. ReadsOr o x offset n a b) e ok
 
-pub reads_own : (t n : ℕ) (a b : Mine) (room : ReadRoom) (offset : ℤ) (o : OwnCall) → IsOwn t o a → o.call ≡ call.Read offset n → n ≤ 1048576 → ReadsIn o n room a b → (x : OwnCall) × IsOwn t x b × CarriesRead x offset room.reply.items
-reads_own t n a b room offset o own is short s =
-    let of : length s.own.buffer ≡ n = subst (λ c. IsStarted c s.own) is s.of in (
-      s.own,
-      record { is = ap (λ (m : Mine). m.running) s.is; number = s.number ∙ own.number },
-      record {
-        header = omega (arith, s.reply);
-        few = omega (arith, s.reply, short);
-        count = omega (arith, s.reply, of);
-        call = s.call ∙ is ∙ ap (call.Read offset) (sym of);
-      },
-    )
+pub reads_ends : (t : ℕ) (offset : ℤ) (n : ℕ) (a b c : Mine) (op : (o : OwnCall) × IsOwn t o a) → ReadsIn op.0 offset n a b → ((o : OwnCall) → IsOwn t o b → EndsTo o b c) → (o : OwnCall) → IsOwn t o a → TakesUp o a c
+reads_ends t offset n a b c op s ends o own =
+    subst (λ x. TakesUp x a c) (only_own t a o op.0 own op.1) (takes_started op.0 s.own a b c s.begins (ends s.own (begun_own t op.0 s.own a b op.1 s.begins)))
 
-pub reads_ends : (t n : ℕ) (a b c : Mine) (room : ReadRoom) → ((o : OwnCall) → IsOwn t o a → ReadsIn o n room a b) → ((o : OwnCall) → IsOwn t o b → EndsTo o b c) → (o : OwnCall) → IsOwn t o a → EndsTo o a c
-reads_ends t n a b c room begins ends o own =
-    let s = begins o own in
-    ends_started o s.own a b c s.call s.saw s.is (ends s.own (record { is = ap (λ (m : Mine). m.running) s.is; number = s.number ∙ own.number }))
-
-pub reads_begun : (o : OwnCall) (job : Job) (n : ℕ) (room : ReadRoom) (a b : Mine) → StartsCall o job a b → length room.reply.items ≡ header_length + n → header_length + (header_length + n) ≤ vec_capacity room.arrivals → ReadsIn o n room a b
-reads_begun o job n room a b s reply arrivals = record {
-  own = s.own;
-  is = s.is;
-  number = ap (λ (x : OwnCall). x.number) s.same;
-  call = ap (λ (x : OwnCall). x.call) s.same;
-  saw = ap (λ (x : OwnCall). x.saw) s.same;
-  of = s.of;
-  reply = reply;
-  arrivals = arrivals;
-}
+-- in room for its bytes
+pub reads_own : (t : ℕ) (offset : ℤ) (n : ℕ) (a b : Mine) (reply : List ℕ) (o : OwnCall) → IsOwn t o a → n ≤ 1048576 → length reply ≡ header_length + n → ReadsIn o offset n a b → (x : OwnCall) × IsOwn t x b × CarriesRead x offset reply
+reads_own t offset n a b reply o own short fits s = (
+  s.own,
+  begun_own t o s.own a b own s.begins,
+  record {
+    started = s.started;
+    header = omega (arith, fits);
+    few = omega (arith, fits, short);
+    count = omega (arith, fits, s.long);
+    call = s.call ∙ ap (call.Read offset) (sym s.long);
+  },
+)
 
 -- a read that goes on is carried as before
 pub reads_on : (o : OwnCall) (a b : Mine) (goes : KeepsOpen a b) (t : ℕ) (own : IsOwn t o a) (offset : ℤ) (reply reply2 : List ℕ) → CarriesRead o offset reply → length reply2 ≡ length reply
@@ -167,6 +207,7 @@ reads_on o a b goes t own offset reply reply2 c long =
       after o a b g,
       record { is = goes_running o a b g; number = own.number },
       record {
+        started = c.started;
         header = omega (arith, c.header, long);
         few = omega (arith, c.few, long);
         count = omega (arith, c.count, g.long, long);
@@ -174,15 +215,28 @@ reads_on o a b goes t own offset reply reply2 c long =
       },
     )
 
-pub ends_by : (t : ℕ) (a b c : Mine) → KeepsOpen a b → ((x : OwnCall) × IsOwn t x a) → ((x : OwnCall) → IsOwn t x b → Answers x b c) → (o : OwnCall) → IsOwn t o a → EndsTo o a c
-ends_by t a b c goes op done o own = ends_goes o a b c own.is goes
-    (λ x e. done x (own_of t b x (after o a b (goes o own.is), record { is = goes_running o a b (goes o own.is); number = own.number }) e))
-
 pub goes_replicas : (a b : Mine) (o : OwnCall) → KeepsOpen a b → a.running ≡ o ∷ [] → b.replicas ≡ a.replicas
 goes_replicas a b o goes e = ap (λ (m : Mine). m.replicas) (goes o e).is
 
-one_of : (x y : OwnCall) → x ∷ [] ≡ y ∷ [] → y ≡ x
-one_of x y e = cc
+-- a call that goes on has started
+on_blocks : (c : Call) → IsWriteCall c → IsOnBlocks c
+on_blocks (call.Read offset k) w = tt
+on_blocks (call.Write offset bytes) w = tt
+on_blocks call.Ping w = w
+on_blocks (call.Other k) w = w
+on_blocks (call.Command x) w = w
 
-pub only_own : (t : ℕ) (m : Mine) (o p : OwnCall) → IsOwn t o m → IsOwn t p m → p ≡ o
-only_own t m o p a b = one_of o p (sym a.is ∙ b.is)
+pub write_is_started : (o : OwnCall) → IsStartedWrite o → HasStarted o
+write_is_started o w = (w.0, on_blocks o.call w.1)
+
+pub write_started : (o : OwnCall) (t block n : ℕ) (a b : Mine) (rooms : Rooms) → IsOwn t o a → HoldsWrite o block n rooms → KeepsOpen a b → (x : OwnCall) × IsOwn t x b × HasStarted x
+write_started o t block n a b rooms own f goes =
+    let g = goes o own.is in
+    (after o a b g, record { is = goes_running o a b g; number = own.number }, write_is_started o f.carries.writes)
+
+module _ (t : ℕ) (offset : ℤ) (a b : Mine) (reply : List ℕ) (goes : KeepsOpen a b) (op : (o : OwnCall) × IsOwn t o a × CarriesRead o offset reply) where
+  pub read_started : (x : OwnCall) × IsOwn t x b × HasStarted x
+  read_started = (after op.0 a b (goes op.0 op.1.is), record { is = goes_running op.0 a b (goes op.0 op.1.is); number = op.1.number }, (op.2.started, subst IsOnBlocks (sym op.2.call) tt))
+
+  pub still_read : (x : OwnCall) × IsOwn t x b × IsReadCall x.call
+  still_read = (after op.0 a b (goes op.0 op.1.is), record { is = goes_running op.0 a b (goes op.0 op.1.is); number = op.1.number }, subst IsReadCall (sym op.2.call) tt)

@@ -12,11 +12,6 @@ pub record IsAsked (f : Frame) : Type 0 where
   pub call : asked_of f ≡ asked.Call (call_of f)
   pub short : length f.body ≤ longest_call
 
--- a call that a frame asks, and no command
-abbrev pub IsFrameCall : Call → Type 0
-IsFrameCall (call.Command c) = ⊥
-IsFrameCall c = Unit {0}
-
 -- a write of no more bytes than a call may have, or another call
 abbrev pub IsShort : Call → Type 0
 IsShort (call.Write offset bytes) = length bytes ≤ longest_call

@@ -1,6 +1,7 @@
-pub mod Mine
-pub mod Steps
+pub mod Exchanges
 pub mod Serving
 pub mod Asks
+pub mod Asking
+pub mod Ends
 pub mod Frames
 pub mod Rooms

@@ -1,18 +1,22 @@
 //! A replica is asked for its part of the open call.
 
-ghost use Rattle.std.specs.Prelude.{◌≡◌, ℕ, ◌+◌, ◌*◌, ◌<◌, ◌≤◌, length, map, drop, vec_capacity};
+ghost use Rattle.std.specs.Prelude.{◌≡◌, ℕ, ◌+◌, ◌*◌, ◌<◌, ◌≤◌, length, map, drop, vec_capacity, true, false};
+ghost use Rattle.volume_model.specs.Modes.{mode_of, IsSource};
 ghost use Rattle.frame_wire.specs.Spelling.{header_length};
-ghost use Rattle.client_worker.specs.Mine.{OwnCall, IsOwn};
-ghost use Rattle.client_worker.specs.Serving.{Counted, KeepsOpen};
-ghost use Rattle.client_worker.specs.Rooms.{CarriesWrite, CarriesRead};
+ghost use Rattle.stream_steps.specs.Mine.{OwnCall, IsOwn};
+ghost use Rattle.stream_steps.specs.Steps.{TakesTo};
+ghost use Rattle.client_worker.specs.Serving.{IsShown, KeepsOpen};
+ghost use Rattle.client_worker.specs.Ends.{NoneAcked};
+ghost use Rattle.client_worker.specs.Asking.{AckedOrFailed, AckedOrUnread};
+ghost use Rattle.client_worker.specs.Rooms.{AreBoxes, CarriesWrite, CarriesRead};
 
 use crate::carry::{pass, reply_with};
 use crate::channel::{Channel, next_exchange};
 use crate::frames::{put_header, read_head, read_reply_head, write_head, write_reply_head};
-use crate::steps::ClientSteps;
 use frame_wire::{HEADER_LENGTH, encode_header};
 use outer_traits::Line;
 use std::sync::Wait;
+use stream_steps::ClientSteps;
 use volume_core::{Blocks, Mode, TicketNumber};
 
 /// Asks a replica for its part of the open write, unless it has failed: its request is there but for the header.
@@ -30,15 +34,20 @@ pub(crate) fn ask_write<R: Wait, C: ClientSteps, L: Line + Drop>(
     requires ready { C.ready steps.old }
     requires line { replica < length channels.old }
     requires room { header_length + length request.old ≤ vec_capacity room.old }
-    requires own { (o : OwnCall) × IsOwn t o (C.mine steps.old) × CarriesWrite o first request.old blocks.old }
-    requires counted { Counted (C.mine steps.old) (map (λ c. L.count c.line) channels.old) }
+    requires own { (o : OwnCall) × (n : ℕ) × IsOwn t o (C.mine steps.old)
+        × CarriesWrite o first n request.old × AreBoxes n blocks.old }
+    requires shown { IsShown (C.mine steps.old) (map (λ c. L.count c.line) channels.old)
+        (map (λ c. L.carried c.line) channels.old) }
     ensures ready { C.ready steps.new }
     ensures home { C.home steps.new ≡ C.home steps.old }
     ensures count { length channels.new ≡ length channels.old }
+    ensures ends { map (λ c. L.ends c.line) channels.new ≡ map (λ c. L.ends c.line) channels.old }
     ensures room { vec_capacity room.old ≤ vec_capacity room.new }
     ensures request { drop header_length request.new ≡ drop header_length request.old }
-    ensures counted { Counted (C.mine steps.new) (map (λ c. L.count c.line) channels.new) }
+    ensures shown { IsShown (C.mine steps.new) (map (λ c. L.count c.line) channels.new)
+        (map (λ c. L.carried c.line) channels.new) }
     ensures goes { KeepsOpen (C.mine steps.old) (C.mine steps.new) }
+    ensures asked { AckedOrFailed (C.modes steps.new) replica (C.mine steps.new) }
 {
     if steps.mode(rt, replica) == Mode::Err {
         return;
@@ -49,15 +58,44 @@ pub(crate) fn ask_write<R: Wait, C: ClientSteps, L: Line + Drop>(
     if !pass(rt, steps, channels, replica, request, room) {
         return;
     }
-    blocks.fill(&request[HEADER_LENGTH..]);
-    if steps.apply_write(rt, t, replica, blocks).is_err() {
+    if !take_write(rt, steps, t, replica, first, request, blocks) {
         return;
     }
     let reply = encode_header(&write_reply_head(seq, first, count));
     reply_with(rt, steps, channels, t, replica, &reply, room);
 }
 
-/// Asks a replica for the bytes of the open read, for which the reply has the room.
+/// A replica takes the open write, whose request came through, and says whether it did: in place, or else in boxes.
+fn take_write<R: Wait, C: ClientSteps>(
+    rt: &R,
+    steps: &mut C,
+    t: TicketNumber,
+    replica: u8,
+    first: u32,
+    request: &[u8],
+    blocks: &mut Blocks,
+) -> bool
+    requires ready { C.ready steps.old }
+    requires own { (o : OwnCall) × (n : ℕ) × IsOwn t o (C.mine steps.old)
+        × CarriesWrite o first n request.now × AreBoxes n blocks.old }
+    ensures ready { C.ready steps.new }
+    ensures home { C.home steps.new ≡ C.home steps.old }
+    ensures taken { result ≡ true → (o : OwnCall) → IsOwn t o (C.mine steps.old)
+        → TakesTo o replica o.buffer (C.mine steps.old) (C.mine steps.new) }
+    ensures same { result ≡ false → C.mine steps.new ≡ C.mine steps.old }
+    ensures failed { result ≡ false → mode_of (C.modes steps.new) replica ≡ Mode.Err }
+{
+    match steps.apply_in_place(rt, t, replica) {
+        Ok(true) => true,
+        Ok(false) => {
+            blocks.fill(&request[HEADER_LENGTH..]);
+            steps.apply_write(rt, t, replica, blocks).is_ok()
+        }
+        Err(_) => false,
+    }
+}
+
+/// Asks the lowest replica that is read for the bytes of the open read, for which the reply has the room.
 pub(crate) fn ask_read<R: Wait, C: ClientSteps, L: Line + Drop>(
     rt: &R,
     steps: &mut C,
@@ -70,15 +108,21 @@ pub(crate) fn ask_read<R: Wait, C: ClientSteps, L: Line + Drop>(
 )
     requires ready { C.ready steps.old }
     requires line { replica < length channels.old }
+    requires source { IsSource (C.modes steps.old) replica }
     requires room { header_length + length reply.old ≤ vec_capacity room.old }
     requires own { (o : OwnCall) × IsOwn t o (C.mine steps.old) × CarriesRead o offset reply.old }
-    requires counted { Counted (C.mine steps.old) (map (λ c. L.count c.line) channels.old) }
+    requires none { NoneAcked (C.mine steps.old) }
+    requires shown { IsShown (C.mine steps.old) (map (λ c. L.count c.line) channels.old)
+        (map (λ c. L.carried c.line) channels.old) }
     ensures ready { C.ready steps.new }
     ensures home { C.home steps.new ≡ C.home steps.old }
     ensures count { length channels.new ≡ length channels.old }
+    ensures ends { map (λ c. L.ends c.line) channels.new ≡ map (λ c. L.ends c.line) channels.old }
     ensures room { vec_capacity room.old ≤ vec_capacity room.new }
-    ensures counted { Counted (C.mine steps.new) (map (λ c. L.count c.line) channels.new) }
+    ensures shown { IsShown (C.mine steps.new) (map (λ c. L.count c.line) channels.new)
+        (map (λ c. L.carried c.line) channels.new) }
     ensures goes { KeepsOpen (C.mine steps.old) (C.mine steps.new) }
+    ensures asked { AckedOrUnread (C.modes steps.new) replica (C.mine steps.new) }
 {
     let seq = next_exchange(channels, replica);
     let count = (reply.len() - HEADER_LENGTH) as u32;

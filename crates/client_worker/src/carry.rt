@@ -1,14 +1,20 @@
 //! A frame is carried to a replica, and a replica whose line fails has failed.
 
-ghost use Rattle.std.specs.Prelude.{◌≡◌, ℕ, ◌+◌, ◌<◌, ◌≤◌, length, map, vec_capacity, slice_index_or, true, false};
-ghost use Rattle.client_worker.specs.Mine.{OwnCall, IsOwn};
-ghost use Rattle.client_worker.specs.Serving.{Counted, KeepsOpen};
+ghost use Rattle.std.specs.Prelude.{◌≡◌, ℕ, ◌+◌, ◌<◌, ◌≤◌, [], ◌∷◌, length, map, vec_capacity, slice_index_or, true, false};
+ghost use Rattle.volume_model.specs.Faults.{last_count};
+ghost use Rattle.volume_model.specs.Modes.{mode_of};
+ghost use Rattle.outer_traits.specs.Lines.{TellsMore};
+ghost use Rattle.stream_steps.specs.Mine.{OwnCall, IsOwn, entries_in};
+ghost use Rattle.stream_steps.specs.Steps.{HasStarted};
+ghost use Rattle.client_worker.specs.Exchanges.{told_in};
+ghost use Rattle.client_worker.specs.Serving.{IsShown, KeepsOpen};
+ghost use Rattle.client_worker.specs.Asking.{TellOn, TellsFrame, LacksReply, HasTaken, AckedOrFailed};
 
 use crate::channel::Channel;
-use crate::steps::ClientSteps;
 use outer_traits::Line;
 use std::sync::Wait;
-use volume_core::TicketNumber;
+use stream_steps::ClientSteps;
+use volume_core::{Mode, TicketNumber};
 
 /// Carries a frame on the line to a replica, and says whether it came through.
 fn carry<L: Line + Drop>(
@@ -20,9 +26,15 @@ fn carry<L: Line + Drop>(
     requires line { replica < length channels.old }
     requires room { length frame.now ≤ vec_capacity room.old }
     ensures count { length channels.new ≡ length channels.old }
+    ensures ends { map (λ c. L.ends c.line) channels.new ≡ map (λ c. L.ends c.line) channels.old }
+    ensures room { vec_capacity room.old ≤ vec_capacity room.new }
     ensures later { (k : ℕ) → slice_index_or (map (λ c. L.count c.line) channels.old) k 0
         ≤ slice_index_or (map (λ c. L.count c.line) channels.new) k 0 }
-    ensures room { vec_capacity room.old ≤ vec_capacity room.new }
+    ensures failed { result ≡ false → slice_index_or (map (λ c. L.count c.line) channels.old) replica 0
+        < slice_index_or (map (λ c. L.count c.line) channels.new) replica 0 }
+    ensures told { TellOn (map (λ c. L.carried c.line) channels.old) (map (λ c. L.carried c.line) channels.new) }
+    ensures carried { result ≡ true → TellsFrame (map (λ c. L.carried c.line) channels.old)
+        (map (λ c. L.carried c.line) channels.new) replica frame.now }
 {
     room.clear();
     channels[replica as usize].line.carry(frame, room).is_ok()
@@ -37,11 +49,17 @@ fn tell_fault<R: Wait, C: ClientSteps, L: Line + Drop>(
 )
     requires ready { C.ready steps.old }
     requires line { replica < length channels.now }
-    requires counted { Counted (C.mine steps.old) (map (λ c. L.count c.line) channels.now) }
+    // Its count is above that of its last mark, so that the core has to take it.
+    requires above { last_count (C.mine steps.old).stream replica (entries_in (C.mine steps.old).entries)
+        < slice_index_or (map (λ c. L.count c.line) channels.now) replica 0 }
+    requires shown { IsShown (C.mine steps.old) (map (λ c. L.count c.line) channels.now)
+        (map (λ c. L.carried c.line) channels.now) }
     ensures ready { C.ready steps.new }
     ensures home { C.home steps.new ≡ C.home steps.old }
-    ensures counted { Counted (C.mine steps.new) (map (λ c. L.count c.line) channels.now) }
+    ensures shown { IsShown (C.mine steps.new) (map (λ c. L.count c.line) channels.now)
+        (map (λ c. L.carried c.line) channels.now) }
     ensures goes { KeepsOpen (C.mine steps.old) (C.mine steps.new) }
+    ensures failed { mode_of (C.modes steps.new) replica ≡ Mode.Err }
 {
     let _ = steps.fault(rt, replica, channels[replica as usize].line.faults());
 }
@@ -58,14 +76,20 @@ pub(crate) fn pass<R: Wait, C: ClientSteps, L: Line + Drop>(
     requires ready { C.ready steps.old }
     requires line { replica < length channels.old }
     requires room { length frame.now ≤ vec_capacity room.old }
-    requires counted { Counted (C.mine steps.old) (map (λ c. L.count c.line) channels.old) }
+    requires shown { IsShown (C.mine steps.old) (map (λ c. L.count c.line) channels.old)
+        (map (λ c. L.carried c.line) channels.old) }
     ensures ready { C.ready steps.new }
     ensures home { C.home steps.new ≡ C.home steps.old }
     ensures count { length channels.new ≡ length channels.old }
+    ensures ends { map (λ c. L.ends c.line) channels.new ≡ map (λ c. L.ends c.line) channels.old }
     ensures room { vec_capacity room.old ≤ vec_capacity room.new }
-    ensures counted { Counted (C.mine steps.new) (map (λ c. L.count c.line) channels.new) }
+    ensures shown { IsShown (C.mine steps.new) (map (λ c. L.count c.line) channels.new)
+        (map (λ c. L.carried c.line) channels.new) }
     ensures goes { KeepsOpen (C.mine steps.old) (C.mine steps.new) }
-    ensures passed { result ≡ true → C.mine steps.new ≡ C.mine steps.old }
+    ensures same { result ≡ true → steps.new ≡ steps.old }
+    ensures carried { result ≡ true → TellsFrame (map (λ c. L.carried c.line) channels.old)
+        (map (λ c. L.carried c.line) channels.new) replica frame.now }
+    ensures failed { result ≡ false → mode_of (C.modes steps.new) replica ≡ Mode.Err }
 {
     if carry(channels, replica, frame, room) {
         return true;
@@ -87,14 +111,19 @@ pub(crate) fn reply_with<R: Wait, C: ClientSteps, L: Line + Drop>(
     requires ready { C.ready steps.old }
     requires line { replica < length channels.old }
     requires room { length reply.now ≤ vec_capacity room.old }
-    requires own { (o : OwnCall) × IsOwn t o (C.mine steps.old) }
-    requires counted { Counted (C.mine steps.old) (map (λ c. L.count c.line) channels.old) }
+    requires own { (o : OwnCall) × IsOwn t o (C.mine steps.old) × HasStarted o × HasTaken o replica
+        × LacksReply o (told_in (map (λ c. L.carried c.line) channels.old) replica) reply.now }
+    requires shown { IsShown (C.mine steps.old) (map (λ c. L.count c.line) channels.old)
+        (map (λ c. L.carried c.line) channels.old) }
     ensures ready { C.ready steps.new }
     ensures home { C.home steps.new ≡ C.home steps.old }
     ensures count { length channels.new ≡ length channels.old }
+    ensures ends { map (λ c. L.ends c.line) channels.new ≡ map (λ c. L.ends c.line) channels.old }
     ensures room { vec_capacity room.old ≤ vec_capacity room.new }
-    ensures counted { Counted (C.mine steps.new) (map (λ c. L.count c.line) channels.new) }
+    ensures shown { IsShown (C.mine steps.new) (map (λ c. L.count c.line) channels.new)
+        (map (λ c. L.carried c.line) channels.new) }
     ensures goes { KeepsOpen (C.mine steps.old) (C.mine steps.new) }
+    ensures asked { AckedOrFailed (C.modes steps.new) replica (C.mine steps.new) }
 {
     if pass(rt, steps, channels, replica, reply, room) {
         let _ = steps.ack(rt, t, replica);

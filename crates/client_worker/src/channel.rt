@@ -23,6 +23,7 @@ impl<L: Line + Drop> Channel<L> {
 pub(crate) fn next_exchange<L: Line + Drop>(channels: &mut [Channel<L>], replica: u8) -> u32
     requires { replica < length channels.old }
     ensures count { length channels.new ≡ length channels.old }
+    ensures ends { map (λ c. L.ends c.line) channels.new ≡ map (λ c. L.ends c.line) channels.old }
     ensures faults { map (λ c. L.count c.line) channels.new ≡ map (λ c. L.count c.line) channels.old }
     ensures carried { map (λ c. L.carried c.line) channels.new ≡ map (λ c. L.carried c.line) channels.old }
 {

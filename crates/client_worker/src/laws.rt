@@ -6,6 +6,7 @@ ghost use Rattle.volume_model.specs.declared.entry.Entry.{Entry};
 ghost use Rattle.volume_model.specs.History.{calls_of};
 ghost use Rattle.frame_stream.specs.declared.frame.Frame.{Frame};
 ghost use Rattle.script_text.specs.Frames.{IsCall};
+ghost use Rattle.stream_steps.specs.Mine.{Log};
 ghost use Rattle.client_worker.specs.Asks.{IsAsked};
 ghost use Rattle.client_worker.specs.Serving.{AreServed};
 
@@ -16,6 +17,6 @@ pub fn a_call_of_a_script_is_taken()
 
 /// The calls that were served are those of the stream's answers, each once and in order.
 pub fn what_was_served_is_answered()
-    ensures { (stream : ℕ) (place : Option ℕ) (cs : List Call) (es : List Entry)
-        → AreServed stream place cs es → calls_of stream es ≡ cs }
+    ensures { (stream : ℕ) (log : Option Log) (cs : List Call) (es : List Entry)
+        → AreServed stream log cs es → calls_of stream es ≡ cs }
 {}

@@ -9,14 +9,14 @@ mod frames;
 pub mod laws;
 mod rooms;
 mod serve;
-mod steps;
 mod stream;
 
 pub use channel::Channel;
 pub use outer_traits::Line;
+pub use rooms::Rooms;
 pub use script_text::Frames;
-pub use steps::ClientSteps;
 pub use stream::{run_stream, serve_call};
+pub use stream_steps::ClientSteps;
 pub use volume_core::{
     Admit, BlockRange, Blocks, Call, Enrolled, Job, Mode, NotThis, TicketNumber,
 };

@@ -1,59 +1,109 @@
-//! The memory that a call is carried in: it is made before the call starts.
+//! The memory that calls are carried in: it is made before a call starts, and kept for those behind it.
 
-ghost use Rattle.std.specs.Prelude.{◌≡◌, ◌+◌, ◌-◌, ◌*◌, ◌<◌, ◌≤◌, ◌++◌, ◌^◌, [], length, drop, All, IfOk, vec_len, vec_capacity};
+ghost use Rattle.std.specs.Prelude.{◌≡◌, ◌+◌, ◌*◌, ◌<◌, ◌≤◌, ◌++◌, ◌^◌, [], length, drop, All, OnOk, vec_len, vec_capacity};
 ghost use Rattle.vol_units.specs.declared.size.TheConstants.{BLOCK_BYTES};
 ghost use Rattle.frame_wire.specs.Spelling.{header_length};
-ghost use Rattle.client_worker.specs.Rooms.{AreBoxes, IsRoomFor};
+ghost use Rattle.client_worker.specs.Rooms.{AreBoxes, HasWriteRoom, HasReadRoom};
 
 use frame_wire::HEADER_LENGTH;
 use std::alloc::{AllocError, Global};
 use vol_units::BLOCK_BYTES;
-use volume_core::{BlockRange, Blocks};
+use volume_core::Blocks;
 
-/// What a write is carried in.
+/// What the calls of a stream are carried in, one after another. It grows as a call needs, and what it has stays for
+/// the next: a call that needs no more takes no memory.
 #[derive(Drop)]
-pub(crate) struct WriteRoom {
-    /// The first block.
-    pub(crate) first: u32,
-    /// The request, for the header and all bytes of the blocks.
+pub struct Rooms {
+    /// A write's request: a place for the header, and all bytes of the blocks.
     pub(crate) request: Vec<u8>,
+    /// A read's reply, as long as the longest needs.
+    pub(crate) reply: Vec<u8>,
     /// Where frames arrive.
     pub(crate) arrivals: Vec<u8>,
-    /// Boxes for the blocks, for each replica.
+    /// Boxes for a write's blocks, for each replica.
     pub(crate) sets: Vec<Blocks>,
 }
 
-/// The room for a write of so many blocks, on so many replicas.
-pub(crate) fn write_room(
-    alloc: Global,
-    range: BlockRange,
-    replicas: usize,
-) -> Result<WriteRoom, AllocError>
-    requires { range.first ≤ range.end }
-    ensures { IfOk result (IsRoomFor range replicas) }
-{
-    let count = (range.end - range.first) as usize;
-    let most = HEADER_LENGTH + count * BLOCK_BYTES as usize;
-    let request = Vec::with_capacity(alloc, most)?;
-    let arrivals = Vec::with_capacity(alloc, HEADER_LENGTH + most)?;
-    let sets = box_sets(alloc, count, replicas)?;
-    Ok(WriteRoom {
-        first: range.first,
-        request,
-        arrivals,
-        sets,
-    })
+impl Rooms {
+    /// With no memory yet.
+    pub fn new(alloc: Global) -> Rooms {
+        Rooms {
+            request: Vec::new(alloc),
+            reply: Vec::new(alloc),
+            arrivals: Vec::new(alloc),
+            sets: Vec::new(alloc),
+        }
+    }
+
+    /// Makes room for a write of so many blocks, on so many replicas.
+    pub(crate) fn make_for_write(
+        &mut self,
+        alloc: Global,
+        count: usize,
+        replicas: usize,
+    ) -> Result<(), AllocError>
+        requires { count * BLOCK_BYTES < 2 ^ 32 }
+        ensures { OnOk result (HasWriteRoom count replicas self.new) }
+    {
+        let most = HEADER_LENGTH + count * BLOCK_BYTES as usize;
+        self.request.clear();
+        self.request.reserve_exact(most)?;
+        self.arrivals.clear();
+        self.arrivals.reserve_exact(HEADER_LENGTH + most)?;
+        make_sets(alloc, &mut self.sets, count, replicas)
+    }
+
+    /// Makes room for a read of so many bytes.
+    pub(crate) fn make_for_read(&mut self, count: u32) -> Result<(), AllocError>
+        ensures { OnOk result (HasReadRoom count self.new) }
+    {
+        let most = HEADER_LENGTH + count as usize;
+        if self.reply.len() < most {
+            self.reply.resize(most, 0)?;
+        }
+        self.arrivals.clear();
+        self.arrivals.reserve_exact(HEADER_LENGTH + most)?;
+        Ok(())
+    }
 }
 
-fn box_sets(alloc: Global, count: usize, replicas: usize) -> Result<Vec<Blocks>, AllocError>
-    ensures count { IfOk result (λ sets. length sets.items ≡ replicas) }
-    ensures boxes { IfOk result (λ sets. All (AreBoxes count) sets.items) }
+/// Makes the sets as many as the replicas, with so many boxes in each.
+fn make_sets(
+    alloc: Global,
+    sets: &mut Vec<Blocks>,
+    count: usize,
+    replicas: usize,
+) -> Result<(), AllocError>
+    ensures count { OnOk result (length sets.new.items ≡ replicas) }
+    ensures boxes { OnOk result (All (AreBoxes count) sets.new.items) }
 {
-    let mut sets = Vec::new(alloc);
-    for _r in 0..replicas {
+    sets.truncate(replicas);
+    make_all_full(alloc, sets, count)?;
+    for _r in sets.len()..replicas {
         sets.push(Blocks::with_count(alloc, count)?)?;
     }
-    Ok(sets)
+    Ok(())
+}
+
+/// Makes each set so many boxes.
+fn make_all_full(alloc: Global, sets: &mut [Blocks], count: usize) -> Result<(), AllocError>
+    ensures count { length sets.new ≡ length sets.old }
+    ensures boxes { OnOk result (All (AreBoxes count) sets.new) }
+{
+    for r in 0..sets.len() {
+        make_full(alloc, &mut sets[r], count)?;
+    }
+    Ok(())
+}
+
+/// Makes a set so many boxes. It takes no memory where it has them all: a write in place leaves them there.
+fn make_full(alloc: Global, set: &mut Blocks, count: usize) -> Result<(), AllocError>
+    ensures { OnOk result (AreBoxes count set.new) }
+{
+    if set.len() != count || !set.is_full() {
+        *set = Blocks::with_count(alloc, count)?;
+    }
+    Ok(())
 }
 
 /// Puts all bytes of a write's blocks into its request, behind the place of the header. It takes no memory.
@@ -69,25 +119,4 @@ pub(crate) fn fill_request(request: &mut Vec<u8>, front: &[u8], bytes: &[u8], ba
     request.extend_from_slice(front).unwrap();
     request.extend_from_slice(bytes).unwrap();
     request.extend_from_slice(back).unwrap();
-}
-
-/// What a read is carried in.
-#[derive(Drop)]
-pub(crate) struct ReadRoom {
-    /// The reply, for the header and the bytes.
-    pub(crate) reply: Vec<u8>,
-    /// Where frames arrive.
-    pub(crate) arrivals: Vec<u8>,
-}
-
-/// The room for a read of so many bytes.
-pub(crate) fn read_room(alloc: Global, count: u32) -> Result<ReadRoom, AllocError>
-    ensures reply { IfOk result (λ room. length room.reply.items ≡ header_length + count) }
-    ensures arrivals { IfOk result (λ room.
-        header_length + (header_length + count) ≤ vec_capacity room.arrivals) }
-{
-    let most = HEADER_LENGTH + count as usize;
-    let reply = vec![in alloc; 0; most]?;
-    let arrivals = Vec::with_capacity(alloc, HEADER_LENGTH + most)?;
-    Ok(ReadRoom { reply, arrivals })
 }

@@ -1,22 +1,24 @@
 //! The calls of a stream are carried to the replicas, one after another.
 
-ghost use Rattle.std.specs.Prelude.{◌≡◌, ℕ, ℤ, List, ◌+◌, ◌≤◌, ◌<◌, ◌^◌, [], length, map, vec_capacity, OnOk, OnErr, IfOk};
+ghost use Rattle.std.specs.Prelude.{◌≡◌, ℕ, ℤ, ◌+◌, ◌≤◌, ◌<◌, ◌^◌, [], length, map, All, vec_capacity, OnOk, OnErr, IfOk};
 ghost use Rattle.vol_units.specs.declared.size.TheConstants.{BLOCK_BYTES};
 ghost use Rattle.volume_model.specs.PlainStep.{longest_call};
 ghost use Rattle.frame_wire.specs.Spelling.{header_length};
-ghost use Rattle.client_worker.specs.Mine.{OwnCall, IsOwn, with_running};
-ghost use Rattle.client_worker.specs.Steps.{Answers, HasNotStarted};
-ghost use Rattle.client_worker.specs.Serving.{Counted, KeepsOpen, EndsTo};
-ghost use Rattle.client_worker.specs.Rooms.{CarriesAll, CarriesRead, IsFilled, BeginsOr, ReadsOr};
+ghost use Rattle.stream_steps.specs.Mine.{OwnCall, IsOwn, with_running};
+ghost use Rattle.stream_steps.specs.Steps.{HasNotStarted};
+ghost use Rattle.client_worker.specs.Serving.{IsShown, KeepsOpen};
+ghost use Rattle.client_worker.specs.Ends.{KeepsShown, NoneAcked, EndsTo, TakesUp};
+ghost use Rattle.client_worker.specs.Rooms.{AreBoxes, CarriesWrite, CarriesRead, HoldsWrite, HasReadRoom, BeginsOr, ReadsOr};
 
 use crate::asks::{ask_read, ask_write};
 use crate::channel::Channel;
 use crate::ends::{await_end, finish, start};
-use crate::rooms::{ReadRoom, WriteRoom, fill_request, read_room, write_room};
-use crate::steps::ClientSteps;
+use crate::rooms::{Rooms, fill_request};
+use frame_wire::HEADER_LENGTH;
 use outer_traits::Line;
 use std::alloc::{AllocError, Global};
 use std::sync::Wait;
+use stream_steps::ClientSteps;
 use volume_core::{Blocks, Call, TicketNumber};
 use volume_model::Bytes;
 
@@ -35,12 +37,15 @@ fn ask_all<R: Wait, C: ClientSteps, L: Line + Drop>(
     requires lines { (length channels.old ≤ 8) × (length sets.old ≡ length channels.old) }
     requires room { header_length + length request.old ≤ vec_capacity room.old }
     requires own { (o : OwnCall) × (n : ℕ) × IsOwn t o (C.mine steps.old)
-        × CarriesAll o first n request.old sets.old }
-    requires counted { Counted (C.mine steps.old) (map (λ c. L.count c.line) channels.old) }
+        × CarriesWrite o first n request.old × All (AreBoxes n) sets.old }
+    requires shown { IsShown (C.mine steps.old) (map (λ c. L.count c.line) channels.old)
+        (map (λ c. L.carried c.line) channels.old) }
     ensures ready { C.ready steps.new }
     ensures home { C.home steps.new ≡ C.home steps.old }
     ensures count { length channels.new ≡ length channels.old }
-    ensures counted { Counted (C.mine steps.new) (map (λ c. L.count c.line) channels.new) }
+    ensures ends { map (λ c. L.ends c.line) channels.new ≡ map (λ c. L.ends c.line) channels.old }
+    ensures shown { IsShown (C.mine steps.new) (map (λ c. L.count c.line) channels.new)
+        (map (λ c. L.carried c.line) channels.new) }
     ensures goes { KeepsOpen (C.mine steps.old) (C.mine steps.new) }
 {
     for r in 0..channels.len() {
@@ -64,33 +69,37 @@ fn carry_write<R: Wait, C: ClientSteps, L: Line + Drop>(
     steps: &mut C,
     channels: &mut [Channel<L>],
     t: TicketNumber,
-    mut room: WriteRoom,
+    first: u32,
+    rooms: &mut Rooms,
 )
     requires ready { C.ready steps.old }
     requires lines { length channels.old ≤ 8 }
-    requires own { (o : OwnCall) × IsOwn t o (C.mine steps.old) × IsFilled o (length channels.old) room }
-    requires counted { Counted (C.mine steps.old) (map (λ c. L.count c.line) channels.old) }
+    requires own { (o : OwnCall) × IsOwn t o (C.mine steps.old)
+        × HoldsWrite o first (length channels.old) rooms.old }
+    requires shown { IsShown (C.mine steps.old) (map (λ c. L.count c.line) channels.old)
+        (map (λ c. L.carried c.line) channels.old) }
     ensures ready { C.ready steps.new }
     ensures home { C.home steps.new ≡ C.home steps.old }
     ensures count { length channels.new ≡ length channels.old }
-    ensures counted { Counted (C.mine steps.new) (map (λ c. L.count c.line) channels.new) }
-    ensures ends { (o : OwnCall) → IsOwn t o (C.mine steps.old) → EndsTo o (C.mine steps.old) (C.mine steps.new) }
+    ensures ends { map (λ c. L.ends c.line) channels.new ≡ map (λ c. L.ends c.line) channels.old }
+    ensures shown { IsShown (C.mine steps.new) (map (λ c. L.count c.line) channels.new)
+        (map (λ c. L.carried c.line) channels.new) }
+    ensures done { (o : OwnCall) → IsOwn t o (C.mine steps.old) → EndsTo o (C.mine steps.old) (C.mine steps.new) }
 {
-    let first = room.first;
     ask_all(
         rt,
         steps,
         channels,
         t,
         first,
-        &mut room.request,
-        &mut room.sets,
-        &mut room.arrivals,
+        &mut rooms.request,
+        &mut rooms.sets,
+        &mut rooms.arrivals,
     );
     await_end(rt, steps, t);
 }
 
-/// Starts the open write, in room that is made before. Out of memory takes it back.
+/// Starts the open write at its first block, in room that is made before. Out of memory takes it back.
 fn begin_write<R: Wait, C: ClientSteps>(
     rt: &R,
     alloc: Global,
@@ -98,36 +107,34 @@ fn begin_write<R: Wait, C: ClientSteps>(
     t: TicketNumber,
     bytes: &Bytes,
     replicas: usize,
-) -> Result<Option<WriteRoom>, AllocError>
+    rooms: &mut Rooms,
+) -> Result<Option<u32>, AllocError>
     requires ready { C.ready steps.old }
     requires waits { (o : OwnCall) × IsOwn t o (C.mine steps.old) × HasNotStarted o
         × ((offset : ℤ) × (o.call ≡ Call.Write offset bytes.now)) }
     ensures ready { C.ready steps.new }
     ensures home { C.home steps.new ≡ C.home steps.old }
-    ensures counted { (counts : List ℕ) → Counted (C.mine steps.old) counts → Counted (C.mine steps.new) counts }
-    ensures ok { IfOk result (λ room. (o : OwnCall) → IsOwn t o (C.mine steps.old)
-        → BeginsOr o replicas room (C.mine steps.old) (C.mine steps.new)) }
+    ensures shown { KeepsShown (with_running (C.mine steps.old) []) (C.mine steps.new) }
+    ensures ok { IfOk result (λ block. (o : OwnCall) → IsOwn t o (C.mine steps.old)
+        → BeginsOr o block replicas rooms.new (C.mine steps.old) (C.mine steps.new)) }
     ensures err { OnErr result (C.mine steps.new ≡ with_running (C.mine steps.old) []) }
 {
     let range = steps.range(rt, t);
-    let mut room = match write_room(alloc, range, replicas) {
-        Ok(room) => room,
-        Err(error) => {
-            steps.withdraw(rt, t);
-            return Err(error);
-        }
-    };
+    let count = (range.end - range.first) as usize;
+    if let Err(error) = rooms.make_for_write(alloc, count, replicas) {
+        steps.withdraw(rt, t);
+        return Err(error);
+    }
     let Some(job) = start(rt, alloc, steps, t)? else {
         return Ok(None);
     };
-    let request = &mut room.request;
     fill_request(
-        request,
+        &mut rooms.request,
         job.front.as_slice(),
         bytes.as_slice(),
         job.back.as_slice(),
     );
-    Ok(Some(room))
+    Ok(Some(range.first))
 }
 
 /// Takes the open write to its end. Out of memory takes it back.
@@ -136,6 +143,7 @@ pub(crate) fn serve_write<R: Wait, C: ClientSteps, L: Line + Drop>(
     alloc: Global,
     steps: &mut C,
     channels: &mut [Channel<L>],
+    rooms: &mut Rooms,
     t: TicketNumber,
     bytes: &Bytes,
 ) -> Result<(), AllocError>
@@ -143,19 +151,22 @@ pub(crate) fn serve_write<R: Wait, C: ClientSteps, L: Line + Drop>(
     requires lines { length channels.old ≤ 8 }
     requires waits { (o : OwnCall) × IsOwn t o (C.mine steps.old) × HasNotStarted o
         × ((offset : ℤ) × (o.call ≡ Call.Write offset bytes.now)) }
-    requires counted { Counted (C.mine steps.old) (map (λ c. L.count c.line) channels.old) }
+    requires shown { IsShown (with_running (C.mine steps.old) []) (map (λ c. L.count c.line) channels.old)
+        (map (λ c. L.carried c.line) channels.old) }
     ensures ready { C.ready steps.new }
     ensures home { C.home steps.new ≡ C.home steps.old }
     ensures count { length channels.new ≡ length channels.old }
-    ensures counted { Counted (C.mine steps.new) (map (λ c. L.count c.line) channels.new) }
+    ensures ends { map (λ c. L.ends c.line) channels.new ≡ map (λ c. L.ends c.line) channels.old }
+    ensures shown { IsShown (C.mine steps.new) (map (λ c. L.count c.line) channels.new)
+        (map (λ c. L.carried c.line) channels.new) }
     ensures ok { OnOk result ((o : OwnCall) → IsOwn t o (C.mine steps.old)
-        → EndsTo o (C.mine steps.old) (C.mine steps.new)) }
+        → TakesUp o (C.mine steps.old) (C.mine steps.new)) }
     ensures err { OnErr result (C.mine steps.new ≡ with_running (C.mine steps.old) []) }
 {
-    let Some(room) = begin_write(rt, alloc, steps, t, bytes, channels.len())? else {
+    let Some(first) = begin_write(rt, alloc, steps, t, bytes, channels.len(), rooms)? else {
         return Ok(());
     };
-    carry_write(rt, steps, channels, t, room);
+    carry_write(rt, steps, channels, t, first, rooms);
     Ok(())
 }
 
@@ -173,12 +184,16 @@ fn read_round<R: Wait, C: ClientSteps, L: Line + Drop>(
     requires lines { length channels.old ≡ (C.mine steps.old).replicas }
     requires room { header_length + length reply.old ≤ vec_capacity room.old }
     requires own { (o : OwnCall) × IsOwn t o (C.mine steps.old) × CarriesRead o offset reply.old }
-    requires counted { Counted (C.mine steps.old) (map (λ c. L.count c.line) channels.old) }
+    requires none { NoneAcked (C.mine steps.old) }
+    requires shown { IsShown (C.mine steps.old) (map (λ c. L.count c.line) channels.old)
+        (map (λ c. L.carried c.line) channels.old) }
     ensures ready { C.ready steps.new }
     ensures home { C.home steps.new ≡ C.home steps.old }
     ensures count { length channels.new ≡ length channels.old }
+    ensures ends { map (λ c. L.ends c.line) channels.new ≡ map (λ c. L.ends c.line) channels.old }
     ensures room { vec_capacity room.old ≤ vec_capacity room.new }
-    ensures counted { Counted (C.mine steps.new) (map (λ c. L.count c.line) channels.new) }
+    ensures shown { IsShown (C.mine steps.new) (map (λ c. L.count c.line) channels.new)
+        (map (λ c. L.carried c.line) channels.new) }
     ensures goes { KeepsOpen (C.mine steps.old) (C.mine steps.new) }
 {
     if let Some(replica) = steps.source(rt) {
@@ -200,12 +215,16 @@ fn carry_read<R: Wait, C: ClientSteps, L: Line + Drop>(
     requires lines { length channels.old ≡ (C.mine steps.old).replicas }
     requires room { header_length + length reply.old ≤ vec_capacity room.old }
     requires own { (o : OwnCall) × IsOwn t o (C.mine steps.old) × CarriesRead o offset reply.old }
-    requires counted { Counted (C.mine steps.old) (map (λ c. L.count c.line) channels.old) }
+    requires none { NoneAcked (C.mine steps.old) }
+    requires shown { IsShown (C.mine steps.old) (map (λ c. L.count c.line) channels.old)
+        (map (λ c. L.carried c.line) channels.old) }
     ensures ready { C.ready steps.new }
     ensures home { C.home steps.new ≡ C.home steps.old }
     ensures count { length channels.new ≡ length channels.old }
-    ensures counted { Counted (C.mine steps.new) (map (λ c. L.count c.line) channels.new) }
-    ensures ends { (o : OwnCall) → IsOwn t o (C.mine steps.old) → EndsTo o (C.mine steps.old) (C.mine steps.new) }
+    ensures ends { map (λ c. L.ends c.line) channels.new ≡ map (λ c. L.ends c.line) channels.old }
+    ensures shown { IsShown (C.mine steps.new) (map (λ c. L.count c.line) channels.new)
+        (map (λ c. L.carried c.line) channels.new) }
+    ensures done { (o : OwnCall) → IsOwn t o (C.mine steps.old) → EndsTo o (C.mine steps.old) (C.mine steps.new) }
 {
     for _ in rt.forever() {
         read_round(rt, steps, channels, t, offset, reply, room);
@@ -216,33 +235,33 @@ fn carry_read<R: Wait, C: ClientSteps, L: Line + Drop>(
     unreachable!()
 }
 
-/// Starts the open read, in room that is made before. Out of memory takes it back.
+/// Starts the open read, in room that is made before, and says whether it started: where it did not, there is no
+/// replica. Out of memory takes it back.
 fn begin_read<R: Wait, C: ClientSteps>(
     rt: &R,
     alloc: Global,
     steps: &mut C,
     t: TicketNumber,
     count: u32,
-) -> Result<Option<ReadRoom>, AllocError>
+    rooms: &mut Rooms,
+) -> Result<bool, AllocError>
     requires ready { C.ready steps.old }
     requires waits { (o : OwnCall) × IsOwn t o (C.mine steps.old) × HasNotStarted o }
     ensures ready { C.ready steps.new }
     ensures home { C.home steps.new ≡ C.home steps.old }
-    ensures counted { (counts : List ℕ) → Counted (C.mine steps.old) counts → Counted (C.mine steps.new) counts }
-    ensures ok { IfOk result (λ room. (o : OwnCall) → IsOwn t o (C.mine steps.old)
-        → ReadsOr o count room (C.mine steps.old) (C.mine steps.new)) }
+    ensures shown { KeepsShown (with_running (C.mine steps.old) []) (C.mine steps.new) }
+    ensures room { OnOk result (HasReadRoom count rooms.new) }
+    ensures ok { IfOk result (λ started. (o : OwnCall) (offset : ℤ) → IsOwn t o (C.mine steps.old)
+        → o.call ≡ Call.Read offset count → ReadsOr o started offset count (C.mine steps.old) (C.mine steps.new)) }
     ensures err { OnErr result (C.mine steps.new ≡ with_running (C.mine steps.old) []) }
 {
-    let room = match read_room(alloc, count) {
-        Ok(room) => room,
-        Err(error) => {
-            steps.withdraw(rt, t);
-            return Err(error);
-        }
-    };
+    if let Err(error) = rooms.make_for_read(count) {
+        steps.withdraw(rt, t);
+        return Err(error);
+    }
     match start(rt, alloc, steps, t)? {
-        Some(_job) => Ok(Some(room)),
-        None => Ok(None),
+        Some(_job) => Ok(true),
+        None => Ok(false),
     }
 }
 
@@ -252,6 +271,7 @@ pub(crate) fn serve_read<R: Wait, C: ClientSteps, L: Line + Drop>(
     alloc: Global,
     steps: &mut C,
     channels: &mut [Channel<L>],
+    rooms: &mut Rooms,
     t: TicketNumber,
     offset: i64,
     count: u32,
@@ -261,19 +281,22 @@ pub(crate) fn serve_read<R: Wait, C: ClientSteps, L: Line + Drop>(
     requires short { count ≤ longest_call }
     requires waits { (o : OwnCall) × IsOwn t o (C.mine steps.old) × HasNotStarted o
         × (o.call ≡ Call.Read offset count) }
-    requires counted { Counted (C.mine steps.old) (map (λ c. L.count c.line) channels.old) }
+    requires shown { IsShown (with_running (C.mine steps.old) []) (map (λ c. L.count c.line) channels.old)
+        (map (λ c. L.carried c.line) channels.old) }
     ensures ready { C.ready steps.new }
     ensures home { C.home steps.new ≡ C.home steps.old }
     ensures count { length channels.new ≡ length channels.old }
-    ensures counted { Counted (C.mine steps.new) (map (λ c. L.count c.line) channels.new) }
+    ensures ends { map (λ c. L.ends c.line) channels.new ≡ map (λ c. L.ends c.line) channels.old }
+    ensures shown { IsShown (C.mine steps.new) (map (λ c. L.count c.line) channels.new)
+        (map (λ c. L.carried c.line) channels.new) }
     ensures ok { OnOk result ((o : OwnCall) → IsOwn t o (C.mine steps.old)
-        → EndsTo o (C.mine steps.old) (C.mine steps.new)) }
+        → TakesUp o (C.mine steps.old) (C.mine steps.new)) }
     ensures err { OnErr result (C.mine steps.new ≡ with_running (C.mine steps.old) []) }
 {
-    let Some(mut room) = begin_read(rt, alloc, steps, t, count)? else {
+    if !begin_read(rt, alloc, steps, t, count, rooms)? {
         return Ok(());
-    };
-    let arrivals = &mut room.arrivals;
-    carry_read(rt, steps, channels, t, offset, &mut room.reply, arrivals);
+    }
+    let reply = &mut rooms.reply[..HEADER_LENGTH + count as usize];
+    carry_read(rt, steps, channels, t, offset, reply, &mut rooms.arrivals);
     Ok(())
 }

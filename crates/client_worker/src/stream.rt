@@ -4,19 +4,21 @@ ghost use Rattle.std.specs.Prelude.{◌≡◌, ℕ, ◌+◌, ◌<◌, ◌≤◌,
 ghost use Rattle.volume_core.specs.Answers.{IsNow, IsOnRange};
 ghost use Rattle.frame_stream.specs.Asked.{asked_of, call_of};
 ghost use Rattle.frame_stream.specs.declared.asked.Asked.TheVariants as asked;
-ghost use Rattle.client_worker.specs.Asks.{IsAsked, IsFrameCall, IsShort};
-ghost use Rattle.client_worker.specs.Mine.{OwnCall, IsOwn, with_running};
-ghost use Rattle.client_worker.specs.Steps.{HasNotStarted};
-ghost use Rattle.client_worker.specs.Serving.{Counted, EndsTo, GrewBy, Grew, GrewSome};
+ghost use Rattle.stream_steps.specs.Mine.{OwnCall, IsOwn, with_running};
+ghost use Rattle.stream_steps.specs.Steps.{HasNotStarted, IsFrameCall};
+ghost use Rattle.client_worker.specs.Asks.{IsAsked, IsShort};
+ghost use Rattle.client_worker.specs.Serving.{IsShown, GrewBy, Grew, GrewSome};
+ghost use Rattle.client_worker.specs.Ends.{TakesUp};
 
 use crate::channel::Channel;
+use crate::rooms::Rooms;
 use crate::serve::{serve_read, serve_write};
-use crate::steps::ClientSteps;
 use frame_stream::{Asked, Frame, of_frame};
 use outer_traits::Line;
 use script_text::Frames;
 use std::alloc::{AllocError, Global};
 use std::sync::Wait;
+use stream_steps::ClientSteps;
 use vol_units::LONGEST_CALL;
 use volume_core::{Call, Enrolled, TicketNumber};
 
@@ -33,27 +35,32 @@ pub fn run_stream<R: Wait, C: ClientSteps, L: Line + Drop>(
     requires lines { (length channels.old ≤ 8) × (length channels.old ≡ (C.mine steps.old).replicas) }
     requires idle { (C.mine steps.old).running ≡ [] }
     requires asked { All IsAsked frames.now }
-    requires counted { Counted (C.mine steps.old) (map (λ c. L.count c.line) channels.old) }
+    requires shown { IsShown (C.mine steps.old) (map (λ c. L.count c.line) channels.old)
+        (map (λ c. L.carried c.line) channels.old) }
     ensures ready { C.ready steps.new }
     ensures home { C.home steps.new ≡ C.home steps.old }
     ensures count { length channels.new ≡ length channels.old }
-    ensures counted { Counted (C.mine steps.new) (map (λ c. L.count c.line) channels.new) }
+    ensures ends { map (λ c. L.ends c.line) channels.new ≡ map (λ c. L.ends c.line) channels.old }
+    ensures shown { IsShown (C.mine steps.new) (map (λ c. L.count c.line) channels.new)
+        (map (λ c. L.carried c.line) channels.new) }
     ensures ok { OnOk result (Grew (map call_of frames.now) (C.mine steps.old) (C.mine steps.new)) }
     ensures err { OnErr result (GrewSome (map call_of frames.now) (C.mine steps.old) (C.mine steps.new)) }
 {
+    let mut rooms = Rooms::new(alloc);
     let mut left = frames.reader()?;
     while let Some(frame) = left.next()? {
-        serve_call(rt, alloc, steps, channels, call_in(frame))?;
+        serve_call(rt, alloc, steps, channels, &mut rooms, call_in(frame))?;
     }
     Ok(())
 }
 
-/// Takes one call of the stream to its answer. Out of memory leaves it unasked.
+/// Takes one call of the stream to its answer, in room that is lent. Out of memory leaves it unasked.
 pub fn serve_call<R: Wait, C: ClientSteps, L: Line + Drop>(
     rt: &R,
     alloc: Global,
     steps: &mut C,
     channels: &mut [Channel<L>],
+    rooms: &mut Rooms,
     call: Call,
 ) -> Result<(), AllocError>
     requires ready { C.ready steps.old }
@@ -61,11 +68,14 @@ pub fn serve_call<R: Wait, C: ClientSteps, L: Line + Drop>(
     requires idle { (C.mine steps.old).running ≡ [] }
     requires frame { IsFrameCall call }
     requires short { IsShort call }
-    requires counted { Counted (C.mine steps.old) (map (λ c. L.count c.line) channels.old) }
+    requires shown { IsShown (C.mine steps.old) (map (λ c. L.count c.line) channels.old)
+        (map (λ c. L.carried c.line) channels.old) }
     ensures ready { C.ready steps.new }
     ensures home { C.home steps.new ≡ C.home steps.old }
     ensures count { length channels.new ≡ length channels.old }
-    ensures counted { Counted (C.mine steps.new) (map (λ c. L.count c.line) channels.new) }
+    ensures ends { map (λ c. L.ends c.line) channels.new ≡ map (λ c. L.ends c.line) channels.old }
+    ensures shown { IsShown (C.mine steps.new) (map (λ c. L.count c.line) channels.new)
+        (map (λ c. L.carried c.line) channels.new) }
     ensures ok { OnOk result (GrewBy call (C.mine steps.old) (C.mine steps.new)) }
     ensures err { OnErr result (C.mine steps.new ≡ C.mine steps.old) }
 {
@@ -75,7 +85,7 @@ pub fn serve_call<R: Wait, C: ClientSteps, L: Line + Drop>(
     }
     match steps.enrol(rt, alloc, &call)? {
         Enrolled::OutOfRange(_) => Ok(()),
-        Enrolled::Ticket(t) => serve_open(rt, alloc, steps, channels, t, &call),
+        Enrolled::Ticket(t) => serve_open(rt, alloc, steps, channels, rooms, t, &call),
     }
 }
 
@@ -85,6 +95,7 @@ fn serve_open<R: Wait, C: ClientSteps, L: Line + Drop>(
     alloc: Global,
     steps: &mut C,
     channels: &mut [Channel<L>],
+    rooms: &mut Rooms,
     t: TicketNumber,
     call: &Call,
 ) -> Result<(), AllocError>
@@ -92,20 +103,23 @@ fn serve_open<R: Wait, C: ClientSteps, L: Line + Drop>(
     requires lines { (length channels.old ≤ 8) × (length channels.old ≡ (C.mine steps.old).replicas) }
     requires range { IsOnRange call.now }
     requires waits { (o : OwnCall) × IsOwn t o (C.mine steps.old) × HasNotStarted o × (o.call ≡ call.now) }
-    requires counted { Counted (C.mine steps.old) (map (λ c. L.count c.line) channels.old) }
+    requires shown { IsShown (with_running (C.mine steps.old) []) (map (λ c. L.count c.line) channels.old)
+        (map (λ c. L.carried c.line) channels.old) }
     ensures ready { C.ready steps.new }
     ensures home { C.home steps.new ≡ C.home steps.old }
     ensures count { length channels.new ≡ length channels.old }
-    ensures counted { Counted (C.mine steps.new) (map (λ c. L.count c.line) channels.new) }
+    ensures ends { map (λ c. L.ends c.line) channels.new ≡ map (λ c. L.ends c.line) channels.old }
+    ensures shown { IsShown (C.mine steps.new) (map (λ c. L.count c.line) channels.new)
+        (map (λ c. L.carried c.line) channels.new) }
     ensures ok { OnOk result ((o : OwnCall) → IsOwn t o (C.mine steps.old)
-        → EndsTo o (C.mine steps.old) (C.mine steps.new)) }
+        → TakesUp o (C.mine steps.old) (C.mine steps.new)) }
     ensures err { OnErr result (C.mine steps.new ≡ with_running (C.mine steps.old) []) }
 {
     match call {
         Call::Read { offset, length } => {
-            serve_read(rt, alloc, steps, channels, t, *offset, *length)
+            serve_read(rt, alloc, steps, channels, rooms, t, *offset, *length)
         }
-        Call::Write { bytes, .. } => serve_write(rt, alloc, steps, channels, t, bytes),
+        Call::Write { bytes, .. } => serve_write(rt, alloc, steps, channels, rooms, t, bytes),
         Call::Ping | Call::Other(_) | Call::Command(_) => unreachable!(),
     }
 }

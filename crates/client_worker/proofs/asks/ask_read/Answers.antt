@@ -1,30 +1,58 @@
-use Rattle.std.proofs.Common.{rules, ◌≡◌, length, map}
-use Rattle.client_worker.specs.Serving.{KeepsOpen}
-use Rattle.client_worker.proofs.Going.{goes_then, goes_read, goes_own, same_own}
-use Rattle.client_worker.proofs.Counts.{counted_taken}
+use Rattle.std.proofs.Common.{rules, arith, ◌≡◌, length, map, slice_set, is_err, refl, ap, sym, subst, ◌∙◌, true, false}
+use Rattle.frame_wire.specs.Spelling.{frame}
+use Rattle.open_calls.specs.declared.parts.Part.TheVariants.{Taken}
+use Rattle.stream_steps.specs.Mine.{IsOwn}
+use Rattle.stream_steps.specs.Steps.{TakesTo, IsOnBlocks}
+use Rattle.client_worker.specs.Exchanges.{told_in}
+use Rattle.client_worker.specs.Ends.{NoneAcked}
+use Rattle.client_worker.proofs.Going.{goes_then, goes_same, goes_takes, taken_own, done_well}
+use Rattle.client_worker.proofs.Told.{body_put, read_lacks}
+use Rattle.client_worker.proofs.Shown.{shown_reads}
+use Rattle.client_worker.proofs.Asked.{has_taken, unread_acked}
 use Rattle.client_worker.proofs.asks.ask_read.Goals as goal
 
 pub reply_with-requires-clause-own : goal.reply_with-requires-clause-own
 reply_with-requires-clause-own g c =
-    let same : g.C.ClientSteps.mine c.pass.new.steps ≡ g.C.ClientSteps.mine c.args.steps.now = search rules in
-    let own = same_own c.args.t (g.C.ClientSteps.mine c.args.steps.now) (g.C.ClientSteps.mine c.pass.new.steps) same (c.requires.own.0, c.requires.own.1) in
-    let long : length c.apply_read.new.into ≡ length own.0.buffer = search rules in
-    goes_own c.args.t (g.C.ClientSteps.mine c.pass.new.steps) (g.C.ClientSteps.mine c.apply_read.new.self)
-    (goes_read c.apply_read.result c.args.t c.args.replica c.apply_read.new.into (g.C.ClientSteps.mine c.pass.new.steps) (g.C.ClientSteps.mine c.apply_read.new.self) own long c.apply_read.ensures.ok c.apply_read.ensures.err) own
+    let op = c.requires.own in
+    let came : c.pass.result ≡ true = search rules in
+    let same : g.C.ClientSteps.mine c.pass.new.steps ≡ g.C.ClientSteps.mine c.args.steps.now = ap g.C.ClientSteps.mine (c.pass.ensures.same came) in
+    let own : IsOwn c.args.t op.0 (g.C.ClientSteps.mine c.pass.new.steps) = subst (IsOwn c.args.t op.0) (sym same) op.1 in
+    let yes : is_err c.apply_read.result ≡ false = search rules in
+    let took : TakesTo op.0 c.args.replica c.apply_read.new.into (g.C.ClientSteps.mine c.pass.new.steps) (g.C.ClientSteps.mine c.apply_read.new.self) = done_well c.apply_read.result yes c.apply_read.ensures.ok op.0 own in
+    let long : length c.apply_read.new.into ≡ length op.0.buffer = search rules in (
+      record op.0 { buffer = c.apply_read.new.into; parts = slice_set op.0.parts c.args.replica Taken },
+      taken_own c.args.t c.args.replica c.apply_read.new.into op.0 (g.C.ClientSteps.mine c.pass.new.steps) (g.C.ClientSteps.mine c.apply_read.new.self) own took,
+      (op.2.started, subst IsOnBlocks (sym op.2.call) tt),
+      has_taken op.0 c.args.replica c.apply_read.new.into,
+      read_lacks op.0 (record op.0 { buffer = c.apply_read.new.into; parts = slice_set op.0.parts c.args.replica Taken }) (told_in (map (λ x. g.L.Line.carried x.line) c.next_exchange-seq.new.channels) c.args.replica) (told_in (map (λ x. g.L.Line.carried x.line) c.pass.new.channels) c.args.replica)
+          c.next_exchange-seq.result c.args.offset c.args.reply.now c.encode_header-request.result c.put_header.new.bytes c.read_head.result c.read_reply_head.result op.2 refl long
+          (search rules) (search rules) (search rules) (c.put_header.ensures ∙ ap (frame c.read_reply_head.result) (body_put c.args.reply.now c.apply_read.new.into op.2.header (omega (arith, long, op.2.count)))) (c.pass.ensures.carried came),
+    )
 
-pub reply_with-requires-clause-counted : goal.reply_with-requires-clause-counted
-reply_with-requires-clause-counted g c =
-    let same : g.C.ClientSteps.mine c.pass.new.steps ≡ g.C.ClientSteps.mine c.args.steps.now = search rules in
-    let own = same_own c.args.t (g.C.ClientSteps.mine c.args.steps.now) (g.C.ClientSteps.mine c.pass.new.steps) same (c.requires.own.0, c.requires.own.1) in
-    let long : length c.apply_read.new.into ≡ length own.0.buffer = search rules in
-    counted_taken c.apply_read.result c.args.t c.args.replica (λ o. c.apply_read.new.into) (g.C.ClientSteps.mine c.pass.new.steps) (g.C.ClientSteps.mine c.apply_read.new.self) (map (λ x. g.L.Line.count x.line) c.pass.new.channels) own c.apply_read.ensures.ok c.apply_read.ensures.err c.pass.ensures.counted
+pub reply_with-requires-clause-shown : goal.reply_with-requires-clause-shown
+reply_with-requires-clause-shown g c =
+    let op = c.requires.own in
+    let came : c.pass.result ≡ true = search rules in
+    let same : g.C.ClientSteps.mine c.pass.new.steps ≡ g.C.ClientSteps.mine c.args.steps.now = ap g.C.ClientSteps.mine (c.pass.ensures.same came) in
+    let own : IsOwn c.args.t op.0 (g.C.ClientSteps.mine c.pass.new.steps) = subst (IsOwn c.args.t op.0) (sym same) op.1 in
+    let yes : is_err c.apply_read.result ≡ false = search rules in
+    let took : TakesTo op.0 c.args.replica c.apply_read.new.into (g.C.ClientSteps.mine c.pass.new.steps) (g.C.ClientSteps.mine c.apply_read.new.self) = done_well c.apply_read.result yes c.apply_read.ensures.ok op.0 own in
+    let long : length c.apply_read.new.into ≡ length op.0.buffer = search rules in
+    shown_reads c.args.t c.args.replica c.apply_read.new.into op.0 (g.C.ClientSteps.mine c.pass.new.steps) (g.C.ClientSteps.mine c.apply_read.new.self) own (subst NoneAcked (sym same) c.requires.none) took
+    (map (λ x. g.L.Line.count x.line) c.pass.new.channels) (map (λ x. g.L.Line.carried x.line) c.pass.new.channels) c.pass.ensures.shown
 
 pub returns-clause-goes : goal.returns-clause-goes
 returns-clause-goes g c =
-    let same : g.C.ClientSteps.mine c.pass.new.steps ≡ g.C.ClientSteps.mine c.args.steps.now = search rules in
-    let own = same_own c.args.t (g.C.ClientSteps.mine c.args.steps.now) (g.C.ClientSteps.mine c.pass.new.steps) same (c.requires.own.0, c.requires.own.1) in
-    let long : length c.apply_read.new.into ≡ length own.0.buffer = search rules in
-    let taken : KeepsOpen (g.C.ClientSteps.mine c.pass.new.steps) (g.C.ClientSteps.mine c.apply_read.new.self) =
-    goes_read c.apply_read.result c.args.t c.args.replica c.apply_read.new.into (g.C.ClientSteps.mine c.pass.new.steps) (g.C.ClientSteps.mine c.apply_read.new.self) own long c.apply_read.ensures.ok c.apply_read.ensures.err in
-    goes_then (g.C.ClientSteps.mine c.args.steps.now) (g.C.ClientSteps.mine c.pass.new.steps) (g.C.ClientSteps.mine c.reply_with.new.steps) c.pass.ensures.goes
-    (goes_then (g.C.ClientSteps.mine c.pass.new.steps) (g.C.ClientSteps.mine c.apply_read.new.self) (g.C.ClientSteps.mine c.reply_with.new.steps) taken c.reply_with.ensures.goes)
+    let op = c.requires.own in
+    let came : c.pass.result ≡ true = search rules in
+    let same : g.C.ClientSteps.mine c.pass.new.steps ≡ g.C.ClientSteps.mine c.args.steps.now = ap g.C.ClientSteps.mine (c.pass.ensures.same came) in
+    let own : IsOwn c.args.t op.0 (g.C.ClientSteps.mine c.pass.new.steps) = subst (IsOwn c.args.t op.0) (sym same) op.1 in
+    let yes : is_err c.apply_read.result ≡ false = search rules in
+    let took : TakesTo op.0 c.args.replica c.apply_read.new.into (g.C.ClientSteps.mine c.pass.new.steps) (g.C.ClientSteps.mine c.apply_read.new.self) = done_well c.apply_read.result yes c.apply_read.ensures.ok op.0 own in
+    let long : length c.apply_read.new.into ≡ length op.0.buffer = search rules in
+    goes_then (g.C.ClientSteps.mine c.args.steps.now) (g.C.ClientSteps.mine c.pass.new.steps) (g.C.ClientSteps.mine c.reply_with.new.steps) (goes_same (g.C.ClientSteps.mine c.args.steps.now) (g.C.ClientSteps.mine c.pass.new.steps) same)
+    (goes_then (g.C.ClientSteps.mine c.pass.new.steps) (g.C.ClientSteps.mine c.apply_read.new.self) (g.C.ClientSteps.mine c.reply_with.new.steps)
+    (goes_takes c.args.t c.args.replica c.apply_read.new.into op.0 (g.C.ClientSteps.mine c.pass.new.steps) (g.C.ClientSteps.mine c.apply_read.new.self) own long took) c.reply_with.ensures.goes)
+
+pub returns-clause-asked : goal.returns-clause-asked
+returns-clause-asked g c = unread_acked (g.C.ClientSteps.modes c.reply_with.new.steps) c.args.replica (g.C.ClientSteps.mine c.reply_with.new.steps) c.reply_with.ensures.asked

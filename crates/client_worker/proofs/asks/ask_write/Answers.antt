@@ -1,7 +1,13 @@
-use Rattle.std.proofs.Common.{rules, ◌≡◌, map}
-use Rattle.client_worker.specs.Serving.{KeepsOpen}
-use Rattle.client_worker.proofs.Going.{goes_then, goes_same, goes_taken, goes_own, same_own}
-use Rattle.client_worker.proofs.Counts.{counted_taken}
+use Rattle.std.proofs.Common.{rules, ◌≡◌, map, slice_set, refl, ap, sym, subst, ◌∙◌, true}
+use Rattle.open_calls.specs.declared.parts.Part.TheVariants.{Taken}
+use Rattle.stream_steps.specs.Mine.{IsOwn}
+use Rattle.stream_steps.specs.Steps.{TakesTo}
+use Rattle.client_worker.specs.Exchanges.{told_in}
+use Rattle.client_worker.proofs.Going.{goes_then, goes_same, goes_takes, taken_own}
+use Rattle.client_worker.proofs.Told.{write_lacks}
+use Rattle.client_worker.proofs.Shown.{shown_takes}
+use Rattle.client_worker.proofs.Asked.{has_taken}
+use Rattle.client_worker.proofs.Writing.{write_is_started}
 use Rattle.client_worker.proofs.asks.ask_write.Goals as goal
 
 pub returns-then-eq-clause-goes : goal.returns-then-eq-clause-goes
@@ -9,23 +15,39 @@ returns-then-eq-clause-goes g c = goes_same (g.C.ClientSteps.mine c.args.steps.n
 
 pub reply_with-requires-clause-own : goal.reply_with-requires-clause-own
 reply_with-requires-clause-own g c =
-    let same : g.C.ClientSteps.mine c.pass.new.steps ≡ g.C.ClientSteps.mine c.args.steps.now = search rules in
-    let own = same_own c.args.t (g.C.ClientSteps.mine c.args.steps.now) (g.C.ClientSteps.mine c.pass.new.steps) same (c.requires.own.0, c.requires.own.1) in
-    goes_own c.args.t (g.C.ClientSteps.mine c.pass.new.steps) (g.C.ClientSteps.mine c.apply_write.new.self)
-    (goes_taken c.apply_write.result c.args.t c.args.replica (g.C.ClientSteps.mine c.pass.new.steps) (g.C.ClientSteps.mine c.apply_write.new.self) own c.apply_write.ensures.ok c.apply_write.ensures.err) own
+    let op = c.requires.own in
+    let came : c.pass.result ≡ true = search rules in
+    let same : g.C.ClientSteps.mine c.pass.new.steps ≡ g.C.ClientSteps.mine c.args.steps.now = ap g.C.ClientSteps.mine (c.pass.ensures.same came) ∙ c.mode.ensures.same in
+    let own : IsOwn c.args.t op.0 (g.C.ClientSteps.mine c.pass.new.steps) = subst (IsOwn c.args.t op.0) (sym same) op.2 in
+    let yes : c.take_write.result ≡ true = search rules in
+    let took : TakesTo op.0 c.args.replica op.0.buffer (g.C.ClientSteps.mine c.pass.new.steps) (g.C.ClientSteps.mine c.take_write.new.steps) = c.take_write.ensures.taken yes op.0 own in (
+      record op.0 { parts = slice_set op.0.parts c.args.replica Taken },
+      taken_own c.args.t c.args.replica op.0.buffer op.0 (g.C.ClientSteps.mine c.pass.new.steps) (g.C.ClientSteps.mine c.take_write.new.steps) own took,
+      write_is_started op.0 op.3.writes,
+      has_taken op.0 c.args.replica op.0.buffer,
+      write_lacks op.0 (record op.0 { parts = slice_set op.0.parts c.args.replica Taken }) (told_in (map (λ x. g.L.Line.carried x.line) c.next_exchange-seq.new.channels) c.args.replica) (told_in (map (λ x. g.L.Line.carried x.line) c.pass.new.channels) c.args.replica)
+          c.next_exchange-seq.result c.args.first op.1 c.args.request.now c.put_header.new.bytes c.encode_header-reply.result c.write_head.result c.write_reply_head.result op.3 refl
+          (search rules) (search rules) (search rules) (search rules) (c.pass.ensures.carried came),
+    )
 
-pub reply_with-requires-clause-counted : goal.reply_with-requires-clause-counted
-reply_with-requires-clause-counted g c =
-    let same : g.C.ClientSteps.mine c.pass.new.steps ≡ g.C.ClientSteps.mine c.args.steps.now = search rules in
-    let own = same_own c.args.t (g.C.ClientSteps.mine c.args.steps.now) (g.C.ClientSteps.mine c.pass.new.steps) same (c.requires.own.0, c.requires.own.1) in
-    counted_taken c.apply_write.result c.args.t c.args.replica (λ o. o.buffer) (g.C.ClientSteps.mine c.pass.new.steps) (g.C.ClientSteps.mine c.apply_write.new.self) (map (λ x. g.L.Line.count x.line) c.pass.new.channels) own c.apply_write.ensures.ok c.apply_write.ensures.err c.pass.ensures.counted
+pub reply_with-requires-clause-shown : goal.reply_with-requires-clause-shown
+reply_with-requires-clause-shown g c =
+    let op = c.requires.own in
+    let came : c.pass.result ≡ true = search rules in
+    let same : g.C.ClientSteps.mine c.pass.new.steps ≡ g.C.ClientSteps.mine c.args.steps.now = ap g.C.ClientSteps.mine (c.pass.ensures.same came) ∙ c.mode.ensures.same in
+    let own : IsOwn c.args.t op.0 (g.C.ClientSteps.mine c.pass.new.steps) = subst (IsOwn c.args.t op.0) (sym same) op.2 in
+    let yes : c.take_write.result ≡ true = search rules in
+    let took : TakesTo op.0 c.args.replica op.0.buffer (g.C.ClientSteps.mine c.pass.new.steps) (g.C.ClientSteps.mine c.take_write.new.steps) = c.take_write.ensures.taken yes op.0 own in
+    shown_takes c.args.t c.args.replica op.0 (g.C.ClientSteps.mine c.pass.new.steps) (g.C.ClientSteps.mine c.take_write.new.steps) own took (map (λ x. g.L.Line.count x.line) c.pass.new.channels) (map (λ x. g.L.Line.carried x.line) c.pass.new.channels) c.pass.ensures.shown
 
 pub returns-clause-goes : goal.returns-clause-goes
 returns-clause-goes g c =
-    let same : g.C.ClientSteps.mine c.pass.new.steps ≡ g.C.ClientSteps.mine c.args.steps.now = search rules in
-    let own = same_own c.args.t (g.C.ClientSteps.mine c.args.steps.now) (g.C.ClientSteps.mine c.pass.new.steps) same (c.requires.own.0, c.requires.own.1) in
-    let taken : KeepsOpen (g.C.ClientSteps.mine c.pass.new.steps) (g.C.ClientSteps.mine c.apply_write.new.self) =
-    goes_taken c.apply_write.result c.args.t c.args.replica (g.C.ClientSteps.mine c.pass.new.steps) (g.C.ClientSteps.mine c.apply_write.new.self) own c.apply_write.ensures.ok c.apply_write.ensures.err in
-    let first : KeepsOpen (g.C.ClientSteps.mine c.args.steps.now) (g.C.ClientSteps.mine c.pass.new.steps) = goes_same (g.C.ClientSteps.mine c.args.steps.now) (g.C.ClientSteps.mine c.pass.new.steps) same in
-    goes_then (g.C.ClientSteps.mine c.args.steps.now) (g.C.ClientSteps.mine c.pass.new.steps) (g.C.ClientSteps.mine c.reply_with.new.steps) first
-    (goes_then (g.C.ClientSteps.mine c.pass.new.steps) (g.C.ClientSteps.mine c.apply_write.new.self) (g.C.ClientSteps.mine c.reply_with.new.steps) taken c.reply_with.ensures.goes)
+    let op = c.requires.own in
+    let came : c.pass.result ≡ true = search rules in
+    let same : g.C.ClientSteps.mine c.pass.new.steps ≡ g.C.ClientSteps.mine c.args.steps.now = ap g.C.ClientSteps.mine (c.pass.ensures.same came) ∙ c.mode.ensures.same in
+    let own : IsOwn c.args.t op.0 (g.C.ClientSteps.mine c.pass.new.steps) = subst (IsOwn c.args.t op.0) (sym same) op.2 in
+    let yes : c.take_write.result ≡ true = search rules in
+    let took : TakesTo op.0 c.args.replica op.0.buffer (g.C.ClientSteps.mine c.pass.new.steps) (g.C.ClientSteps.mine c.take_write.new.steps) = c.take_write.ensures.taken yes op.0 own in
+    goes_then (g.C.ClientSteps.mine c.args.steps.now) (g.C.ClientSteps.mine c.pass.new.steps) (g.C.ClientSteps.mine c.reply_with.new.steps) (goes_same (g.C.ClientSteps.mine c.args.steps.now) (g.C.ClientSteps.mine c.pass.new.steps) same)
+    (goes_then (g.C.ClientSteps.mine c.pass.new.steps) (g.C.ClientSteps.mine c.take_write.new.steps) (g.C.ClientSteps.mine c.reply_with.new.steps)
+    (goes_takes c.args.t c.args.replica op.0.buffer op.0 (g.C.ClientSteps.mine c.pass.new.steps) (g.C.ClientSteps.mine c.take_write.new.steps) own refl took) c.reply_with.ensures.goes)

@@ -1,12 +1,20 @@
-use Rattle.std.proofs.Common.{rules, ◌≡◌, ◌≤◌, ◌*◌, length, None, Some, refl, sym, subst, arith}
+use Rattle.std.proofs.Common.{rules, ◌≡◌, ◌≤◌, ◌-◌, ◌*◌, length, None, Some, refl, ap, sym, subst, arith}
 use Rattle.vol_units.specs.declared.range.BlockRange.{BlockRange}
-use Rattle.client_worker.specs.Rooms.{IsRoomFor, BeginsIn}
-use Rattle.client_worker.specs.Steps.{StartsCall}
+use Rattle.stream_steps.specs.Steps.{StartsCall}
+use Rattle.client_worker.specs.declared.rooms.Rooms.{Rooms}
+use Rattle.client_worker.specs.Rooms.{HasWriteRoom, BeginsIn}
+use Rattle.client_worker.proofs.Shown.{shown_from}
 use Rattle.client_worker.proofs.Writing.{not_begun, begun, whole_long, begins_in, only_own}
 use Rattle.client_worker.proofs.serve.begin_write.Goals as goal
 
-pub returns-in_default-clause-ok : goal.returns-in_default-clause-ok
-returns-in_default-clause-ok g c =
+pub returns-in_default-2-clause-shown : goal.returns-in_default-2-clause-shown
+returns-in_default-2-clause-shown g c = shown_from (g.C.ClientSteps.mine c.args.steps.now) (g.C.ClientSteps.mine c.range-range.new.self) (g.C.ClientSteps.mine c.start.new.steps) c.range-range.ensures.same c.start.ensures.shown
+
+pub returns-clause-shown : goal.returns-clause-shown
+returns-clause-shown g c = shown_from (g.C.ClientSteps.mine c.args.steps.now) (g.C.ClientSteps.mine c.range-range.new.self) (g.C.ClientSteps.mine c.start.new.steps) c.range-range.ensures.same c.start.ensures.shown
+
+pub returns-in_default-2-clause-ok : goal.returns-in_default-2-clause-ok
+returns-in_default-2-clause-ok g c =
     let e : c.in_ok-job.field-0 ≡ None = search rules in
     not_begun c.args.t (g.C.ClientSteps.mine c.args.steps.now) (g.C.ClientSteps.mine c.range-range.new.self) (g.C.ClientSteps.mine c.start.new.steps) c.in_ok-job.field-0 c.range-range.ensures.same c.in_ok-job.ensures.ok e
 
@@ -16,9 +24,10 @@ fill_request-requires-clause-room g c =
     let e : c.in_ok-job.field-0 ≡ Some c.in-Some.job = search rules in
     let s : StartsCall op.0 c.in-Some.job (g.C.ClientSteps.mine c.args.steps.now) (g.C.ClientSteps.mine c.start.new.steps) =
     begun c.args.t (g.C.ClientSteps.mine c.args.steps.now) (g.C.ClientSteps.mine c.range-range.new.self) (g.C.ClientSteps.mine c.start.new.steps) c.in_ok-job.field-0 c.range-range.ensures.same c.in_ok-job.ensures.ok c.in-Some.job e op.0 op.1 in
-    let range = c.range-range.ensures.is op.0 op.1 in
-    let up = subst (λ (r : BlockRange). r.first ≤ r.end) range c.range-range.ensures.up in
-    let fits : IsRoomFor op.0.range c.args.replicas c.in-Ok.room = subst (λ r. IsRoomFor r c.args.replicas c.in-Ok.room) range c.in-Ok.ensures in
+    let range : c.range-range.result ≡ op.0.range = c.range-range.ensures.is op.0 op.1 in
+    let up : op.0.range.first ≤ op.0.range.end = subst (λ (r : BlockRange). r.first ≤ r.end) range c.range-range.ensures.up in
+    let room : HasWriteRoom (c.range-range.result.end - c.range-range.result.first) c.args.replicas c.make_for_write.new.self = search rules in
+    let fits : HasWriteRoom (op.0.range.end - op.0.range.first) c.args.replicas c.make_for_write.new.self = subst (λ (r : BlockRange). HasWriteRoom (r.end - r.first) c.args.replicas c.make_for_write.new.self) range room in
     let long = whole_long op.0 c.in-Some.job (g.C.ClientSteps.mine c.args.steps.now) (g.C.ClientSteps.mine c.start.new.steps) s op.3.0 c.args.bytes.now op.3.1 up in
     let one : length c.as_slice.result.now ≡ length c.in-Some.job.front = search rules in
     let two : length c.as_slice-2.result.now ≡ length c.args.bytes.now = search rules in
@@ -31,9 +40,12 @@ returns-clause-ok g c = λ o own.
     let e : c.in_ok-job.field-0 ≡ Some c.in-Some.job = search rules in
     let s : StartsCall op.0 c.in-Some.job (g.C.ClientSteps.mine c.args.steps.now) (g.C.ClientSteps.mine c.start.new.steps) =
     begun c.args.t (g.C.ClientSteps.mine c.args.steps.now) (g.C.ClientSteps.mine c.range-range.new.self) (g.C.ClientSteps.mine c.start.new.steps) c.in_ok-job.field-0 c.range-range.ensures.same c.in_ok-job.ensures.ok c.in-Some.job e op.0 op.1 in
-    let range = c.range-range.ensures.is op.0 op.1 in
-    let up = subst (λ (r : BlockRange). r.first ≤ r.end) range c.range-range.ensures.up in
-    let inside = subst (λ (r : BlockRange). r.end * 4096 ≤ 1073741824) range c.range-range.ensures.inside in
-    let fits : IsRoomFor op.0.range c.args.replicas c.in-Ok.room = subst (λ r. IsRoomFor r c.args.replicas c.in-Ok.room) range c.in-Ok.ensures in
-    subst (λ x. BeginsIn x c.args.replicas (record { first = c.in-Ok.room.first; request = c.fill_request.new.request; arrivals = c.in-Ok.room.arrivals; sets = c.in-Ok.room.sets }) (g.C.ClientSteps.mine c.args.steps.now) (g.C.ClientSteps.mine c.start.new.steps)) (sym (only_own c.args.t (g.C.ClientSteps.mine c.args.steps.now) op.0 o op.1 own))
-    (begins_in op.0 c.in-Some.job (g.C.ClientSteps.mine c.args.steps.now) (g.C.ClientSteps.mine c.start.new.steps) s op.3.0 c.args.bytes.now op.3.1 c.args.replicas c.in-Ok.room (record { first = c.in-Ok.room.first; request = c.fill_request.new.request; arrivals = c.in-Ok.room.arrivals; sets = c.in-Ok.room.sets }) up inside fits refl refl refl (search rules) (search rules))
+    let range : c.range-range.result ≡ op.0.range = c.range-range.ensures.is op.0 op.1 in
+    let up : op.0.range.first ≤ op.0.range.end = subst (λ (r : BlockRange). r.first ≤ r.end) range c.range-range.ensures.up in
+    let room : HasWriteRoom (c.range-range.result.end - c.range-range.result.first) c.args.replicas c.make_for_write.new.self = search rules in
+    let fits : HasWriteRoom (op.0.range.end - op.0.range.first) c.args.replicas c.make_for_write.new.self = subst (λ (r : BlockRange). HasWriteRoom (r.end - r.first) c.args.replicas c.make_for_write.new.self) range room in
+    let inside : op.0.range.end * 4096 ≤ 1073741824 = subst (λ (r : BlockRange). r.end * 4096 ≤ 1073741824) range c.range-range.ensures.inside in
+    let filled : Rooms = record { request = c.fill_request.new.request; reply = c.make_for_write.new.self.reply; arrivals = c.make_for_write.new.self.arrivals; sets = c.make_for_write.new.self.sets } in
+    subst (λ x. BeginsIn x c.range-range.result.first c.args.replicas filled (g.C.ClientSteps.mine c.args.steps.now) (g.C.ClientSteps.mine c.start.new.steps)) (sym (only_own c.args.t (g.C.ClientSteps.mine c.args.steps.now) op.0 o op.1 own))
+    (begins_in op.0 c.in-Some.job (g.C.ClientSteps.mine c.args.steps.now) (g.C.ClientSteps.mine c.start.new.steps) s op.3.0 c.args.bytes.now op.3.1 c.range-range.result.first c.args.replicas c.make_for_write.new.self filled
+    (ap (λ (r : BlockRange). r.first) range) up inside fits refl refl (search rules) (search rules))

@@ -1,9 +1,10 @@
-use Rattle.std.proofs.Common.{rules, ◌≡◌, ◌∙◌, refl, sym, subst}
+use Rattle.std.proofs.Common.{rules, ◌≡◌, ◌∙◌, map, refl, sym, subst}
 use Rattle.std.proofs.Common.{w64, to_z, of_z}
-use Rattle.client_worker.specs.Mine.{OwnCall, IsOwn}
+use Rattle.stream_steps.specs.Mine.{OwnCall, IsOwn}
 use Rattle.client_worker.specs.Rooms.{CarriesRead}
-use Rattle.client_worker.proofs.Going.{goes_same, goes_then, goes_own}
-use Rattle.client_worker.proofs.Writing.{reads_on, goes_replicas, ends_by}
+use Rattle.client_worker.proofs.Going.{goes_same, goes_then}
+use Rattle.client_worker.proofs.Served.{ends_by}
+use Rattle.client_worker.proofs.Writing.{reads_on, read_started, still_read, goes_replicas}
 use Rattle.client_worker.proofs.serve.carry_read.Goals as goal
 
 pub loop-init : goal.loop-init
@@ -12,7 +13,9 @@ loop-init g c = record {
   home = refl;
   count = refl;
   room = search rules;
-  counted = c.requires.counted;
+  ends = refl;
+  shown = c.requires.shown;
+  none = c.requires.none;
   goes = goes_same (g.C.ClientSteps.mine c.args.steps.now) (g.C.ClientSteps.mine c.args.steps.now) refl;
 }
 
@@ -28,11 +31,14 @@ read_round-requires-clause-own g c =
 
 pub finish-requires-clause-own : goal.finish-requires-clause-own
 finish-requires-clause-own g c =
-    goes_own c.args.t (g.C.ClientSteps.mine c.loop.steps) (g.C.ClientSteps.mine c.read_round.new.steps) c.read_round.ensures.goes
-    (goes_own c.args.t (g.C.ClientSteps.mine c.args.steps.now) (g.C.ClientSteps.mine c.loop.steps) c.loop.invariant.goes (c.requires.own.0, c.requires.own.1))
+    read_started c.args.t c.args.offset (g.C.ClientSteps.mine c.args.steps.now) (g.C.ClientSteps.mine c.read_round.new.steps) c.args.reply.now
+    (goes_then (g.C.ClientSteps.mine c.args.steps.now) (g.C.ClientSteps.mine c.loop.steps) (g.C.ClientSteps.mine c.read_round.new.steps) c.loop.invariant.goes c.read_round.ensures.goes) c.requires.own
 
-pub returns-then-finish-clause-ends : goal.returns-then-finish-clause-ends
-returns-then-finish-clause-ends g c =
+pub returns-then-finish-clause-shown : goal.returns-then-finish-clause-shown
+returns-then-finish-clause-shown g c = c.finish.ensures.shown (map (λ x. g.L.Line.count x.line) c.read_round.new.channels) (map (λ x. g.L.Line.carried x.line) c.read_round.new.channels) c.read_round.ensures.shown
+
+pub returns-then-finish-clause-done : goal.returns-then-finish-clause-done
+returns-then-finish-clause-done g c =
     ends_by c.args.t (g.C.ClientSteps.mine c.args.steps.now) (g.C.ClientSteps.mine c.read_round.new.steps) (g.C.ClientSteps.mine c.finish.new.steps)
     (goes_then (g.C.ClientSteps.mine c.args.steps.now) (g.C.ClientSteps.mine c.loop.steps) (g.C.ClientSteps.mine c.read_round.new.steps) c.loop.invariant.goes c.read_round.ensures.goes)
     (c.requires.own.0, c.requires.own.1) (c.finish.ensures.done c.if-finish.true)
@@ -43,7 +49,9 @@ loop-preserved g c = record {
   home = search rules;
   count = search rules;
   room = search rules;
-  counted = search rules;
+  ends = search rules;
+  shown = c.finish.ensures.shown (map (λ x. g.L.Line.count x.line) c.read_round.new.channels) (map (λ x. g.L.Line.carried x.line) c.read_round.new.channels) c.read_round.ensures.shown;
+  none = c.finish.ensures.none c.if-finish.false (still_read c.args.t c.args.offset (g.C.ClientSteps.mine c.args.steps.now) (g.C.ClientSteps.mine c.read_round.new.steps) c.args.reply.now (goes_then (g.C.ClientSteps.mine c.args.steps.now) (g.C.ClientSteps.mine c.loop.steps) (g.C.ClientSteps.mine c.read_round.new.steps) c.loop.invariant.goes c.read_round.ensures.goes) c.requires.own);
   goes = goes_then (g.C.ClientSteps.mine c.args.steps.now) (g.C.ClientSteps.mine c.read_round.new.steps) (g.C.ClientSteps.mine c.finish.new.steps)
       (goes_then (g.C.ClientSteps.mine c.args.steps.now) (g.C.ClientSteps.mine c.loop.steps) (g.C.ClientSteps.mine c.read_round.new.steps) c.loop.invariant.goes c.read_round.ensures.goes)
       (goes_same (g.C.ClientSteps.mine c.read_round.new.steps) (g.C.ClientSteps.mine c.finish.new.steps) (c.finish.ensures.open c.if-finish.false));

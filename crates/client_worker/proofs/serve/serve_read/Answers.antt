@@ -1,46 +1,55 @@
-use Rattle.std.proofs.Common.{rules, ◌≡◌, ◌∙◌, ap, sym, subst, length, None, Some, arith}
+use Rattle.std.proofs.Common.{rules, ◌≡◌, ◌∙◌, ◌+◌, ap, sym, subst, length, take, map, true, false}
 use Rattle.std.proofs.Common.{w64, to_z, of_z}
-use Rattle.client_worker.specs.Mine.{Mine, OwnCall, IsOwn}
+use Rattle.std.proofs.lemmas.List.{length-take-le}
+use Rattle.frame_wire.specs.Spelling.{header_length}
+use Rattle.stream_steps.specs.Mine.{Mine, OwnCall, IsOwn}
 use Rattle.client_worker.specs.Rooms.{CarriesRead, ReadsIn}
 use Rattle.client_worker.proofs.Writing.{reads_none, reads_some, reads_own, reads_ends}
 use Rattle.client_worker.proofs.serve.serve_read.Goals as goal
 
-pub returns-in_default-clause-ok : goal.returns-in_default-clause-ok
-returns-in_default-clause-ok g c =
-    let e : c.in_ok-room.field-0 ≡ None = search rules in
-    reads_none c.args.t c.args.count (g.C.ClientSteps.mine c.args.steps.now) (g.C.ClientSteps.mine c.begin_read.new.steps) c.in_ok-room.field-0 c.in_ok-room.ensures.ok e
+pub returns-then-not-branch-clause-shown : goal.returns-then-not-branch-clause-shown
+returns-then-not-branch-clause-shown g c = c.begin_read.ensures.shown (map (λ x. g.L.Line.count x.line) c.args.channels.now) (map (λ x. g.L.Line.carried x.line) c.args.channels.now) c.requires.shown
+
+pub carry_read-requires-clause-shown : goal.carry_read-requires-clause-shown
+carry_read-requires-clause-shown g c = c.begin_read.ensures.shown (map (λ x. g.L.Line.count x.line) c.args.channels.now) (map (λ x. g.L.Line.carried x.line) c.args.channels.now) c.requires.shown
+
+pub returns-then-not-branch-clause-ok : goal.returns-then-not-branch-clause-ok
+returns-then-not-branch-clause-ok g c =
+    let op = c.requires.waits in
+    let no : c.in_ok-begin_read.field-0 ≡ false = search rules in
+    reads_none c.args.t c.args.offset c.args.count (g.C.ClientSteps.mine c.args.steps.now) (g.C.ClientSteps.mine c.begin_read.new.steps) c.in_ok-begin_read.field-0 (op.0, op.1) (c.in_ok-begin_read.ensures.ok op.0 c.args.offset op.1 op.3) no
+
+pub carry_read-requires-clause-none : goal.carry_read-requires-clause-none
+carry_read-requires-clause-none g c =
+    let op = c.requires.waits in
+    let yes : c.in_ok-begin_read.field-0 ≡ true = search rules in
+    let s : ReadsIn op.0 c.args.offset c.args.count (g.C.ClientSteps.mine c.args.steps.now) (g.C.ClientSteps.mine c.begin_read.new.steps) =
+    reads_some op.0 c.args.offset c.args.count (g.C.ClientSteps.mine c.args.steps.now) (g.C.ClientSteps.mine c.begin_read.new.steps) c.in_ok-begin_read.field-0 (c.in_ok-begin_read.ensures.ok op.0 c.args.offset op.1 op.3) yes in
+    s.none
 
 pub carry_read-requires-clause-lines : goal.carry_read-requires-clause-lines
 carry_read-requires-clause-lines g c =
-    let e : c.in_ok-room.field-0 ≡ Some c.in-Some.room = search rules in
     let op = c.requires.waits in
-    let s : ReadsIn op.0 c.args.count c.in-Some.room (g.C.ClientSteps.mine c.args.steps.now) (g.C.ClientSteps.mine c.begin_read.new.steps) =
-    reads_some c.args.t c.args.count (g.C.ClientSteps.mine c.args.steps.now) (g.C.ClientSteps.mine c.begin_read.new.steps) c.in_ok-room.field-0 c.in-Some.room c.in_ok-room.ensures.ok e op.0 op.1 in
-    c.requires.lines ∙ sym (ap (λ (m : Mine). m.replicas) s.is)
-
-pub carry_read-requires-clause-room : goal.carry_read-requires-clause-room
-carry_read-requires-clause-room g c =
-    let e : c.in_ok-room.field-0 ≡ Some c.in-Some.room = search rules in
-    let op = c.requires.waits in
-    let s : ReadsIn op.0 c.args.count c.in-Some.room (g.C.ClientSteps.mine c.args.steps.now) (g.C.ClientSteps.mine c.begin_read.new.steps) =
-    reads_some c.args.t c.args.count (g.C.ClientSteps.mine c.args.steps.now) (g.C.ClientSteps.mine c.begin_read.new.steps) c.in_ok-room.field-0 c.in-Some.room c.in_ok-room.ensures.ok e op.0 op.1 in
-    let same : length c.deref_mut.result.now ≡ length c.in-Some.room.reply.items = search rules in
-    omega (arith, s.arrivals, s.reply, same)
+    let yes : c.in_ok-begin_read.field-0 ≡ true = search rules in
+    let s : ReadsIn op.0 c.args.offset c.args.count (g.C.ClientSteps.mine c.args.steps.now) (g.C.ClientSteps.mine c.begin_read.new.steps) =
+    reads_some op.0 c.args.offset c.args.count (g.C.ClientSteps.mine c.args.steps.now) (g.C.ClientSteps.mine c.begin_read.new.steps) c.in_ok-begin_read.field-0 (c.in_ok-begin_read.ensures.ok op.0 c.args.offset op.1 op.3) yes in
+    c.requires.lines ∙ sym (ap (λ (m : Mine). m.replicas) s.begins.is)
 
 pub carry_read-requires-clause-own : goal.carry_read-requires-clause-own
 carry_read-requires-clause-own g c =
-    let e : c.in_ok-room.field-0 ≡ Some c.in-Some.room = search rules in
     let op = c.requires.waits in
-    let s : ReadsIn op.0 c.args.count c.in-Some.room (g.C.ClientSteps.mine c.args.steps.now) (g.C.ClientSteps.mine c.begin_read.new.steps) =
-    reads_some c.args.t c.args.count (g.C.ClientSteps.mine c.args.steps.now) (g.C.ClientSteps.mine c.begin_read.new.steps) c.in_ok-room.field-0 c.in-Some.room c.in_ok-room.ensures.ok e op.0 op.1 in
+    let yes : c.in_ok-begin_read.field-0 ≡ true = search rules in
+    let s : ReadsIn op.0 c.args.offset c.args.count (g.C.ClientSteps.mine c.args.steps.now) (g.C.ClientSteps.mine c.begin_read.new.steps) =
+    reads_some op.0 c.args.offset c.args.count (g.C.ClientSteps.mine c.args.steps.now) (g.C.ClientSteps.mine c.begin_read.new.steps) c.in_ok-begin_read.field-0 (c.in_ok-begin_read.ensures.ok op.0 c.args.offset op.1 op.3) yes in
     let z : to_z w64 (of_z w64 c.args.offset) ≡ c.args.offset = search rules in
-    let same : c.deref_mut.result.now ≡ c.in-Some.room.reply.items = search rules in
-    subst (λ z. (x : OwnCall) × IsOwn c.args.t x (g.C.ClientSteps.mine c.begin_read.new.steps) × CarriesRead x z c.deref_mut.result.now) (sym z)
-    (subst (λ r. (x : OwnCall) × IsOwn c.args.t x (g.C.ClientSteps.mine c.begin_read.new.steps) × CarriesRead x c.args.offset r) (sym same)
-    (reads_own c.args.t c.args.count (g.C.ClientSteps.mine c.args.steps.now) (g.C.ClientSteps.mine c.begin_read.new.steps) c.in-Some.room c.args.offset op.0 op.1 op.3 c.requires.short s))
+    let long : length (take (26 + c.args.count) c.deref_mut.result.now) ≡ header_length + c.args.count = search (rules, length-take-le) in
+    subst (λ z. (x : OwnCall) × IsOwn c.args.t x (g.C.ClientSteps.mine c.begin_read.new.steps) × CarriesRead x z (take (26 + c.args.count) c.deref_mut.result.now)) (sym z)
+    (reads_own c.args.t c.args.offset c.args.count (g.C.ClientSteps.mine c.args.steps.now) (g.C.ClientSteps.mine c.begin_read.new.steps) (take (26 + c.args.count) c.deref_mut.result.now) op.0 op.1 c.requires.short long s)
 
 pub returns-clause-ok : goal.returns-clause-ok
 returns-clause-ok g c =
-    let e : c.in_ok-room.field-0 ≡ Some c.in-Some.room = search rules in
-    reads_ends c.args.t c.args.count (g.C.ClientSteps.mine c.args.steps.now) (g.C.ClientSteps.mine c.begin_read.new.steps) (g.C.ClientSteps.mine c.carry_read.new.steps) c.in-Some.room
-    (reads_some c.args.t c.args.count (g.C.ClientSteps.mine c.args.steps.now) (g.C.ClientSteps.mine c.begin_read.new.steps) c.in_ok-room.field-0 c.in-Some.room c.in_ok-room.ensures.ok e) c.carry_read.ensures.ends
+    let op = c.requires.waits in
+    let yes : c.in_ok-begin_read.field-0 ≡ true = search rules in
+    let s : ReadsIn op.0 c.args.offset c.args.count (g.C.ClientSteps.mine c.args.steps.now) (g.C.ClientSteps.mine c.begin_read.new.steps) =
+    reads_some op.0 c.args.offset c.args.count (g.C.ClientSteps.mine c.args.steps.now) (g.C.ClientSteps.mine c.begin_read.new.steps) c.in_ok-begin_read.field-0 (c.in_ok-begin_read.ensures.ok op.0 c.args.offset op.1 op.3) yes in
+    reads_ends c.args.t c.args.offset c.args.count (g.C.ClientSteps.mine c.args.steps.now) (g.C.ClientSteps.mine c.begin_read.new.steps) (g.C.ClientSteps.mine c.carry_read.new.steps) (op.0, op.1) s c.carry_read.ensures.done

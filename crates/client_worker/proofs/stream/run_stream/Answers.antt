@@ -14,7 +14,8 @@ loop-left-init g c =
       ready = search rules;
       home = refl;
       count = refl;
-      counted = c.requires.counted;
+      ends = refl;
+      shown = c.requires.shown;
       asked = All-same IsAsked c.in_ok-left.left c.args.frames.now same c.requires.asked;
       done = ([], same, grew_none (g.C.ClientSteps.mine c.args.steps.now) c.requires.idle);
     }
@@ -39,7 +40,8 @@ loop-left-preserved g c =
       ready = search rules;
       home = search rules;
       count = search rules;
-      counted = search rules;
+      ends = search rules;
+      shown = search rules;
       asked = All-rest IsAsked c.in-Some.frame c.next.new.self c.loop-left.left cut c.loop-left.invariant.asked;
       done = (
         d.0 ++ c.in-Some.frame ∷ [],

@@ -1,7 +1,7 @@
 use Rattle.std.proofs.Common.{◌≡◌, length}
 use Rattle.std.specs.List.{All}
 use Rattle.client_worker.specs.Rooms.{AreBoxes}
-use Rattle.client_worker.proofs.rooms.box_sets.Given as goal
+use Rattle.client_worker.proofs.rooms.make_sets.Given as goal
 
 -- as many sets as were made
 abbrev pub invariant-loop-r : goal.invariant-loop-r

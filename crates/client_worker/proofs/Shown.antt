@@ -1,0 +1,185 @@
+-- What lines show of the stream, step after step.
+use Rattle.std.proofs.Common.{zero, suc, ◌≡◌, ℕ, ◌<◌, ◌≤◌, ◌⊎◌, inl, inr, List, [], ◌∷◌, get_or, set, Option, IfSome, Result, Ok, Err, OnOk, OnErr, subst, sym, refl, ap, ◌∙◌}
+use Rattle.std.proofs.lemmas.List.Elements.{All-push}
+use Rattle.volume_model.specs.declared.call.Call.{Call}
+use Rattle.volume_model.specs.declared.call.Call.TheVariants as call
+use Rattle.volume_model.specs.declared.call.Reply.{Reply}
+use Rattle.volume_model.specs.declared.call.Reply.TheVariants as reply
+use Rattle.volume_model.specs.declared.mode.Mode.{Mode}
+use Rattle.volume_model.specs.declared.mode.Mode.TheVariants.{Rw}
+use Rattle.volume_model.specs.Modes.{mode_of}
+use Rattle.open_calls.specs.declared.parts.Part.{Part}
+use Rattle.open_calls.specs.declared.parts.Part.TheVariants.{Taken, Acked}
+use Rattle.open_calls.specs.Parts.{part_at}
+use Rattle.volume_core.specs.declared.job.Job.{Job}
+use Rattle.stream_steps.specs.Mine.{Placed, Mine, OwnCall, IsOwn, with_more, with_running, answer_placed, fault_placed}
+use Rattle.stream_steps.specs.Steps.{IsUncarried, EnrolsAt, AnswersNow, Answers, Refuses, StartsCall, TakesTo, AcksTo, FaultsTo}
+use Rattle.client_worker.specs.Exchanges.{told_in, HasPart, AreAcked, CarriedOf, IsCarried, AreCarried}
+use Rattle.client_worker.specs.Serving.{Counted, IsShown}
+use Rattle.client_worker.specs.Ends.{KeepsShown, NoneAcked}
+use Rattle.client_worker.specs.Asking.{TellOn, TellsFrame, LacksReply}
+use Rattle.client_worker.proofs.Going.{one_of}
+use Rattle.client_worker.proofs.Counts.{counted_same, counted_later, counted_answer, counted_fault}
+use Rattle.client_worker.proofs.Told.{acked-on, are_carried-on, has_part}
+
+pub shown_same : (a b : Mine) → b ≡ a → KeepsShown a b
+shown_same a b e = λ counts carried h. subst (λ (m : Mine). IsShown m counts carried) (sym e) h
+
+pub shown_from : (a b c : Mine) → b ≡ a → KeepsShown (with_running b []) c → KeepsShown (with_running a []) c
+shown_from a b c e h = subst (λ (m : Mine). KeepsShown (with_running m []) c) e h
+
+-- lines that are further
+pub shown_later : (m : Mine) (before now : List ℕ) (told told2 : List (Option (List (List ℕ)))) → ((k : ℕ) → get_or before k 0 ≤ get_or now k 0) → TellOn told told2 → IsShown m before told → IsShown m now told2
+shown_later m before now told told2 later on h = record {
+  counted = counted_later m before now later h.counted;
+  answered = are_carried-on told told2 on m.replicas m.entries h.answered;
+  acked = λ o e. acked-on told told2 on o (h.acked o e);
+}
+
+-- ---- one entry more
+
+-- the stream has one entry more, and these calls open
+shown_more : (x : Placed) (os : List OwnCall) (a b : Mine) (counts : List ℕ) (carried : List (Option (List (List ℕ)))) → b ≡ with_more a (x ∷ []) os → Counted b counts → IsCarried a.replicas (told_in carried) x.modes x.entry
+    → AreCarried a.replicas (told_in carried) a.entries → ((o : OwnCall) → os ≡ o ∷ [] → AreAcked (told_in carried) o) → IsShown b counts carried
+shown_more x os a b counts carried e counted here before acked =
+    subst (λ (m : Mine). IsShown m counts carried) (sym e) (record {
+      counted = counted_same b (with_more a (x ∷ []) os) counts (sym e) counted;
+      answered = All-push (λ (p : Placed). IsCarried a.replicas (told_in carried) p.modes p.entry) a.entries x before here;
+      acked = acked;
+    })
+
+shown_fault : (r count : ℕ) (a b : Mine) (counts : List ℕ) (carried : List (Option (List (List ℕ)))) → FaultsTo r count a b → count ≤ get_or counts r 0 → IsShown a counts carried → IsShown b counts carried
+shown_fault r count a b counts carried s low h =
+    shown_more (fault_placed s.modes a.stream r count) a.running a b counts carried s.is (counted_fault r count a b counts s low h.counted) tt h.answered h.acked
+
+pub shown_told : {E : Type 0} (res : Result (Unit {0}) E) (r count : ℕ) (a b : Mine) (counts : List ℕ) (carried : List (Option (List (List ℕ)))) → OnOk res (FaultsTo r count a b) → OnErr res (b ≡ a) → count ≤ get_or counts r 0 → IsShown a counts carried → IsShown b counts carried
+shown_told (Ok u) r count a b counts carried ok err low h = shown_fault r count a b counts carried ok low h
+shown_told (Err e) r count a b counts carried ok err low h = shown_same a b err counts carried h
+
+no_call : (o : OwnCall) → [] ≡ o ∷ [] → ⊥
+no_call o e = cc
+
+-- ---- an answer
+
+uncarried : (n : ℕ) (told : ℕ → Option (List (List ℕ))) (modes : List Mode) (c : Call) (a : Reply) → IsUncarried c a → CarriedOf n told modes c a
+uncarried n told modes (call.Read offset k) (reply.Read bytes) h = absurd h
+uncarried n told modes (call.Read offset k) reply.Done h = tt
+uncarried n told modes (call.Read offset k) (reply.Status layers ms) h = tt
+uncarried n told modes (call.Read offset k) (reply.Refused why) h = tt
+uncarried n told modes (call.Read offset k) (reply.Aborted place) h = tt
+uncarried n told modes (call.Write offset bytes) (reply.Read read) h = tt
+uncarried n told modes (call.Write offset bytes) reply.Done h = absurd h
+uncarried n told modes (call.Write offset bytes) (reply.Status layers ms) h = tt
+uncarried n told modes (call.Write offset bytes) (reply.Refused why) h = tt
+uncarried n told modes (call.Write offset bytes) (reply.Aborted place) h = tt
+uncarried n told modes call.Ping a h = tt
+uncarried n told modes (call.Other k) a h = tt
+uncarried n told modes (call.Command c) a h = tt
+
+-- what the replicas acknowledged is what was answered
+answered : (n : ℕ) (told : ℕ → Option (List (List ℕ))) (modes : List Mode) (c : Call) (a : Reply) (parts : List Part) (buffer : List ℕ) → ((r : ℕ) → part_at parts r ≡ Acked → IfSome (told r) (HasPart c buffer))
+    → (a ≡ reply.Done → (r : ℕ) → mode_of modes r ≡ Rw → part_at parts r ≡ Acked)
+    → ((bytes : List ℕ) → a ≡ reply.Read bytes → (bytes ≡ buffer) × ((r : ℕ) × (r < n) × (part_at parts r ≡ Acked))) → CarriedOf n told modes c a
+answered n told modes (call.Read offset k) (reply.Read bytes) parts buffer h done read =
+    let s = read bytes refl in
+    let p : IfSome (told s.1.0) (HasPart (call.Read offset k) bytes) = subst (λ b. IfSome (told s.1.0) (HasPart (call.Read offset k) b)) (sym s.0) (h s.1.0 s.1.2) in
+    (s.1.0, s.1.1, p)
+answered n told modes (call.Read offset k) reply.Done parts buffer h done read = tt
+answered n told modes (call.Read offset k) (reply.Status layers ms) parts buffer h done read = tt
+answered n told modes (call.Read offset k) (reply.Refused why) parts buffer h done read = tt
+answered n told modes (call.Read offset k) (reply.Aborted place) parts buffer h done read = tt
+answered n told modes (call.Write offset bytes) (reply.Read bs) parts buffer h done read = tt
+answered n told modes (call.Write offset bytes) reply.Done parts buffer h done read = λ r e. h r (done refl r e)
+answered n told modes (call.Write offset bytes) (reply.Status layers ms) parts buffer h done read = tt
+answered n told modes (call.Write offset bytes) (reply.Refused why) parts buffer h done read = tt
+answered n told modes (call.Write offset bytes) (reply.Aborted place) parts buffer h done read = tt
+answered n told modes call.Ping a parts buffer h done read = tt
+answered n told modes (call.Other k) a parts buffer h done read = tt
+answered n told modes (call.Command c) a parts buffer h done read = tt
+
+shown_answers : (o : OwnCall) (a b : Mine) → a.running ≡ o ∷ [] → Answers o a b → KeepsShown a b
+shown_answers o a b run s = λ counts carried h.
+    shown_more (answer_placed s.modes s.answer) [] a b counts carried s.is (counted_answer s.modes s.answer [] a b counts s.is h.counted)
+    (subst (λ c. CarriedOf a.replicas (told_in carried) s.modes c s.answer.reply) (sym s.call)
+    (answered a.replicas (told_in carried) s.modes o.call s.answer.reply o.parts o.buffer (h.acked o run) s.done s.read))
+    h.answered (λ p e. absurd (no_call p e))
+
+pub shown_done : {A E : Type 0} (res : Result A E) (t : ℕ) (a b : Mine) → ((o : OwnCall) × IsOwn t o a) → OnOk res ((o : OwnCall) → IsOwn t o a → Answers o a b) → OnErr res (b ≡ a) → KeepsShown a b
+shown_done (Ok x) t a b op ok err = shown_answers op.0 a b op.1.is (ok op.0 op.1)
+shown_done (Err e) t a b op ok err = shown_same a b err
+
+-- with nothing carried, whatever is open
+pub shown_refuses : (o : OwnCall) (a b : Mine) → Refuses o a b → KeepsShown (with_running a []) b
+shown_refuses o a b s = λ counts carried h.
+    shown_more (answer_placed s.ends.modes s.ends.answer) [] (with_running a []) b counts carried s.ends.is
+    (counted_answer s.ends.modes s.ends.answer [] (with_running a []) b counts s.ends.is h.counted)
+    (subst (λ c. CarriedOf a.replicas (told_in carried) s.ends.modes c s.ends.answer.reply) (sym s.ends.call)
+    (uncarried a.replicas (told_in carried) s.ends.modes o.call s.ends.answer.reply s.uncarried))
+    h.answered (λ p e. absurd (no_call p e))
+
+pub shown_now : (c : Call) (a b : Mine) → AnswersNow c a b → KeepsShown a b
+shown_now c a b s = λ counts carried h.
+    shown_more (answer_placed s.modes s.answer) [] a b counts carried s.is (counted_answer s.modes s.answer [] a b counts s.is h.counted)
+    (subst (λ x. CarriedOf a.replicas (told_in carried) s.modes x s.answer.reply) (sym s.call)
+    (uncarried a.replicas (told_in carried) s.modes c s.answer.reply s.uncarried))
+    h.answered (λ p e. absurd (no_call p e))
+
+-- ---- another open call
+
+-- where that one shows what it has acknowledged
+shown_running : (o : OwnCall) (a b : Mine) (counts : List ℕ) (carried : List (Option (List (List ℕ)))) → b ≡ with_running a (o ∷ []) → Counted a counts → AreCarried a.replicas (told_in carried) a.entries → AreAcked (told_in carried) o → IsShown b counts carried
+shown_running o a b counts carried e counted before acked =
+    subst (λ (m : Mine). IsShown m counts carried) (sym e) (record {
+      counted = counted;
+      answered = before;
+      acked = λ p same. subst (AreAcked (told_in carried)) (one_of o p same) acked;
+    })
+
+pub shown_starts : (o : OwnCall) (job : Job) (a b : Mine) → StartsCall o job a b → KeepsShown (with_running a []) b
+shown_starts o job a b s = λ counts carried h. shown_running s.own a b counts carried s.is h.counted h.answered (λ r e. absurd (s.none r e))
+
+-- the first had no call open
+pub shown_enrolled : (t : ℕ) (c : Call) (a b : Mine) → a.running ≡ [] → EnrolsAt t c a b → KeepsShown a (with_running b [])
+shown_enrolled t c a b idle s =
+    let same : with_running b [] ≡ a = ap (λ (m : Mine). with_running m []) s.is ∙ ap (with_running a) (sym idle) in
+    shown_same a (with_running b []) same
+
+-- ---- parts
+
+-- one that took its part has not acknowledged it thereby
+acked_before : (parts : List Part) (r q : ℕ) → part_at (set parts r Taken) q ≡ Acked → part_at parts q ≡ Acked
+acked_before [] r q e = e
+acked_before (p ∷ ps) zero zero e = absurd cc
+acked_before (p ∷ ps) zero (suc q) e = e
+acked_before (p ∷ ps) (suc r) zero e = e
+acked_before (p ∷ ps) (suc r) (suc q) e = acked_before ps r q e
+
+acked_now : (parts : List Part) (r q : ℕ) → part_at (set parts r Acked) q ≡ Acked → (q ≡ r) ⊎ (part_at parts q ≡ Acked)
+acked_now [] r q e = inr e
+acked_now (p ∷ ps) zero zero e = inl refl
+acked_now (p ∷ ps) zero (suc q) e = inr e
+acked_now (p ∷ ps) (suc r) zero e = inr e
+acked_now (p ∷ ps) (suc r) (suc q) e = elim (acked_now ps r q e) [ inl same ↦ inl (ap suc same) | inr was ↦ inr was ]
+
+pub shown_takes : (t r : ℕ) (o : OwnCall) (a b : Mine) → IsOwn t o a → TakesTo o r o.buffer a b → KeepsShown a b
+shown_takes t r o a b own e = λ counts carried h.
+    shown_running (record o { parts = set o.parts r Taken }) a b counts carried e h.counted h.answered (λ q was. h.acked o own.is q (acked_before o.parts r q was))
+
+-- the bytes of a read may change while none has acknowledged it
+pub shown_reads : (t r : ℕ) (buffer : List ℕ) (o : OwnCall) (a b : Mine) → IsOwn t o a → NoneAcked a → TakesTo o r buffer a b → KeepsShown a b
+shown_reads t r buffer o a b own none e = λ counts carried h.
+    shown_running (record o { buffer = buffer; parts = set o.parts r Taken }) a b counts carried e h.counted h.answered (λ q was. absurd (none o own.is q (acked_before o.parts r q was)))
+
+shown_acks : (t r : ℕ) (o : OwnCall) (a b : Mine) (counts : List ℕ) (carried : List (Option (List (List ℕ)))) → IsOwn t o a → AcksTo o r a b → IfSome (told_in carried r) (HasPart o.call o.buffer) → IsShown a counts carried → IsShown b counts carried
+shown_acks t r o a b counts carried own e part h =
+    shown_running (record o { parts = set o.parts r Acked }) a b counts carried e h.counted h.answered (λ q now. by q (acked_now o.parts r q now))
+  where
+    by : (q : ℕ) → (q ≡ r) ⊎ (part_at o.parts q ≡ Acked) → IfSome (told_in carried q) (HasPart o.call o.buffer)
+    by q (inl same) = subst (λ k. IfSome (told_in carried k) (HasPart o.call o.buffer)) (sym same) part
+    by q (inr was) = h.acked o own.is q was
+
+-- the reply of a replica came through
+pub shown_replied : {E : Type 0} (res : Result (Unit {0}) E) (t r : ℕ) (o : OwnCall) (a b : Mine) (counts : List ℕ) (before carried : List (Option (List (List ℕ)))) (reply : List ℕ) → IsOwn t o a
+    → LacksReply o (told_in before r) reply → TellsFrame before carried r reply → OnOk res ((x : OwnCall) → IsOwn t x a → AcksTo x r a b) → OnErr res (b ≡ a) → IsShown a counts carried → IsShown b counts carried
+shown_replied (Ok u) t r o a b counts before carried reply own lacks tells ok err h = shown_acks t r o a b counts carried own (ok o own) (has_part o (told_in before r) (told_in carried r) reply tells lacks) h
+shown_replied (Err e) t r o a b counts before carried reply own lacks tells ok err h = shown_same a b err counts carried h

@@ -1,0 +1,38 @@
+-- What the line to a replica tells while the replica is asked for its part of the open call.
+use Rattle.std.specs.Prelude.{◌≡◌, ◌≢◌, ℕ, ◌<◌, ◌⊎◌, List, [], ◌∷◌, ◌++◌, length, Option, IfSome}
+use Rattle.volume_model.specs.declared.mode.Mode.{Mode}
+use Rattle.volume_model.specs.declared.mode.Mode.TheVariants.{Rw, Err}
+use Rattle.volume_model.specs.Modes.{mode_of}
+use Rattle.open_calls.specs.declared.parts.Part.TheVariants.{Acked}
+use Rattle.open_calls.specs.Parts.{part_at, IsTaken}
+use Rattle.outer_traits.specs.Lines.{TellsMore}
+use Rattle.stream_steps.specs.Mine.{Mine, OwnCall}
+use Rattle.client_worker.specs.Exchanges.{told_in, HasPart}
+
+-- each line tells what it told before, and maybe more
+abbrev pub TellOn : List (Option (List (List ℕ))) → List (Option (List (List ℕ))) → Type 0
+TellOn before now = (r : ℕ) → (more : List (List ℕ)) × TellsMore (told_in before r) (told_in now r) more
+
+-- the line to a replica tells one frame more
+abbrev pub TellsFrame : List (Option (List (List ℕ))) → List (Option (List (List ℕ))) → ℕ → List ℕ → Type 0
+TellsFrame before now r frame = TellsMore (told_in before r) (told_in now r) (frame ∷ [])
+
+-- with this reply more, the line has carried the replica's part of the open call
+abbrev pub LacksReply : OwnCall → Option (List (List ℕ)) → List ℕ → Type 0
+LacksReply o told reply = IfSome told (λ frames. HasPart o.call o.buffer (frames ++ reply ∷ []))
+
+-- the replica had its step of the open call, if it has a part in it
+abbrev pub HasTaken : OwnCall → ℕ → Type 0
+HasTaken o r = r < length o.parts → IsTaken (part_at o.parts r)
+
+-- and has acknowledged it
+abbrev pub HasAcked : OwnCall → ℕ → Type 0
+HasAcked o r = r < length o.parts → part_at o.parts r ≡ Acked
+
+-- the replica has acknowledged the open call, or was seen last as one that has failed
+abbrev pub AckedOrFailed : List Mode → ℕ → Mine → Type 0
+AckedOrFailed modes r m = (o : OwnCall) → m.running ≡ o ∷ [] → HasAcked o r ⊎ (mode_of modes r ≡ Err)
+
+-- the same, or as one that is not read
+abbrev pub AckedOrUnread : List Mode → ℕ → Mine → Type 0
+AckedOrUnread modes r m = (o : OwnCall) → m.running ≡ o ∷ [] → HasAcked o r ⊎ (mode_of modes r ≢ Rw)
