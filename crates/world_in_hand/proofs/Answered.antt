@@ -1,9 +1,10 @@
 -- The same by what each step answers.
-use Rattle.std.proofs.Common.{◌≡◌, ◌≢◌, ℕ, ◌+◌, ◌*◌, ◌<◌, ◌≤◌, Bool, true, false, List, [], ◌∷◌, ◌++◌, length, map, Result, Ok, Err, OnOk, IfOk, Option, Some, None, ⊎_elim, subst, sym, refl, ap, ◌∙◌, arith, length-append}
+use Rattle.std.proofs.Common.{◌≡◌, ◌≢◌, ℕ, zero, suc, ◌+◌, ◌*◌, ◌<◌, ◌≤◌, Bool, true, false, List, [], ◌∷◌, ◌++◌, length, map, set, Result, Ok, Err as Failed, OnOk, IfOk, Option, Some, None, ⊎_elim, subst, sym, refl, ap, ◌∙◌, arith, length-append}
 use Rattle.std.specs.Option.{MatchOption, IsSome}
-use Rattle.std.proofs.lemmas.List.{get_or-set_same}
-use Rattle.std.proofs.lemmas.Bool.{cases_lt, lt-ltb}
+use Rattle.std.proofs.lemmas.List.{get_or-set_same, get_or_default}
+use Rattle.std.proofs.lemmas.Bool.{cases_eq, cases_lt, lt-ltb}
 use Rattle.vol_units.specs.declared.size.TheConstants.{BLOCK_BYTES}
+use Rattle.vol_units.specs.Range.{blocks_around}
 use Rattle.range_turns.specs.declared.ticket.Kind.{Kind}
 use Rattle.range_turns.specs.declared.ticket.Kind.TheVariants as kind
 use Rattle.range_turns.specs.declared.ticket.Ticket.{Ticket}
@@ -12,18 +13,23 @@ use Rattle.volume_model.specs.declared.call.Call.{Call}
 use Rattle.volume_model.specs.declared.call.Call.TheVariants as call
 use Rattle.volume_model.specs.declared.call.Reply.{Reply}
 use Rattle.volume_model.specs.declared.call.Reply.TheVariants as reply
+use Rattle.volume_model.specs.declared.call.Refusal.{Refusal}
 use Rattle.volume_model.specs.declared.call.Refusal.TheVariants.{OutOfRange, NoReplica}
 use Rattle.volume_model.specs.declared.entry.Answer.{Answer}
 use Rattle.volume_model.specs.declared.entry.Entry.TheVariants as entry
+use Rattle.volume_model.specs.declared.mark.Mark.TheVariants as mark
 use Rattle.volume_model.specs.declared.mode.Mode.{Mode}
-use Rattle.volume_model.specs.Modes.{mode_of}
+use Rattle.volume_model.specs.declared.mode.Mode.TheVariants.{Rw, Err}
+use Rattle.volume_model.specs.Modes.{mode_of, HasSource, IsSource}
 use Rattle.volume_model.specs.PlainState.{PlainState}
+use Rattle.volume_model.proofs.StepLemmas.{modes_after-append}
 use Rattle.replica_node.specs.Node.{Node}
 use Rattle.open_calls.specs.declared.open_call.OpenCall.{OpenCall}
 use Rattle.open_calls.specs.declared.parts.Part.TheVariants.{Acked}
 use Rattle.open_calls.specs.Parts.{part_at, part_for, IsTaken}
 use Rattle.open_calls.specs.Calls.{open_at, call_asked, no_call, begun}
-use Rattle.open_calls.proofs.PartLemmas.{part_of, part_for_new}
+use Rattle.open_calls.specs.Clients.{Fits}
+use Rattle.open_calls.proofs.PartLemmas.{part_of, part_for_new, up_in, rw_up}
 use Rattle.volume_core.specs.State.{State, modes_in, index_at, told_of}
 use Rattle.volume_core.specs.Steps.{acked, wrote, has_read, started, with_place, answered, faulted}
 use Rattle.volume_core.specs.Sound.{IsSound}
@@ -36,12 +42,11 @@ use Rattle.volume_core.specs.declared.enrol.Enrolled.TheVariants as enrol
 use Rattle.volume_core.specs.declared.job.Job.{Job}
 use Rattle.volume_core.specs.Answers.{EnrolsAs, IsAdmit, BeginsBy, IsJobOf, IsAnsweredNow, AreBlocksOfWrite, TakesInPlace, failed_by, after_fail}
 use Rattle.volume_core.specs.Streams.{running, MayGo, IsAnsweredTo, SeesEnrolled, SeesAdmit, ForOwner}
-use Rattle.volume_core.proofs.CallLemmas.{calls-set_own, calls-push_own, calls-idle}
+use Rattle.volume_core.proofs.CallLemmas.{calls-none, calls-set_own, calls-push_own, calls-idle}
 use Rattle.volume_core.specs.Answers.{IsNow}
-use Rattle.client_worker.specs.Mine.{OwnCall, IsOwn, answer_placed}
-use Rattle.client_worker.specs.Asks.{IsFrameCall}
-use Rattle.client_worker.specs.Steps.{AnswersNow, IsUncarried, EnrolsTo, AdmitsTo, StartsCall, IsStarted, IsJobFor, TakesTo, AcksTo, FaultsTo, HasNotStarted, IsOnBlocks, AreBlocksOfCall}
-use Rattle.world_in_hand.specs.Hand.{own_call, mine_in}
+use Rattle.stream_steps.specs.Mine.{OwnCall, IsOwn, answer_placed}
+use Rattle.stream_steps.specs.Steps.{IsFrameCall, AnswersNow, IsUncarried, EnrolsTo, AdmitsTo, IsNotAfter, StartsCall, IsStarted, IsJobFor, TakesTo, AcksTo, FaultsTo, HasNotStarted, IsOnBlocks, AreBlocksOfCall}
+use Rattle.world_in_hand.specs.Hand.{own_call, mine_in, IsReady}
 use Rattle.world_in_hand.proofs.OwnLemmas.{own_answer, IsAt, own_stands, only_open, grown, mine_same, idle_from, open_from, own_place}
 use Rattle.world_in_hand.proofs.StepLemmas.{ack_mine, write_mine, read_mine, ended_mine, fault_mine, none_open, refused_backed, same_asked}
 
@@ -53,30 +58,30 @@ module _ {E : Type 0} (n t r : ℕ) (s s2 : State) (res : Result (Unit {0}) E) (
     where
       by : (x : Result (Unit {0}) E) → OnOk x ((i : ℕ) × IsCallAt s t i × IsTaken (part_at (open_at s.calls i).parts r) × (s2 ≡ acked s i r)) → OnOk x ((o : OwnCall) → IsOwn t o (mine_in n s) → AcksTo o r (mine_in n s) (mine_in n s2))
       by (Ok u) d = λ o own. ack_mine n t o s s2 d.0 ok own d.1.stands (may o own) r d.3
-      by (Err e) d = tt
+      by (Failed e) d = tt
 
   pub writes_mine : OnOk res ((i : ℕ) × IsWriteAt s t i × (s2 ≡ wrote s i r)) → OnOk res ((o : OwnCall) → IsOwn t o (mine_in n s) → TakesTo o r o.buffer (mine_in n s) (mine_in n s2))
   writes_mine = by res
     where
       by : (x : Result (Unit {0}) E) → OnOk x ((i : ℕ) × IsWriteAt s t i × (s2 ≡ wrote s i r)) → OnOk x ((o : OwnCall) → IsOwn t o (mine_in n s) → TakesTo o r o.buffer (mine_in n s) (mine_in n s2))
       by (Ok u) d = λ o own. write_mine n t o s s2 d.0 ok own d.1.stands (may o own) r d.2
-      by (Err e) d = tt
+      by (Failed e) d = tt
 
   pub reads_mine : (into : List ℕ) → OnOk res ((i : ℕ) × IsReadAt s t i × (s2 ≡ has_read s i r) × (into ≡ (open_at s2.calls i).buffer)) → OnOk res ((o : OwnCall) → IsOwn t o (mine_in n s) → TakesTo o r into (mine_in n s) (mine_in n s2))
   reads_mine into = by res
     where
       by : (x : Result (Unit {0}) E) → OnOk x ((i : ℕ) × IsReadAt s t i × (s2 ≡ has_read s i r) × (into ≡ (open_at s2.calls i).buffer)) → OnOk x ((o : OwnCall) → IsOwn t o (mine_in n s) → TakesTo o r into (mine_in n s) (mine_in n s2))
       by (Ok u) d = λ o own. read_mine n t o s s2 d.0 ok own d.1.stands (may o own) r into d.2 d.3
-      by (Err e) d = tt
+      by (Failed e) d = tt
 
 -- ---- answered at once
 
-uncarried : (c : Call) → IsUncarried c (reply.Refused OutOfRange)
-uncarried (call.Read offset count) = tt
-uncarried (call.Write offset bytes) = tt
-uncarried call.Ping = tt
-uncarried (call.Other k) = tt
-uncarried (call.Command c) = tt
+uncarried : (c : Call) (why : Refusal) → IsUncarried c (reply.Refused why)
+uncarried (call.Read offset count) why = tt
+uncarried (call.Write offset bytes) why = tt
+uncarried call.Ping why = tt
+uncarried (call.Other k) why = tt
+uncarried (call.Command c) why = tt
 
 -- a call of a stream that has none open, with places for so many entries
 pub now_mine : (n : ℕ) (c : Call) (r : Reply) (s s2 : State) (spare : ℕ) → MayGo n s s2 → IsAnsweredTo n c s s2 → s2 ≡ answered (record s { book = record s.book { spare = spare } }) n (length s.book.entries) c r → IsUncarried c r
@@ -104,7 +109,7 @@ pub nows_mine : {E : Type 0} (n : ℕ) (c : Call) (s s2 : State) (res : Result �
     → IsUncarried c (plain_step (modes_in s) (told_of s) c).1 → OnOk res (AnswersNow c (mine_in n s) (mine_in n s2))
 nows_mine n c s s2 (Ok place) frame may is sees un = now_mine n c (plain_step (modes_in s) (told_of s) c).1 s s2 (s.book.spare + 1) may sees
     (is.state ∙ ap (λ x. answered (after_fail (with_place s) x) n (length s.book.entries) c (plain_step (modes_in s) (told_of s) c).1) (no_failed c frame)) un
-nows_mine n c s s2 (Err e) frame may is sees un = tt
+nows_mine n c s s2 (Failed e) frame may is sees un = tt
 
 -- ---- enrolled
 
@@ -124,12 +129,17 @@ enrols_mine n c s s2 (Ok (enrol.Ticket t)) ok idle may is sees =
       saw = b.saw;
     }
 enrols_mine n c s s2 (Ok (enrol.OutOfRange place)) ok idle may is sees =
-    now_mine n c (reply.Refused OutOfRange) s s2 (s.book.spare + 1) may sees (is.2 ∙ ap (λ p. answered (with_place s) n p c (reply.Refused OutOfRange)) is.1) (uncarried c)
-enrols_mine n c s s2 (Err e) ok idle may is sees = tt
+    now_mine n c (reply.Refused OutOfRange) s s2 (s.book.spare + 1) may sees (is.2 ∙ ap (λ p. answered (with_place s) n p c (reply.Refused OutOfRange)) is.1) (uncarried c OutOfRange)
+enrols_mine n c s s2 (Failed e) ok idle may is sees = tt
 
 -- ---- started
 
-module _ (n t : ℕ) (o : OwnCall) (job : Job) (s s2 : State) (i : ℕ) (ok : IsSound s) (own : IsOwn t o (mine_in n s)) (waits : IsWaitingAt s t i) (may : MayGo n s s2) (of_job : IsJobOf s2 i job) where
+first_source : (modes : List Mode) (r : ℕ) → IsSource modes r → HasSource modes
+first_source modes r first =
+    let inside : r < length modes = up_in modes r (rw_up (mode_of modes r) first.read) in
+    (r, inside, get_or_default modes r Rw Err inside ∙ first.read)
+
+module _ (n t : ℕ) (o : OwnCall) (job : Job) (s s2 : State) (i : ℕ) (ok : IsSound s) (own : IsOwn t o (mine_in n s)) (waits : IsWaitingAt s t i) (may : MayGo n s s2) (of_job : IsJobOf s2 i job) (source : HasSource (modes_in s)) where
   here : IsAt n t o s i
   here = own_stands n t o s i ok own waits.stands
 
@@ -163,23 +173,28 @@ module _ (n t : ℕ) (o : OwnCall) (job : Job) (s s2 : State) (i : ℕ) (ok : Is
       of = of;
       job = j;
       none = not_acked;
+      source = source;
     }
 
-  pub starts_by : (k : Kind) (source : ℕ) → call_asked k (open_at s.calls i) ≡ o.call → BeginsBy k (with_place s) i source s2 → StartsCall o job (mine_in n s) (mine_in n s2)
-  starts_by kind.Read source asked b = starts_with s.nodes [] [] b.buffer b.state
+  pub starts_by : (k : Kind) (first : ℕ) → (ticket_at s.tickets i).kind ≡ k → call_asked k (open_at s.calls i) ≡ o.call → BeginsBy k (with_place s) i first s2 → StartsCall o job (mine_in n s) (mine_in n s2)
+  starts_by kind.Read first is asked b = starts_with s.nodes [] [] b.buffer b.state
       (subst (λ c. IsStarted c (own_call (record (ticket_at s.tickets i) { started = true }, begun (open_at s.calls i) (modes_in s) [] [] b.buffer))) asked b.count)
       (subst (λ c. IsJobFor c job (own_call (record (ticket_at s.tickets i) { started = true }, begun (open_at s.calls i) (modes_in s) [] [] b.buffer))) asked tt)
-  starts_by kind.Write source asked b = starts_with b.nodes b.front b.back [] b.state
+  starts_by kind.Write first is asked b = starts_with b.nodes b.front b.back [] b.state
       (subst (λ c. IsStarted c (own_call (record (ticket_at s.tickets i) { started = true }, begun (open_at s.calls i) (modes_in s) b.front b.back []))) asked (record {
         front = b.front;
         back = b.back;
         is = refl;
         first = λ l. b.edges.first (omega (arith, l));
         count = sum b.front (open_at s.calls i).bytes b.back ((ticket_at s.tickets i).range.first * BLOCK_BYTES) ((ticket_at s.tickets i).range.end * BLOCK_BYTES) b.edges.whole;
+        around = fits.lies.around ∙ ap (λ x. blocks_around (open_at s.calls i).at x) (sym (fits.count is));
       }))
       (subst (λ c. IsJobFor c job (own_call (record (ticket_at s.tickets i) { started = true }, begun (open_at s.calls i) (modes_in s) b.front b.back []))) asked
       (λ q. (front_is q ++ (open_at s.calls i).bytes) ++ back_is q))
     where
+      fits : Fits s.size (length s.indices) (length s.nodes) (ticket_at s.tickets i) (open_at s.calls i)
+      fits = ok.clients.fits i waits.stands.within
+
       sum : (f m k : List ℕ) (from until : ℕ) → from + (length f + length m + length k) ≡ until → from + length ((f ++ m) ++ k) ≡ until
       sum f m k from until e = ap (λ x. from + x) (length-append (f ++ m) k ∙ ap (λ x. x + length k) (length-append f m)) ∙ e
 
@@ -188,7 +203,7 @@ module _ (n t : ℕ) (o : OwnCall) (job : Job) (s s2 : State) (i : ℕ) (ok : Is
 
       back_is : b.back ≡ job.back
       back_is = sym (of_job.back ∙ ap (λ (x : OpenCall). x.back) (there b.nodes b.front b.back [] b.state))
-  starts_by kind.Whole source asked b = absurd b
+  starts_by kind.Whole first is asked b = absurd b
 
 pub admits_mine : {E : Type 0} (n t : ℕ) (s s2 : State) (res : Result Admit E) → IsSound s → ((o : OwnCall) → IsOwn t o (mine_in n s) → MayGo n s s2) → IfOk res (λ a. IsAdmit s t a s2)
     → IfOk res (λ a. (o : OwnCall) → IsOwn t o (mine_in n s) → SeesAdmit n t o.call a s s2)
@@ -196,29 +211,60 @@ pub admits_mine : {E : Type 0} (n t : ℕ) (s s2 : State) (res : Result Admit E)
 admits_mine n t s s2 (Ok (admit.Go job)) ok may is sees = λ o own.
     let i = is.0 in
     let at = own_stands n t o s i ok own is.1.stands in
-    starts_by n t o job s s2 i ok own is.1 (may o own) is.4 (ticket_at s.tickets i).kind is.3.source at.at.asked is.3.begins
+    starts_by n t o job s s2 i ok own is.1 (may o own) is.4 (first_source (modes_in s) is.3.source is.3.first) (ticket_at s.tickets i).kind is.3.source refl at.at.asked is.3.begins
 admits_mine n t s s2 (Ok (admit.After k)) ok may is sees = λ o own. mine_same n s s2 is.3
 admits_mine n t s s2 (Ok (admit.NoReplica place)) ok may is sees = λ o own.
-    ended_mine n t o s s2 is.0 (s.book.spare + 1) (reply.Refused NoReplica) ok own is.1.stands (may o own) (sees o own) is.5 (refused_backed (modes_in s) o (reply.Refused NoReplica) refl)
-admits_mine n t s s2 (Err e) ok may is sees = tt
+    let done = ended_mine n t o s s2 is.0 (s.book.spare + 1) (reply.Refused NoReplica) ok own is.1.stands (may o own) (sees o own) is.5 (refused_backed (length s.nodes) (modes_in s) o (reply.Refused NoReplica) refl) in
+    record { ends = done.0; uncarried = subst (IsUncarried o.call) (sym done.1) (uncarried o.call NoReplica) }
+admits_mine n t s s2 (Failed e) ok may is sees = tt
+
+-- no ticket stands before that of the open call, where no other stream has one open
+none_before : (n t : ℕ) (o : OwnCall) (s : State) (i j : ℕ) → IsReady n s → IsOwn t o (mine_in n s) → StandsAt s.tickets t i → j < i → ⊥
+none_before n t o s i j ready own stands before =
+    let at = own_stands n t o s i ready.sound own stands in
+    let pair = ready.sound.clients.paired in
+    let inside : j < length s.calls = omega (arith, before, stands.within, pair) in
+    let there : i < length s.calls = omega (arith, stands.within, pair) in
+    ⊎_elim
+    (λ is. ready.sound.clients.seen.alone j i before there (is ∙ sym at.at.stream))
+    (λ other. calls-none (open_at s.calls j).stream s.tickets s.calls j (ready.alone (open_at s.calls j).stream other) (omega (arith, before, stands.within)) inside refl)
+    (cases_eq (open_at s.calls j).stream n)
+
+pub never_after : {E : Type 0} (n t : ℕ) (o : OwnCall) (s s2 : State) (res : Result Admit E) → IsReady n s → IsOwn t o (mine_in n s) → IfOk res (λ a. IsAdmit s t a s2) → IfOk res (λ a. IsNotAfter a)
+never_after n t o s s2 (Ok (admit.Go job)) ready own is = tt
+never_after n t o s s2 (Ok (admit.After k)) ready own is = none_before n t o s is.0 is.2.0 ready own is.1.stands is.2.1.earlier
+never_after n t o s s2 (Ok (admit.NoReplica place)) ready own is = tt
+never_after n t o s s2 (Failed e) ready own is = tt
 
 -- ---- for the one that has the call open
 
 pub owners : {A E : Type 0} (n t : ℕ) (s s2 : State) (res : Result A E) → IfOk res (λ x. ForOwner t s (λ m c. IsAnsweredTo m c s s2)) → IfOk res (λ x. (o : OwnCall) → IsOwn t o (mine_in n s) → IsAnsweredTo n o.call s s2)
 owners n t s s2 (Ok x) sees = λ o own. sees n o.call (open_from n t o s own)
-owners n t s s2 (Err e) sees = tt
+owners n t s s2 (Failed e) sees = tt
 
 pub admit_owners : {E : Type 0} (n t : ℕ) (s s2 : State) (res : Result Admit E) → IfOk res (λ a. ForOwner t s (λ m c. SeesAdmit m t c a s s2)) → IfOk res (λ a. (o : OwnCall) → IsOwn t o (mine_in n s) → SeesAdmit n t o.call a s s2)
 admit_owners n t s s2 (Ok x) sees = λ o own. sees n o.call (open_from n t o s own)
-admit_owners n t s s2 (Err e) sees = tt
+admit_owners n t s s2 (Failed e) sees = tt
 
 pub faults_mine : {E : Type 0} (n r count : ℕ) (s s2 : State) (res : Result (Unit {0}) E) → MayGo n s s2 → OnOk res (s2 ≡ faulted s n r count) → OnOk res (FaultsTo r count (mine_in n s) (mine_in n s2))
 faults_mine n r count s s2 (Ok u) may e = fault_mine n r count s s2 may e
-faults_mine n r count s s2 (Err e) may is = tt
+faults_mine n r count s s2 (Failed e) may is = tt
+
+failed_mode : (modes : List Mode) (r : ℕ) → mode_of (set modes r Err) r ≡ Err
+failed_mode [] r = refl
+failed_mode (m ∷ ms) zero = refl
+failed_mode (m ∷ ms) (suc r) = failed_mode ms r
+
+pub fault_fails : {E : Type 0} (n r count : ℕ) (s s2 : State) (res : Result (Unit {0}) E) → OnOk res (s2 ≡ faulted s n r count) → OnOk res (mode_of (modes_in s2) r ≡ Err)
+fault_fails n r count s s2 (Ok u) e =
+    ap (λ (x : State). mode_of (modes_in x) r) e
+    ∙ ap (λ (ms : List Mode). mode_of ms r) (modes_after-append s.book.opening.modes s.book.entries (entry.Mark (mark.Fault n r count) ∷ []))
+    ∙ failed_mode (modes_in s) r
+fault_fails n r count s s2 (Failed e) is = tt
 
 -- ---- what steps ask
 
-asks_range : (k : Kind) (c : OpenCall) (d : Call) → call_asked k c ≡ d → IsOnBlocks d → k ≢ kind.Whole
+pub asks_range : (k : Kind) (c : OpenCall) (d : Call) → call_asked k c ≡ d → IsOnBlocks d → k ≢ kind.Whole
 asks_range k c d e blocks w = subst IsOnBlocks (sym (ap (λ j. call_asked j c) (sym w) ∙ e)) blocks
 
 -- no two have one number
@@ -231,11 +277,17 @@ unique_number s ok i j a b e = ⊎_elim
     (cases_lt j i))
     (cases_lt i j)
 
+-- the open call's ticket stands there, and no other has its number
+pub place_stands : (n t : ℕ) (o : OwnCall) (s : State) → IsSound s → (own : IsOwn t o (mine_in n s)) → StandsAt s.tickets t (own_place n t o s own).0
+place_stands n t o s ok own =
+    let place = own_place n t o s own in
+    record { within = place.1; is = place.2; only = λ j within is. unique_number s ok j place.0 within place.1 (is ∙ sym place.2) }
+
 -- the open call waits where its ticket stands
 pub waits_at : (n t : ℕ) (o : OwnCall) (s : State) → IsSound s → IsOwn t o (mine_in n s) → HasNotStarted o → (i : ℕ) × IsWaitingAt s t i
 waits_at n t o s ok own w =
     let place = own_place n t o s own in
-    let stands : StandsAt s.tickets t place.0 = record { within = place.1; is = place.2; only = λ j within is. unique_number s ok j place.0 within place.1 (is ∙ sym place.2) } in
+    let stands = place_stands n t o s ok own in
     let at = own_stands n t o s place.0 ok own stands in (
       place.0,
       record {
@@ -285,15 +337,13 @@ now_uncarried modes p (call.Command c) now frame = absurd frame
 
 -- ---- where its block is
 
-module _ (n t r : ℕ) (s s2 : State) (ok : IsSound s) (may : (o : OwnCall) → IsOwn t o (mine_in n s) → MayGo n s s2) where
-  pub placed_mine : (done : Bool) → done ≡ true → ((i : ℕ) × IsWriteAt s t i × TakesInPlace s i r done s2) → (o : OwnCall) → IsOwn t o (mine_in n s) → TakesTo o r o.buffer (mine_in n s) (mine_in n s2)
-  placed_mine true e d = λ o own. write_mine n t o s s2 d.0 ok own d.1.stands (may o own) r d.2.1
-  placed_mine false e d = absurd cc
+pub placed_mine : {E : Type 0} (n t r : ℕ) (s s2 : State) (res : Result Bool E) → IsSound s → ((o : OwnCall) → IsOwn t o (mine_in n s) → MayGo n s s2) → IfOk res (λ done. (i : ℕ) × IsWriteAt s t i × TakesInPlace s i r done s2)
+    → res ≡ Ok true → (o : OwnCall) → IsOwn t o (mine_in n s) → TakesTo o r o.buffer (mine_in n s) (mine_in n s2)
+placed_mine n t r s s2 res ok may h e = λ o own.
+    let d = subst (λ x. IfOk x (λ done. (i : ℕ) × IsWriteAt s t i × TakesInPlace s i r done s2)) e h in
+    write_mine n t o s s2 d.0 ok own d.1.stands (may o own) r d.2.1
 
-pub not_placed : (t r : ℕ) (s s2 : State) (done : Bool) → done ≡ false → ((i : ℕ) × IsWriteAt s t i × TakesInPlace s i r done s2) → s2 ≡ s
-not_placed t r s s2 true e d = absurd cc
-not_placed t r s s2 false e d = d.2.1
-
-pub writes_then : {E : Type 0} (n t r : ℕ) (s s1 s2 : State) (res : Result (Unit {0}) E) → s1 ≡ s → OnOk res ((o : OwnCall) → IsOwn t o (mine_in n s1) → TakesTo o r o.buffer (mine_in n s1) (mine_in n s2))
-    → OnOk res ((o : OwnCall) → IsOwn t o (mine_in n s) → TakesTo o r o.buffer (mine_in n s) (mine_in n s2))
-writes_then n t r s s1 s2 res e h = subst (λ (x : State). OnOk res ((o : OwnCall) → IsOwn t o (mine_in n x) → TakesTo o r o.buffer (mine_in n x) (mine_in n s2))) e h
+pub not_placed : {E : Type 0} (n t r : ℕ) (s s2 : State) (res : Result Bool E) → IfOk res (λ done. (i : ℕ) × IsWriteAt s t i × TakesInPlace s i r done s2) → res ≡ Ok false → mine_in n s2 ≡ mine_in n s
+not_placed n t r s s2 res h e =
+    let d = subst (λ x. IfOk x (λ done. (i : ℕ) × IsWriteAt s t i × TakesInPlace s i r done s2)) e h in
+    mine_same n s s2 d.2.1

@@ -1,3 +1,5 @@
 pub mod OwnLemmas
 pub mod StepLemmas
 pub mod Answered
+pub mod AgainstLemmas
+pub mod ControlLemmas

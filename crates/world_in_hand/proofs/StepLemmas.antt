@@ -19,9 +19,10 @@ use Rattle.replica_node.specs.Node.{Node}
 use Rattle.open_calls.specs.declared.open_call.OpenCall.{OpenCall}
 use Rattle.open_calls.specs.declared.parts.Part.{Part}
 use Rattle.open_calls.specs.declared.parts.Part.TheVariants.{Apart, Owed, Taken, Acked}
-use Rattle.open_calls.specs.Parts.{part_at, is_awaited, is_pending_at}
+use Rattle.open_calls.specs.Parts.{part_at, is_awaited, is_pending_at, IsTaken}
 use Rattle.open_calls.specs.Calls.{open_at, node_at, call_asked, no_call, with_part_at, read_from}
-use Rattle.open_calls.proofs.PartLemmas.{up_in, rw_up}
+use Rattle.open_calls.specs.Clients.{IsReading}
+use Rattle.open_calls.proofs.PartLemmas.{up_in, rw_up, taken_in}
 use Rattle.volume_core.specs.State.{State, modes_in, index_at}
 use Rattle.volume_core.specs.Steps.{acked, wrote, has_read, ended, faulted}
 use Rattle.volume_core.specs.Sound.{IsSound}
@@ -29,8 +30,8 @@ use Rattle.volume_core.specs.Places.{IsWriteAt}
 use Rattle.volume_core.specs.Answers.{EndsWrite, EndsRead, IsWriteReply, Completes}
 use Rattle.volume_core.specs.Streams.{running, opens, open_of, calls_in, MayGo, IsAnsweredTo}
 use Rattle.volume_core.proofs.CallLemmas.{calls-set_own}
-use Rattle.client_worker.specs.Mine.{OwnCall, IsOwn, with_running, answer_placed, fault_placed}
-use Rattle.client_worker.specs.Steps.{Answers, FaultsTo, TakesTo, AcksTo}
+use Rattle.stream_steps.specs.Mine.{OwnCall, IsOwn, with_running, answer_placed, fault_placed}
+use Rattle.stream_steps.specs.Steps.{Answers, FaultsTo, TakesTo, AcksTo}
 use Rattle.world_in_hand.specs.Hand.{own_call, mine_in}
 use Rattle.world_in_hand.proofs.OwnLemmas.{own_answer, own_fault, IsAt, own_stands, only_open, grown}
 
@@ -116,12 +117,12 @@ read_of : (a b : List ℕ) → reply.Read a ≡ reply.Read b → b ≡ a
 read_of a b e = cc
 
 -- what the reply of an ended call says of the replicas
-pub record IsBacked (modes : List Mode) (o : OwnCall) (r : Reply) : Type 0 where
+pub record IsBacked (replicas : ℕ) (modes : List Mode) (o : OwnCall) (r : Reply) : Type 0 where
   pub done : r ≡ reply.Done → (q : ℕ) → mode_of modes q ≡ Rw → part_at o.parts q ≡ Acked
-  pub read : (bytes : List ℕ) → r ≡ reply.Read bytes → (bytes ≡ o.buffer) × ((q : ℕ) × (part_at o.parts q ≡ Acked))
+  pub read : (bytes : List ℕ) → r ≡ reply.Read bytes → (bytes ≡ o.buffer) × ((q : ℕ) × (q < replicas) × (part_at o.parts q ≡ Acked))
 
-pub refused_backed : (modes : List Mode) (o : OwnCall) (r : Reply) → r ≡ reply.Refused NoReplica → IsBacked modes o r
-refused_backed modes o r e = record { done = λ d. absurd (no_done (sym e ∙ d)); read = λ bytes d. absurd (no_read bytes (sym e ∙ d)) }
+pub refused_backed : (replicas : ℕ) (modes : List Mode) (o : OwnCall) (r : Reply) → r ≡ reply.Refused NoReplica → IsBacked replicas modes o r
+refused_backed replicas modes o r e = record { done = λ d. absurd (no_done (sym e ∙ d)); read = λ bytes d. absurd (no_read bytes (sym e ∙ d)) }
   where
     no_done : reply.Refused NoReplica ≡ reply.Done → ⊥
     no_done e = cc
@@ -130,7 +131,7 @@ refused_backed modes o r e = record { done = λ d. absurd (no_done (sym e ∙ d)
     no_read bytes e = cc
 
 module _ (s : State) (i : ℕ) (o : OwnCall) (ok : IsSound s) (within : i < length s.tickets) (is : own_call (ticket_at s.tickets i, open_at s.calls i) ≡ o) (r : Reply) where
-  write_backed : (t : ℕ) → IsWriteAt s t i → EndsWrite s i r → IsBacked (modes_in s) o r
+  write_backed : (t : ℕ) → IsWriteAt s t i → EndsWrite s i r → IsBacked (length s.nodes) (modes_in s) o r
   write_backed t at e = record {
     done = λ d q read.
         let inside : q < length s.nodes = subst (λ k. q < k) ok.clients.agree.as_many (up_in (modes_in s) q (rw_up (mode_of (modes_in s) q) read)) in
@@ -140,44 +141,53 @@ module _ (s : State) (i : ℕ) (o : OwnCall) (ok : IsSound s) (within : i < leng
     read = λ bytes d. absurd (subst (IsWriteReply (modes_in s)) d e.reply);
   }
 
-  read_backed : EndsRead s i r → IsBacked (modes_in s) o r
-  read_backed e = ⊎_elim
+  read_backed : IsReading (ticket_at s.tickets i) → EndsRead s i r → IsBacked (length s.nodes) (modes_in s) o r
+  read_backed reads e = ⊎_elim
       (λ found.
       let bytes = e.bytes found.0 found.1 in
+      let many : length (open_at s.calls i).parts ≡ length s.nodes = (ok.clients.fits i within).parts reads.started (λ whole. not_whole (sym reads.reads ∙ whole)) in
+      let inside : found.0 < length s.nodes = subst (λ k. found.0 < k) many (taken_in (open_at s.calls i).parts found.0 (subst IsTaken (sym found.1) tt)) in
       record {
         done = λ d. absurd (no_done (open_at s.calls i).buffer (sym bytes ∙ d));
-        read = λ b d. (read_of (open_at s.calls i).buffer b (sym bytes ∙ d) ∙ ap (λ (x : OwnCall). x.buffer) is, (found.0, subst (λ (x : OwnCall). part_at x.parts found.0 ≡ Acked) is found.1));
+        read = λ b d. (read_of (open_at s.calls i).buffer b (sym bytes ∙ d) ∙ ap (λ (x : OwnCall). x.buffer) is, (found.0, inside, subst (λ (x : OwnCall). part_at x.parts found.0 ≡ Acked) is found.1));
       })
-      (λ none. refused_backed (modes_in s) o r (e.none none).0)
+      (λ none. refused_backed (length s.nodes) (modes_in s) o r (e.none none).0)
       (find_acked (open_at s.calls i).parts)
     where
+      not_whole : kind.Read ≡ kind.Whole → ⊥
+      not_whole e = cc
+
       no_done : (b : List ℕ) → reply.Read b ≡ reply.Done → ⊥
       no_done b e = cc
 
 -- an open call is answered, with places for so many entries
 pub ended_mine : (n t : ℕ) (o : OwnCall) (s s2 : State) (i spare : ℕ) (r : Reply) → IsSound s → IsOwn t o (mine_in n s) → StandsAt s.tickets t i → MayGo n s s2 → IsAnsweredTo n o.call s s2
-    → s2 ≡ ended (record s { book = record s.book { spare = spare } }) i r → IsBacked (modes_in s) o r → Answers o (mine_in n s) (mine_in n s2)
+    → s2 ≡ ended (record s { book = record s.book { spare = spare } }) i r → IsBacked (length s.nodes) (modes_in s) o r
+    → (ends : Answers o (mine_in n s) (mine_in n s2)) × (ends.answer.reply ≡ r)
 ended_mine n t o s s2 i spare r ok own stands may sees e backed =
     let here = own_stands n t o s i ok own stands in
-    let answer : Answer = record { call = call_asked (ticket_at s.tickets i).kind (open_at s.calls i); reply = r; index = index_at s.indices (open_at s.calls i).stream; saw = (open_at s.calls i).saw; stream = (open_at s.calls i).stream } in
-    record {
-      modes = modes_in s;
-      answer = answer;
-      is = grown n s s2 may (answer_placed (modes_in s) answer ∷ []) [] (entry.Answer answer ∷ []) (ap (λ (x : State). x.book.entries) e) (own_answer n (modes_in s) answer here.at.stream) refl (none_open n s2 sees.idle);
-      call = here.at.asked;
-      by = here.at.stream;
-      saw = ap (λ (x : OwnCall). x.saw) here.is;
-      done = backed.done;
-      read = backed.read;
-    }
+    let answer : Answer = record { call = call_asked (ticket_at s.tickets i).kind (open_at s.calls i); reply = r; index = index_at s.indices (open_at s.calls i).stream; saw = (open_at s.calls i).saw; stream = (open_at s.calls i).stream } in (
+      record {
+        modes = modes_in s;
+        answer = answer;
+        is = grown n s s2 may (answer_placed (modes_in s) answer ∷ []) [] (entry.Answer answer ∷ []) (ap (λ (x : State). x.book.entries) e) (own_answer n (modes_in s) answer here.at.stream) refl (none_open n s2 sees.idle);
+        here = refl;
+        call = here.at.asked;
+        by = here.at.stream;
+        saw = ap (λ (x : OwnCall). x.saw) here.is;
+        done = backed.done;
+        read = backed.read;
+      },
+      refl,
+    )
 
 pub completes_mine : {E : Type 0} (n t : ℕ) (s s2 : State) (res : Result ℕ E) → IsSound s → OnOk res (Completes s t s2) → ((o : OwnCall) → IsOwn t o (mine_in n s) → MayGo n s s2)
     → IfOk res (λ place. (o : OwnCall) → IsOwn t o (mine_in n s) → IsAnsweredTo n o.call s s2) → OnOk res ((o : OwnCall) → IsOwn t o (mine_in n s) → Answers o (mine_in n s) (mine_in n s2))
 completes_mine n t s s2 (Ok place) ok done may sees = λ o own. ⊎_elim
-    (λ w. ended_mine n t o s s2 done.0 s.book.spare done.1 ok own w.0.stands (may o own) (sees o own) done.2
-    (write_backed s done.0 o ok w.0.stands.within (own_stands n t o s done.0 ok own w.0.stands).is done.1 t w.0 w.1))
-    (λ r. ended_mine n t o s s2 done.0 s.book.spare done.1 ok own r.0.stands (may o own) (sees o own) done.2
-    (read_backed s done.0 o ok r.0.stands.within (own_stands n t o s done.0 ok own r.0.stands).is done.1 r.1))
+    (λ w. (ended_mine n t o s s2 done.0 s.book.spare done.1 ok own w.0.stands (may o own) (sees o own) done.2
+    (write_backed s done.0 o ok w.0.stands.within (own_stands n t o s done.0 ok own w.0.stands).is done.1 t w.0 w.1)).0)
+    (λ r. (ended_mine n t o s s2 done.0 s.book.spare done.1 ok own r.0.stands (may o own) (sees o own) done.2
+    (read_backed s done.0 o ok r.0.stands.within (own_stands n t o s done.0 ok own r.0.stands).is done.1 r.0.reads r.1)).0)
     done.3
 completes_mine n t s s2 (Err e) ok done may sees = tt
 

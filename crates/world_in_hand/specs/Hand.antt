@@ -1,5 +1,5 @@
 -- What the one worker of a World knows of its stream.
-use Rattle.std.specs.Prelude.{ℕ, ◌==◌, Bool, false, List, [], ◌∷◌, length, map, Some, if◌then◌else◌}
+use Rattle.std.specs.Prelude.{◌≡◌, ◌≢◌, ℕ, ◌==◌, ◌<◌, Bool, false, List, [], ◌∷◌, length, map, Some, if◌then◌else◌}
 use Rattle.range_turns.specs.declared.ticket.Ticket.{Ticket}
 use Rattle.volume_model.specs.declared.entry.Entry.{Entry}
 use Rattle.volume_model.specs.declared.entry.Entry.TheVariants as entry
@@ -10,8 +10,10 @@ use Rattle.volume_model.specs.Modes.{modes_after_entry}
 use Rattle.open_calls.specs.declared.open_call.OpenCall.{OpenCall}
 use Rattle.open_calls.specs.Calls.{call_asked, whole_of}
 use Rattle.volume_core.specs.State.{State}
+use Rattle.volume_core.specs.Sound.{IsSound}
 use Rattle.volume_core.specs.Streams.{running}
-use Rattle.client_worker.specs.Mine.{Mine, OwnCall, Placed}
+use Rattle.commands_at_rest.specs.AtRest.{spot_in}
+use Rattle.stream_steps.specs.Mine.{Mine, OwnCall, Placed}
 
 -- a ticket and its call, as their stream's worker sees them
 abbrev pub own_call : Ticket × OpenCall → OwnCall
@@ -50,5 +52,15 @@ mine_in stream s = record {
   replicas = length s.nodes;
   entries = own_entries stream s.book.opening.modes s.book.entries;
   running = map own_call (running s stream);
-  log = Some s.book.entries;
+  log = Some (record { spot = spot_in s; entries = s.book.entries });
 }
+
+-- no other stream has a call open
+abbrev pub IsAlone : ℕ → State → Type 0
+IsAlone stream s = (other : ℕ) → other ≢ stream → running s other ≡ []
+
+-- a step of the stream can be taken: the World is sound, the stream is one of its streams, and no other has a call open
+pub record IsReady (stream : ℕ) (s : State) : Type 0 where
+  pub sound : IsSound s
+  pub there : stream < length s.indices
+  pub alone : IsAlone stream s

@@ -1,7 +1,9 @@
-use client_worker::ClientSteps;
-use std::alloc::{AllocError, Global};
-use std::sync::Wait;
-use volume_core::{Admit, BlockRange, Blocks, Call, Enrolled, Mode, NotThis, TicketNumber, World};
+ghost use Rattle.std.specs.Prelude.{◌≡◌, ◌<◌, [], length};
+ghost use Rattle.volume_core.specs.State.{state_of};
+ghost use Rattle.volume_core.specs.Sound.{IsSound};
+ghost use Rattle.world_in_hand.specs.Hand.{IsReady, mine_in};
+
+use volume_core::World;
 
 /// A World in the hands of the one worker there is, which serves that stream now.
 #[derive(Drop)]
@@ -10,113 +12,41 @@ pub struct WorldInHand {
     pub stream: u8,
 }
 
-impl ClientSteps for WorldInHand {
-    ghost use Rattle.std.specs.Prelude.{◌<◌, ℕ, length};
-    ghost use Rattle.volume_core.specs.State.{state_of, modes_in};
-    ghost use Rattle.volume_core.specs.Sound.{IsSound};
-    ghost use Rattle.volume_core.specs.Streams.{Origin, origin_of};
-    ghost use Rattle.world_in_hand.specs.Hand.{mine_in};
-
-    ghost mine = { λ h. mine_in h.stream (state_of h.world) };
-
-    ghost modes = { λ h. modes_in (state_of h.world) };
-
-    ghost Home = { Origin × ℕ };
-
-    ghost home = { λ h. (origin_of (state_of h.world), h.stream) };
-
-    ghost ready = { λ h. IsSound (state_of h.world) × (h.stream < length (state_of h.world).indices) };
-
-    fn answer_now<R: Wait>(
-        &mut self,
-        rt: &R,
-        alloc: Global,
-        call: &Call,
-    ) -> Result<u64, AllocError> {
-        let _ = rt;
-        self.world.answer_now(alloc, self.stream, call)
+impl WorldInHand {
+    /// A World of which no call is open.
+    pub fn of(world: World, stream: u8) -> WorldInHand
+        requires sound { IsSound (state_of world) }
+        requires stream { stream < length world.indices.items }
+        requires rest { world.turns.tickets ≡ [] }
+        ensures ready { IsReady result.stream (state_of result.world) }
+        ensures idle { (mine_in result.stream (state_of result.world)).running ≡ [] }
+        ensures world { result.world ≡ world }
+        ensures stream { result.stream ≡ stream }
+    {
+        WorldInHand { world, stream }
     }
 
-    fn enrol<R: Wait>(
-        &mut self,
-        rt: &R,
-        alloc: Global,
-        call: &Call,
-    ) -> Result<Enrolled, AllocError> {
-        let _ = rt;
-        self.world.enrol(alloc, self.stream, call)
+    /// Serves that stream from now on: the one before has no call open.
+    pub fn turn_to(&mut self, stream: u8)
+        requires ready { IsReady self.old.stream (state_of self.old.world) }
+        requires idle { (mine_in self.old.stream (state_of self.old.world)).running ≡ [] }
+        requires stream { stream < length self.old.world.indices.items }
+        ensures ready { IsReady self.new.stream (state_of self.new.world) }
+        ensures idle { (mine_in self.new.stream (state_of self.new.world)).running ≡ [] }
+        ensures world { self.new.world ≡ self.old.world }
+        ensures stream { self.new.stream ≡ stream }
+    {
+        self.stream = stream;
     }
 
-    fn range<R: Wait>(&mut self, rt: &R, t: TicketNumber) -> BlockRange {
-        let _ = rt;
-        // What the largest size is, a proof learns here.
-        let _size = self.world.size.bytes();
-        let place = self.world.turns.place(t).unwrap();
-        self.world.turns.ticket(place).range
-    }
-
-    fn admit<R: Wait>(
-        &mut self,
-        rt: &R,
-        alloc: Global,
-        t: TicketNumber,
-    ) -> Result<Admit, AllocError> {
-        let _ = rt;
-        self.world.admit(alloc, t)
-    }
-
-    fn withdraw<R: Wait>(&mut self, rt: &R, t: TicketNumber) {
-        let _ = rt;
-        self.world.withdraw(t);
-    }
-
-    fn mode<R: Wait>(&mut self, rt: &R, replica: u8) -> Mode {
-        let _ = rt;
-        self.world.mode(replica)
-    }
-
-    fn source<R: Wait>(&mut self, rt: &R) -> Option<u8> {
-        let _ = rt;
-        self.world.journal.source()
-    }
-
-    fn apply_write<R: Wait>(
-        &mut self,
-        rt: &R,
-        t: TicketNumber,
-        replica: u8,
-        blocks: &mut Blocks,
-    ) -> Result<(), NotThis> {
-        let _ = rt;
-        if self.world.apply_in_place(t, replica)? {
-            return Ok(());
-        }
-        self.world.apply_write(t, replica, blocks)
-    }
-
-    fn apply_read<R: Wait>(
-        &mut self,
-        rt: &R,
-        t: TicketNumber,
-        replica: u8,
-        into: &mut [u8],
-    ) -> Result<(), NotThis> {
-        let _ = rt;
-        self.world.apply_read(t, replica, into)
-    }
-
-    fn ack<R: Wait>(&mut self, rt: &R, t: TicketNumber, replica: u8) -> Result<(), NotThis> {
-        let _ = rt;
-        self.world.ack(t, replica)
-    }
-
-    fn fault<R: Wait>(&mut self, rt: &R, replica: u8, count: u64) -> Result<(), NotThis> {
-        let _ = rt;
-        self.world.fault(self.stream, replica, count)
-    }
-
-    fn complete<R: Wait>(&mut self, rt: &R, t: TicketNumber) -> Result<u64, NotThis> {
-        let _ = rt;
-        self.world.complete(t)
+    /// Gives the World back, of which no call is open.
+    pub fn into_world(self) -> World
+        requires ready { IsReady self.stream (state_of self.world) }
+        requires idle { (mine_in self.stream (state_of self.world)).running ≡ [] }
+        ensures sound { IsSound (state_of result) }
+        ensures rest { result.turns.tickets ≡ [] }
+        ensures world { result ≡ self.world }
+    {
+        self.world
     }
 }

@@ -1,11 +1,10 @@
 //! A stream's steps on a World that nobody else has in hand.
 #![tactic(auto)]
 
+mod client;
+mod control;
 mod hand;
 
-pub use client_worker::{Channel, ClientSteps, run_stream, serve_call};
 pub use hand::WorldInHand;
+pub use stream_steps::{ClientSteps, ControlSteps};
 pub use volume_core::World;
-
-#[cfg(test)]
-mod tests;
