@@ -1,0 +1,44 @@
+-- The streams of a script are such as workers take.
+use Rattle.std.proofs.Common.{ℕ, List, [], ◌∷◌, All}
+use Rattle.std.proofs.lemmas.List.Elements.{All-nil, All-cons, All-head, All-tail, All-weaker}
+use Rattle.command_text.specs.declared.command.Command.{Command}
+use Rattle.command_text.specs.declared.command.Command.TheVariants as command
+use Rattle.script_head.specs.declared.head.StreamHead.{StreamHead}
+use Rattle.script_head.specs.declared.head.StreamHead.TheVariants as head
+use Rattle.script_text.specs.declared.script.Script.{Script}
+use Rattle.script_text.specs.declared.script.Stream.{Stream}
+use Rattle.script_text.specs.declared.script.Stream.TheVariants as stream
+use Rattle.script_text.specs.Frames.{IsCall}
+use Rattle.script_text.specs.Good.{IsGoodCommand, IsGoodStream}
+use Rattle.script_text.specs.Script.{IsScript}
+use Rattle.script_text.specs.Streams.{AreStreams, IsStreamOf}
+use Rattle.script_text.proofs.GoodLemmas.{good_streams}
+use Rattle.client_worker.specs.Asks.{IsAsked}
+use Rattle.client_worker.proofs.ServedLaws.{asked_call}
+use Rattle.control_worker.specs.Serving.{IsForControl}
+use Rattle.stream_turns.specs.Hands.{IsTaken}
+
+for_control : (replicas : ℕ) (c : Command) → IsGoodCommand replicas c → IsForControl c
+for_control replicas (command.Snapshot name) good = good.named.user
+for_control replicas (command.Remove name) good = tt
+for_control replicas (command.Revert name) good = tt
+for_control replicas command.Purge good = tt
+for_control replicas command.Status good = tt
+for_control replicas (command.Fail r) good = tt
+for_control replicas (command.Add r) good = good.named
+
+stream_taken : (replicas : ℕ) (h : StreamHead) (bytes : List ℕ) (s : Stream) → IsStreamOf h bytes s → IsGoodStream replicas s → IsTaken s
+stream_taken replicas (head.Frames count) bytes (stream.Frames frames) is good = All-weaker IsCall IsAsked asked_call frames is.1.calls
+stream_taken replicas (head.Frames count) bytes (stream.Control commands) is good = absurd is
+stream_taken replicas (head.Control commands) bytes (stream.Frames frames) is good = absurd is
+stream_taken replicas (head.Control others) bytes (stream.Control commands) is good = All-weaker (IsGoodCommand replicas) IsForControl (for_control replicas) commands good
+
+streams_taken : (replicas : ℕ) (heads : List StreamHead) (bytes : List ℕ) (streams : List Stream) → AreStreams heads bytes streams → All (IsGoodStream replicas) streams → All IsTaken streams
+streams_taken replicas [] bytes [] are good = All-nil IsTaken
+streams_taken replicas [] bytes (s ∷ ss) are good = absurd are
+streams_taken replicas (h ∷ hs) bytes [] are good = absurd are
+streams_taken replicas (h ∷ hs) bytes (s ∷ ss) are good =
+    All-cons IsTaken s ss (stream_taken replicas h _ s are.0 (All-head (IsGoodStream replicas) s ss good)) (streams_taken replicas hs _ ss are.1 (All-tail (IsGoodStream replicas) s ss good))
+
+pub all_taken : (input : List ℕ) (script : Script) → IsScript input script → All IsTaken script.streams
+all_taken input script is = streams_taken script.replicas is.head.streams is.body script.streams is.streams (good_streams input script is)

@@ -1,0 +1,12 @@
+//! The streams of a script on one World, one stream after another, in the order of their numbers.
+#![tactic(auto)]
+
+mod lines;
+mod serving;
+mod stream;
+
+pub use frame_wire::Head;
+pub use outer_traits::Wiring;
+pub use script_text::{Script, Sequence};
+pub use serving::{Served, serve};
+pub use world_in_hand::World;
