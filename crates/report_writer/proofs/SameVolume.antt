@@ -1,17 +1,36 @@
 -- Where each replica that is read and written is one volume, what is written of them is the end of its report.
-use Rattle.std.proofs.Common.{◌≡◌, ℕ, zero, suc, List, [], ◌∷◌, ◌++◌, length, get_or, refl, ap, ◌∙◌, arith}
+use Rattle.std.proofs.Common.{◌≡◌, ℕ, zero, suc, List, [], ◌∷◌, ◌++◌, length, map, get_or, refl, ap, ◌∙◌, arith}
+use Rattle.std.proofs.lemmas.List.{length-map}
+use Rattle.frame_wire.specs.declared.head.Head.{Head}
+use Rattle.journal_book.specs.Book.{Book, modes_of}
 use Rattle.volume_model.specs.declared.mode.Mode.{Mode}
 use Rattle.volume_model.specs.declared.mode.Mode.TheVariants.{Rw, Wo, Err}
-use Rattle.volume_model.specs.Modes.{mode_of}
+use Rattle.volume_model.specs.Modes.{mode_of, modes_after}
+use Rattle.volume_model.specs.History.{Spot}
 use Rattle.volume_model.specs.PlainState.{Volume}
-use Rattle.run_report.specs.Report.{mode_lines, source_lines, end_lines}
-use Rattle.report_writer.specs.Written.{replica_line, replica_lines, end_text}
+use Rattle.volume_model.specs.Replay.{replay}
+use Rattle.replica_node.specs.Node.{Node}
+use Rattle.replica_state.specs.Volume.{volume_of_node}
+use Rattle.run_report.specs.Report.{call_lines, mode_lines, source_lines, end_lines, report_of}
+use Rattle.report_writer.specs.Written.{replica_line, replica_lines, end_text, written_text}
 use Rattle.report_writer.specs.declared.end.EndLine.{EndLine}
 use Rattle.report_writer.specs.declared.end.EndLine.TheVariants.{Chain, Digest}
 
 -- each replica that is read and written is this volume
 abbrev pub EachIs : List Mode → List Volume → Volume → Type 0
 EachIs modes volumes v = (r : ℕ) → mode_of modes r ≡ Rw → get_or volumes r v ≡ v
+
+-- each replica that is read and written is this volume; any other stands for one that is not there
+abbrev pub EachNodeIs : List Mode → List Node → Node → Volume → Type 0
+EachNodeIs modes nodes other v = (r : ℕ) → mode_of modes r ≡ Rw → volume_of_node (get_or nodes r other) ≡ v
+
+-- what is so of the replicas is so of their volumes
+pub each_volume : (ms : List Mode) (nodes : List Node) (other : Node) (v : Volume) → length nodes ≡ length ms → EachNodeIs ms nodes other v
+    → EachIs ms (map volume_of_node nodes) v
+each_volume [] nodes other v many each r is = cc
+each_volume (m ∷ ms) [] other v many each r is = absurd (omega arith)
+each_volume (m ∷ ms) (n ∷ ns) other v many each zero is = each 0 is
+each_volume (m ∷ ms) (n ∷ ns) other v many each (suc r) is = each_volume ms ns other v (omega arith) (λ s rw. each (suc s) rw) r is
 
 -- of one kind of line
 same_lines : (kind : EndLine) (r : ℕ) (ms : List Mode) (vs : List Volume) (v : Volume) → length vs ≡ length ms → EachIs ms vs v
@@ -28,6 +47,16 @@ pub same_end : (ms : List Mode) (vs : List Volume) (v : Volume) → length vs �
 same_end ms vs v many each =
     ap (λ l. mode_lines 0 ms ++ l ++ replica_lines Digest 0 ms vs) (same_lines Chain 0 ms vs v many each)
     ∙ ap (λ l. mode_lines 0 ms ++ source_lines (λ r. replica_line Chain r v) 0 ms ++ l) (same_lines Digest 0 ms vs v many each)
+
+-- Where each replica that is read and written is the volume that the journal tells of, what is written is the report.
+pub written_is_report : (heads : List (List Head)) (book : Book) (opening : Spot) (nodes : List Node) (other : Node) → book.opening.modes ≡ opening.modes
+    → length nodes ≡ length (modes_of book) → EachNodeIs (modes_of book) nodes other (replay opening.state book.entries).volume
+    → written_text heads book (map volume_of_node nodes) ≡ report_of heads opening book.entries
+written_is_report heads book opening nodes other began many each =
+    let v = (replay opening.state book.entries).volume in
+    ap (λ l. call_lines heads book.entries ++ l) (same_end (modes_of book) (map volume_of_node nodes) v (length-map nodes volume_of_node ∙ many)
+    (each_volume (modes_of book) nodes other v many each))
+    ∙ ap (λ ms. call_lines heads book.entries ++ end_lines (modes_after ms book.entries) v) began
 
 -- one replica is its own volume
 pub one_is : (modes : List Mode) (v : Volume) → EachIs modes (v ∷ []) v

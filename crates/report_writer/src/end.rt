@@ -1,10 +1,11 @@
-ghost use Rattle.std.specs.Prelude.{◌≡◌, ◌+◌, ◌<◌, ◌++◌, length, OnOk};
-ghost use Rattle.run_report.specs.Digest.{digest_text};
+ghost use Rattle.std.specs.Prelude.{◌≡◌, ◌+◌, ◌<◌, ◌++◌, length, map, OnOk};
 ghost use Rattle.run_report.specs.Report.{mode_lines};
+ghost use Rattle.replica_state.specs.Volume.{volume_of_node};
 ghost use Rattle.report_writer.specs.Written.{end_text, replica_line, replica_lines};
 
-use replica_disk::ReplicaDisk;
-use run_report::{Digest, print_chain, print_head, print_mode};
+use crate::digests::Digests;
+use replica_node::ReplicaNode;
+use run_report::{print_chain, print_head, print_mode};
 use std::alloc::{AllocError, Global};
 use volume_model::Mode;
 
@@ -16,21 +17,40 @@ pub(crate) enum EndLine {
     Digest,
 }
 
-/// Prints what a run leaves of replicas of these modes: the mode of each, and the chain and the head's digest of each that is
-/// read and written.
+/// Prints what a run leaves of replicas of these modes: the mode of each, and the chain and the head's digest of each
+/// that is read and written.
 pub(crate) fn print_end(
     alloc: Global,
     modes: &[Mode],
-    replicas: &[ReplicaDisk],
+    replicas: &[ReplicaNode],
     into: &mut Vec<u8>,
 ) -> Result<(), AllocError>
     requires few { length modes.now < 256 }
     requires each { length replicas.now ≡ length modes.now }
-    ensures { OnOk result (into.new.items ≡ into.old.items ++ end_text modes.now replicas.now) }
+    ensures { OnOk result (into.new.items
+        ≡ into.old.items ++ end_text modes.now (map volume_of_node replicas.now)) }
 {
+    // The memory for the digests is taken first: from there on no digest takes any.
+    let mut digests = Digests::with_capacity(alloc, replicas.len())?;
     print_modes(0, modes, into)?;
-    print_each(alloc, EndLine::Chain, 0, modes, replicas, into)?;
-    print_each(alloc, EndLine::Digest, 0, modes, replicas, into)
+    print_each(
+        alloc,
+        EndLine::Chain,
+        0,
+        modes,
+        replicas,
+        &mut digests,
+        into,
+    )?;
+    print_each(
+        alloc,
+        EndLine::Digest,
+        0,
+        modes,
+        replicas,
+        &mut digests,
+        into,
+    )
 }
 
 /// The modes of the replicas, the first of which is `r`.
@@ -46,51 +66,43 @@ fn print_modes(r: u8, modes: &[Mode], into: &mut Vec<u8>) -> Result<(), AllocErr
 }
 
 /// A line of this kind for each that is read and written.
-fn print_each(
+fn print_each<'a>(
     alloc: Global,
     kind: EndLine,
     r: u8,
     modes: &[Mode],
-    replicas: &[ReplicaDisk],
+    replicas: &'a [ReplicaNode],
+    digests: &mut Digests<'a>,
     into: &mut Vec<u8>,
 ) -> Result<(), AllocError>
     requires few { r + length modes.now < 256 }
     requires each { length replicas.now ≡ length modes.now }
-    ensures { OnOk result (into.new.items ≡ into.old.items ++ replica_lines kind r modes.now replicas.now) }
+    ensures { OnOk result (into.new.items
+        ≡ into.old.items ++ replica_lines kind r modes.now (map volume_of_node replicas.now)) }
 {
     let ([mode, modes @ ..], [replica, replicas @ ..]) = (modes, replicas) else {
         return Ok(());
     };
     match mode {
-        Mode::Rw => print_line(alloc, kind, r, replica, into)?,
+        Mode::Rw => print_line(alloc, kind, r, replica, digests, into)?,
         Mode::Wo | Mode::Err => {}
     }
-    print_each(alloc, kind, r + 1, modes, replicas, into)
+    print_each(alloc, kind, r + 1, modes, replicas, digests, into)
 }
 
-fn print_line(
+fn print_line<'a>(
     alloc: Global,
     kind: EndLine,
     r: u8,
-    replica: &ReplicaDisk,
+    replica: &'a ReplicaNode,
+    digests: &mut Digests<'a>,
     into: &mut Vec<u8>,
 ) -> Result<(), AllocError>
-    ensures { OnOk result (into.new.items ≡ into.old.items ++ replica_line kind r replica.now) }
+    ensures { OnOk result (into.new.items
+        ≡ into.old.items ++ replica_line kind r (volume_of_node replica.now)) }
 {
     match kind {
         EndLine::Chain => print_chain(Some(r), &replica.chain(alloc)?, into),
-        EndLine::Digest => print_head(r, &digest_of_head(replica), into),
+        EndLine::Digest => print_head(r, &digests.of(replica)?, into),
     }
-}
-
-/// The digest of all bytes of a disk. Each is hashed once, and none is made for a block that was never
-/// written.
-fn digest_of_head(disk: &ReplicaDisk) -> [u8; 64]
-    ensures { result ≡ digest_text disk.now.disk }
-{
-    let mut digest = Digest::new();
-    for block in 0..disk.block_count() {
-        digest.add(disk.block(block));
-    }
-    digest.text()
 }

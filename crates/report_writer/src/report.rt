@@ -1,4 +1,4 @@
-ghost use Rattle.std.specs.Prelude.{◌≡◌, ◌≢◌, ◌<◌, ◌≤◌, ◌⊎◌, ◌++◌, length, slice_get, Some, OnOk, IfSome, IfNone, vec_len};
+ghost use Rattle.std.specs.Prelude.{◌≡◌, ◌≢◌, ◌<◌, ◌≤◌, ◌⊎◌, ◌++◌, length, map, slice_get, Some, OnOk, IfSome, IfNone, vec_len};
 ghost use Rattle.std.specs.Io.KnownBytes.{Appends};
 ghost use Rattle.outer_traits.specs.Causes.{HasOuterCause};
 ghost use Rattle.outer_traits.specs.Passing.{WritesPrefix, Passes};
@@ -7,13 +7,14 @@ ghost use Rattle.run_report.specs.Lines.{entry_line, reply_line};
 ghost use Rattle.run_report.specs.Report.{journal_lines, reply_lines, replies_from};
 ghost use Rattle.journal_book.specs.Book.{modes_of};
 ghost use Rattle.volume_model.specs.History.{answers_of};
+ghost use Rattle.replica_state.specs.Volume.{volume_of_node};
 ghost use Rattle.report_writer.specs.Written.{written_text};
 
 use crate::end::print_end;
 use frame_wire::Head;
 use journal_book::Journal;
 use outer_traits::{Outer, Sink, pass_on, write_all};
-use replica_disk::ReplicaDisk;
+use replica_node::ReplicaNode;
 use run_report::{print_entry, print_reply};
 use std::alloc::Global;
 use volume_model::{Answer, Entry, Sequence};
@@ -24,15 +25,15 @@ pub fn write_report<K: Sink>(
     alloc: Global,
     heads: &[Sequence<Head>],
     journal: &Journal,
-    replicas: &[ReplicaDisk],
+    replicas: &[ReplicaNode],
     sink: &mut K,
 ) -> Outer<()>
     requires few { length (modes_of journal.now) < 256 }
     requires each { length replicas.now ≡ length (modes_of journal.now) }
     ensures whole { OnOk result (Appends (K.contents sink.old) (K.contents sink.new)
-        (written_text heads.now journal.now replicas.now)) }
+        (written_text heads.now journal.now (map volume_of_node replicas.now))) }
     ensures prefix { WritesPrefix (K.contents sink.old) (K.contents sink.new)
-        (written_text heads.now journal.now replicas.now) }
+        (written_text heads.now journal.now (map volume_of_node replicas.now)) }
     ensures cause { HasOuterCause (K.faults sink.old) (K.faults sink.new) result }
 {
     let mut buffer = Vec::new(alloc);
