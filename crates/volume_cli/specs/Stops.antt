@@ -14,7 +14,9 @@ use Rattle.script_text.specs.declared.what.What.{What}
 use Rattle.script_text.specs.Script.{IsScript, IsNoScript}
 use Rattle.volume_cli.specs.declared.stop.Stop.{Stop}
 use Rattle.volume_cli.specs.declared.stop.Stop.TheVariants.{BadScript, ReadFault, WriteFault, NoMemory}
-use Rattle.solo_worker.specs.Volume.{opening_of, calls_in, heads_in}
+use Rattle.client_worker.specs.Exchanges.{ExchangesShown}
+use Rattle.stream_turns.specs.Volume.{opening_of, calls_in, heads_in}
+use Rattle.stream_turns.specs.Serving.{HaveNotFailed}
 
 -- the way to stop that a refusal of a script is
 abbrev pub stop_of : ScriptError → Stop
@@ -57,10 +59,6 @@ abbrev pub Counts : {T : Type 0} → Result T Stop → ℕ → ℕ → ℕ → �
 Counts (Ok x) s t k l = (t ≡ s) × (l ≡ k)
 Counts (Err e) s t k l = StopCounts e s t k l
 
--- no line to a replica has failed: there is none yet that can
-abbrev pub no_faults : ℕ → ℕ → ℕ
-no_faults stream replica = 0
-
 -- the source had this script, where it tells what it had
 abbrev pub HadScript : Option (List ℕ) → Script → Type 0
 HadScript left script = (input : List ℕ) × IsScript input script × IfSome left (λ told. told ≡ input)
@@ -69,13 +67,19 @@ HadScript left script = (input : List ℕ) × IsScript input script × IfSome le
 abbrev pub RunFact : Type 1
 RunFact = Script → List Entry → Type 0
 
--- the journal is one legal history of the script's calls
-abbrev pub IsRun : RunFact
-IsRun script journal = IsHistory (opening_of script) no_faults (stream_of (calls_in script)) journal
+-- the journal is one legal history of the script's calls, over lines that counted these faults, by stream and replica
+abbrev pub IsRun : (ℕ → ℕ → ℕ) → RunFact
+IsRun counted script journal = IsHistory (opening_of script) counted (stream_of (calls_in script)) journal
 
--- It is the one that a single worker makes: one stream after another, in the order of their numbers.
-abbrev pub IsOneWorkersRun : RunFact
-IsOneWorkersRun script journal = journal ≡ served (opening_of script) (calls_in script)
+-- Where none of these lines has failed, it is the one that a single worker makes: one stream after another, in the order
+-- of their numbers.
+abbrev pub IsOneWorkersRun : (ℕ → ℕ → ℕ) → RunFact
+IsOneWorkersRun counted script journal =
+    HaveNotFailed counted script → journal ≡ served (opening_of script) (calls_in script)
+
+-- what it tells as read and written was carried, of lines that tell what they have carried, by stream and replica
+abbrev pub IsCarriedRun : (ℕ → ℕ → Option (List (List ℕ))) → RunFact
+IsCarriedRun carried script journal = ExchangesShown script.replicas carried (opening_of script).modes journal
 
 -- what such a run prints
 abbrev pub report_text : Script → List Entry → List ℕ

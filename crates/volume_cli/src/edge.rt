@@ -1,7 +1,8 @@
-ghost use Rattle.std.specs.Prelude.{◌≡◌, ◌≤◌, ◌∷◌, [], length, IfOk, OnOk};
+ghost use Rattle.std.specs.Prelude.{◌≡◌, ◌<◌, ◌≤◌, length, map, IfOk, OnOk};
 ghost use Rattle.std.specs.Io.KnownBytes.{Appends, Consumes, IsAtEnd};
 ghost use Rattle.journal_book.specs.Book.{modes_of};
 ghost use Rattle.outer_traits.specs.Passing.{GivesAtMost, WritesPrefix};
+ghost use Rattle.replica_state.specs.Volume.{volume_of_node};
 ghost use Rattle.report_writer.specs.Written.{written_text};
 ghost use Rattle.volume_cli.specs.Stops.{ReadCounts, WriteCounts};
 
@@ -10,9 +11,8 @@ use journal_book::Bytes;
 use outer_traits::{OuterError, Sink, Source, read_whole};
 use report_writer::write_report;
 use script_text::MOST_INPUT;
-use solo_worker::Served;
 use std::alloc::Global;
-use std::slice;
+use stream_turns::Served;
 
 /// Reads the input to its end, or to one byte past the most that it may have.
 pub fn read_input<S: Source>(alloc: Global, source: &mut S) -> Result<Bytes, Stop>
@@ -28,17 +28,18 @@ pub fn read_input<S: Source>(alloc: Global, source: &mut S) -> Result<Bytes, Sto
     }
 }
 
-/// Writes the report of what was served on one replica. Where that fails, the sink has taken a prefix of it.
+/// Writes the report of what was served. Where that fails, the sink has taken a prefix of it.
 pub fn write_output<K: Sink>(alloc: Global, served: &Served, sink: &mut K) -> Result<(), Stop>
-    requires { length (modes_of served.now.journal) ≡ 1 }
+    requires few { length (modes_of served.now.world.journal) < 256 }
+    requires each { length served.now.world.nodes.items ≡ length (modes_of served.now.world.journal) }
     ensures whole { OnOk result (Appends (K.contents sink.old) (K.contents sink.new)
-        (written_text served.now.heads.items served.now.journal (served.now.disk ∷ []))) }
+        (written_text served.now.heads.items served.now.world.journal (map volume_of_node served.now.world.nodes.items))) }
     ensures prefix { WritesPrefix (K.contents sink.old) (K.contents sink.new)
-        (written_text served.now.heads.items served.now.journal (served.now.disk ∷ [])) }
+        (written_text served.now.heads.items served.now.world.journal (map volume_of_node served.now.world.nodes.items)) }
     ensures counts { WriteCounts result (K.faults sink.old) (K.faults sink.new) }
 {
-    let replicas = slice::from_ref(&served.disk);
-    match write_report(alloc, &served.heads, &served.journal, replicas, sink) {
+    let world = &served.world;
+    match write_report(alloc, &served.heads, &world.journal, &world.nodes, sink) {
         Ok(()) => Ok(()),
         Err(OuterError::Failed) => Err(Stop::WriteFault),
         Err(OuterError::NoMemory) => Err(Stop::NoMemory),

@@ -10,6 +10,7 @@ mod stop;
 mod tests;
 mod top;
 
+use fault_lines::PlanWiring;
 use outer_real::{StdSink, StdSource};
 use std::io;
 use std::process::ExitCode;
@@ -19,7 +20,8 @@ fn main(rt: HostRuntime) -> ExitCode {
         Ok(words) => {
             let mut source = StdSource::new(rt.reader());
             let mut sink = StdSink::new(io::writer(&rt));
-            top::longhorn(rt.alloc(), &words, &mut source, &mut sink)
+            let mut wiring = PlanWiring::new(rt.alloc());
+            top::longhorn(&rt, rt.alloc(), &words, &mut source, &mut sink, &mut wiring)
         }
         Err(status) => status,
     };

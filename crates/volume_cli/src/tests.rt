@@ -1,5 +1,7 @@
+mod carries;
 mod draft;
 mod faults;
 mod purge;
+mod replicas;
 mod rows;
 mod slow;

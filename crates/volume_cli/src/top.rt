@@ -5,24 +5,28 @@ ghost use Rattle.script_text.specs.Script.{IsScript, IsNoScript};
 ghost use Rattle.script_text.specs.declared.script.Script.{Script};
 ghost use Rattle.script_text.specs.declared.what.What.{What};
 ghost use Rattle.volume_cli.specs.Headline.{AskRun, IsUsageError, ExactlyWhere, ScriptRefusal, Leaves, IsStatus};
-ghost use Rattle.volume_cli.specs.Stops.{Counts, IsOneWorkersRun, IsRun, RunLeaves};
+ghost use Rattle.volume_cli.specs.Stops.{Counts, IsCarriedRun, IsOneWorkersRun, IsRun, RunLeaves};
 
 use crate::edge::{read_input, write_output};
 use crate::status::Status;
 use crate::stop::Stop;
-use outer_traits::{Sink, Source};
+use outer_traits::{Sink, Source, Wiring};
 use program_words::{Words, WordsError, read_words};
 use script_text::read_script;
-use solo_worker::serve;
 use std::alloc::Global;
+use std::sync::Wait;
+use stream_turns::serve;
 
-/// Does what the words of the command line ask: `run` reads a script from the source, serves its streams
-/// on a volume of zeros, and writes the journal, the replies and the volume's last lines to the sink.
-pub fn longhorn<S: Source, K: Sink>(
+/// Does what the words of the command line ask: `run` reads a script from the source, serves its streams on replicas
+/// of zeros, over lines that the wiring makes, and writes the journal, the replies and the replicas' last lines to the
+/// sink.
+pub fn longhorn<R: Wait, S: Source, K: Sink, W: Wiring>(
+    rt: &R,
     alloc: Global,
     words: &[String],
     source: &mut S,
     sink: &mut K,
+    wiring: &mut W,
 ) -> Status
     requires source_count { S.faults source.old < 2 ^ 64 - 1 }
     requires sink_count { K.faults sink.old < 2 ^ 64 - 1 }
@@ -38,7 +42,8 @@ pub fn longhorn<S: Source, K: Sink>(
     ensures done { result ≡ Status.Done → AskRun words.now × IsAtEnd (S.left source.new)
         × (S.faults source.new ≡ S.faults source.old) × (K.faults sink.new ≡ K.faults sink.old) }
 
-    // Where a run is asked for, the input is a script and nothing fails, the run is done.
+    // Where a run is asked for, the input is a script and neither source nor sink fails, the run is done, whichever
+    // lines fail.
     ensures complete { AskRun words.now → S.faults source.new ≡ S.faults source.old
         → K.faults sink.new ≡ K.faults sink.old → IfSome (S.left source.old) (λ input. (script : Script)
         → IsScript input script → IsStatus result Status.Done) }
@@ -47,15 +52,20 @@ pub fn longhorn<S: Source, K: Sink>(
     ensures unread { result ≡ Status.Usage → source.new ≡ source.old }
     ensures most { GivesAtMost (S.left source.old) (S.left source.new) 268435457 }
 
-    // At Done the sink has the report of one legal history of the script's calls. After a write fault it has a
-    // prefix of it, and after a refusal and a read fault it is as it was.
-    ensures printed { Leaves IsRun result (sink.new ≡ sink.old) (S.left source.old) (K.contents sink.old) (K.contents sink.new) }
+    // At Done the sink has the report of one legal history of the script's calls, and its fault marks are faults that
+    // the lines counted. After a write fault it has a prefix of it, and after a refusal and a read fault it is as it was.
+    ensures printed { Leaves (IsRun (W.counts wiring.new)) result (sink.new ≡ sink.old) (S.left source.old) (K.contents sink.old) (K.contents sink.new) }
 
-    // Until there are threads that history is the one of a single worker: one stream after another, by their numbers.
-    ensures turns { Leaves IsOneWorkersRun result (sink.new ≡ sink.old) (S.left source.old) (K.contents sink.old) (K.contents sink.new) }
+    // Where the lines tell what they carried, each write that was done was carried whole to each replica that is read
+    // and written there, and the bytes of each read from one.
+    ensures carried { Leaves (IsCarriedRun (W.carried wiring.new)) result (sink.new ≡ sink.old) (S.left source.old) (K.contents sink.old) (K.contents sink.new) }
+
+    // Until there are threads, and where no line has failed, that history is the one of a single worker: one stream
+    // after another, by their numbers.
+    ensures turns { Leaves (IsOneWorkersRun (W.counts wiring.new)) result (sink.new ≡ sink.old) (S.left source.old) (K.contents sink.old) (K.contents sink.new) }
 {
     match read_words(alloc, words) {
-        Ok(Words::Run { .. }) => match run(alloc, source, sink) {
+        Ok(Words::Run { .. }) => match run(rt, alloc, source, sink, wiring) {
             Ok(()) => Status::Done,
             Err(Stop::BadScript { place, what }) => Status::Script { place, what },
             Err(Stop::ReadFault) => Status::ReadFault,
@@ -67,15 +77,22 @@ pub fn longhorn<S: Source, K: Sink>(
     }
 }
 
-fn run<S: Source, K: Sink>(alloc: Global, source: &mut S, sink: &mut K) -> Result<(), Stop>
+fn run<R: Wait, S: Source, K: Sink, W: Wiring>(
+    rt: &R,
+    alloc: Global,
+    source: &mut S,
+    sink: &mut K,
+    wiring: &mut W,
+) -> Result<(), Stop>
     ensures counts { Counts result (S.faults source.old) (S.faults source.new) (K.faults sink.old) (K.faults sink.new) }
     ensures whole { OnOk result (IsAtEnd (S.left source.new)) }
     ensures most { GivesAtMost (S.left source.old) (S.left source.new) 268435457 }
-    ensures leaves { RunLeaves IsRun result (sink.new ≡ sink.old) (S.left source.old) (K.contents sink.old) (K.contents sink.new) }
-    ensures turns { RunLeaves IsOneWorkersRun result (sink.new ≡ sink.old) (S.left source.old) (K.contents sink.old) (K.contents sink.new) }
+    ensures printed { RunLeaves (IsRun (W.counts wiring.new)) result (sink.new ≡ sink.old) (S.left source.old) (K.contents sink.old) (K.contents sink.new) }
+    ensures carried { RunLeaves (IsCarriedRun (W.carried wiring.new)) result (sink.new ≡ sink.old) (S.left source.old) (K.contents sink.old) (K.contents sink.new) }
+    ensures turns { RunLeaves (IsOneWorkersRun (W.counts wiring.new)) result (sink.new ≡ sink.old) (S.left source.old) (K.contents sink.old) (K.contents sink.new) }
 {
     let input = read_input(alloc, source)?;
     let script = read_script(alloc, &input)?;
-    let served = serve(alloc, script)?;
+    let served = serve(rt, alloc, script, wiring)?;
     write_output(alloc, &served, sink)
 }

@@ -2,12 +2,14 @@
 
 use crate::status::Status;
 use crate::top::longhorn;
+use fault_lines::PlanWiring;
 use frame_wire::{Head, encode_header};
 use outer_memory::{NoFaultSink, NoFaultSource};
 use std::alloc::{AllocError, Global};
 use std::process::Abort;
+use std::sync::Wait;
 
-pub(crate) const LINE: &str = "{\"volume\":\"v\",\"size\":2097152,\"replicas\":1,\"streams\":[";
+pub(crate) const LINE: &str = "{\"volume\":\"v\",\"size\":2097152,\"replicas\":";
 
 /// The last lines of a volume of zeros.
 pub(crate) const ZEROS: &str =
@@ -45,8 +47,16 @@ pub(crate) struct Draft {
 
 impl Draft {
     pub(crate) fn new(alloc: Global) -> Result<Draft, AllocError> {
+        Draft::on(alloc, "1")
+    }
+
+    /// On so many replicas. What stands behind the number are members of the line.
+    pub(crate) fn on(alloc: Global, replicas: &str) -> Result<Draft, AllocError> {
+        let mut line = Vec::from_slice(alloc, LINE.as_bytes())?;
+        line.extend_from_slice(replicas.as_bytes())?;
+        line.extend_from_slice(b",\"streams\":[")?;
         Ok(Draft {
-            line: Vec::from_slice(alloc, LINE.as_bytes())?,
+            line,
             body: Vec::new(alloc),
         })
     }
@@ -128,7 +138,7 @@ pub(crate) fn words(alloc: Global, all: &[&str]) -> Result<Vec<String>, AllocErr
 
 /// Runs the words over an input, and compares the status, its note, and what the sink holds.
 pub(crate) fn runs(
-    rt: &(impl AllocGlobal + Abort),
+    rt: &(impl AllocGlobal + Abort + Wait),
     all: &[&str],
     input: Vec<u8>,
     status: Status,
@@ -143,7 +153,9 @@ pub(crate) fn runs(
     for line in lines {
         output.extend_from_slice(line.as_bytes())?;
     }
-    assert_eq!(rt; longhorn(alloc, &words, &mut source, &mut sink), status);
+    let mut wiring = PlanWiring::new(alloc);
+    let ended = longhorn(rt, alloc, &words, &mut source, &mut sink, &mut wiring);
+    assert_eq!(rt; ended, status);
     assert_eq!(rt; sink.bytes(), output.as_slice());
     let text = status.to_string(alloc)?;
     assert_eq!(rt; text.as_str(), note);
@@ -151,7 +163,7 @@ pub(crate) fn runs(
 }
 
 pub(crate) fn is_done(
-    rt: &(impl AllocGlobal + Abort),
+    rt: &(impl AllocGlobal + Abort + Wait),
     heads: &[Head],
     byte: u8,
     lines: &[&str],
@@ -162,7 +174,7 @@ pub(crate) fn is_done(
 
 /// Runs a stream of commands, and compares the journal's lines and the chain.
 pub(crate) fn answers(
-    rt: &(impl AllocGlobal + Abort),
+    rt: &(impl AllocGlobal + Abort + Wait),
     texts: &[&str],
     lines: &[&str],
 ) -> Result<(), AllocError> {

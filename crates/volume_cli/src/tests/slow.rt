@@ -3,6 +3,7 @@
 use super::draft::{Draft, head, read, words, write};
 use crate::status::Status;
 use crate::top::longhorn;
+use fault_lines::PlanWiring;
 use frame_wire::Head;
 use journal_book::{Answer, Bytes, Call, Command, Entry, FoldOrDrop, Mark, Reply};
 use outer_memory::{NoFaultSink, NoFaultSource};
@@ -63,15 +64,15 @@ const TEXTS: [&str; 32] = [
     "remove D",
     "remove e",
     "remove B",
-    "purge",
+    "fail r0",
     "purge",
     "purge",
     "status",
-    "status",
+    "fail r2",
 ];
 
 /// What the frame asks, as the definitions say.
-fn call_of(alloc: Global, asked: &Head, byte: u8) -> Result<Call, AllocError> {
+pub(crate) fn call_of(alloc: Global, asked: &Head, byte: u8) -> Result<Call, AllocError> {
     Ok(match asked.kind {
         0 => Call::Read {
             offset: asked.offset,
@@ -98,10 +99,11 @@ fn is_before(a: &LayerName, b: &LayerName) -> bool {
     a.as_bytes().cmp(b.as_bytes()).is_lt()
 }
 
-/// A plain disk that answers calls slowly, and prints what a run prints.
+/// A plain disk that answers calls slowly, and prints what a run on replicas of these modes prints.
 #[derive(Drop)]
-struct Slow {
+pub(crate) struct Slow {
     disk: PlainDisk,
+    modes: Vec<Mode>,
     /// The newest first.
     taken: Vec<Taken>,
     on: Option<LayerName>,
@@ -111,9 +113,10 @@ struct Slow {
 }
 
 impl Slow {
-    fn new(alloc: Global) -> Result<Slow, AllocError> {
+    pub(crate) fn new(alloc: Global, replicas: usize) -> Result<Slow, AllocError> {
         Ok(Slow {
             disk: PlainDisk::zeros(alloc, 2_097_152)?,
+            modes: vec![in alloc; Mode::Rw; replicas]?,
             taken: Vec::new(alloc),
             on: None,
             lines: Vec::new(alloc),
@@ -122,8 +125,30 @@ impl Slow {
         })
     }
 
+    /// A mark by which a replica fails, unless it has.
+    pub(crate) fn fail(&mut self, replica: u8, mark: Mark) -> Result<(), AllocError> {
+        if self.mode(replica) == Mode::Err {
+            return Ok(());
+        }
+        print_entry(self.place, &Entry::Mark(mark), &mut self.lines)?;
+        self.place = self.place.saturating_add(1);
+        if let Some(mode) = self.modes.get_mut(usize::from(replica)) {
+            *mode = Mode::Err;
+        }
+        Ok(())
+    }
+
+    /// How many entries there are.
+    pub(crate) fn place(&self) -> u64 {
+        self.place
+    }
+
+    pub(crate) fn mode(&self, replica: u8) -> Mode {
+        *self.modes.get(usize::from(replica)).unwrap_or(&Mode::Err)
+    }
+
     /// Answers a call of a stream, and of which frame, where one asks it.
-    fn answer(
+    pub(crate) fn answer(
         &mut self,
         alloc: Global,
         stream: u8,
@@ -132,13 +157,28 @@ impl Slow {
         asked: Option<&Head>,
     ) -> Result<(), AllocError> {
         let saw = self.place;
-        if let Call::Command(Command::Purge) = &call {
-            self.purge(alloc)?;
+        match &call {
+            Call::Command(Command::Purge) => self.purge(alloc)?,
+            Call::Command(Command::Fail(replica)) => self.fail(*replica, Mark::Failed(*replica))?,
+            _ => {}
         }
+        self.end(alloc, stream, index, saw, call, asked)
+    }
+
+    /// The answer of a call, which was taken up when the journal had `saw` entries.
+    pub(crate) fn end(
+        &mut self,
+        alloc: Global,
+        stream: u8,
+        index: u64,
+        saw: u64,
+        call: Call,
+        asked: Option<&Head>,
+    ) -> Result<(), AllocError> {
         if self.disk.head_number() > 1_000_000 {
             return Ok(());
         }
-        let reply = self.disk.step(alloc, &[Mode::Rw], &call)?;
+        let reply = self.disk.step(alloc, &self.modes, &call)?;
         if let (Call::Command(command), Reply::Done) = (&call, &reply) {
             self.follow(*command)?;
         }
@@ -276,14 +316,27 @@ impl Slow {
     }
 
     /// What is printed of it all.
-    fn report(mut self, alloc: Global) -> Result<Vec<u8>, AllocError> {
+    pub(crate) fn report(mut self, alloc: Global) -> Result<Vec<u8>, AllocError> {
         let mut digest = Digest::new();
         digest.add(self.disk.bytes());
+        let digest = digest.text();
         let chain = self.chain(alloc)?;
         self.lines.extend_from_slice(&self.replies)?;
-        print_mode(0, Mode::Rw, &mut self.lines)?;
-        print_chain(Some(0), &chain, &mut self.lines)?;
-        print_head(0, &digest.text(), &mut self.lines)?;
+        for r in 0..8 {
+            if usize::from(r) < self.modes.len() {
+                print_mode(r, self.mode(r), &mut self.lines)?;
+            }
+        }
+        for r in 0..8 {
+            if self.mode(r) == Mode::Rw {
+                print_chain(Some(r), &chain, &mut self.lines)?;
+            }
+        }
+        for r in 0..8 {
+            if self.mode(r) == Mode::Rw {
+                print_head(r, &digest, &mut self.lines)?;
+            }
+        }
         Ok(self.lines)
     }
 }
@@ -305,8 +358,8 @@ fn prints_what_a_slow_executor_prints(rt: HostRuntime) -> Result<(), Fail> {
     let mut seed = 1;
     let mut printed = Vec::new(alloc);
     for streams in [1u8, 2, 5, 16, 16, 16, 16, 16] {
-        let mut draft = Draft::new(alloc)?;
-        let mut slow = Slow::new(alloc)?;
+        let mut draft = Draft::on(alloc, "3")?;
+        let mut slow = Slow::new(alloc, 3)?;
         for stream in 0..streams {
             seed = next(seed);
             if seed >> 31 == 0 {
@@ -335,7 +388,8 @@ fn prints_what_a_slow_executor_prints(rt: HostRuntime) -> Result<(), Fail> {
         }
         let mut source = NoFaultSource::new(draft.input()?, 5000);
         let mut sink = NoFaultSink::new(alloc, 5000);
-        let status = longhorn(alloc, &words, &mut source, &mut sink);
+        let mut wiring = PlanWiring::new(alloc);
+        let status = longhorn(&rt, alloc, &words, &mut source, &mut sink, &mut wiring);
         assert_eq!(rt; status, Status::Done);
         let wanted = slow.report(alloc)?;
         assert_eq!(rt; sink.bytes(), wanted.as_slice());

@@ -5,7 +5,7 @@ use Rattle.volume_cli.proofs.top.longhorn.Goals as goal
 
 pub returns-in-Ok-clause-script : goal.returns-in-Ok-clause-script
 returns-in-Ok-clause-script g c =
-    let t = c.in-Ok.ensures.leaves in
+    let t = c.in-Ok.ensures.printed in
     λ asked same. no_refusal _ t.0 _ t.2
 
 pub returns-in-Ok-clause-done : goal.returns-in-Ok-clause-done
@@ -19,9 +19,9 @@ returns-in-Ok-clause-done g c = λ is. (
 pub returns-in-Err-BadScript-clause-script_only : goal.returns-in-Err-BadScript-clause-script_only
 returns-in-Err-BadScript-clause-script_only g c = (
   asks_run _ c.read_words.result c.in-Ok-Run.field-0 c.in-Ok-Run.is c.read_words.ensures.found,
-  stopped_at IsRun c.in-Err-BadScript.field-0 c.in-Err-BadScript.place c.in-Err-BadScript.what (c.run.new.sink ≡ c.args.sink.now)
+  stopped_at (IsRun (g.W.Wiring.counts c.run.new.wiring)) c.in-Err-BadScript.field-0 c.in-Err-BadScript.place c.in-Err-BadScript.what (c.run.new.sink ≡ c.args.sink.now)
       (g.S.Source.left c.args.source.now) (g.K.Sink.contents c.args.sink.now) (g.K.Sink.contents c.run.new.sink)
-      c.in-Err-BadScript.field-0-is c.in-Err-BadScript.ensures.leaves,
+      c.in-Err-BadScript.field-0-is c.in-Err-BadScript.ensures.printed,
 )
 
 pub returns-in-Err-BadScript-clause-script : goal.returns-in-Err-BadScript-clause-script
@@ -36,6 +36,6 @@ returns-in-Err-BadScript-clause-complete g c =
 
 pub returns-in-Err-WriteFault-clause-script : goal.returns-in-Err-WriteFault-clause-script
 returns-in-Err-WriteFault-clause-script g c =
-    let t = stopped_writing IsRun c.in-Err-WriteFault.field-0 (c.run.new.sink ≡ c.args.sink.now) (g.S.Source.left c.args.source.now)
-    (g.K.Sink.contents c.args.sink.now) (g.K.Sink.contents c.run.new.sink) c.in-Err-WriteFault.field-0-is c.in-Err-WriteFault.ensures.leaves in
+    let t = stopped_writing (IsRun (g.W.Wiring.counts c.run.new.wiring)) c.in-Err-WriteFault.field-0 (c.run.new.sink ≡ c.args.sink.now) (g.S.Source.left c.args.source.now)
+    (g.K.Sink.contents c.args.sink.now) (g.K.Sink.contents c.run.new.sink) c.in-Err-WriteFault.field-0-is c.in-Err-WriteFault.ensures.printed in
     λ asked same. no_refusal _ t.0 _ t.2

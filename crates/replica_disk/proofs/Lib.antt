@@ -1,3 +1,0 @@
-pub mod CommandLemmas
-pub mod MergedLemmas
-pub mod NameLemmas

@@ -1,2 +1,0 @@
-pub mod Volume
-pub mod Serving
