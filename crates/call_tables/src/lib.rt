@@ -20,8 +20,6 @@ mod meaning;
 #[cfg(test)]
 mod modes;
 #[cfg(test)]
-mod replica;
-#[cfg(test)]
 mod runs;
 #[cfg(test)]
 mod script;

@@ -1,4 +1,4 @@
-use script_text::{Bytes, Command, Member, ScriptError, Stream, What, read_script};
+use script_text::{Bytes, Command, Member, ScriptError, Stream, What, plan_of, read_script};
 use std::alloc::{AllocError, Global};
 use std::test::Fail;
 
@@ -22,9 +22,21 @@ fn script_of(alloc: Global, streams: &[u8], behind: &[u8]) -> Result<Bytes, Allo
 
 #[test]
 fn an_input_is_refused_at_its_first_fault(rt: HostRuntime) -> Result<(), Fail> {
-    let rows: [(&[u8], &[u8], u64, What); 6] = [
+    let rows: [(&[u8], &[u8], u64, What); 8] = [
         (b"{}}", b"", 0, What::Json),
         (b"{}", b"", 0, What::Member(Member::Streams)),
+        (
+            b"[{\"control\":[\"fail r1\"]}]",
+            b"",
+            0,
+            What::Member(Member::Streams),
+        ),
+        (
+            b"[{\"frames\":0}],\"lines\":null",
+            b"",
+            0,
+            What::Member(Member::Lines),
+        ),
         (b"[{\"frames\":52}]", FRAMES, 121, What::Rest),
         (b"[{\"frames\":54}]", FRAMES, 122, What::Rest),
         (b"[{\"frames\":26}]", LONG, 69, What::Frame),
@@ -40,7 +52,8 @@ fn an_input_is_refused_at_its_first_fault(rt: HostRuntime) -> Result<(), Fail> {
 
 #[test]
 fn a_script_is_read(rt: HostRuntime) -> Result<(), Fail> {
-    let streams = b"[{\"control\":[\"status\"]},{\"frames\":53}]";
+    let streams = b"[{\"control\":[\"status\",\"fail r0\"]},{\"frames\":53}],\
+        \"lines\":[{\"worker\":1,\"replica\":0,\"fail\":[2]}]";
     let input = script_of(rt.alloc(), streams, FRAMES)?;
     let script = read_script(rt.alloc(), &input).ok().ok_or("refused")?;
     assert_eq!(rt;
@@ -50,7 +63,11 @@ fn a_script_is_read(rt: HostRuntime) -> Result<(), Fail> {
     let [Stream::Control(commands), Stream::Frames(frames)] = script.streams.as_slice() else {
         return Err(Fail::from("other streams"));
     };
-    assert_eq!(rt; commands.as_slice(), [Command::Status].as_slice());
+    assert_eq!(rt;
+        commands.as_slice(),
+        [Command::Status, Command::Fail(0)].as_slice()
+    );
+    assert_eq!(rt; plan_of(script.lines.as_slice(), 1, 0), [2].as_slice());
     let mut left = frames.reader()?;
     let frame = left.next()?.ok_or("no frame")?;
     assert_eq!(rt;
