@@ -205,14 +205,14 @@ class Texts(unittest.TestCase):
         self.assertEqual(long, [])
 
     def test_examples_are_shown_as_they_print(self):
-        for path, example in (('README.md', 'snapshot_and_revert.output'),
+        for path, example in (('README.md', 'a_line_fails.output'),
                               ('docs/FORMATS.md', 'remove_and_purge.output')):
             self.assertTrue(shown(path, example), (path, example))
 
     def test_the_picture_is_that_of_the_example(self):
         import picture
         from report import read_report
-        drawn = picture.draw(read_report(read(TOP, 'examples/snapshot_and_revert.output')))
+        drawn = picture.draw(read_report(read(TOP, 'examples/a_line_fails.output')))
         self.assertEqual(read(TOP, 'docs/run.svg'), drawn)
 
 

@@ -41,8 +41,8 @@ class Program(unittest.TestCase):
             (b'{}\n', b'script 0 member volume\n'),
             (LINE % b',"open":true', b'script 0 member open\n'),
             (LINE % b',"save":true', b'script 0 member save\n'),
-            (STATUS.replace(b'"replicas":1', b'"replicas":2'), b'script 0 member replicas\n'),
-            (STATUS.replace(b'status', b'fail r0'), b'script 0 member streams\n'),
+            (STATUS.replace(b'"replicas":1', b'"replicas":9'), b'script 0 member replicas\n'),
+            (STATUS.replace(b'status', b'fail r1'), b'script 0 member streams\n'),
             (STATUS + b'x', b'script %d rest\n' % len(STATUS)),
         ]
         for given, note in rows:
