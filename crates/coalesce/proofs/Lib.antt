@@ -4,3 +4,4 @@ pub mod KeepLemmas
 pub mod NameLemmas
 pub mod PlaceLemmas
 pub mod SnapshotLemmas
+pub mod WayLemmas

@@ -6,5 +6,5 @@ pub mod laws;
 mod next;
 
 pub use change::{FoldPlaces, delete_leaf, fold_page, fold_places, replace};
-pub use next::next_fold;
+pub use next::{next_fold, way_of};
 pub use volume_model::FoldOrDrop;

@@ -3,6 +3,7 @@ ghost use Rattle.layer_chain.specs.Tree.{IsWholeTree};
 ghost use Rattle.volume_model.specs.Purge.{IsPurged, IsFirst, gone};
 ghost use Rattle.coalesce.specs.Folding.{snapshots_in};
 ghost use Rattle.coalesce.specs.Search.{GoesAt, StaysAt, IsBest, goes_before};
+ghost use Rattle.coalesce.specs.Way.{IsWayOf, HasNoWay};
 
 use layer_chain::{Child, Children, LayerTree};
 use vol_units::LayerName;
@@ -22,6 +23,20 @@ pub fn next_fold(tree: &LayerTree) -> Option<FoldOrDrop>
         best = best_from(tree, place, best);
     }
     best
+}
+
+/// How the layer of the name can go: folded into its one child, or dropped. One that is not there has no way.
+pub fn way_of(tree: &LayerTree, name: &LayerName) -> Option<FoldOrDrop>
+    ensures { MatchOption result
+        (HasNoWay (snapshots_in tree.now) tree.now.on name.now)
+        (λ part. IsWayOf (snapshots_in tree.now) tree.now.on name.now part) }
+{
+    // Asking for the count tells that the tree is whole.
+    let _ = tree.count();
+    match tree.index_of(name) {
+        Some(place) => goes_at(tree, place),
+        None => None,
+    }
 }
 
 /// The first from this place on, of the first from the place behind it on.
