@@ -35,7 +35,7 @@ can_back t count p c can = subst (λ (ss : List Snapshot). CanFold ss t.on p c) 
 -- each layer has a place for each page
 pub has_page : (t : Tree) (pages place page : ℕ) → IsNode t (pages * 512) → place < length t.layers → page < pages → page < length (layer_at t.layers place).image
 has_page t pages place page n within inside =
-    let whole : length (layer_at t.layers place).image * 512 ≡ pages * 512 = n.images place _ within in
+    let whole : length (layer_at t.layers place).image * 512 ≡ pages * 512 = (n.images place _ within).pages in
     omega (arith, whole)
 
 pub one_page : (start old new : Tree) (p c : List ℕ) (places : FoldPlaces) (pages page : ℕ) → FoldsPages start old p c places (pages * 512) page

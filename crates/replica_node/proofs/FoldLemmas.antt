@@ -19,9 +19,10 @@ use Rattle.volume_model.specs.Purge.{CanFold}
 use Rattle.coalesce.specs.Folding.{AreAt, KeepsOthers, FoldsPage}
 use Rattle.coalesce.proofs.PlaceLemmas.{fold_parent}
 use Rattle.coalesce.proofs.ChildLemmas.{same_name, other_name}
-use Rattle.replica_node.specs.Node.{Kept, Node, node_of, kept_in, disk_in, disk_named, own_in, made_in, IsNode}
+use Rattle.replica_node.specs.Node.{Kept, Node, node_of, kept_in, disk_in, disk_named, own_in, made_in, IsInPages, IsNode}
 use Rattle.replica_node.specs.Fold.{own_named, with_page_of, with_page, without_page, own_with_page, page_folded_in, page_folded, tree_of}
 use Rattle.replica_node.proofs.CutLemmas.{pair, place_reads, map_two}
+use Rattle.replica_node.proofs.MadeLemmas.{made_over, made_emptied}
 use Rattle.replica_node.proofs.NodeLemmas.{HasPages, kept_elsewhere, named_there, same_kept, same_parts, some_name}
 use Rattle.replica_node.proofs.OwnLemmas.{own_laid_over, own_emptied, own_of}
 use Rattle.replica_node.proofs.PageLemmas.{joined-page}
@@ -44,6 +45,7 @@ pub other_whole : (old new : Tree) (count : ℕ) (p : List ℕ) → new ≡ with
     → All (HasPages count) new.layers → ((block : ℕ) → length (bytes_of (reads new.layers (Some p) block)) ≡ 4096) → IsNode new count
 other_whole old new count p rest keeps n images reads_p = record {
   pages = ap (λ t. length t.head * 512) rest ∙ n.pages;
+  made = subst (λ t. IsInPages t.head) (sym rest) n.made;
   images = images;
   layers = λ want k. ⊎_elim
       (λ same. ap (λ w. length (bytes_of (reads new.layers w k))) same ∙ reads_p k)
@@ -137,8 +139,9 @@ module _ (old new : Tree) (p c : List ℕ) (i j page : ℕ) (w : IsWholeTree old
     folded_whole =
         other_whole old new count p rest keeps n
         (subst (All (HasPages count)) (sym moves.rest)
-        (All-set (HasPages count) (set old.layers j (with_image y over)) i (with_image x under) (ap (λ l. l * 512) moves.parent.count ∙ n.images i _ at.parent.within)
-        (All-set (HasPages count) old.layers j (with_image y over) (ap (λ l. l * 512) moves.child.count ∙ n.images j _ at.child.within) n.images)))
+        (All-set (HasPages count) (set old.layers j (with_image y over)) i (with_image x under)
+        (made_over y.image x.image under count page moves.parent (n.images j _ at.child.within).made (n.images i _ at.parent.within))
+        (All-set (HasPages count) old.layers j (with_image y over) (made_emptied y.image over count page moves.child (n.images j _ at.child.within)) n.images)))
         (λ k. ⊎_elim
         (λ e. ap (λ o. length (bytes_of o)) (reads_in k e) ∙ n.layers (Some c) k)
         (λ o. ap (λ b. length (bytes_of b)) (reads_out k o) ∙ n.layers (Some p) k)

@@ -70,7 +70,7 @@ has_no_block t count node c view n w empty = λ i l within named block.
     let at : IsAt t.layers c i = record { within = within; named = ap name_of (sym is) ∙ named } in
     let own : own_in (layer_at t.layers i).image count ≡ own_named node.layers c =
     sym (own_of t.layers t.layers count c i w.layers at) ∙ ap (λ x. own_named x.layers c) view in
-    let pages : length (layer_at t.layers i).image * 512 ≡ count = n.images i _ within in
+    let pages : length (layer_at t.layers i).image * 512 ≡ count = (n.images i _ within).pages in
     ap (λ (y : Layer). block_at y.image block) is ∙ ⊎_elim
     (λ inside. none_there (block_at (layer_at t.layers i).image block)
     (sym (own_at (layer_at t.layers i).image count block inside) ∙ ap (λ o. has_own o block) own ∙ empty block))

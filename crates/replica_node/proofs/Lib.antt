@@ -5,7 +5,9 @@ pub mod FillLemmas
 pub mod FoldLemmas
 pub mod FoldedNode
 pub mod GoneLemmas
+pub mod HasLemmas
 pub mod ListedLemmas
+pub mod MadeLemmas
 pub mod NodeLemmas
 pub mod OverLemmas
 pub mod OwnLemmas

@@ -22,7 +22,8 @@ use Rattle.layer_chain.specs.Tree.{Tree, name_of, reads, head_reads, layer_at, I
 use Rattle.layer_chain.proofs.ChangeLemmas.{snapped_reads, snapped_others, snapped_head, reverted_head, mark_keeps}
 use Rattle.layer_chain.proofs.ReadLaws.{cases_named}
 use Rattle.replica_node.proofs.ListedLemmas.{length-listed, listed-all}
-use Rattle.replica_node.specs.Node.{Kept, Node, node_of, kept_in, disk_in, head_disk, own_in, made_in, layer_names, disk_named, IsNode, IsKept, IsFree, IsSpareOf, no_room, no_own, blank, snapped_node, reverted_node, marked, marked_if_named}
+use Rattle.replica_node.proofs.MadeLemmas.{made_empty}
+use Rattle.replica_node.specs.Node.{Kept, Node, node_of, kept_in, disk_in, head_disk, own_in, made_in, layer_names, disk_named, IsImageOf, IsNode, IsKept, IsFree, IsSpareOf, no_room, no_own, blank, snapped_node, reverted_node, marked, marked_if_named}
 
 -- ---- room, and blocks of its own
 
@@ -53,9 +54,9 @@ no_own-empty t spare page_count count e =
 pub spare_pages : (t : Tree) (count : ℕ) (node : Node) (spare : Tables) → node_of t count ≡ node → IsSpareOf node spare → length spare * 512 ≡ count
 spare_pages t count node spare view is = is.0 ∙ sym (ap (λ n. length n.room) view) ∙ length-made_in t.head count
 
--- the image has a place for each page of so many blocks
+-- the image of the layer is one of so many blocks
 abbrev pub HasPages : ℕ → Layer → Type 0
-HasPages count l = length l.image * 512 ≡ count
+HasPages count l = IsImageOf count l.image
 
 -- ---- names
 
@@ -173,7 +174,8 @@ snapped_whole t count name user_created spare page_count n e pages =
     let after = change.snapped_tree t name user_created spare in
     record {
       pages = ap (λ l. l * 512) e.count ∙ pages;
-      images = All-cons (HasPages count) (layer_at after.layers 0) t.layers n.pages n.images;
+      made = made_empty spare page_count e;
+      images = All-cons (HasPages count) (layer_at after.layers 0) t.layers (record { pages = n.pages; made = n.made }) n.images;
       layers = λ want k. ⊎_elim
           (λ same. ap (λ w. length (bytes_of (reads after.layers w k))) same ∙ ap (λ b. length (bytes_of b)) (snapped_reads t name user_created spare k) ∙ n.head k)
           (λ other. ap (λ b. length (bytes_of b)) (snapped_others t name user_created spare want k other) ∙ n.layers want k)
@@ -211,6 +213,7 @@ pub reverted_whole : (t : Tree) (count : ℕ) (name : List ℕ) (spare : Tables)
     → IsNode t count → IsEmpty spare page_count → page_count * 512 ≡ count → IsNode (change.reverted_tree t name spare) count
 reverted_whole t count name spare page_count n e pages = record {
   pages = ap (λ l. l * 512) e.count ∙ pages;
+  made = made_empty spare page_count e;
   images = n.images;
   layers = n.layers;
   head = λ k. ap (λ b. length (bytes_of b)) (reverted_head t name spare k (e.blocks k)) ∙ n.layers (Some name) k;
@@ -293,6 +296,7 @@ marked_whole t count place within n =
     let keeps = mark_keeps t place within in
     record {
       pages = n.pages;
+      made = n.made;
       images = All-set (HasPages count) t.layers place (change.marked_layer (layer_at t.layers place)) (n.images place _ within) n.images;
       layers = λ want k. ap (λ b. length (bytes_of b)) (keeps.layers want k) ∙ n.layers want k;
       head = λ k. ap (λ b. length (bytes_of b)) (keeps.head k) ∙ n.head k;
@@ -320,6 +324,7 @@ as_disk image n e = disk_of-empty image n e
 pub blank_whole : (t : Tree) (page_count count : ℕ) → t.layers ≡ [] → IsEmpty t.head page_count → page_count * 512 ≡ count → IsNode t count
 blank_whole t page_count count none e pages = record {
   pages = ap (λ l. l * 512) e.count ∙ pages;
+  made = made_empty t.head page_count e;
   images = subst (All (HasPages count)) (sym none) (All-nil (HasPages count));
   layers = λ want k. ap (λ b. length (bytes_of b)) (no_reading t.layers want k none) ∙ length-none;
   head = λ k. ap (λ b. length (bytes_of b)) (blank_block t page_count k none e) ∙ length-none;

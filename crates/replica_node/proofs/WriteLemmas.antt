@@ -17,6 +17,7 @@ use Rattle.layer_chain.specs.Changes.{with_head}
 use Rattle.replica_node.specs.Node.{Node, node_of, head_disk, listed, has_own, own_in, made_in, kept_in, IsNode}
 use Rattle.replica_node.specs.Room.{PutsBlocks, put_at, bytes_in, is_among, own_with, head_block, head_blocks}
 use Rattle.replica_node.proofs.ListedLemmas.{listed-at, listed-same}
+use Rattle.replica_node.proofs.MadeLemmas.{made_changed, made_there}
 use Rattle.replica_node.proofs.NodeLemmas.{HasPages, length-own_in, same_parts}
 use Rattle.replica_node.proofs.OwnLemmas.{own_at}
 use Rattle.replica_node.proofs.ReadLemmas.{node_block, length-node}
@@ -24,6 +25,7 @@ use Rattle.replica_node.proofs.ReadLemmas.{node_block, length-node}
 -- one block is put
 pub record PutsBlock (old new : Tree) (block : ℕ) (b : Option (List ℕ)) : Type 0 where
   pub full : is_some b ≡ true
+  pub page : has_page old.head (block / 512) ≡ true
   pub changes : ChangesBlock old.head new.head block b
   pub rest : new ≡ with_head old new.head
   pub whole : length (bytes_of b) ≡ 4096
@@ -54,6 +56,7 @@ read_elsewhere old new block b p k other =
 pub put_node : (old new : Tree) (count block : ℕ) (b : Option (List ℕ)) → IsNode old count → PutsBlock old new block b → IsNode new count
 put_node old new count block b n p = record {
   pages = ap (λ l. l * 512) p.changes.count ∙ n.pages;
+  made = made_changed old.head new.head block b p.changes p.page n.made;
   images = subst (All (HasPages count)) (sym (layers_same old new p.rest)) n.images;
   layers = λ want k. ap (λ ls. length (bytes_of (reads ls want k))) (layers_same old new p.rest) ∙ n.layers want k;
   head = λ k. ⊎_elim
@@ -247,6 +250,7 @@ puts_part old new count block start bytes b n is changes rest part =
     let whole : length b ≡ 4096 = sym (ap (λ o. length (bytes_of (option_or o (reads old.layers old.on block)))) is) ∙ n.head block in
     record {
       full = refl;
+      page = made_there old.head block n.made (ap is_some is);
       changes = subst (λ o. ChangesBlock old.head new.head block (option_map (λ x. with_bytes_at x start bytes) o)) is changes;
       rest = rest;
       whole = length-with_bytes_at b start bytes (omega (arith, whole)) ∙ whole;

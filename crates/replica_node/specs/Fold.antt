@@ -1,10 +1,11 @@
 -- What folding a page of a child onto its parent, putting the child in the parent's place, and dropping a layer make
 -- of a replica. Which layers can go is told of them as snapshots, in volume_model's specs/Purge.antt.
-use Rattle.std.specs.Prelude.{◌≡◌, ℕ, zero, suc, ◌*◌, ◌/◌, Bool, not, ◌&&◌, ◌||◌, ◌==◌, List, [], ◌∷◌, length, map, Option, if◌then◌else◌}
+use Rattle.std.specs.Prelude.{◌≡◌, ℕ, zero, suc, ◌*◌, ◌/◌, Bool, true, false, not, ◌&&◌, ◌||◌, ◌==◌, List, [], ◌∷◌, length, map, Option, is_some, if◌then◌else◌}
 use Rattle.std.specs.Str.{bytes_eq}
 use Rattle.vol_units.specs.Bytes.{bytes_at, with_bytes_at}
 use Rattle.vol_units.specs.declared.size.TheConstants.{PAGE_BYTES}
 use Rattle.sparse_image.specs.declared.block.TheConstants.{PAGE_BLOCKS}
+use Rattle.sparse_image.specs.Image.{Tables, block_at}
 use Rattle.volume_model.specs.Snapshots.{Snapshot, Snapshots}
 use Rattle.volume_model.specs.Purge.{parent_in}
 use Rattle.layer_chain.specs.Tree.{Tree}
@@ -25,11 +26,27 @@ abbrev pub own_named : List Kept → List ℕ → List Bool
 own_named [] name = []
 own_named (k ∷ ks) name = if bytes_eq name k.meta.name then k.own else own_named ks name
 
--- ---- a page is folded
-
 -- the block is one of the page
 abbrev pub is_in : ℕ → ℕ → Bool
 is_in page block = block / PAGE_BLOCKS == page
+
+-- ---- what a layer itself has
+
+-- the layer of the name itself has a block of the page
+abbrev pub HasBlockOf : Node → List ℕ → ℕ → Type 0
+HasBlockOf node name page =
+    (block : ℕ) × (is_in page block ≡ true) × (has_own (own_named node.layers name) block ≡ true)
+
+-- it has none of the page
+abbrev pub HasNoBlockOf : Node → List ℕ → ℕ → Type 0
+HasNoBlockOf node name page =
+    (block : ℕ) → is_in page block ≡ true → has_own (own_named node.layers name) block ≡ false
+
+-- it has none at all
+abbrev pub IsBare : List Kept → List ℕ → Type 0
+IsBare layers name = (block : ℕ) → has_own (own_named layers name) block ≡ false
+
+-- ---- a page is folded
 
 -- the disk, which reads in the page as the other
 abbrev pub with_page_of : ℕ → List ℕ → List ℕ → List ℕ
@@ -98,6 +115,14 @@ abbrev pub dropped_node : Node → List ℕ → Node
 dropped_node node p = record node { layers = layers_without p node.layers }
 
 -- ---- the same of a tree
+
+-- the image has a block of the page
+abbrev pub HasBlockIn : Tables → ℕ → Type 0
+HasBlockIn image page = (block : ℕ) × (is_in page block ≡ true) × (is_some (block_at image block) ≡ true)
+
+-- it has none of the page
+abbrev pub HasNoBlockIn : Tables → ℕ → Type 0
+HasNoBlockIn image page = (block : ℕ) → is_in page block ≡ true → is_some (block_at image block) ≡ false
 
 -- so many pages are folded in the tree of a replica of so many blocks, and the fold can go on
 pub record FoldsPages (old new : Tree) (p c : List ℕ) (places : FoldPlaces) (count pages : ℕ) : Type 0 where

@@ -78,10 +78,20 @@ node_of t count = record {
   own = own_in t.head count;
 }
 
--- the head and each layer have a place for each page, and each block that is read has all its bytes
+-- each block of the image is in a page that is made
+abbrev pub IsInPages : Tables → Type 0
+IsInPages image = (block : ℕ) → has_page image (block / PAGE_BLOCKS) ≡ false → block_at image block ≡ None
+
+-- the image has a place for each page of so many blocks, and each block of its own is in a page that is made
+pub record IsImageOf (count : ℕ) (image : Tables) : Type 0 where
+  pub pages : length image * PAGE_BLOCKS ≡ count
+  pub made : IsInPages image
+
+-- the head and each layer are images of so many blocks, and each block that is read has all its bytes
 pub record IsNode (t : Tree) (count : ℕ) : Type 0 where
   pub pages : length t.head * PAGE_BLOCKS ≡ count
-  pub images : All (λ (l : Layer). length l.image * PAGE_BLOCKS ≡ count) t.layers
+  pub made : IsInPages t.head
+  pub images : All (λ (l : Layer). IsImageOf count l.image) t.layers
   pub layers : (name : Option (List ℕ)) (block : ℕ)
       → length (bytes_of (reads t.layers name block)) ≡ BLOCK_BYTES
   pub head : (block : ℕ) → length (bytes_of (head_reads t block)) ≡ BLOCK_BYTES

@@ -4,6 +4,7 @@
 mod blocks;
 mod fold;
 mod node;
+mod own;
 
 pub use blocks::Blocks;
 pub use layer_chain::LayerMeta;

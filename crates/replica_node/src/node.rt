@@ -1,4 +1,4 @@
-ghost use Rattle.std.specs.Prelude.{◌≡◌, ◌↔◌, ℕ, ◌+◌, ◌*◌, ◌/◌, ◌^◌, ◌<◌, ◌≤◌, ◌++◌, length, Some, IfOk, OnOk, OnErr, All, IsTrue, is_some, true, false};
+ghost use Rattle.std.specs.Prelude.{◌≡◌, ◌↔◌, ℕ, ◌+◌, ◌*◌, ◌/◌, ◌^◌, ◌<◌, ◌≤◌, ◌++◌, length, Some, IfOk, OnOk, OnErr, MatchOption, All, IsTrue, is_some, true, false};
 ghost use Rattle.std.specs.Option.{option_copied};
 ghost use Rattle.vol_units.specs.Bytes.{zeros, bytes_at, with_bytes_at};
 ghost use Rattle.vol_units.specs.declared.size.TheConstants.{LARGEST_SIZE, PAGE_BYTES};
@@ -7,11 +7,13 @@ ghost use Rattle.replica_node.specs.Room.{HasRoom, KeepsRoom, with_room, with_ro
 ghost use Rattle.volume_model.specs.Names.{NamesOnce};
 ghost use Rattle.volume_model.specs.Purge.{CanFold, CanDrop, next_in};
 ghost use Rattle.volume_model.specs.Snapshots.{is_live, chain_of};
+ghost use Rattle.coalesce.specs.Way.{IsWayOf, HasNoWay};
 ghost use Rattle.replica_node.specs.Node.{Kept, blank, snapped_node, reverted_node, marked, disk_of_layer, block_in, has_own, node_of, IsNode, IsKept, IsFree, IsSpareOf};
-ghost use Rattle.replica_node.specs.Fold.{tree_of, snapshots_of, own_named, page_folded, replaced_node, folded_away, dropped_node};
+ghost use Rattle.replica_node.specs.Fold.{tree_of, snapshots_of, own_named, HasBlockOf, HasNoBlockOf, IsBare, page_folded, replaced_node, folded_away, dropped_node};
 
 use crate::blocks::Blocks;
 use crate::fold::fold_pages;
+use crate::own::{has_block, has_block_of};
 use layer_chain::LayerTree;
 use snapshot_ops::Spare;
 use sparse_image::{BLOCK_BYTES, Block};
@@ -101,6 +103,15 @@ impl ReplicaNode {
         coalesce::next_fold(&self.tree)
     }
 
+    /// How the layer of the name can go: folded into its one child, or dropped. One that is not there has no way.
+    pub fn way_of(&self, name: &LayerName) -> Option<FoldOrDrop>
+        ensures { MatchOption result
+            (HasNoWay (tree_of self.now) self.now.on name.now)
+            (λ part. IsWayOf (tree_of self.now) self.now.on name.now part) }
+    {
+        coalesce::way_of(&self.tree, name)
+    }
+
     /// Folds a page of the child onto its parent, which is to be removed. It takes no memory.
     pub fn fold_step(&mut self, parent: &LayerName, child: &LayerName, page: u32)
         requires can { CanFold (tree_of self.old) self.old.on parent.now child.now }
@@ -130,7 +141,7 @@ impl ReplicaNode {
     /// place. It takes no memory.
     pub fn replace(&mut self, parent: &LayerName, child: &LayerName)
         requires can { CanFold (tree_of self.old) self.old.on parent.now child.now }
-        requires empty { (block : ℕ) → has_own (own_named self.old.layers child.now) block ≡ false }
+        requires empty { IsBare self.old.layers child.now }
         ensures { self.new ≡ replaced_node self.old parent.now child.now }
     {
         // That no name comes twice, a proof learns here.
@@ -242,6 +253,34 @@ impl ReplicaNode {
         }
     }
 
+    /// Whether the layer of the name itself has a block of the page; one that is not there has none.
+    pub fn has_blocks(&self, layer: &LayerName, page: u32) -> bool
+        ensures some { result ≡ true → HasBlockOf self.now layer.now page }
+        ensures none { result ≡ false → HasNoBlockOf self.now layer.now page }
+    {
+        // What the largest size is, and that no name comes twice, a proof learns here.
+        let _size = self.size();
+        let _count = self.tree.count();
+        match self.tree.index_of(layer) {
+            Some(place) => has_block_of(self.tree.image(place), page),
+            None => false,
+        }
+    }
+
+    /// Whether the layer of the name itself has no block at all; one that is not there has none.
+    pub fn is_bare(&self, layer: &LayerName) -> bool
+        ensures bare { result ≡ true → IsBare self.now.layers layer.now }
+        ensures kept { result ≡ false → (page : ℕ) × HasBlockOf self.now layer.now page }
+    {
+        // What the largest size is, and that no name comes twice, a proof learns here.
+        let _size = self.size();
+        let _count = self.tree.count();
+        match self.tree.index_of(layer) {
+            Some(place) => !has_block(self.tree.image(place)),
+            None => true,
+        }
+    }
+
     /// The layers below the head, from its parent down, each with its mark.
     pub fn chain(&self, alloc: Global) -> Result<Vec<(LayerName, bool)>, AllocError>
         ensures { IfOk result (λ layers. layers.items ≡ chain_of (snapshots_of self.now)) }
@@ -260,6 +299,7 @@ impl ReplicaNode {
     pub fn block_count(&self) -> u32
         ensures value { result * BLOCK_BYTES ≡ length self.now.disk }
         ensures own { All (λ (k : Kept). length k.own ≡ result) self.now.layers }
+        ensures disks { All (λ (k : Kept). length k.disk ≡ length self.now.disk) self.now.layers }
     {
         self.size.block_count()
     }

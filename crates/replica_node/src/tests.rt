@@ -2,6 +2,7 @@ ghost use Rattle.volume_model.specs.Purge.{CanBeDone};
 ghost use Rattle.replica_node.specs.Fold.{tree_of};
 
 use super::*;
+use std::alloc::Global;
 use std::test::Fail;
 use vol_units::MOST_LAYERS;
 
@@ -21,6 +22,15 @@ fn a_box_comes_back_where_the_head_had_a_block(rt: HostRuntime) -> Result<(), Fa
         node.write_blocks(range, &mut blocks);
         assert_eq!(rt; blocks.is_full(), back);
     }
+    Ok(())
+}
+
+fn keep(node: &mut ReplicaNode, alloc: Global, name: LayerName) -> Result<(), Fail> {
+    let spare = node.spare_head(alloc)?;
+    if node.layer_count() >= MOST_LAYERS || node.head_number() > 9 || node.has_layer(&name) {
+        return Err(Fail::new("no room"));
+    }
+    node.snapshot(name, spare);
     Ok(())
 }
 
@@ -46,12 +56,7 @@ fn a_marked_snapshot_is_folded_into_the_one_on_it(rt: HostRuntime) -> Result<(),
     let mut node = ReplicaNode::blank(alloc, VolumeSize::new(2_097_152)?)?;
     let (low, high) = (LayerName::sys(0), LayerName::sys(1));
     for number in 0..2 {
-        let name = LayerName::sys(number);
-        let spare = node.spare_head(alloc)?;
-        if node.layer_count() >= MOST_LAYERS || node.head_number() > 9 || node.has_layer(&name) {
-            return Err(Fail::new("no room"));
-        }
-        node.snapshot(name, spare);
+        keep(&mut node, alloc, LayerName::sys(number))?;
         if node.has_layer(&low) {
             node.mark(low);
         }
@@ -60,5 +65,34 @@ fn a_marked_snapshot_is_folded_into_the_one_on_it(rt: HostRuntime) -> Result<(),
     purge_one(&mut node);
     let told = node.chain(alloc)?;
     assert_eq!(rt; told.as_slice(), [(high, false)].as_slice());
+    Ok(())
+}
+
+#[test]
+fn the_last_block_of_a_page_is_the_layers_own(rt: HostRuntime) -> Result<(), Fail> {
+    let alloc = rt.alloc();
+    let mut node = ReplicaNode::blank(alloc, VolumeSize::new(4_194_304)?)?;
+    let mut blocks = Blocks::with_count(alloc, 1)?;
+    if node.block_count() < 512 || blocks.len() != 1 || !blocks.is_full() {
+        return Err(Fail::new("no box"));
+    }
+    let range = BlockRange {
+        first: 511,
+        end: 512,
+    };
+    node.make_room(alloc, range)?;
+    node.write_blocks(range, &mut blocks);
+    let (full, bare, absent) = (LayerName::sys(0), LayerName::sys(1), LayerName::sys(2));
+    keep(&mut node, alloc, full)?;
+    keep(&mut node, alloc, bare)?;
+    for (page, has) in [(0, true), (1, false), (2, false), (u32::MAX, false)] {
+        assert_eq!(rt; node.has_blocks(&full, page), has);
+        assert_eq!(rt;
+            node.has_blocks(&bare, page) || node.has_blocks(&absent, page),
+            false
+        );
+    }
+    assert_eq!(rt; node.is_bare(&full), false);
+    assert_eq!(rt; node.is_bare(&bare) && node.is_bare(&absent), true);
     Ok(())
 }

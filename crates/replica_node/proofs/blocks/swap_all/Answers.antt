@@ -1,7 +1,7 @@
-use Rattle.std.proofs.Common.{◌≡◌, ◌+◌, ◌<◌, ℕ, List, [], ◌∷◌, ◌++◌, Option, is_some, true, false, length, take, drop, get_or, set, refl, sym, ap, subst, ◌∙◌, arith, add-one, length-set}
+use Rattle.std.proofs.Common.{◌≡◌, ◌+◌, ◌/◌, ◌<◌, ℕ, List, [], ◌∷◌, ◌++◌, Option, is_some, true, false, length, take, drop, get_or, set, refl, sym, ap, subst, ◌∙◌, arith, add-one, length-set}
 use Rattle.std.proofs.Math.Seq.{take-suc-set}
 use Rattle.std.proofs.lemmas.List.{drop-set-lt, length-take-le, take_all}
-use Rattle.sparse_image.specs.Image.{ChangesBlock, block_at}
+use Rattle.sparse_image.specs.Image.{ChangesBlock, block_at, has_page}
 use Rattle.sparse_image.specs.Disk.{bytes_of}
 use Rattle.replica_node.specs.Node.{listed}
 use Rattle.replica_node.specs.Room.{is_among}
@@ -37,7 +37,9 @@ loop-i-preserved c =
     let is : get_or blocks at b ≡ b = sym same.0 ∙ sym c.index-slots-i.is in
     let full : is_some b ≡ true = ap is_some (sym is) ∙ c.requires.full at b within in
     let whole : length (bytes_of b) ≡ 4096 = ap (λ x. length (bytes_of x)) c.index-slots-i.is ∙ c.swap_block.ensures.whole in
-    let put : PutsBlock c.loop-i.tree c.swap_block.new.tree (c.args.first + at) b = record { full = full; changes = subst (λ x. ChangesBlock c.loop-i.tree.head c.swap_block.new.tree.head (c.args.first + at) x) (sym c.index-slots-i.is) c.swap_block.ensures.changes; rest = c.swap_block.ensures.rest; whole = whole } in
+    let page : has_page c.loop-i.tree.head ((c.args.first + at) / 512) ≡ true =
+    i.puts.pages ((c.args.first + at) / 512) ∙ c.requires.pages (c.args.first + at) (omega arith, omega arith) in
+    let put : PutsBlock c.loop-i.tree c.swap_block.new.tree (c.args.first + at) b = record { full = full; page = page; changes = subst (λ x. ChangesBlock c.loop-i.tree.head c.swap_block.new.tree.head (c.args.first + at) x) (sym c.index-slots-i.is) c.swap_block.ensures.changes; rest = c.swap_block.ensures.rest; whole = whole } in
     let head = λ (k : ℕ). block_at c.args.tree.now.head (c.args.first + k) in
     let before : length (take at blocks) ≡ at = length-take-le at blocks (omega arith) in
     let unwritten : is_among c.args.first (length (take at blocks)) (c.args.first + at) ≡ false =
