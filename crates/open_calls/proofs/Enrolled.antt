@@ -14,7 +14,7 @@ use Rattle.range_turns.proofs.OrderLemmas.{AreInOrder-push}
 use Rattle.replica_node.specs.Node.{Node}
 use Rattle.open_calls.specs.declared.open_call.OpenCall.{OpenCall}
 use Rattle.open_calls.specs.Calls.{no_call, open_at}
-use Rattle.open_calls.specs.Clients.{AreClients, Fits, WritesOn, ReadsFrom, IsWriting, IsReading, IsIdle}
+use Rattle.open_calls.specs.Clients.{AreClients, Fits, WritesOn, ReadsFrom, IsWriting, IsReading, IsIdle, behind_last}
 use Rattle.open_calls.proofs.ListLemmas.{at_push}
 use Rattle.open_calls.proofs.FreeLemmas.{not_both}
 use Rattle.open_calls.proofs.SeenLemmas.{seen_push}
@@ -31,9 +31,9 @@ module _ (v : Volume) (size streams : ℕ) (entries : List Entry) (modes : List 
       (λ m. subst (λ (y : OpenCall). Q (ticket_at tickets i) y) (sym (get_or_append_left calls (c ∷ []) no_call i (omega (arith, ok.paired)))) (old m))
       (λ e. subst (λ (y : OpenCall). Q t y) (sym (get_or_push calls c no_call i (sym (e ∙ sym ok.paired)))) here)
 
-  pub enrolled_clients : IsFresh tickets t.number → Fits size streams (length nodes) t c → IsIdle c.stream calls → c.saw ≡ length entries
+  pub enrolled_clients : IsFresh tickets t.number → Fits size streams (length nodes) t c → IsIdle c.stream calls → behind_last c.stream entries ≤ c.saw → c.saw ≤ length entries
       → AreClients v size streams entries modes (tickets ++ t ∷ []) (calls ++ c ∷ []) nodes
-  enrolled_clients fresh fit idle saw =
+  enrolled_clients fresh fit idle past saw =
       let a = ok.agree in
       record {
         paired = omega (arith, length_push calls c, length_push tickets t, ok.paired);
@@ -49,7 +49,7 @@ module _ (v : Volume) (size streams : ℕ) (entries : List Entry) (modes : List 
         };
         writes = λ i l. each_pushed (λ x y. IsWriting x → WritesOn v.disk modes nodes x y) i l (ok.writes i) (λ w. absurd (not_new w.started));
         reads = λ i l. each_pushed (λ x y. IsReading x → ReadsFrom v.disk modes y) i l (ok.reads i) (λ w. absurd (not_new w.started));
-        seen = seen_push entries calls ok.seen c idle saw;
+        seen = seen_push entries calls ok.seen c idle past saw;
       }
 
 -- ---- a call as it is enrolled fits: the volume's size is whole blocks

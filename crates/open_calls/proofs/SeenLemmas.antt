@@ -63,15 +63,15 @@ module _ (es : List Entry) (calls : List OpenCall) (ok : AreSeen es calls) where
         saw = λ j l. subst (λ n. n ≤ length es) (sym (seen j)) (ok.saw j (omega (arith, as_many)));
       }
 
-  -- ---- a call of an idle stream is enrolled, which has seen the whole journal
+  -- ---- a call of an idle stream is enrolled, which has seen its last answer, and no more than there is
 
-  pub seen_push : (x : OpenCall) → IsIdle x.stream calls → x.saw ≡ length es → AreSeen es (calls ++ x ∷ [])
-  seen_push x idle whole = record {
+  pub seen_push : (x : OpenCall) → IsIdle x.stream calls → behind_last x.stream es ≤ x.saw → x.saw ≤ length es → AreSeen es (calls ++ x ∷ [])
+  seen_push x idle past saw = record {
     alone = λ j k l m. at_push (λ (c : OpenCall). (open_at (calls ++ x ∷ []) j).stream ≢ c.stream) calls x k no_call m
         (λ n. subst (λ (c : OpenCall). c.stream ≢ (open_at calls k).stream) (sym (get_or_append_left calls (x ∷ []) no_call j (omega arith))) (ok.alone j k l n))
         (λ e. subst (λ (c : OpenCall). c.stream ≢ x.stream) (sym (get_or_append_left calls (x ∷ []) no_call j (omega arith))) (idle j (omega arith)));
-    past = λ j l. at_push (λ (c : OpenCall). behind_last c.stream es ≤ c.saw) calls x j no_call l (ok.past j) (λ _. omega (arith, behind_within x.stream es, whole));
-    saw = λ j l. at_push (λ (c : OpenCall). c.saw ≤ length es) calls x j no_call l (ok.saw j) (λ _. omega (arith, whole));
+    past = λ j l. at_push (λ (c : OpenCall). behind_last c.stream es ≤ c.saw) calls x j no_call l (ok.past j) (λ _. past);
+    saw = λ j l. at_push (λ (c : OpenCall). c.saw ≤ length es) calls x j no_call l (ok.saw j) (λ _. saw);
   }
 
   -- ---- a call is gone

@@ -1,6 +1,8 @@
 -- The calls that were enrolled and have not ended, one for each ticket and in the same order.
-use Rattle.std.specs.Prelude.{ℕ, pos, List, [], ◌++◌, length, map, slice_index_or, slice_set}
+use Rattle.std.specs.Prelude.{ℕ, pos, List, [], ◌++◌, length, map, slice_index_or, slice_set, Option, None, Some}
 use Rattle.vol_units.specs.Bytes.{bytes_at}
+use Rattle.command_text.specs.declared.command.Command.{Command}
+use Rattle.command_text.specs.declared.command.Command.TheVariants as command
 use Rattle.volume_model.specs.declared.mode.Mode.{Mode}
 use Rattle.volume_model.specs.declared.call.Call.{Call}
 use Rattle.volume_model.specs.declared.call.Call.TheVariants as call
@@ -10,11 +12,24 @@ use Rattle.replica_node.specs.Node.{Node, blank}
 use Rattle.open_calls.specs.declared.parts.Part.{Part}
 use Rattle.open_calls.specs.declared.parts.Part.TheVariants.{Taken}
 use Rattle.open_calls.specs.declared.open_call.OpenCall.{OpenCall}
+use Rattle.open_calls.specs.declared.whole_op.WholeOp.{WholeOp}
+use Rattle.open_calls.specs.declared.whole_op.WholeOp.TheVariants as whole
 use Rattle.open_calls.specs.Parts.{part_for}
 
 -- what stands past the end of the calls
 abbrev pub no_call : OpenCall
-no_call = record { stream = 0; saw = 0; at = 0; length = 0; bytes = []; front = []; back = []; buffer = []; parts = [] }
+no_call = record {
+  stream = 0;
+  saw = 0;
+  at = 0;
+  length = 0;
+  bytes = [];
+  front = [];
+  back = [];
+  buffer = [];
+  parts = [];
+  op = None;
+}
 
 -- the call at a place
 abbrev pub open_at : List OpenCall → ℕ → OpenCall
@@ -24,11 +39,28 @@ open_at calls i = slice_index_or calls i no_call
 abbrev pub node_at : List Node → ℕ → Node
 node_at nodes r = slice_index_or nodes r (blank 0)
 
--- what the client asked; a ticket for the whole volume has a command, of which nothing is kept here
+-- ---- what was asked
+
+-- the command that asks for what is done to the whole volume
+abbrev pub command_of : WholeOp → Command
+command_of (whole.Snapshot name) = command.Snapshot name
+command_of (whole.Remove name) = command.Remove name
+command_of (whole.Revert name) = command.Revert name
+command_of (whole.Purge part) = command.Purge
+
+abbrev pub whole_asked : Option WholeOp → Call
+whole_asked None = call.Ping
+whole_asked (Some op) = call.Command (command_of op)
+
+-- what was asked, by a ticket of that kind
 abbrev pub call_asked : Kind → OpenCall → Call
 call_asked kind.Read c = call.Read (pos c.at) c.length
 call_asked kind.Write c = call.Write (pos c.at) c.bytes
-call_asked kind.Whole c = call.Ping
+call_asked kind.Whole c = whole_asked c.op
+
+-- what is kept of an operation that is enrolled now: it has no bytes
+abbrev pub whole_call : ℕ → ℕ → WholeOp → OpenCall
+whole_call stream saw op = record no_call { stream = stream; saw = saw; op = Some op }
 
 -- all bytes of the blocks of a started write: those that stay before it, its own, and those that stay behind it
 abbrev pub whole_of : OpenCall → List ℕ

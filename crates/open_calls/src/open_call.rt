@@ -1,13 +1,15 @@
-ghost use Rattle.std.specs.Prelude.{◌≡◌, ◌≢◌, []};
-ghost use Rattle.open_calls.specs.Calls.{call_asked};
+ghost use Rattle.std.specs.Prelude.{◌≡◌, [], None, Some};
+ghost use Rattle.open_calls.specs.Calls.{call_asked, whole_call};
 
 use crate::buffer::Buffer;
 use crate::parts::Parts;
+use crate::whole_op::WholeOp;
 use range_turns::Kind;
 use std::alloc::Global;
 use volume_model::{Bytes, Call};
 
-/// What is kept of a read or a write from its enrolment to its end, beside its ticket.
+/// What is kept of a call from its enrolment to its end, beside its ticket: of a read, a write, or of what is done to the
+/// whole volume.
 #[derive(Debug, Drop)]
 pub struct OpenCall {
     pub stream: u8,
@@ -26,10 +28,12 @@ pub struct OpenCall {
     /// Of a started read, its bytes once a replica gave them.
     pub buffer: Buffer,
     pub parts: Parts,
+    /// What is done to the whole volume, by a ticket for it.
+    pub op: Option<WholeOp>,
 }
 
 impl OpenCall {
-    /// A call that is enrolled now. It takes no memory.
+    /// A read or a write that is enrolled now. It takes no memory.
     pub fn new(alloc: Global, stream: u8, saw: u64, at: u32, length: u32, bytes: Bytes) -> OpenCall
         ensures { result ≡ record {
           stream = stream;
@@ -41,6 +45,7 @@ impl OpenCall {
           back = [];
           buffer = [];
           parts = [];
+          op = None;
         } }
     {
         OpenCall {
@@ -53,25 +58,39 @@ impl OpenCall {
             back: Buffer::none(alloc),
             buffer: Buffer::none(alloc),
             parts: Parts::none(),
+            op: None,
         }
     }
 
-    /// What the client asked, by a ticket of that kind. It takes no memory.
+    /// What is to be done to the whole volume, enrolled now. It takes no memory.
+    pub fn of_whole(alloc: Global, stream: u8, saw: u64, op: WholeOp) -> OpenCall
+        ensures { result ≡ whole_call stream saw op }
+    {
+        OpenCall {
+            op: Some(op),
+            ..OpenCall::new(alloc, stream, saw, 0, 0, Bytes::new())
+        }
+    }
+
+    /// What was asked, by a ticket of that kind. It takes no memory.
     pub fn into_call(self, kind: Kind) -> Call
-        requires { kind ≢ Kind.Whole }
         ensures { result ≡ call_asked kind self }
     {
-        let offset = i64::from(self.at);
+        let OpenCall {
+            at,
+            length,
+            bytes,
+            op,
+            ..
+        } = self;
+        let offset = i64::from(at);
         match kind {
-            Kind::Read => Call::Read {
-                offset,
-                length: self.length,
+            Kind::Read => Call::Read { offset, length },
+            Kind::Write => Call::Write { offset, bytes },
+            Kind::Whole => match op {
+                Some(op) => Call::Command(op.command()),
+                None => Call::Ping,
             },
-            Kind::Write => Call::Write {
-                offset,
-                bytes: self.bytes,
-            },
-            Kind::Whole => unreachable!(),
         }
     }
 }
