@@ -1,0 +1,9 @@
+pub mod Kept
+pub mod Ops
+pub mod Forms
+pub mod Starts
+pub mod PartSteps
+pub mod Ends
+pub mod Folds
+pub mod Turns
+pub mod Answered

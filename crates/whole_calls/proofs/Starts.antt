@@ -1,0 +1,231 @@
+-- A call on the whole volume starts: nothing else has started, so each replica that has not failed is the volume.
+use Rattle.std.proofs.Common.{◌≡◌, ◌≢◌, ℕ, ◌<◌, ⊎_elim, Bool, true, false, List, length, map, length-set, get_or-set_same, subst, sym, refl, ap, ◌∙◌, arith}
+use Rattle.std.specs.Prelude.{Some}
+use Rattle.std.proofs.lemmas.Bool.{cases_lt, cases_eq}
+use Rattle.std.proofs.lemmas.List.{ext_get_or, length-map}
+use Rattle.volume_model.specs.declared.entry.Entry.{Entry}
+use Rattle.volume_model.specs.declared.mode.Mode.{Mode}
+use Rattle.volume_model.specs.declared.mode.Mode.TheVariants.{Rw, Wo, Err}
+use Rattle.volume_model.specs.Modes.{mode_of}
+use Rattle.volume_model.specs.Names.{AreNamed}
+use Rattle.volume_model.specs.PlainState.{PlainState, Volume, Copy}
+use Rattle.volume_model.specs.Snapshots.{Snapshots}
+use Rattle.range_turns.specs.declared.ticket.Kind.TheVariants as kind
+use Rattle.range_turns.specs.declared.ticket.Ticket.{Ticket}
+use Rattle.range_turns.specs.Order.{ticket_at, no_ticket, IsClear, AreInOrder, StandsAt, with_started}
+use Rattle.range_turns.proofs.OrderLemmas.{AreInOrder-with_started}
+use Rattle.replica_node.specs.Node.{Node}
+use Rattle.replica_state.specs.Volume.{volume_of_node}
+use Rattle.open_calls.specs.declared.open_call.OpenCall.{OpenCall}
+use Rattle.open_calls.specs.declared.parts.Part.{Part}
+use Rattle.open_calls.specs.declared.whole_op.WholeOp.{WholeOp}
+use Rattle.open_calls.specs.declared.whole_op.WholeOp.TheVariants as whole
+use Rattle.open_calls.specs.Calls.{open_at, node_at}
+use Rattle.open_calls.specs.Clients.{AreClients, Agree, Fits, IsWriting, IsReading, IsUnheld, byte_of}
+use Rattle.open_calls.specs.Parts.{part_at, part_for}
+use Rattle.open_calls.proofs.FreeLemmas.{not_both}
+use Rattle.open_calls.proofs.ListLemmas.{at_set}
+use Rattle.open_calls.proofs.PartLemmas.{up_in, rw_up, part_of, part_for_up}
+use Rattle.whole_calls.specs.declared.maint.MaintCall.{MaintCall}
+use Rattle.whole_calls.specs.declared.whole.Whole.{Whole}
+use Rattle.whole_calls.specs.Due.{due_of, form_part, formed}
+use Rattle.whole_calls.specs.Whole.{MayBeDone, IsFoldedFor, AreSpared, IsStarted}
+use Rattle.whole_calls.specs.Maint.{CanStill, FitsMaint}
+use Rattle.whole_calls.proofs.Forms.{length-formed, formed_in, part_for_owed}
+use Rattle.whole_calls.proofs.Kept.{whole_after, whole_before}
+use Rattle.whole_calls.proofs.Ops.{can_be, op_whole, due_size}
+
+-- ---- while no ticket is started
+
+-- no ticket is started
+abbrev pub IsStill : List Ticket → Type 0
+IsStill tickets = (j : ℕ) → j < length tickets → (ticket_at tickets j).started ≡ false
+
+-- none is, where nothing is in the way of a call on the whole volume that waits
+pub still_clear : (ts : List Ticket) (i : ℕ) → AreInOrder ts → i < length ts → (ticket_at ts i).kind ≡ kind.Whole → (ticket_at ts i).started ≡ false → IsClear ts i → IsStill ts
+still_clear ts i order h is waits clear j l = one (ticket_at ts j).started refl
+  where
+    one : (b : Bool) → (ticket_at ts j).started ≡ b → (ticket_at ts j).started ≡ false
+    one false e = e
+    one true e =
+        ⊎_elim
+        (λ below. absurd (whole_before ts j i below is clear))
+        (λ above. ⊎_elim
+        (λ same. ap (λ n. (ticket_at ts n).started) same ∙ waits)
+        (λ other. absurd (whole_after ts j i (omega (arith, above, other)) is (order.apart j l e)))
+        (cases_eq j i))
+        (cases_lt j i)
+
+-- then no byte is held
+pub still_unheld : (ts : List Ticket) (k : ℕ) → IsStill ts → IsUnheld ts k
+still_unheld ts k still i l w = absurd (not_both (ticket_at ts i).started (still i l) w.started)
+
+-- where no replica is rebuilt, one that has not failed is read
+pub settled_rw : (m : Mode) → m ≢ Wo → m ≢ Err → m ≡ Rw
+settled_rw Rw w e = refl
+settled_rw Wo w e = absurd (w refl)
+settled_rw Err w e = absurd (e refl)
+
+volume_with : List ℕ → List Copy → Snapshots → Volume
+volume_with d a s = record { disk = d; copies = a; snapshots = s }
+
+same_volume : (d e : List ℕ) (a b : List Copy) (s t : Snapshots) → d ≡ e → a ≡ b → s ≡ t → volume_with d a s ≡ volume_with e b t
+same_volume d e a b s t f g h = cc
+
+-- a replica that is read is the volume then
+pub is_volume : (v : Volume) (size r : ℕ) (modes : List Mode) (ts : List Ticket) (ns : List Node) → IsStill ts → Agree v size modes ts ns → mode_of modes r ≡ Rw → volume_of_node (node_at ns r) ≡ v
+unfolding volume_with
+is_volume v size r modes ts ns still ok e =
+    let n = node_at ns r in
+    let up = rw_up (mode_of modes r) e in
+    let disk : n.disk ≡ v.disk = ext_get_or 0 n.disk v.disk (ok.sizes r up ∙ sym ok.disk) (λ k l. ok.bytes r k e (still_unheld ts k still)) in
+    same_volume n.disk v.disk _ v.copies _ v.snapshots disk (ok.copies r e) (ok.tree r up)
+
+-- ---- a ticket that starts
+
+-- it keeps its number
+pub started_number : (ts : List Ticket) (i j : ℕ) → i < length ts → (ticket_at (with_started ts i) j).number ≡ (ticket_at ts j).number
+started_number ts i j h = at_set (λ (x : Ticket). x.number ≡ (ticket_at ts j).number) ts i j (record (ticket_at ts i) { started = true }) no_ticket h (λ e. ap (λ n. (ticket_at ts n).number) (sym e)) (λ _. refl)
+
+-- and stands there under it alone
+pub started_stands : (ts : List Ticket) (i : ℕ) → AreInOrder ts → i < length ts → StandsAt (with_started ts i) (ticket_at ts i).number i
+started_stands ts i order h = record {
+  within = omega (arith, h, length-set ts i (record (ticket_at ts i) { started = true }));
+  is = started_number ts i i h;
+  only = λ j l e. alone j (omega (arith, l, length-set ts i (record (ticket_at ts i) { started = true }))) (sym (started_number ts i j h) ∙ e);
+}
+  where
+    alone : (j : ℕ) → j < length ts → (ticket_at ts j).number ≡ (ticket_at ts i).number → j ≡ i
+    alone j l e =
+        ⊎_elim
+        (λ same. same)
+        (λ other. ⊎_elim
+        (λ below. absurd (order.numbered j i below h e))
+        (λ above. absurd (order.numbered i j (omega (arith, above, other)) l (sym e)))
+        (cases_lt j i))
+        (cases_eq j i)
+
+-- its operation asks no more of the replicas, and all else of it stays
+pub fits_started : (s : Snapshots) (modes : List Mode) (ns : List Node) (maint : List Ticket) (commands : List MaintCall) (t : Ticket) (c : OpenCall) → FitsMaint s modes ns maint commands t c
+    → FitsMaint s modes ns maint commands (record t { started = true }) c
+fits_started s modes ns maint commands t c fit = record {
+  apart = fit.apart;
+  whole = λ w. let o = fit.whole w in record { op = o.op; is = o.is; asked = o.asked; still = λ e. absurd (never e) };
+}
+  where
+    never : true ≡ false → ⊥
+    never e = cc
+
+-- each ticket fits the maintenance turn as before
+pub maint_started : (s : Snapshots) (modes : List Mode) (ns : List Node) (maint : List Ticket) (commands : List MaintCall) (ts : List Ticket) (cs : List OpenCall) (i : ℕ) → i < length ts
+    → ((j : ℕ) → j < length ts → FitsMaint s modes ns maint commands (ticket_at ts j) (open_at cs j))
+    → (j : ℕ) → j < length (with_started ts i) → FitsMaint s modes ns maint commands (ticket_at (with_started ts i) j) (open_at cs j)
+maint_started s modes ns maint commands ts cs i h fit j l =
+    at_set (λ (x : Ticket). FitsMaint s modes ns maint commands x (open_at cs j)) ts i j (record (ticket_at ts i) { started = true }) no_ticket h
+    (λ e. subst (λ n. FitsMaint s modes ns maint commands (record (ticket_at ts i) { started = true }) (open_at cs n)) (sym e) (fits_started s modes ns maint commands (ticket_at ts i) (open_at cs i) (fit i h)))
+    (λ _. fit j (omega (arith, l, length-set ts i (record (ticket_at ts i) { started = true }))))
+
+-- what a part of a purge finds that still can be done
+pub folded_still : (op : WholeOp) (s : Snapshots) (modes : List Mode) (ns : List Node) (r : ℕ) → CanStill s modes ns op → mode_of modes r ≡ Rw → IsFoldedFor op (node_at ns r)
+folded_still (whole.Snapshot name) s modes ns r can e = tt
+folded_still (whole.Remove name) s modes ns r can e = tt
+folded_still (whole.Revert name) s modes ns r can e = tt
+folded_still (whole.Purge f) s modes ns r can e = can.folded r e
+
+-- ---- the start
+
+no_write : kind.Whole ≢ kind.Write
+no_write e = cc
+
+no_read : kind.Whole ≢ kind.Read
+no_read e = cc
+
+module _ (op : WholeOp) (p : PlainState) (size streams : ℕ) (es : List Entry) (modes : List Mode) (ts : List Ticket) (cs : List OpenCall) (ns : List Node) (i : ℕ)
+    (ok : AreClients p.volume size streams es modes ts cs ns) (may : MayBeDone op p) (settled : (r : ℕ) → mode_of modes r ≢ Wo)
+    (h : i < length ts) (is : (ticket_at ts i).kind ≡ kind.Whole) (waits : (ticket_at ts i).started ≡ false) (clear : IsClear ts i) where
+  abbrev begun : Ticket
+  begun = record (ticket_at ts i) { started = true }
+
+  abbrev parts : List Part
+  parts = map part_for modes
+
+  -- nothing has started before
+  pub whole_still : IsStill ts
+  whole_still = still_clear ts i ok.order h is waits clear
+
+  -- each replica that has not failed is the volume
+  pub each_volume : (r : ℕ) → mode_of modes r ≢ Err → volume_of_node (node_at ns r) ≡ p.volume
+  each_volume r up = is_volume p.volume size r modes ts ns whole_still ok.agree (settled_rw (mode_of modes r) (settled r) up)
+
+  -- and in due form the due volume
+  pub each_due : AreNamed p → (r : ℕ) → mode_of modes r ≢ Err → volume_of_node (node_at (formed op parts ns) r) ≡ due_of op p.volume
+  each_due named r up =
+      ap volume_of_node (formed_in op parts ns r (omega (arith, up_in modes r up, ok.agree.as_many)) ∙ ap (λ x. form_part op x (node_at ns r)) (part_of modes r ∙ part_for_owed (mode_of modes r) up))
+      ∙ op_whole op p.volume (node_at ns r) named.once (can_be op p may) (each_volume r up)
+
+  still_in : (j : ℕ) → j < length (with_started ts i) → j < length ts
+  still_in j l = omega (arith, l, length-set ts i begun)
+
+  no_writing : (j : ℕ) → j < length (with_started ts i) → IsWriting (ticket_at (with_started ts i) j) → ⊥
+  no_writing j l = at_set (λ (x : Ticket). IsWriting x → ⊥) ts i j begun no_ticket h (λ _ w. no_write (sym is ∙ w.writes)) (λ _ w. not_both (ticket_at ts j).started (whole_still j (still_in j l)) w.started)
+
+  no_reading : (j : ℕ) → j < length (with_started ts i) → IsReading (ticket_at (with_started ts i) j) → ⊥
+  no_reading j l = at_set (λ (x : Ticket). IsReading x → ⊥) ts i j begun no_ticket h (λ _ w. no_read (sym is ∙ w.reads)) (λ _ w. not_both (ticket_at ts j).started (whole_still j (still_in j l)) w.started)
+
+  fits_begun : (t : Ticket) (c : OpenCall) → t.kind ≡ kind.Whole → Fits size streams (length ns) t c → Fits size streams (length ns) (record t { started = true }) c
+  fits_begun t c w f = record {
+    lies = record { around = f.lies.around; up = f.lies.up; within = f.lies.within; good = f.lies.good; covers = f.lies.covers; empty = f.lies.empty };
+    stream = f.stream;
+    short = f.short;
+    count = f.count;
+    parts = λ _ n. absurd (n w);
+    buffer = λ r. absurd (no_read (sym w ∙ r.reads));
+    whole = λ r. absurd (no_write (sym w ∙ r.writes));
+  }
+
+  -- the replicas agree in due form with the due volume
+  pub begun_whole : AreNamed p → AreClients (due_of op p.volume) size streams es modes (with_started ts i) cs (formed op parts ns)
+  begun_whole named =
+      let a = ok.agree in
+      let disk : length (due_of op p.volume).disk ≡ size = due_size op p may ∙ a.disk in
+      let due = each_due named in
+      record {
+        paired = ok.paired ∙ sym (length-set ts i begun);
+        order = AreInOrder-with_started ts i clear ok.order;
+        fits = λ j l. subst (λ n. Fits size streams n (ticket_at (with_started ts i) j) (open_at cs j)) (sym (length-formed op parts ns))
+            (at_set (λ (x : Ticket). Fits size streams (length ns) x (open_at cs j)) ts i j begun no_ticket h
+            (λ e. subst (λ n. Fits size streams (length ns) begun (open_at cs n)) (sym e) (fits_begun (ticket_at ts i) (open_at cs i) is (ok.fits i h)))
+            (λ _. ok.fits j (still_in j l)));
+        agree = record {
+          disk = disk;
+          as_many = a.as_many ∙ sym (length-formed op parts ns);
+          sizes = λ r up. ap (λ (v : Volume). length v.disk) (due r up) ∙ disk;
+          tree = λ r up. ap (λ (v : Volume). v.snapshots) (due r up);
+          copies = λ r e. ap (λ (v : Volume). v.copies) (due r (rw_up (mode_of modes r) e));
+          bytes = λ r k e free. ap (λ (v : Volume). byte_of v.disk k) (due r (rw_up (mode_of modes r) e));
+        };
+        writes = λ j l w. absurd (no_writing j l w);
+        reads = λ j l w. absurd (no_reading j l w);
+        seen = ok.seen;
+      }
+
+  -- and the call on the whole volume is started, which owes its part to each that has not failed
+  pub begun_is : (w : Whole) → w.number ≡ (ticket_at ts i).number → w.op ≡ op → w.parts ≡ parts → AreSpared op modes ns w.spares → (open_at cs i).op ≡ Some op
+      → ((r : ℕ) → mode_of modes r ≡ Rw → IsFoldedFor op (node_at ns r)) → IsStarted p modes (with_started ts i) cs ns w
+  begun_is w number same owed spares asked folded =
+      let here : ticket_at (with_started ts i) i ≡ begun = get_or-set_same ts i begun no_ticket h in
+      record {
+        place = i;
+        stands = subst (λ n. StandsAt (with_started ts i) n i) (sym number) (started_stands ts i ok.order h);
+        kind = ap (λ (x : Ticket). x.kind) here ∙ is;
+        started = ap (λ (x : Ticket). x.started) here;
+        op = asked ∙ ap Some (sym same);
+        parts = ap length owed ∙ length-map modes part_for ∙ ok.agree.as_many;
+        owes = λ r up e. part_for_up (mode_of modes r) up (sym (ap (λ ps. part_at ps r) owed ∙ part_of modes r) ∙ e);
+        may = subst (λ o. MayBeDone o p) (sym same) may;
+        takes = λ r up _. record {
+          still = ok.agree.tree r up;
+          spared = subst (λ o. Rattle.whole_calls.specs.Whole.IsSpared o (node_at ns r) (Rattle.whole_calls.specs.Whole.spare_at w.spares r)) (sym same) (spares r up);
+          folded = subst (λ o. IsFoldedFor o (node_at ns r)) (sym same) (folded r (settled_rw (mode_of modes r) (settled r) up));
+        };
+      }
