@@ -26,17 +26,17 @@ use Rattle.open_calls.specs.declared.open_call.OpenCall.{OpenCall}
 use Rattle.open_calls.specs.Calls.{call_asked}
 use Rattle.open_calls.proofs.FreeLemmas.{not_both}
 
--- ---- a call of a ticket is no command
+-- ---- a read or a write is no command
 
-pub no_command : (k : Kind) (x : OpenCall) (c : Command) → call_asked k x ≡ call.Command c → ⊥
-no_command kind.Read x c e = cc
-no_command kind.Write x c e = cc
-no_command kind.Whole x c e = cc
+pub no_command : (k : Kind) (x : OpenCall) (c : Command) → k ≢ kind.Whole → call_asked k x ≡ call.Command c → ⊥
+no_command kind.Read x c range e = cc
+no_command kind.Write x c range e = cc
+no_command kind.Whole x c range e = range refl
 
-pub no_add : (k : Kind) (x : OpenCall) → added_by (call_asked k x) ≡ None
-no_add kind.Read x = refl
-no_add kind.Write x = refl
-no_add kind.Whole x = refl
+pub no_add : (k : Kind) (x : OpenCall) → k ≢ kind.Whole → added_by (call_asked k x) ≡ None
+no_add kind.Read x range = refl
+no_add kind.Write x range = refl
+no_add kind.Whole x range = absurd (range refl)
 
 pub asks_one : (k : Kind) (x : OpenCall) → k ≢ kind.Whole → asks_replica (call_asked k x) ≡ true
 asks_one kind.Read x n = refl

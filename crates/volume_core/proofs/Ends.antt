@@ -21,7 +21,7 @@ use Rattle.volume_model.specs.Modes.{modes_after, mode_of, is_change, HasNoSourc
 use Rattle.volume_model.specs.PlainState.{PlainState, Volume, written}
 use Rattle.volume_model.specs.PlainStep.{refusal_of, step_unless, after_call}
 use Rattle.volume_model.specs.Rebuilds.{added_by, MayFall, IsOpenOnly}
-use Rattle.volume_model.specs.Replay.{replay, after_entry}
+use Rattle.volume_model.specs.Replay.{after_entry}
 use Rattle.volume_model.proofs.FaultLemmas.{rise-fault}
 use Rattle.volume_model.proofs.OwnNames.{IsOwn}
 use Rattle.volume_model.proofs.PushLemmas.{modes_after-push, IsLegal-push}
@@ -37,40 +37,38 @@ use Rattle.open_calls.specs.declared.parts.Part.TheVariants.{Acked}
 use Rattle.open_calls.specs.Parts.{part_at, IsTaken}
 use Rattle.open_calls.specs.Calls.{open_at, call_asked}
 use Rattle.open_calls.specs.Clients.{AreClients, IsWriting, IsReading, IsIdle, behind_last}
-use Rattle.open_calls.proofs.FreeLemmas.{not_both, write_no_read, write_no_whole}
+use Rattle.open_calls.proofs.FreeLemmas.{not_both, write_no_read, write_no_whole, read_no_whole}
 use Rattle.open_calls.proofs.Gone.{left_clients, written_clients, failed_clients, seen_clients}
 use Rattle.open_calls.proofs.PartLemmas.{up_in}
 use Rattle.open_calls.proofs.SeenLemmas.{seen_mark, seen_answer, idle_once_gone, behind_within}
 use Rattle.volume_core.specs.State.{State, opening_of, told_of, modes_in, index_at}
 use Rattle.volume_core.specs.Steps.{with_place, answered, faulted, ended}
-use Rattle.volume_core.specs.Sound.{IsSound, is_up}
+use Rattle.volume_core.specs.Sound.{IsSoundOn, IsCalm, is_up}
 use Rattle.volume_core.specs.Answers.{EndsWrite, IsOnRange}
 use Rattle.volume_core.proofs.Answered.{no_command, no_add, asks_one, write_free, read_free, refused_plainly, done_plainly, none_answered}
 use Rattle.volume_core.proofs.Rows.{counts, place_sound}
 use Rattle.volume_core.proofs.Told.{answer_told, mark_ordered}
 
 -- the same clients of what is the same
-pub same_clients : (v w : Volume) (size n m : ℕ) (es : List Entry) (ms ks : List Mode) (tickets : List Ticket) (calls : List OpenCall) (nodes : List Node) → v ≡ w → n ≡ m → ms ≡ ks
-    → AreClients v size n es ms tickets calls nodes → AreClients w size m es ks tickets calls nodes
-same_clients v w size n m es ms ks tickets calls nodes e f g ok =
-    subst (λ x. AreClients w size m es x tickets calls nodes) g
-    (subst (λ x. AreClients w size x es ms tickets calls nodes) f
-    (subst (λ x. AreClients x size n es ms tickets calls nodes) e ok))
+pub same_clients : (v : Volume) (size n m : ℕ) (es : List Entry) (ms ks : List Mode) (tickets : List Ticket) (calls : List OpenCall) (nodes : List Node) → n ≡ m → ms ≡ ks
+    → AreClients v size n es ms tickets calls nodes → AreClients v size m es ks tickets calls nodes
+same_clients v size n m es ms ks tickets calls nodes f g ok =
+    subst (λ x. AreClients v size m es x tickets calls nodes) g
+    (subst (λ x. AreClients v size x es ms tickets calls nodes) f ok)
 
 -- ---- an answer
 
-module _ (s : State) (ok : IsSound s) (stream saw : ℕ) (c : Call) (r : Reply) where
+module _ (s : State) (stream saw : ℕ) (c : Call) (r : Reply) where
   abbrev pub its_answer : Answer
   its_answer = record { call = c; reply = r; index = index_at s.indices stream; saw = saw; stream = stream }
 
-  -- of a stream of which no call is open then, with these clients of the volume that it leaves
-  pub answered_sound : (tickets : List Ticket) (calls : List OpenCall) (v : Volume) → IsIdle stream calls → stream < length s.indices → behind_last stream s.book.entries ≤ saw → saw ≤ length s.book.entries
-      → added_by c ≡ None → IsOwn (told_of s) (entry.Answer its_answer) → IsAnswered (told_of s) (modes_in s) its_answer
-      → (after_entry (told_of s) (entry.Answer its_answer)).volume ≡ v
-      → AreClients v s.size (length s.indices) s.book.entries (modes_in s) tickets calls s.nodes
-      → count_by (λ t. t.started) tickets + count_by is_up (modes_in s) + 1 ≤ s.book.spare
-      → IsSound (answered (record s { tickets = tickets; calls = calls }) stream saw c r)
-  answered_sound tickets calls v idle within past seen none is_own may after clients room =
+  -- of a stream of which no call is open then, with these clients
+  pub answered_on : (v0 v : Volume) (ns0 ns : List Node) (tickets : List Ticket) (calls : List OpenCall) → IsSoundOn v0 ns0 s → IsIdle stream calls → stream < length s.indices → behind_last stream s.book.entries ≤ saw
+      → saw ≤ length s.book.entries → added_by c ≡ None → IsOwn (told_of s) (entry.Answer its_answer) → IsAnswered (told_of s) (modes_in s) its_answer
+      → AreClients v s.size (length s.indices) s.book.entries (modes_in s) tickets calls ns
+      → count_by (λ t. t.started) tickets + length s.commands + count_by is_up (modes_in s) + 1 ≤ s.book.spare
+      → IsSoundOn v ns (answered (record s { tickets = tickets; calls = calls }) stream saw c r)
+  answered_on v0 v ns0 ns tickets calls ok idle within past seen none is_own may clients room =
       let o = opening_of s in
       let e = entry.Answer its_answer in
       let longer = s.book.entries ++ e ∷ [] in
@@ -78,11 +76,23 @@ module _ (s : State) (ok : IsSound s) (stream saw : ℕ) (c : Call) (r : Reply) 
       record {
         opened = ok.opened;
         told = answer_told o s.book.entries s.indices None its_answer ok.told is_own none may within refl past seen;
-        clients = same_clients v (replay o.state longer).volume s.size (length s.indices) (length (set s.indices stream (index_at s.indices stream + 1))) longer (modes_in s) (modes_after o.modes longer) tickets calls s.nodes
-            (sym after ∙ ap (λ (p : PlainState). p.volume) (sym (replay-push o.state s.book.entries e))) (sym (length-set s.indices stream (index_at s.indices stream + 1))) modes
-            (seen_clients v s.size (length s.indices) s.book.entries longer (modes_in s) tickets calls s.nodes (seen_answer s.book.entries calls clients.seen its_answer idle) clients);
+        clients = same_clients v s.size (length s.indices) (length (set s.indices stream (index_at s.indices stream + 1))) longer (modes_in s) (modes_after o.modes longer) tickets calls ns
+            (sym (length-set s.indices stream (index_at s.indices stream + 1))) modes
+            (seen_clients v s.size (length s.indices) s.book.entries longer (modes_in s) tickets calls ns (seen_answer s.book.entries calls clients.seen its_answer idle) clients);
         spare = omega (arith, room, ap (count_by is_up) modes);
       }
+
+  -- the same where no call on the whole volume is started, with those of the volume that it leaves
+  pub answered_sound : (tickets : List Ticket) (calls : List OpenCall) (v : Volume) → IsCalm s → IsIdle stream calls → stream < length s.indices → behind_last stream s.book.entries ≤ saw → saw ≤ length s.book.entries
+      → added_by c ≡ None → IsOwn (told_of s) (entry.Answer its_answer) → IsAnswered (told_of s) (modes_in s) its_answer
+      → (after_entry (told_of s) (entry.Answer its_answer)).volume ≡ v
+      → AreClients v s.size (length s.indices) s.book.entries (modes_in s) tickets calls s.nodes
+      → count_by (λ t. t.started) tickets + length s.commands + count_by is_up (modes_in s) + 1 ≤ s.book.spare
+      → IsCalm (answered (record s { tickets = tickets; calls = calls }) stream saw c r)
+  answered_sound tickets calls v ok idle within past seen none is_own may after clients room =
+      subst (λ (w : Volume). IsSoundOn w s.nodes (answered (record s { tickets = tickets; calls = calls }) stream saw c r))
+      (sym after ∙ ap (λ (p : PlainState). p.volume) (sym (replay-push (opening_of s).state s.book.entries (entry.Answer its_answer))))
+      (answered_on (told_of s).volume v s.nodes s.nodes tickets calls ok idle within past seen none is_own may clients room)
 
 -- ---- a call that is refused as it is enrolled
 
@@ -96,17 +106,17 @@ range_no_add call.Ping on = absurd on
 range_no_add (call.Other k) on = absurd on
 range_no_add (call.Command c) on = absurd on
 
-pub refused_sound : (s : State) (stream : ℕ) (c : Call) → IsSound s → stream < length s.indices → IsIdle stream s.calls → IsOnRange c → refusal_of (modes_in s) (told_of s) c ≡ Some OutOfRange
-    → IsSound (answered (with_place s) stream (length s.book.entries) c (reply.Refused OutOfRange))
-refused_sound s stream c ok within idle on refused =
-    let ok2 = place_sound s ok in
-    let a = its_answer (with_place s) ok2 stream (length s.book.entries) c (reply.Refused OutOfRange) in
-    answered_sound (with_place s) ok2 stream (length s.book.entries) c (reply.Refused OutOfRange) s.tickets s.calls (told_of s).volume idle within (behind_within stream s.book.entries) (omega arith)
-    (range_no_add c on) (range_own (told_of s) a on) (refused_plainly (modes_in s) (told_of s) a OutOfRange refused refl (λ r e. subst IsOnRange e on)) refl ok.clients (omega (arith, ok.spare))
+pub refused_sound : (v : Volume) (ns : List Node) (s : State) (stream : ℕ) (c : Call) → IsSoundOn v ns s → stream < length s.indices → IsIdle stream s.calls → IsOnRange c
+    → refusal_of (modes_in s) (told_of s) c ≡ Some OutOfRange → IsSoundOn v ns (answered (with_place s) stream (length s.book.entries) c (reply.Refused OutOfRange))
+refused_sound v ns s stream c ok within idle on refused =
+    let ok2 = place_sound v ns s ok in
+    let a = its_answer (with_place s) stream (length s.book.entries) c (reply.Refused OutOfRange) in
+    answered_on (with_place s) stream (length s.book.entries) c (reply.Refused OutOfRange) v v ns ns s.tickets s.calls ok2 idle within (behind_within stream s.book.entries) (omega arith)
+    (range_no_add c on) (range_own (told_of s) a on) (refused_plainly (modes_in s) (told_of s) a OutOfRange refused refl (λ r e. subst IsOnRange e on)) ok.clients (omega (arith, ok.spare))
 
 -- ---- a call on a range ends
 
-module _ (s : State) (i : ℕ) (ok : IsSound s) (h : i < length s.tickets) where
+module _ (s : State) (i : ℕ) (ok : IsCalm s) (h : i < length s.tickets) where
   abbrev c : OpenCall
   c = open_at s.calls i
 
@@ -119,16 +129,16 @@ module _ (s : State) (i : ℕ) (ok : IsSound s) (h : i < length s.tickets) where
   call_in : i < length s.calls
   call_in = omega (arith, ok.clients.paired)
 
-  pub ended_sound : (r : Reply) (v : Volume) → IsAnswered (told_of s) (modes_in s) (its r) → (after_entry (told_of s) (entry.Answer (its r))).volume ≡ v
+  pub ended_sound : (r : Reply) (v : Volume) → k ≢ kind.Whole → IsAnswered (told_of s) (modes_in s) (its r) → (after_entry (told_of s) (entry.Answer (its r))).volume ≡ v
       → AreClients v s.size (length s.indices) s.book.entries (modes_in s) (remove s.tickets i) (remove s.calls i) s.nodes
-      → count_by (λ t. t.started) (remove s.tickets i) + count_by is_up (modes_in s) + 1 ≤ s.book.spare → IsSound (ended s i r)
-  ended_sound r v may after clients room =
-      answered_sound s ok c.stream c.saw (call_asked k c) r (remove s.tickets i) (remove s.calls i) v
+      → count_by (λ t. t.started) (remove s.tickets i) + length s.commands + count_by is_up (modes_in s) + 1 ≤ s.book.spare → IsCalm (ended s i r)
+  ended_sound r v range may after clients room =
+      answered_sound s c.stream c.saw (call_asked k c) r (remove s.tickets i) (remove s.calls i) v ok
       (idle_once_gone s.book.entries s.calls ok.clients.seen i call_in) (ok.clients.fits i h).stream (ok.clients.seen.past i call_in) (ok.clients.seen.saw i call_in)
-      (no_add k c) (λ name e. absurd (no_command k c (command.Snapshot name) e)) may after clients room
+      (no_add k c range) (λ name e. absurd (no_command k c (command.Snapshot name) range e)) may after clients room
 
   -- the place that a started call has in the journal
-  pub started_room : (ticket_at s.tickets i).started ≡ true → count_by (λ t. t.started) (remove s.tickets i) + count_by is_up (modes_in s) + 1 ≤ s.book.spare
+  pub started_room : (ticket_at s.tickets i).started ≡ true → count_by (λ t. t.started) (remove s.tickets i) + length s.commands + count_by is_up (modes_in s) + 1 ≤ s.book.spare
   started_room e = omega (arith, ok.spare, sum_by-remove (λ (t : Ticket). cond t.started 1 0) s.tickets i no_ticket h, counts (ticket_at s.tickets i).started e)
 
   -- nothing stands against a call on a range
@@ -138,22 +148,22 @@ module _ (s : State) (i : ℕ) (ok : IsSound s) (h : i < length s.tickets) where
   on_range kind.Whole e n = absurd (n refl)
 
   -- no replica is left for it
-  pub none_sound : k ≢ kind.Whole → HasNoSource (modes_in s) → count_by (λ t. t.started) (remove s.tickets i) + count_by is_up (modes_in s) + 1 ≤ s.book.spare → IsSound (ended s i (reply.Refused NoReplica))
+  pub none_sound : k ≢ kind.Whole → HasNoSource (modes_in s) → count_by (λ t. t.started) (remove s.tickets i) + length s.commands + count_by is_up (modes_in s) + 1 ≤ s.book.spare → IsCalm (ended s i (reply.Refused NoReplica))
   none_sound range none room =
-      ended_sound (reply.Refused NoReplica) (told_of s).volume
-      (none_answered (modes_in s) (told_of s) (its (reply.Refused NoReplica)) (on_range k refl range) (asks_one k c range) (λ x e. no_command k c x e) refl none) refl
+      ended_sound (reply.Refused NoReplica) (told_of s).volume range
+      (none_answered (modes_in s) (told_of s) (its (reply.Refused NoReplica)) (on_range k refl range) (asks_one k c range) (λ x e. no_command k c x range e) refl none) refl
       (left_clients (told_of s).volume s.size (length s.indices) s.book.entries (modes_in s) s.tickets s.calls s.nodes i ok.clients h (λ r e w. none r e)) room
 
   as_asked : (x : Kind) → k ≡ x → call_asked k c ≡ call_asked x c
   as_asked x e = ap (λ y. call_asked y c) e
 
-  pub write_sound : IsWriting (ticket_at s.tickets i) → (r : Reply) → EndsWrite s i r → IsSound (ended s i r)
+  pub write_sound : IsWriting (ticket_at s.tickets i) → (r : Reply) → EndsWrite s i r → IsCalm (ended s i r)
   write_sound w reply.Done end =
       let is = as_asked kind.Write w.writes in
       let p = told_of s in
       let v = written p.volume (pos c.at) c.bytes in
-      ended_sound reply.Done v
-      (done_plainly (modes_in s) p (its reply.Done) (ap (refusal_of (modes_in s) p) is ∙ on_range kind.Write w.writes (λ e. cc)) (sym (ap (λ x. (step_unless None (modes_in s) p x).1) is)) (λ x e. no_command k c x e) (λ _. end.reply))
+      ended_sound reply.Done v (write_no_whole k w.writes)
+      (done_plainly (modes_in s) p (its reply.Done) (ap (refusal_of (modes_in s) p) is ∙ on_range kind.Write w.writes (λ e. cc)) (sym (ap (λ x. (step_unless None (modes_in s) p x).1) is)) (λ x e. no_command k c x (write_no_whole k w.writes) e) (λ _. end.reply))
       (ap (λ x. (after_call p x).volume) is)
       (written_clients p.volume s.size (length s.indices) s.book.entries (modes_in s) s.tickets s.calls s.nodes i ok.clients h w end.acknowledged)
       (started_room w.started)
@@ -161,25 +171,25 @@ module _ (s : State) (i : ℕ) (ok : IsSound s) (h : i < length s.tickets) where
   write_sound w (reply.Status layers modes) end = absurd end.reply
   write_sound w (reply.Aborted place) end = absurd end.reply
   write_sound w (reply.Refused why) end =
-      subst (λ x. IsSound (ended s i (reply.Refused x))) (sym end.reply.0) (none_sound (write_no_whole k w.writes) end.reply.1 (started_room w.started))
+      subst (λ x. IsCalm (ended s i (reply.Refused x))) (sym end.reply.0) (none_sound (write_no_whole k w.writes) end.reply.1 (started_room w.started))
 
   -- a read that a replica acknowledged
-  pub read_sound : IsReading (ticket_at s.tickets i) → (r : ℕ) → part_at c.parts r ≡ Acked → IsSound (ended s i (reply.Read c.buffer))
+  pub read_sound : IsReading (ticket_at s.tickets i) → (r : ℕ) → part_at c.parts r ≡ Acked → IsCalm (ended s i (reply.Read c.buffer))
   read_sound w r acked =
       let is = as_asked kind.Read w.reads in
       let p = told_of s in
       let bytes = (ok.clients.reads i h w).read r (subst IsTaken (sym acked) tt) in
-      ended_sound (reply.Read c.buffer) p.volume
-      (done_plainly (modes_in s) p (its (reply.Read c.buffer)) (ap (refusal_of (modes_in s) p) is ∙ on_range kind.Read w.reads (λ e. cc)) (ap reply.Read bytes ∙ sym (ap (λ x. (step_unless None (modes_in s) p x).1) is)) (λ x e. no_command k c x e)
+      ended_sound (reply.Read c.buffer) p.volume (read_no_whole k w.reads)
+      (done_plainly (modes_in s) p (its (reply.Read c.buffer)) (ap (refusal_of (modes_in s) p) is ∙ on_range kind.Read w.reads (λ e. cc)) (ap reply.Read bytes ∙ sym (ap (λ x. (step_unless None (modes_in s) p x).1) is)) (λ x e. no_command k c x (read_no_whole k w.reads) e)
       (λ change. absurd (not_both (is_change (call_asked k c)) (ap is_change is) change)))
       (ap (λ x. (after_call p x).volume) is)
       (left_clients p.volume s.size (length s.indices) s.book.entries (modes_in s) s.tickets s.calls s.nodes i ok.clients h (λ q e v. write_no_read k v.writes w.reads))
       (started_room w.started)
 
 -- a call that waits, and for which no replica is left
-pub refused_start_sound : (s : State) (i : ℕ) → IsSound s → i < length s.tickets → (ticket_at s.tickets i).kind ≢ kind.Whole → HasNoSource (modes_in s) → IsSound (ended (with_place s) i (reply.Refused NoReplica))
+pub refused_start_sound : (s : State) (i : ℕ) → IsCalm s → i < length s.tickets → (ticket_at s.tickets i).kind ≢ kind.Whole → HasNoSource (modes_in s) → IsCalm (ended (with_place s) i (reply.Refused NoReplica))
 refused_start_sound s i ok h range none =
-    none_sound (with_place s) i (place_sound s ok) h range none (omega (arith, ok.spare, sum_by-remove (λ (t : Ticket). cond t.started 1 0) s.tickets i no_ticket h))
+    none_sound (with_place s) i (place_sound (told_of s).volume s.nodes s ok) h range none (omega (arith, ok.spare, sum_by-remove (λ (t : Ticket). cond t.started 1 0) s.tickets i no_ticket h))
 
 -- ---- a replica fails
 
@@ -198,23 +208,22 @@ failed_room modes r up = omega (arith, sum_by-set as_up modes r Err Err (up_in m
     one Wo n = refl
     one Err n = absurd (n refl)
 
-pub faulted_sound : (s : State) (stream r count : ℕ) → IsSound s → mode_of (modes_in s) r ≢ Err → last_count stream r s.book.entries < count → IsSound (faulted s stream r count)
-faulted_sound s stream r count ok up above =
+pub faulted_sound : (v : Volume) (ns : List Node) (s : State) (stream r count : ℕ) → IsSoundOn v ns s → mode_of (modes_in s) r ≢ Err → last_count stream r s.book.entries < count → IsSoundOn v ns (faulted s stream r count)
+faulted_sound v ns s stream r count ok up above =
     let o = opening_of s in
     let m = mark.Fault stream r count in
     let e = entry.Mark m in
     let longer = s.book.entries ++ e ∷ [] in
     let modes : set (modes_in s) r Err ≡ modes_after o.modes longer = sym (modes_after-push o.modes s.book.entries e) in
-    let v = (told_of s).volume in
     record {
       opened = ok.opened;
       told = record {
         legal = IsLegal-push o s.book.entries e ok.told.legal (may_fall (modes_in s) s.book.entries [] r up ok.told.ordered.rebuild);
         ordered = mark_ordered o s.book.entries s.indices None None m ok.told.ordered tt (rise-fault s.book.entries stream r count above ok.told.ordered.rise) (open_fault s.book.entries stream r count None ok.told.ordered.rebuild);
       };
-      clients = same_clients v (replay o.state longer).volume s.size (length s.indices) (length s.indices) longer (set (modes_in s) r Err) (modes_after o.modes longer) s.tickets s.calls s.nodes
-          (ap (λ (p : PlainState). p.volume) (sym (replay-push o.state s.book.entries e))) refl modes
-          (seen_clients v s.size (length s.indices) s.book.entries longer (set (modes_in s) r Err) s.tickets s.calls s.nodes (seen_mark s.book.entries s.calls ok.clients.seen m)
-          (failed_clients v s.size (length s.indices) r s.book.entries (modes_in s) s.tickets s.calls s.nodes up ok.clients));
+      clients = same_clients v s.size (length s.indices) (length s.indices) longer (set (modes_in s) r Err) (modes_after o.modes longer) s.tickets s.calls ns
+          refl modes
+          (seen_clients v s.size (length s.indices) s.book.entries longer (set (modes_in s) r Err) s.tickets s.calls ns (seen_mark s.book.entries s.calls ok.clients.seen m)
+          (failed_clients v s.size (length s.indices) r s.book.entries (modes_in s) s.tickets s.calls ns up ok.clients));
       spare = omega (arith, ok.spare, failed_room (modes_in s) r up, ap (count_by is_up) modes);
     }

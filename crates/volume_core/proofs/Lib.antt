@@ -3,6 +3,7 @@ pub mod Opens
 pub mod Answered
 pub mod Rows
 pub mod Ends
+pub mod Keep
 pub mod Now
 pub mod CallLemmas
 pub mod Moves

@@ -25,13 +25,13 @@ use Rattle.volume_core.specs.State.{State, modes_in, index_at}
 use Rattle.volume_core.specs.Steps.{with_place, answered, ended, without_call, started, faulted, answer_entry}
 use Rattle.volume_core.specs.Sound.{IsSound}
 use Rattle.volume_core.specs.Answers.{IsRoomier, IsBehind, IsAnsweredNow, Completes, BeginsBy, failed_by, failed_in, after_fail}
-use Rattle.volume_core.specs.Streams.{calls_in, running, Open, open_of, opens, IsOpen, MayAppend, MayGo, Stays, Begun, IsAnsweredTo, IsTakenBack, ForOwner, origin_of}
+use Rattle.volume_core.specs.Streams.{calls_in, running, commands_in, turning, Open, open_of, opens, IsOpen, MayAppend, MayGo, Stays, Begun, IsAnsweredTo, IsTakenBack, ForOwner, origin_of}
 use Rattle.volume_core.proofs.CallLemmas.{calls-set_other, calls-set_own, calls-push_other, calls-push_own, calls-remove_other, calls-remove_own, calls-one, calls-place, calls-idle}
 
 -- ---- nothing but places
 
 pub may_same : (n : ℕ) (s : State) → IsSound s → MayGo n s s
-may_same n s ok = record { sound = ok; origin = refl; added = ([], sym (append-nil s.book.entries), tt); others = λ m h. refl }
+may_same n s ok = record { sound = ok; origin = refl; added = ([], sym (append-nil s.book.entries), tt); others = λ m h. refl; turns = λ m h. refl }
 
 pub may_roomier : (n : ℕ) (s s2 : State) → IsSound s2 → IsRoomier s s2 → MayGo n s s2
 may_roomier n s s2 ok r = record {
@@ -39,6 +39,7 @@ may_roomier n s s2 ok r = record {
   origin = ap origin_of r.state ∙ ap (λ k. record { first = s.first; opening = s.book.opening; size = s.size; streams = length s.indices; replicas = k }) r.keeps.count;
   added = ([], ap (λ (x : State). x.book.entries) r.state ∙ sym (append-nil s.book.entries), tt);
   others = λ m h. ap (λ (x : State). running x m) r.state;
+  turns = λ m h. ap (λ (x : State). turning x m) r.state;
 }
 
 pub stays_same : (n : ℕ) (s : State) → Stays n s s
@@ -84,7 +85,7 @@ own_at n t c s i ok open' stands =
 
 module _ (n : ℕ) (c : Call) (s : State) (i : ℕ) (ok : IsSound s) (h : i < length s.tickets) (own : IsOwnAt n c s i) where
   call_in : i < length s.calls
-  call_in = omega (arith, h, ok.clients.paired)
+  call_in = omega (arith, h, ok.on.clients.paired)
 
   -- with its ticket, on these replicas, with places for so many entries
   pub may_set : (s2 : State) (t : Ticket) (y : OpenCall) (nodes : List Node) (spare : ℕ) → y.stream ≡ (open_at s.calls i).stream → length nodes ≡ length s.nodes
@@ -95,6 +96,7 @@ module _ (n : ℕ) (c : Call) (s : State) (i : ℕ) (ok : IsSound s) (h : i < le
     added = ([], ap (λ (x : State). x.book.entries) is ∙ sym (append-nil s.book.entries), tt);
     others = λ m other. ap (λ (x : State). running x m) is
         ∙ calls-set_other m s.tickets s.calls i t y (λ e. other (sym e ∙ own.stream)) (λ e. other (sym e ∙ same ∙ own.stream));
+    turns = λ m other. ap (λ (x : State). turning x m) is;
   }
 
   -- what the stream then has open
@@ -133,11 +135,12 @@ module _ (n : ℕ) (c : Call) (s : State) (i : ℕ) (ok : IsSound s) (h : i < le
     sound = ok2;
     origin = ap origin_of is;
     added = ([], ap (λ (x : State). x.book.entries) is ∙ sym (append-nil s.book.entries), tt);
-    others = λ m other. ap (λ (x : State). running x m) is ∙ calls-remove_other m s.tickets s.calls i ok.clients.paired (λ e. other (sym e ∙ own.stream));
+    others = λ m other. ap (λ (x : State). running x m) is ∙ calls-remove_other m s.tickets s.calls i ok.on.clients.paired (λ e. other (sym e ∙ own.stream));
+    turns = λ m other. ap (λ (x : State). turning x m) is;
   }
 
   none_left : running (without_call s i) n ≡ []
-  none_left = calls-remove_own n s.tickets s.calls i own.x own.runs ok.clients.paired h own.stream
+  none_left = calls-remove_own n s.tickets s.calls i own.x own.runs ok.on.clients.paired h own.stream
 
   pub idle_without : (s2 : State) → s2 ≡ without_call s i → opens s2 n ≡ []
   idle_without s2 is = ap (λ (x : State). opens x n) is ∙ ap (map open_of) none_left
@@ -150,7 +153,8 @@ module _ (n : ℕ) (c : Call) (s : State) (i : ℕ) (ok : IsSound s) (h : i < le
     origin = ap origin_of is
         ∙ ap (λ k. record { first = s.first; opening = s.book.opening; size = s.size; streams = k; replicas = length s.nodes }) (length-set s.indices (open_at s.calls i).stream (index_at s.indices (open_at s.calls i).stream + 1));
     added = (answer_entry (without_call s i) (open_at s.calls i).stream (open_at s.calls i).saw (call_asked (ticket_at s.tickets i).kind (open_at s.calls i)) r ∷ [], ap (λ (x : State). x.book.entries) is, (own.stream, tt));
-    others = λ m other. ap (λ (x : State). running x m) is ∙ calls-remove_other m s.tickets s.calls i ok.clients.paired (λ e. other (sym e ∙ own.stream));
+    others = λ m other. ap (λ (x : State). running x m) is ∙ calls-remove_other m s.tickets s.calls i ok.on.clients.paired (λ e. other (sym e ∙ own.stream));
+    turns = λ m other. ap (λ (x : State). turning x m) is;
   }
 
   pub answered_ended : (s2 : State) (spare : ℕ) (r : Reply) → s2 ≡ ended (record s { book = record s.book { spare = spare } }) i r → IsAnsweredTo n c s s2
@@ -228,14 +232,16 @@ pub record Appends (n : ℕ) (s s1 : State) : Type 0 where
   pub origin : origin_of s1 ≡ origin_of s
   pub tickets : s1.tickets ≡ s.tickets
   pub calls : s1.calls ≡ s.calls
+  pub maint : s1.maint ≡ s.maint
+  pub commands : s1.commands ≡ s.commands
 
 failed_appends : (n : ℕ) (m : Mode) (s : State) (r : ℕ) → Appends n s (failed_in m s r)
-failed_appends n Err s r = record { marks = []; entries = sym (append-nil s.book.entries); may = tt; origin = refl; tickets = refl; calls = refl }
-failed_appends n Rw s r = record { marks = entry.Mark (mark.Failed r) ∷ []; entries = refl; may = (tt, tt); origin = refl; tickets = refl; calls = refl }
-failed_appends n Wo s r = record { marks = entry.Mark (mark.Failed r) ∷ []; entries = refl; may = (tt, tt); origin = refl; tickets = refl; calls = refl }
+failed_appends n Err s r = record { marks = []; entries = sym (append-nil s.book.entries); may = tt; origin = refl; tickets = refl; calls = refl; maint = refl; commands = refl }
+failed_appends n Rw s r = record { marks = entry.Mark (mark.Failed r) ∷ []; entries = refl; may = (tt, tt); origin = refl; tickets = refl; calls = refl; maint = refl; commands = refl }
+failed_appends n Wo s r = record { marks = entry.Mark (mark.Failed r) ∷ []; entries = refl; may = (tt, tt); origin = refl; tickets = refl; calls = refl; maint = refl; commands = refl }
 
 fail_appends : (n : ℕ) (s : State) (r : Option ℕ) → Appends n s (after_fail s r)
-fail_appends n s None = record { marks = []; entries = sym (append-nil s.book.entries); may = tt; origin = refl; tickets = refl; calls = refl }
+fail_appends n s None = record { marks = []; entries = sym (append-nil s.book.entries); may = tt; origin = refl; tickets = refl; calls = refl; maint = refl; commands = refl }
 fail_appends n s (Some r) = failed_appends n (mode_of (modes_in s) r) s r
 
 may_append : (n : ℕ) (xs : List Entry) (a : Answer) → MayAppend n xs → a.stream ≡ n → MayAppend n (xs ++ entry.Answer a ∷ [])
@@ -257,6 +263,7 @@ module _ (n : ℕ) (s s1 s2 : State) (saw : ℕ) (c : Call) (r : Reply) (more : 
     origin = ap origin_of is ∙ ap (λ k. record { first = s1.first; opening = s1.book.opening; size = s1.size; streams = k; replicas = length s1.nodes }) (length-set s1.indices n (index_at s1.indices n + 1)) ∙ more.origin;
     added = (more.marks ++ answer_entry s1 n saw c r ∷ [], entries_now, may_append n more.marks (record { call = c; reply = r; index = index_at s1.indices n; saw = saw; stream = n }) more.may refl);
     others = λ m other. runs_now m;
+    turns = λ m other. ap (λ (x : State). turning x m) is ∙ ap (λ ts. commands_in m ts s1.commands) more.maint ∙ ap (commands_in m s.maint) more.commands;
   }
 
   pub answered_sees : IsIdle n s.calls → IsAnsweredTo n c s s2
@@ -273,13 +280,13 @@ pub now_may : (n : ℕ) (s s2 : State) (c : Call) (place : ℕ) → IsAnsweredNo
 now_may n s s2 c place a ok2 = answered_may n s (after_fail (with_place s) (failed_by c)) s2 (length s.book.entries) c _ (placed (fail_appends n (with_place s) (failed_by c))) a.state ok2
   where
     placed : {s1 : State} → Appends n (with_place s) s1 → Appends n s s1
-    placed a = record { marks = a.marks; entries = a.entries; may = a.may; origin = a.origin; tickets = a.tickets; calls = a.calls }
+    placed a = record { marks = a.marks; entries = a.entries; may = a.may; origin = a.origin; tickets = a.tickets; calls = a.calls; maint = a.maint; commands = a.commands }
 
 pub now_sees : (n : ℕ) (s s2 : State) (c : Call) (place : ℕ) → IsAnsweredNow s n c place s2 → IsIdle n s.calls → IsAnsweredTo n c s s2
 now_sees n s s2 c place a idle = answered_sees n s (after_fail (with_place s) (failed_by c)) s2 (length s.book.entries) c _ (placed (fail_appends n (with_place s) (failed_by c))) a.state idle
   where
     placed : {s1 : State} → Appends n (with_place s) s1 → Appends n s s1
-    placed a = record { marks = a.marks; entries = a.entries; may = a.may; origin = a.origin; tickets = a.tickets; calls = a.calls }
+    placed a = record { marks = a.marks; entries = a.entries; may = a.may; origin = a.origin; tickets = a.tickets; calls = a.calls; maint = a.maint; commands = a.commands }
 
 pub fault_may : (n : ℕ) (s s2 : State) (r count : ℕ) → s2 ≡ faulted s n r count → IsSound s2 → MayGo n s s2
 fault_may n s s2 r count is ok2 = record {
@@ -287,12 +294,13 @@ fault_may n s s2 r count is ok2 = record {
   origin = ap origin_of is;
   added = (entry.Mark (mark.Fault n r count) ∷ [], ap (λ (x : State). x.book.entries) is, (refl, tt));
   others = λ m other. ap (λ (x : State). running x m) is;
+  turns = λ m other. ap (λ (x : State). turning x m) is;
 }
 
 -- ---- an enrolment
 
 pub nothing_more : (n : ℕ) (s : State) → Appends n s (with_place s)
-nothing_more n s = record { marks = []; entries = sym (append-nil s.book.entries); may = tt; origin = refl; tickets = refl; calls = refl }
+nothing_more n s = record { marks = []; entries = sym (append-nil s.book.entries); may = tt; origin = refl; tickets = refl; calls = refl; maint = refl; commands = refl }
 
 pub behind_may : (n t : ℕ) (c : Call) (s s2 : State) → IsBehind s n c t s2 → IsSound s → IsSound s2 → MayGo n s s2
 behind_may n t c s s2 b ok ok2 = record {
@@ -300,7 +308,8 @@ behind_may n t c s s2 b ok ok2 = record {
   origin = ap origin_of b.state;
   added = ([], ap (λ (x : State). x.book.entries) b.state ∙ sym (append-nil s.book.entries), tt);
   others = λ m other. ap (λ (x : State). running x m) b.state
-      ∙ calls-push_other m s.tickets s.calls (record { number = t; range = b.range; kind = b.kind; started = false }) b.new ok.clients.paired (λ e. other (sym e ∙ b.by));
+      ∙ calls-push_other m s.tickets s.calls (record { number = t; range = b.range; kind = b.kind; started = false }) b.new ok.on.clients.paired (λ e. other (sym e ∙ b.by));
+  turns = λ m other. ap (λ (x : State). turning x m) b.state;
 }
 
 pub behind_sees : (n t : ℕ) (c : Call) (s s2 : State) → IsBehind s n c t s2 → IsIdle n s.calls → IsSound s → Begun n t c s s2
@@ -310,7 +319,7 @@ behind_sees n t c s s2 b idle ok = record {
     range = b.range;
     whole = whole_of b.new;
     is = ap (λ (x : State). opens x n) b.state
-        ∙ ap (map open_of) (calls-push_own n s.tickets s.calls (record { number = t; range = b.range; kind = b.kind; started = false }) b.new ok.clients.paired b.by (calls-idle n s.tickets s.calls idle))
+        ∙ ap (map open_of) (calls-push_own n s.tickets s.calls (record { number = t; range = b.range; kind = b.kind; started = false }) b.new ok.on.clients.paired b.by (calls-idle n s.tickets s.calls idle))
         ∙ ap (λ x. as_open t b.range x (whole_of b.new) ∷ []) b.is;
   };
 }

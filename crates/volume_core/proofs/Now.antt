@@ -1,5 +1,5 @@
 -- A call that is answered at once keeps the invariant, also where it lets a replica fail.
-use Rattle.std.proofs.Common.{◌≡◌, ◌≢◌, ℕ, ◌+◌, ◌<◌, ◌≤◌, Bool, true, false, cond, [], ◌∷◌, ◌++◌, length, set, length-set, get_or-set_same, refl, sym, ap, subst, ◌∙◌, arith}
+use Rattle.std.proofs.Common.{◌≡◌, ◌≢◌, ℕ, ◌+◌, ◌<◌, ◌≤◌, false, List, [], ◌∷◌, ◌++◌, length, set, length-set, get_or-set_same, refl, sym, ap, subst, ◌∙◌, arith}
 use Rattle.std.specs.Prelude.{None}
 use Rattle.std.specs.List.{count_by}
 use Rattle.std.proofs.lemmas.List.{append_assoc, length-append}
@@ -15,18 +15,18 @@ use Rattle.volume_model.specs.declared.mode.Mode.TheVariants.{Rw, Wo, Err}
 use Rattle.volume_model.specs.History.{IsLegal}
 use Rattle.volume_model.specs.Modes.{modes_after, mode_of, is_change}
 use Rattle.volume_model.specs.Names.{layers_after}
-use Rattle.volume_model.specs.PlainState.{PlainState}
-use Rattle.volume_model.specs.PlainStep.{plain_step, after_call}
+use Rattle.volume_model.specs.PlainState.{Volume}
+use Rattle.volume_model.specs.PlainStep.{plain_step}
 use Rattle.volume_model.specs.Rebuilds.{added_by}
-use Rattle.volume_model.specs.Replay.{replay, is_refusal}
+use Rattle.volume_model.specs.Replay.{replay}
 use Rattle.volume_model.specs.Snapshots.{layer_count}
 use Rattle.volume_model.proofs.FaultLemmas.{rise-failed}
 use Rattle.volume_model.proofs.LegalLemmas.{LegalAfter-append}
 use Rattle.volume_model.proofs.NamesLemmas.{layers_tell}
 use Rattle.volume_model.proofs.PushLemmas.{modes_after-push}
 use Rattle.volume_model.proofs.RebuildLemmas.{open_failed}
-use Rattle.volume_model.proofs.StepLemmas.{replay-push}
 use Rattle.journal_book.specs.Book.{layers_of}
+use Rattle.replica_node.specs.Node.{Node}
 use Rattle.open_calls.specs.Clients.{IsIdle, place_behind}
 use Rattle.open_calls.proofs.FreeLemmas.{not_both}
 use Rattle.open_calls.proofs.Gone.{failed_clients, seen_clients}
@@ -34,36 +34,35 @@ use Rattle.open_calls.proofs.PartLemmas.{up_in}
 use Rattle.open_calls.proofs.SeenLemmas.{mark_more, seen_mark, seen_answer, behind_within}
 use Rattle.volume_core.specs.State.{State, opening_of, told_of, modes_in, index_at}
 use Rattle.volume_core.specs.Steps.{with_place, answered, failed}
-use Rattle.volume_core.specs.Sound.{IsSound, is_up}
+use Rattle.volume_core.specs.Sound.{IsSound, IsSoundOn, is_up}
 use Rattle.volume_core.specs.Answers.{IsNow, failed_by, failed_in, after_fail}
 use Rattle.volume_core.proofs.Answered.{plainly}
-use Rattle.volume_core.proofs.Ends.{same_clients, its_answer, answered_sound, may_fall, failed_room}
+use Rattle.volume_core.proofs.Ends.{same_clients, its_answer, answered_on, may_fall, failed_room}
 use Rattle.volume_core.proofs.Rows.{place_sound}
 use Rattle.volume_core.proofs.Told.{answer_ordered, mark_ordered}
 
 -- the count of layers is that of the volume
 pub layers_told : (s : State) → IsSound s → layers_of s.book ≡ layer_count (told_of s).volume.snapshots
-layers_told s ok = ap (λ n. layers_after n s.book.entries) ok.opened.layers ∙ layers_tell (opening_of s) s.book.entries ok.told.legal
+layers_told s ok = ap (λ n. layers_after n s.book.entries) ok.on.opened.layers ∙ layers_tell (opening_of s) s.book.entries ok.on.told.legal
 
 -- ---- a call that changes nothing
 
-quiet_sound : (s : State) (stream : ℕ) (c : Call) → IsSound s → stream < length s.indices → IsIdle stream s.calls → added_by c ≡ None → is_change c ≡ false
-    → ((r : ℕ) → c ≡ call.Command (command.Fail r) → mode_of (modes_in s) r ≡ Err) → ((b : Bool) → (cond b (told_of s) (after_call (told_of s) c)).volume ≡ (told_of s).volume)
-    → IsSound (answered (with_place s) stream (length s.book.entries) c (plain_step (modes_in s) (told_of s) c).1)
-quiet_sound s stream c ok within idle none quiet fails same =
-    let ok2 = place_sound s ok in
+quiet_sound : (v : Volume) (ns : List Node) (s : State) (stream : ℕ) (c : Call) → IsSoundOn v ns s → stream < length s.indices → IsIdle stream s.calls → added_by c ≡ None → is_change c ≡ false
+    → ((r : ℕ) → c ≡ call.Command (command.Fail r) → mode_of (modes_in s) r ≡ Err)
+    → IsSoundOn v ns (answered (with_place s) stream (length s.book.entries) c (plain_step (modes_in s) (told_of s) c).1)
+quiet_sound v ns s stream c ok within idle none quiet fails =
+    let ok2 = place_sound v ns s ok in
     let r = (plain_step (modes_in s) (told_of s) c).1 in
-    let a = its_answer (with_place s) ok2 stream (length s.book.entries) c r in
-    answered_sound (with_place s) ok2 stream (length s.book.entries) c r s.tickets s.calls (told_of s).volume idle within (behind_within stream s.book.entries) (omega arith)
+    let a = its_answer (with_place s) stream (length s.book.entries) c r in
+    answered_on (with_place s) stream (length s.book.entries) c r v v ns ns s.tickets s.calls ok2 idle within (behind_within stream s.book.entries) (omega arith)
     none (λ name e. absurd (not_both (is_change c) quiet (ap is_change e)))
-    (plainly (modes_in s) (told_of s) a refl fails (λ change. absurd (not_both (is_change c) quiet change)) (λ e. absurd (not_both (is_change c) quiet (ap is_change e))))
-    (same (is_refusal r)) ok.clients (omega (arith, ok.spare))
+    (plainly (modes_in s) (told_of s) a refl fails (λ change. absurd (not_both (is_change c) quiet change)) (λ e. absurd (not_both (is_change c) quiet (ap is_change e)))) ok.clients (omega (arith, ok.spare))
 
 -- ---- a replica is told to fail, and had not
 
-fails_sound : (s : State) (stream r : ℕ) → IsSound s → stream < length s.indices → IsIdle stream s.calls → mode_of (modes_in s) r ≢ Err
-    → IsSound (answered (failed (with_place s) r) stream (length s.book.entries) (call.Command (command.Fail r)) reply.Done)
-fails_sound s stream r ok within idle up =
+fails_sound : (v : Volume) (ns : List Node) (s : State) (stream r : ℕ) → IsSoundOn v ns s → stream < length s.indices → IsIdle stream s.calls → mode_of (modes_in s) r ≢ Err
+    → IsSoundOn v ns (answered (failed (with_place s) r) stream (length s.book.entries) (call.Command (command.Fail r)) reply.Done)
+fails_sound v ns s stream r ok within idle up =
     let o = opening_of s in
     let es = s.book.entries in
     let m = mark.Failed r in
@@ -72,8 +71,6 @@ fails_sound s stream r ok within idle up =
     let es2 = es1 ++ entry.Answer a ∷ [] in
     let modes1 : set (modes_in s) r Err ≡ modes_after o.modes es1 = sym (modes_after-push o.modes es (entry.Mark m)) in
     let modes2 : set (modes_in s) r Err ≡ modes_after o.modes es2 = modes1 ∙ sym (modes_after-push o.modes es1 (entry.Answer a)) in
-    let v = (told_of s).volume in
-    let volume : v ≡ (replay o.state es2).volume = ap (λ (p : PlainState). p.volume) (sym (replay-push o.state es (entry.Mark m))) ∙ ap (λ (p : PlainState). p.volume) (sym (replay-push o.state es1 (entry.Answer a))) in
     let has_failed : (q : ℕ) → a.call ≡ call.Command (command.Fail q) → mode_of (modes_after o.modes es1) q ≡ Err =
     λ q e. subst (λ n. mode_of (modes_after o.modes es1) n ≡ Err) (same_replica r q e) (ap (λ ms. mode_of ms r) (sym modes1) ∙ get_or-set_same (modes_in s) r Err Err (up_in (modes_in s) r up)) in
     let longer = length-append es (entry.Mark m ∷ []) in
@@ -89,10 +86,10 @@ fails_sound s stream r ok within idle up =
             (mark_ordered o es s.indices None None m ok.told.ordered tt (rise-failed es r ok.told.ordered.rise) (open_failed es r None ok.told.ordered.rebuild))
             (λ name e. absurd cc) refl within refl (subst (λ xs. place_behind 0 xs ≤ length es) (sym (mark_more es m stream)) (behind_within stream es)) (omega (arith, longer));
       };
-      clients = same_clients v (replay o.state es2).volume s.size (length s.indices) (length (set s.indices stream (index_at s.indices stream + 1))) es2 (set (modes_in s) r Err) (modes_after o.modes es2) s.tickets s.calls s.nodes
-          volume (sym (length-set s.indices stream (index_at s.indices stream + 1))) modes2
-          (seen_clients v s.size (length s.indices) es es2 (set (modes_in s) r Err) s.tickets s.calls s.nodes (seen_answer es1 s.calls (seen_mark es s.calls ok.clients.seen m) a idle)
-          (failed_clients v s.size (length s.indices) r es (modes_in s) s.tickets s.calls s.nodes up ok.clients));
+      clients = same_clients v s.size (length s.indices) (length (set s.indices stream (index_at s.indices stream + 1))) es2 (set (modes_in s) r Err) (modes_after o.modes es2) s.tickets s.calls ns
+          (sym (length-set s.indices stream (index_at s.indices stream + 1))) modes2
+          (seen_clients v s.size (length s.indices) es es2 (set (modes_in s) r Err) s.tickets s.calls ns (seen_answer es1 s.calls (seen_mark es s.calls ok.clients.seen m) a idle)
+          (failed_clients v s.size (length s.indices) r es (modes_in s) s.tickets s.calls ns up ok.clients));
       spare = omega (arith, ok.spare, failed_room (modes_in s) r up, ap (count_by is_up) modes2);
     }
   where
@@ -101,40 +98,20 @@ fails_sound s stream r ok within idle up =
 
 -- ---- the step
 
-pub now_sound : (s : State) (stream : ℕ) (c : Call) → IsSound s → stream < length s.indices → IsIdle stream s.calls → IsNow c
-    → IsSound (answered (after_fail (with_place s) (failed_by c)) stream (length s.book.entries) c (plain_step (modes_in s) (told_of s) c).1)
-now_sound s stream (call.Read offset n) ok within idle now = quiet_sound s stream (call.Read offset n) ok within idle refl refl (λ r e. absurd cc) (λ b. same b)
+pub now_on : (v : Volume) (ns : List Node) (s : State) (stream : ℕ) (c : Call) → IsSoundOn v ns s → stream < length s.indices → IsIdle stream s.calls → IsNow c
+    → IsSoundOn v ns (answered (after_fail (with_place s) (failed_by c)) stream (length s.book.entries) c (plain_step (modes_in s) (told_of s) c).1)
+now_on v ns s stream (call.Read offset n) ok within idle now = quiet_sound v ns s stream (call.Read offset n) ok within idle refl refl (λ r e. absurd cc)
+now_on v ns s stream (call.Write offset bytes) ok within idle now = absurd now
+now_on v ns s stream call.Ping ok within idle now = quiet_sound v ns s stream call.Ping ok within idle refl refl (λ r e. absurd cc)
+now_on v ns s stream (call.Other k) ok within idle now = quiet_sound v ns s stream (call.Other k) ok within idle refl refl (λ r e. absurd cc)
+now_on v ns s stream (call.Command (command.Snapshot name)) ok within idle now = absurd now
+now_on v ns s stream (call.Command (command.Remove name)) ok within idle now = absurd now
+now_on v ns s stream (call.Command (command.Revert name)) ok within idle now = absurd now
+now_on v ns s stream (call.Command command.Purge) ok within idle now = absurd now
+now_on v ns s stream (call.Command (command.Add r)) ok within idle now = absurd now
+now_on v ns s stream (call.Command command.Status) ok within idle now = quiet_sound v ns s stream (call.Command command.Status) ok within idle refl refl (λ r e. absurd cc)
+now_on v ns s stream (call.Command (command.Fail r)) ok within idle now = by_mode (mode_of (modes_in s) r) refl
   where
-    same : (b : Bool) → (cond b (told_of s) (after_call (told_of s) (call.Read offset n))).volume ≡ (told_of s).volume
-    same true = refl
-    same false = refl
-now_sound s stream (call.Write offset bytes) ok within idle now = absurd now
-now_sound s stream call.Ping ok within idle now = quiet_sound s stream call.Ping ok within idle refl refl (λ r e. absurd cc) (λ b. same b)
-  where
-    same : (b : Bool) → (cond b (told_of s) (after_call (told_of s) call.Ping)).volume ≡ (told_of s).volume
-    same true = refl
-    same false = refl
-now_sound s stream (call.Other k) ok within idle now = quiet_sound s stream (call.Other k) ok within idle refl refl (λ r e. absurd cc) (λ b. same b)
-  where
-    same : (b : Bool) → (cond b (told_of s) (after_call (told_of s) (call.Other k))).volume ≡ (told_of s).volume
-    same true = refl
-    same false = refl
-now_sound s stream (call.Command (command.Snapshot name)) ok within idle now = absurd now
-now_sound s stream (call.Command (command.Remove name)) ok within idle now = absurd now
-now_sound s stream (call.Command (command.Revert name)) ok within idle now = absurd now
-now_sound s stream (call.Command command.Purge) ok within idle now = absurd now
-now_sound s stream (call.Command (command.Add r)) ok within idle now = absurd now
-now_sound s stream (call.Command command.Status) ok within idle now = quiet_sound s stream (call.Command command.Status) ok within idle refl refl (λ r e. absurd cc) (λ b. same b)
-  where
-    same : (b : Bool) → (cond b (told_of s) (after_call (told_of s) (call.Command command.Status))).volume ≡ (told_of s).volume
-    same true = refl
-    same false = refl
-now_sound s stream (call.Command (command.Fail r)) ok within idle now = by_mode (mode_of (modes_in s) r) refl
-  where
-    same : (b : Bool) → (cond b (told_of s) (after_call (told_of s) (call.Command (command.Fail r)))).volume ≡ (told_of s).volume
-    same true = refl
-    same false = refl
-
     same_replica : (q : ℕ) → call.Command (command.Fail r) ≡ call.Command (command.Fail q) → r ≡ q
     same_replica q e = cc
 
@@ -144,7 +121,7 @@ now_sound s stream (call.Command (command.Fail r)) ok within idle now = by_mode 
     wo≢err : Wo ≢ Err
     wo≢err e = cc
 
-    by_mode : (m : Mode) → mode_of (modes_in s) r ≡ m → IsSound (answered (failed_in m (with_place s) r) stream (length s.book.entries) (call.Command (command.Fail r)) reply.Done)
-    by_mode Err e = quiet_sound s stream (call.Command (command.Fail r)) ok within idle refl refl (λ q f. subst (λ n. mode_of (modes_in s) n ≡ Err) (same_replica q f) e) (λ b. same b)
-    by_mode Rw e = fails_sound s stream r ok within idle (λ f. rw≢err (sym e ∙ f))
-    by_mode Wo e = fails_sound s stream r ok within idle (λ f. wo≢err (sym e ∙ f))
+    by_mode : (m : Mode) → mode_of (modes_in s) r ≡ m → IsSoundOn v ns (answered (failed_in m (with_place s) r) stream (length s.book.entries) (call.Command (command.Fail r)) reply.Done)
+    by_mode Err e = quiet_sound v ns s stream (call.Command (command.Fail r)) ok within idle refl refl (λ q f. subst (λ n. mode_of (modes_in s) n ≡ Err) (same_replica q f) e)
+    by_mode Rw e = fails_sound v ns s stream r ok within idle (λ f. rw≢err (sym e ∙ f))
+    by_mode Wo e = fails_sound v ns s stream r ok within idle (λ f. wo≢err (sym e ∙ f))

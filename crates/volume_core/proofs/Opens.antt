@@ -10,6 +10,7 @@ use Rattle.volume_model.specs.Modes.{mode_of}
 use Rattle.volume_model.specs.PlainState.{Volume}
 use Rattle.volume_model.proofs.JournalLemmas.{unasked≢open}
 use Rattle.journal_book.specs.declared.opening.Opening.{Opening}
+use Rattle.range_turns.specs.Order.{AreInOrder}
 use Rattle.replica_node.specs.Node.{Node, blank}
 use Rattle.replica_state.specs.Volume.{volume_of_node}
 use Rattle.open_calls.specs.Clients.{byte_of}
@@ -34,36 +35,57 @@ opened_sound size streams opening nodes s may is =
     let reads = λ (r : ℕ) (up : mode_of opening.modes r ≢ Err). read_where_up (mode_of opening.modes r) up (may.rebuilt r) in
     let same = λ (r : ℕ) (e : mode_of opening.modes r ≡ Rw). may.agree r source e read in
     subst IsSound (sym is.state) (record {
-      opened = record { layers = begin.layers; names = begin.names; named = begin.named; number = begin.number };
-      told = record {
-        legal = tt;
-        ordered = record {
-          rise = λ stream r. tt;
-          order = λ stream. tt;
-          index = λ stream l. none_answered streams stream l;
-          few = λ stream l. omega (arith, none_answered streams stream l);
-          own = begin.own;
-          rebuild = λ q t e. unasked≢open t e;
+      on = record {
+        opened = record { layers = begin.layers; names = begin.names; named = begin.named; number = begin.number };
+        told = record {
+          legal = tt;
+          ordered = record {
+            rise = λ stream r. tt;
+            order = λ stream. tt;
+            index = λ stream l. none_answered streams stream l;
+            few = λ stream l. omega (arith, none_answered streams stream l);
+            own = begin.own;
+            rebuild = λ q t e. unasked≢open t e;
+          };
         };
+        clients = record {
+          paired = refl;
+          order = no_order;
+          fits = λ i l. absurd (omega arith);
+          agree = record {
+            disk = begin.long;
+            as_many = may.as_many;
+            sizes = λ r up. (may.each r (reads r up)).long;
+            tree = λ r up. ap (λ (v : Volume). v.snapshots) (same r (reads r up));
+            copies = λ r e. ap (λ (v : Volume). v.copies) (same r e);
+            bytes = λ r k e free. ap (λ (v : Volume). byte_of v.disk k) (same r e);
+          };
+          writes = λ i l. absurd (omega arith);
+          reads = λ i l. absurd (omega arith);
+          seen = record { alone = λ i k below within. absurd (omega arith); past = λ i l. absurd (omega arith); saw = λ i l. absurd (omega arith) };
+        };
+        spare = omega (arith, count_by-le-length is_up opening.modes, may.as_many);
       };
-      clients = record {
-        paired = refl;
-        order = record { numbered = λ i j below within. absurd (omega arith); apart = λ i within. absurd (omega arith) };
+      whole = λ i l. absurd (omega arith);
+      maint = record {
+        queued = record {
+          paired = refl;
+          order = no_order;
+          kinds = λ k l. absurd (omega arith);
+          want = λ k l. absurd (omega arith);
+          within = λ k l. absurd (omega arith);
+          alone = λ k j below within. absurd (omega arith);
+          past = λ k l. absurd (omega arith);
+          saw = λ k l. absurd (omega arith);
+        };
         fits = λ i l. absurd (omega arith);
-        agree = record {
-          disk = begin.long;
-          as_many = may.as_many;
-          sizes = λ r up. (may.each r (reads r up)).long;
-          tree = λ r up. ap (λ (v : Volume). v.snapshots) (same r (reads r up));
-          copies = λ r e. ap (λ (v : Volume). v.copies) (same r e);
-          bytes = λ r k e free. ap (λ (v : Volume). byte_of v.disk k) (same r e);
-        };
-        writes = λ i l. absurd (omega arith);
-        reads = λ i l. absurd (omega arith);
-        seen = record { alone = λ i k below within. absurd (omega arith); past = λ i l. absurd (omega arith); saw = λ i l. absurd (omega arith) };
       };
-      spare = omega (arith, count_by-le-length is_up opening.modes, may.as_many);
+      disk = begin.long;
+      settled = may.rebuilt;
     })
+  where
+    no_order : AreInOrder []
+    no_order = record { numbered = λ i j below within. absurd (omega arith); apart = λ i within. absurd (omega arith) }
 
 -- ---- blank replicas
 

@@ -1,12 +1,10 @@
 -- Each step that changes no more than the open calls and the replicas keeps the invariant.
-use Rattle.std.proofs.Common.{◌≡◌, ◌≢◌, ℕ, ◌+◌, ◌%◌, ◌<◌, ◌≤◌, Bool, true, false, cond, List, [], ◌∷◌, length, set, refl, sym, subst, arith}
+use Rattle.std.proofs.Common.{◌≡◌, ◌≢◌, ℕ, ◌+◌, ◌<◌, ◌≤◌, Bool, true, false, cond, List, [], ◌∷◌, length, set, refl, sym, subst, arith}
 use Rattle.std.specs.Prelude.{Result, Ok, Err as Failed, OnErr}
 use Rattle.std.specs.List.{count_by}
 use Rattle.std.proofs.lemmas.List.Sums.{sum_by-set, sum_by-remove, sum_by-append}
-use Rattle.vol_units.specs.declared.range.BlockRange.{BlockRange}
-use Rattle.vol_units.specs.Range.{blocks_around}
 use Rattle.volume_model.specs.declared.mode.Mode.TheVariants.{Rw, Err}
-use Rattle.volume_model.specs.PlainStep.{longest_call}
+use Rattle.volume_model.specs.PlainState.{Volume}
 use Rattle.volume_model.specs.Modes.{mode_of}
 use Rattle.range_turns.specs.declared.ticket.Ticket.{Ticket}
 use Rattle.range_turns.specs.declared.ticket.Kind.{Kind}
@@ -16,15 +14,15 @@ use Rattle.replica_node.specs.Node.{Node}
 use Rattle.open_calls.specs.declared.open_call.OpenCall.{OpenCall}
 use Rattle.open_calls.specs.Parts.{part_at, IsTaken}
 use Rattle.open_calls.specs.Calls.{open_at, begun}
-use Rattle.open_calls.specs.Clients.{AreClients, IsWriting, IsReading, Fits, IsIdle}
-use Rattle.open_calls.proofs.Enrolled.{enrolled_clients, enrolled_fits}
+use Rattle.open_calls.specs.Clients.{AreClients, IsWriting, IsReading, Fits, IsIdle, behind_last}
+use Rattle.open_calls.proofs.Enrolled.{enrolled_clients}
 use Rattle.open_calls.proofs.FreeLemmas.{not_both, write_no_read}
 use Rattle.open_calls.proofs.Gone.{left_clients}
 use Rattle.open_calls.proofs.OneCall.{acked_clients, wrote_clients, read_clients}
 use Rattle.open_calls.proofs.Started.{same_keeps, roomed_clients, begun_clients}
 use Rattle.volume_core.specs.State.{State, told_of, modes_in}
 use Rattle.volume_core.specs.Steps.{with_place, enrolled, started, without_call, acked, wrote, has_read}
-use Rattle.volume_core.specs.Sound.{IsSound}
+use Rattle.volume_core.specs.Sound.{IsSoundOn, IsCalm}
 use Rattle.volume_core.specs.Answers.{IsRoomier, BeginsBy}
 
 abbrev pub as_number : Bool → ℕ
@@ -38,16 +36,16 @@ counts_not b e = rw e refl
 
 -- ---- more places
 
-pub place_sound : (s : State) → IsSound s → IsSound (with_place s)
-place_sound s ok = record {
+pub place_sound : (v : Volume) (ns : List Node) (s : State) → IsSoundOn v ns s → IsSoundOn v ns (with_place s)
+place_sound v ns s ok = record {
   opened = ok.opened;
   told = record { legal = ok.told.legal; ordered = ok.told.ordered };
   clients = ok.clients;
   spare = omega (arith, ok.spare);
 }
 
-pub roomier_sound : (s s2 : State) → IsSound s → IsRoomier s s2 → IsSound s2
-roomier_sound s s2 ok is = subst IsSound (sym is.state) (record {
+pub roomier_sound : (s s2 : State) → IsCalm s → IsRoomier s s2 → IsCalm s2
+roomier_sound s s2 ok is = subst IsCalm (sym is.state) (record {
   opened = ok.opened;
   told = record { legal = ok.told.legal; ordered = ok.told.ordered };
   clients = roomed_clients (told_of s).volume s.size (length s.indices) s.book.entries (modes_in s) s.tickets s.calls s.nodes is.nodes ok.clients is.keeps;
@@ -67,7 +65,7 @@ same_err (Failed x) s s2 e = subst (IsRoomier s) (sym e) (same_room s)
 
 -- ---- a replica has its step, and acknowledges it
 
-pub acked_sound : (s : State) (i r : ℕ) → IsSound s → i < length s.tickets → IsTaken (part_at (open_at s.calls i).parts r) → IsSound (acked s i r)
+pub acked_sound : (s : State) (i r : ℕ) → IsCalm s → i < length s.tickets → IsTaken (part_at (open_at s.calls i).parts r) → IsCalm (acked s i r)
 acked_sound s i r ok h mine = record {
   opened = ok.opened;
   told = ok.told;
@@ -75,7 +73,7 @@ acked_sound s i r ok h mine = record {
   spare = ok.spare;
 }
 
-pub wrote_sound : (s : State) (i r : ℕ) → IsSound s → i < length s.tickets → IsWriting (ticket_at s.tickets i) → mode_of (modes_in s) r ≢ Err → IsSound (wrote s i r)
+pub wrote_sound : (s : State) (i r : ℕ) → IsCalm s → i < length s.tickets → IsWriting (ticket_at s.tickets i) → mode_of (modes_in s) r ≢ Err → IsCalm (wrote s i r)
 wrote_sound s i r ok h w up = record {
   opened = ok.opened;
   told = ok.told;
@@ -83,7 +81,7 @@ wrote_sound s i r ok h w up = record {
   spare = ok.spare;
 }
 
-pub has_read_sound : (s : State) (i r : ℕ) → IsSound s → i < length s.tickets → IsReading (ticket_at s.tickets i) → mode_of (modes_in s) r ≡ Rw → IsSound (has_read s i r)
+pub has_read_sound : (s : State) (i r : ℕ) → IsCalm s → i < length s.tickets → IsReading (ticket_at s.tickets i) → mode_of (modes_in s) r ≡ Rw → IsCalm (has_read s i r)
 has_read_sound s i r ok h w read = record {
   opened = ok.opened;
   told = ok.told;
@@ -93,30 +91,30 @@ has_read_sound s i r ok h w read = record {
 
 -- ---- a call is enrolled, starts, is withdrawn
 
-pub enrolled_sound : (s : State) (t : Ticket) (c : OpenCall) → IsSound s → t.started ≡ false → IsFresh s.tickets t.number → Fits s.size (length s.indices) (length s.nodes) t c → IsIdle c.stream s.calls
-    → c.saw ≡ length s.book.entries → IsSound (enrolled s t c)
-enrolled_sound s t c ok new fresh fit idle saw = record {
+pub enrolled_sound : (v : Volume) (ns : List Node) (s : State) (t : Ticket) (c : OpenCall) → IsSoundOn v ns s → t.started ≡ false → IsFresh s.tickets t.number → Fits s.size (length s.indices) (length ns) t c
+    → IsIdle c.stream s.calls → behind_last c.stream s.book.entries ≤ c.saw → c.saw ≤ length s.book.entries → IsSoundOn v ns (enrolled s t c)
+enrolled_sound v ns s t c ok new fresh fit idle past saw = record {
   opened = ok.opened;
   told = ok.told;
-  clients = enrolled_clients (told_of s).volume s.size (length s.indices) s.book.entries (modes_in s) s.tickets s.calls s.nodes t c ok.clients new fresh fit idle saw;
+  clients = enrolled_clients v s.size (length s.indices) s.book.entries (modes_in s) s.tickets s.calls ns t c ok.clients new fresh fit idle past saw;
   spare = omega (arith, ok.spare, sum_by-append (λ (x : Ticket). cond x.started 1 0) s.tickets (t ∷ []), counts_not t.started new);
 }
 
 started_room : (tickets : List Ticket) (i : ℕ) → i < length tickets → (ticket_at tickets i).started ≡ false → count_by (λ t. t.started) (with_started tickets i) ≡ count_by (λ t. t.started) tickets + 1
 started_room tickets i h waits = omega (arith, sum_by-set (λ (x : Ticket). cond x.started 1 0) tickets i (record (ticket_at tickets i) { started = true }) no_ticket h, counts_not (ticket_at tickets i).started waits)
 
-begun_sound : (s s2 : State) (i : ℕ) → IsSound s → i < length s.tickets → (ticket_at s.tickets i).started ≡ false → (nodes : List Node) (front back buffer : List ℕ)
+begun_sound : (s s2 : State) (i : ℕ) → IsCalm s → i < length s.tickets → (ticket_at s.tickets i).started ≡ false → (nodes : List Node) (front back buffer : List ℕ)
     → AreClients (told_of s).volume s.size (length s.indices) s.book.entries (modes_in s) (with_started s.tickets i) (set s.calls i (begun (open_at s.calls i) (modes_in s) front back buffer)) nodes
-    → s2 ≡ started (with_place s) i nodes front back buffer → IsSound s2
-begun_sound s s2 i ok h waits nodes front back buffer clients is = subst IsSound (sym is) (record {
+    → s2 ≡ started (with_place s) i nodes front back buffer → IsCalm s2
+begun_sound s s2 i ok h waits nodes front back buffer clients is = subst IsCalm (sym is) (record {
   opened = ok.opened;
   told = record { legal = ok.told.legal; ordered = ok.told.ordered };
   clients = clients;
   spare = omega (arith, ok.spare, started_room s.tickets i h waits);
 })
 
-pub begins_sound : (s s2 : State) (i source : ℕ) → IsSound s → i < length s.tickets → (ticket_at s.tickets i).started ≡ false → IsClear s.tickets i → mode_of (modes_in s) source ≡ Rw
-    → (k : Kind) → (ticket_at s.tickets i).kind ≡ k → BeginsBy k (with_place s) i source s2 → IsSound s2
+pub begins_sound : (s s2 : State) (i source : ℕ) → IsCalm s → i < length s.tickets → (ticket_at s.tickets i).started ≡ false → IsClear s.tickets i → mode_of (modes_in s) source ≡ Rw
+    → (k : Kind) → (ticket_at s.tickets i).kind ≡ k → BeginsBy k (with_place s) i source s2 → IsCalm s2
 begins_sound s s2 i source ok h waits clear read kind.Read is b =
     let v = (told_of s).volume in
     begun_sound s s2 i ok h waits s.nodes [] [] b.buffer
@@ -132,18 +130,10 @@ begins_sound s s2 i source ok h waits clear read kind.Write is b =
     b.state
 begins_sound s s2 i source ok h waits clear read kind.Whole is b = absurd b
 
--- as a read or a write is enrolled
-pub call_enrolled : (s : State) (k : Kind) (number stream at n : ℕ) (range : BlockRange) (bytes : List ℕ) → IsSound s → s.size % 2097152 ≡ 0 → range ≡ blocks_around at n → at + n ≤ s.size
-    → (k ≡ kind.Read → n ≤ longest_call) → (k ≡ kind.Write → length bytes ≡ n) → stream < length s.indices → IsIdle stream s.calls → IsFresh s.tickets number
-    → IsSound (enrolled s (record { number = number; range = range; kind = k; started = false })
-    (record { stream = stream; saw = length s.book.entries; at = at; length = n; bytes = bytes; front = []; back = []; buffer = []; parts = [] }))
-call_enrolled s k number stream at n range bytes ok whole is good short count within idle fresh =
-    enrolled_sound s _ _ ok refl fresh (enrolled_fits s.size (length s.indices) (length s.nodes) _ _ whole is refl good short count within) idle refl
-
-pub withdrawn_sound : (s : State) (i : ℕ) → IsSound s → i < length s.tickets → (ticket_at s.tickets i).started ≡ false → IsSound (without_call s i)
-withdrawn_sound s i ok h waits = record {
+pub withdrawn_sound : (v : Volume) (ns : List Node) (s : State) (i : ℕ) → IsSoundOn v ns s → i < length s.tickets → (ticket_at s.tickets i).started ≡ false → IsSoundOn v ns (without_call s i)
+withdrawn_sound v ns s i ok h waits = record {
   opened = ok.opened;
   told = ok.told;
-  clients = left_clients (told_of s).volume s.size (length s.indices) s.book.entries (modes_in s) s.tickets s.calls s.nodes i ok.clients h (λ r e w. not_both (ticket_at s.tickets i).started waits w.started);
+  clients = left_clients v s.size (length s.indices) s.book.entries (modes_in s) s.tickets s.calls ns i ok.clients h (λ r e w. not_both (ticket_at s.tickets i).started waits w.started);
   spare = omega (arith, ok.spare, sum_by-remove (λ (x : Ticket). cond x.started 1 0) s.tickets i no_ticket h);
 }

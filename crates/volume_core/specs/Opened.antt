@@ -1,5 +1,5 @@
 -- A World that has just been opened.
-use Rattle.std.specs.Prelude.{◌≡◌, ◌≢◌, ℕ, ◌≤◌, List, [], length, replicate}
+use Rattle.std.specs.Prelude.{◌≡◌, ◌≢◌, ℕ, ◌≤◌, List, [], length, replicate, None}
 use Rattle.volume_model.specs.declared.mode.Mode.TheVariants.{Rw, Wo}
 use Rattle.volume_model.specs.Modes.{mode_of, HasSource, IsSource}
 use Rattle.volume_model.specs.Names.{TellOf, AreNamed, AreOwnFree, names_in}
@@ -45,6 +45,9 @@ pub record IsOpenedOn (size : ℕ) (opening : Opening) (nodes : List Node) (stre
     nodes = nodes;
     tickets = [];
     calls = [];
+    whole = None;
+    maint = [];
+    commands = [];
     indices = replicate streams 0;
     book = record { opening = opening; entries = []; spare = length nodes };
   }

@@ -1,16 +1,22 @@
 -- What is true of a World before and after each step: the invariant.
-use Rattle.std.specs.Prelude.{◌≡◌, ℕ, ◌+◌, ◌<◌, ◌≤◌, List, length, Bool, true, false, count_by, Option, None}
+use Rattle.std.specs.Prelude.{◌≡◌, ◌≢◌, ℕ, ◌+◌, ◌<◌, ◌≤◌, List, length, Bool, true, false, count_by, Option, None}
 use Rattle.volume_model.specs.declared.mode.Mode.{Mode}
 use Rattle.volume_model.specs.declared.mode.Mode.TheVariants.{Rw, Wo, Err}
 use Rattle.volume_model.specs.Faults.{CountsRise}
 use Rattle.volume_model.specs.History.{Spot, IsLegal, SeenInOrder, answers_of}
+use Rattle.volume_model.specs.Modes.{mode_of}
 use Rattle.volume_model.specs.Names.{TellOf, AreNamed, AreOwnFree}
+use Rattle.volume_model.specs.PlainState.{Volume}
 use Rattle.volume_model.specs.Rebuilds.{IsOpenOnly}
 use Rattle.volume_model.specs.Replay.{replay}
 use Rattle.volume_model.specs.Snapshots.{layer_count}
 use Rattle.journal_book.specs.declared.opening.Opening.{Opening}
 use Rattle.volume_model.specs.declared.entry.Entry.{Entry}
+use Rattle.replica_node.specs.Node.{Node}
 use Rattle.open_calls.specs.Clients.{AreClients}
+use Rattle.whole_calls.specs.Due.{due, forms}
+use Rattle.whole_calls.specs.Whole.{IsWhole}
+use Rattle.whole_calls.specs.Maint.{AreMaint}
 use Rattle.volume_core.specs.State.{State, opening_of, told_of, modes_in, index_at}
 
 -- the largest number that a volume's head may begin with
@@ -45,14 +51,32 @@ is_up Rw = true
 is_up Wo = true
 is_up Err = false
 
--- the entries that may come without places being made: one for each started call, and one for each replica to fail
+-- The entries that may come without places being made: one for each started call, one for each command that has the
+-- maintenance turn or waits for it, and one for each replica to fail.
 abbrev pub owed_entries : State → ℕ
-owed_entries s = count_by (λ t. t.started) s.tickets + count_by is_up (modes_in s)
+owed_entries s = count_by (λ t. t.started) s.tickets + length s.commands + count_by is_up (modes_in s)
 
--- the invariant
-pub record IsSound (s : State) : Type 0 where
+-- no replica is rebuilt yet
+abbrev pub AreSettled : List Mode → Type 0
+AreSettled modes = (r : ℕ) → mode_of modes r ≢ Wo
+
+-- what is true of a World whose replicas, taken as these, agree with that volume
+pub record IsSoundOn (volume : Volume) (nodes : List Node) (s : State) : Type 0 where
   pub opened : IsOpened (opening_of s) s.book.opening
   pub told : IsTold (opening_of s) s.book.entries s.indices None
-  pub clients : AreClients (told_of s).volume s.size (length s.indices) s.book.entries (modes_in s)
-      s.tickets s.calls s.nodes
+  pub clients : AreClients volume s.size (length s.indices) s.book.entries (modes_in s) s.tickets s.calls nodes
   pub spare : owed_entries s ≤ s.book.spare
+
+-- while no call on the whole volume is started: the replicas as they are, and the plain volume
+abbrev pub IsCalm : State → Type 0
+IsCalm s = IsSoundOn (told_of s).volume s.nodes s
+
+-- The invariant. The replicas in due form agree with the due volume: with what the plain volume is once the call on the
+-- whole volume is done that has started, if one has.
+pub record IsSound (s : State) : Type 0 where
+  pub on : IsSoundOn (due s.whole (told_of s).volume) (forms s.whole s.nodes) s
+  pub whole : IsWhole (told_of s) (modes_in s) s.tickets s.calls s.nodes s.whole
+  pub maint : AreMaint (told_of s).volume.snapshots (length s.indices) s.book.entries (modes_in s) s.tickets s.calls
+      s.nodes s.maint s.commands
+  pub disk : length (told_of s).volume.disk ≡ s.size
+  pub settled : AreSettled (modes_in s)

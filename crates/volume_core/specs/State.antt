@@ -1,5 +1,5 @@
 -- A World as lists.
-use Rattle.std.specs.Prelude.{ℕ, List, slice_index_or}
+use Rattle.std.specs.Prelude.{ℕ, List, slice_index_or, Option}
 use Rattle.volume_model.specs.declared.mode.Mode.{Mode}
 use Rattle.volume_model.specs.PlainState.{PlainState}
 use Rattle.volume_model.specs.Names.{names_in}
@@ -10,16 +10,22 @@ use Rattle.range_turns.specs.declared.ticket.Ticket.{Ticket}
 use Rattle.replica_node.specs.Node.{Node}
 use Rattle.replica_state.specs.Volume.{volume_of_node}
 use Rattle.open_calls.specs.declared.open_call.OpenCall.{OpenCall}
+use Rattle.whole_calls.specs.declared.maint.MaintCall.{MaintCall}
+use Rattle.whole_calls.specs.declared.whole.Whole.{Whole}
 use Rattle.volume_core.specs.declared.world.World.{World}
 
 -- The size, the replica that showed how the volume began, the replicas as they are, the tickets that have not ended and
--- the call of each, how many calls of each stream were answered, and the journal.
+-- the call of each, the one on the whole volume that has started, the tickets of the maintenance turn and the command of
+-- each, how many calls of each stream were answered, and the journal.
 pub record State : Type 0 where
   pub size : ℕ
   pub first : Node
   pub nodes : List Node
   pub tickets : List Ticket
   pub calls : List OpenCall
+  pub whole : Option Whole
+  pub maint : List Ticket
+  pub commands : List MaintCall
   pub indices : List ℕ
   pub book : Book
 
@@ -30,6 +36,9 @@ state_of w = record {
   nodes = w.nodes.items;
   tickets = w.turns.tickets;
   calls = w.calls.items;
+  whole = w.whole;
+  maint = w.maint.tickets;
+  commands = w.commands.items;
   indices = w.indices.items;
   book = w.journal;
 }

@@ -12,6 +12,7 @@ use Rattle.range_turns.specs.declared.ticket.Ticket.{Ticket}
 use Rattle.replica_node.specs.Node.{Node}
 use Rattle.open_calls.specs.declared.open_call.OpenCall.{OpenCall}
 use Rattle.open_calls.specs.Calls.{call_asked, whole_of}
+use Rattle.whole_calls.specs.declared.maint.MaintCall.{MaintCall}
 use Rattle.volume_core.specs.declared.admit.Admit.{Admit}
 use Rattle.volume_core.specs.declared.admit.Admit.TheVariants as admit
 use Rattle.volume_core.specs.declared.enrol.Enrolled.{Enrolled}
@@ -50,6 +51,16 @@ pub record IsOpen (stream t : ℕ) (c : Call) (s : State) : Type 0 where
   pub whole : List ℕ
   pub is : opens s stream ≡ record { number = t; range = range; call = c; whole = whole } ∷ []
 
+-- the commands of a stream that have the maintenance turn or wait for it, each with its ticket
+abbrev pub commands_in : ℕ → List Ticket → List MaintCall → List (Ticket × MaintCall)
+commands_in stream [] cs = []
+commands_in stream (t ∷ ts) [] = []
+commands_in stream (t ∷ ts) (c ∷ cs) =
+    if c.stream == stream then (t, c) ∷ commands_in stream ts cs else commands_in stream ts cs
+
+abbrev pub turning : State → ℕ → List (Ticket × MaintCall)
+turning s stream = commands_in stream s.maint s.commands
+
 -- ---- what a step owes to the others
 
 -- what no step changes: how the volume began, its size, and how many streams and replicas there are
@@ -85,6 +96,7 @@ pub record MayGo (stream : ℕ) (s s2 : State) : Type 0 where
   pub origin : origin_of s2 ≡ origin_of s
   pub added : (es : List Entry) × (s2.book.entries ≡ s.book.entries ++ es) × MayAppend stream es
   pub others : (other : ℕ) → other ≢ stream → running s2 other ≡ running s other
+  pub turns : (other : ℕ) → other ≢ stream → turning s2 other ≡ turning s other
 
 -- ---- what its own stream sees
 

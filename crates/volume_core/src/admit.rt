@@ -8,7 +8,7 @@ ghost use Rattle.open_calls.specs.Calls.{open_at, node_at};
 ghost use Rattle.open_calls.specs.Starts.{AreEdges, HaveRoom, KeepsNodes};
 ghost use Rattle.volume_core.specs.State.{state_of, modes_in};
 ghost use Rattle.volume_core.specs.Steps.{started};
-ghost use Rattle.volume_core.specs.Sound.{IsSound};
+ghost use Rattle.volume_core.specs.Sound.{IsSound, IsCalm};
 ghost use Rattle.volume_core.specs.Places.{IsWaitingAt};
 ghost use Rattle.volume_core.specs.Answers.{IsAdmit, IsRoomier, IsJobOf, Begins, BeginsRead, BeginsWrite, HasEdges};
 ghost use Rattle.volume_core.specs.Streams.{ForOwner, MayGo, Stays, SeesAdmit};
@@ -60,7 +60,7 @@ impl World {
 
     /// The call at i starts, on a volume of which that replica is read.
     fn begin(&mut self, alloc: Global, i: usize, source: u8) -> Result<Job, AllocError>
-        requires sound { IsSound (state_of self.old) }
+        requires calm { IsCalm (state_of self.old) }
         requires place { i < length self.old.turns.tickets }
         requires range { (ticket_at self.old.turns.tickets i).kind ≢ Kind.Whole }
         requires clear { IsClear self.old.turns.tickets i }
@@ -77,7 +77,7 @@ impl World {
     }
 
     fn begin_read(&mut self, alloc: Global, i: usize) -> Result<Job, AllocError>
-        requires sound { IsSound (state_of self.old) }
+        requires calm { IsCalm (state_of self.old) }
         requires place { i < length self.old.turns.tickets }
         requires kind { (ticket_at self.old.turns.tickets i).kind ≡ Kind.Read }
         requires clear { IsClear self.old.turns.tickets i }
@@ -91,7 +91,7 @@ impl World {
     }
 
     fn begin_write(&mut self, alloc: Global, i: usize, source: u8) -> Result<Job, AllocError>
-        requires sound { IsSound (state_of self.old) }
+        requires calm { IsCalm (state_of self.old) }
         requires place { i < length self.old.turns.tickets }
         requires kind { (ticket_at self.old.turns.tickets i).kind ≡ Kind.Write }
         requires clear { IsClear self.old.turns.tickets i }
@@ -110,7 +110,7 @@ impl World {
 
     /// What stays of a replica in the first and the last block of the write at i.
     fn edges_at(&self, alloc: Global, i: usize, source: u8) -> Result<(Buffer, Buffer), AllocError>
-        requires sound { IsSound (state_of self.now) }
+        requires calm { IsCalm (state_of self.now) }
         requires place { i < length self.now.turns.tickets }
         requires kind { (ticket_at self.now.turns.tickets i).kind ≡ Kind.Write }
         requires source { mode_of (modes_in (state_of self.now)) source ≡ Mode.Rw }

@@ -3,6 +3,7 @@
 ghost use Rattle.std.specs.Prelude.{◌≡◌, ◌<◌, length, IfOk, OnErr};
 ghost use Rattle.volume_model.specs.PlainStep.{plain_step};
 ghost use Rattle.open_calls.specs.Clients.{IsIdle};
+ghost use Rattle.whole_calls.specs.Maint.{HasNoCommand};
 ghost use Rattle.volume_core.specs.State.{state_of, modes_in, told_of};
 ghost use Rattle.volume_core.specs.Steps.{failed};
 ghost use Rattle.volume_core.specs.Sound.{IsSound};
@@ -20,6 +21,7 @@ impl World {
         requires sound { IsSound (state_of self.old) }
         requires stream { stream < length self.old.indices.items }
         requires idle { IsIdle stream self.old.calls.items }
+        requires free { HasNoCommand stream self.old.commands.items }
         requires now { IsNow call.now }
         ensures sound { IsSound (state_of self.new) }
         ensures ok { IfOk result (λ place.

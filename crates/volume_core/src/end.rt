@@ -7,7 +7,7 @@ ghost use Rattle.range_turns.specs.Order.{ticket_at};
 ghost use Rattle.open_calls.specs.Calls.{open_at};
 ghost use Rattle.volume_core.specs.State.{state_of, index_at};
 ghost use Rattle.volume_core.specs.Steps.{ended, without_call};
-ghost use Rattle.volume_core.specs.Sound.{IsSound};
+ghost use Rattle.volume_core.specs.Sound.{IsSound, IsCalm};
 ghost use Rattle.volume_core.specs.Places.{IsWriteAt, IsReadAt, IsWaitingAt};
 ghost use Rattle.volume_core.specs.Answers.{EndsWrite, EndsRead, Completes};
 ghost use Rattle.volume_core.specs.Streams.{ForOwner, MayGo, Stays, IsAnsweredTo, IsTakenBack};
@@ -51,6 +51,7 @@ impl World {
     /// Ends the write at i, unless that replica has still to acknowledge it.
     fn complete_write(&mut self, i: usize) -> Result<u64, u8>
         requires sound { IsSound (state_of self.old) }
+        requires calm { IsCalm (state_of self.old) }
         requires is { (t : ℕ) × IsWriteAt (state_of self.old) t i }
         ensures sound { IsSound (state_of self.new) }
         ensures place { IfOk result (λ place. place ≡ length self.old.journal.entries) }
@@ -72,6 +73,7 @@ impl World {
     /// Ends the read at i, unless that replica is left to give its bytes.
     fn complete_read(&mut self, i: usize) -> Result<u64, u8>
         requires sound { IsSound (state_of self.old) }
+        requires calm { IsCalm (state_of self.old) }
         requires is { (t : ℕ) × IsReadAt (state_of self.old) t i }
         ensures sound { IsSound (state_of self.new) }
         ensures place { IfOk result (λ place. place ≡ length self.old.journal.entries) }

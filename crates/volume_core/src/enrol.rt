@@ -4,6 +4,7 @@ ghost use Rattle.std.specs.Prelude.{◌≡◌, ◌<◌, ◌≤◌, length, false
 ghost use Rattle.volume_model.specs.PlainStep.{longest_call, refusal_of};
 ghost use Rattle.range_turns.specs.Order.{IsFresh};
 ghost use Rattle.open_calls.specs.Clients.{IsIdle};
+ghost use Rattle.whole_calls.specs.Maint.{HasNoCommand};
 ghost use Rattle.volume_core.specs.State.{state_of, modes_in, told_of};
 ghost use Rattle.volume_core.specs.Steps.{enrolled};
 ghost use Rattle.volume_core.specs.Sound.{IsSound};
@@ -32,6 +33,7 @@ impl World {
         requires sound { IsSound (state_of self.old) }
         requires stream { stream < length self.old.indices.items }
         requires idle { IsIdle stream self.old.calls.items }
+        requires free { HasNoCommand stream self.old.commands.items }
         requires range { IsOnRange call.now }
         ensures sound { IsSound (state_of self.new) }
         ensures ok { IfOk result (λ e. EnrolsAs (state_of self.old) stream call.now e (state_of self.new)) }
@@ -60,6 +62,7 @@ impl World {
         requires sound { IsSound (state_of self.old) }
         requires stream { stream < length self.old.indices.items }
         requires idle { IsIdle stream self.old.calls.items }
+        requires free { HasNoCommand stream self.old.commands.items }
         requires short { count ≤ longest_call }
         ensures sound { IsSound (state_of self.new) }
         ensures ok { IfOk result (λ e.
@@ -97,6 +100,7 @@ impl World {
         requires sound { IsSound (state_of self.old) }
         requires stream { stream < length self.old.indices.items }
         requires idle { IsIdle stream self.old.calls.items }
+        requires free { HasNoCommand stream self.old.commands.items }
         requires short { length bytes ≤ longest_call }
         ensures sound { IsSound (state_of self.new) }
         ensures ok { IfOk result (λ e.
@@ -144,6 +148,7 @@ impl World {
         requires sound { IsSound (state_of self.old) }
         requires stream { stream < length self.old.indices.items }
         requires idle { IsIdle stream self.old.calls.items }
+        requires free { HasNoCommand stream self.old.commands.items }
         requires refused { refusal_of (modes_in (state_of self.old)) (told_of (state_of self.old)) call
             ≡ Some Refusal.OutOfRange }
         requires range { IsOnRange call }

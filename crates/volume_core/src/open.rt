@@ -75,6 +75,9 @@ fn opened(
         nodes,
         turns: Turns::new(alloc),
         calls: Vec::new(alloc),
+        whole: None,
+        maint: Turns::new(alloc),
+        commands: Vec::new(alloc),
         indices,
         journal,
     })

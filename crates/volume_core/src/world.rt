@@ -9,6 +9,7 @@ use open_calls::OpenCall;
 use range_turns::Turns;
 use replica_node::{ReplicaNode, VolumeSize};
 use std::alloc::AllocError;
+use whole_calls::{MaintCall, Whole};
 
 /// A volume of several replicas.
 #[derive(Drop)]
@@ -19,6 +20,12 @@ pub struct World {
     pub turns: Turns,
     /// One for each ticket, in the same order.
     pub calls: Vec<OpenCall>,
+    /// The call on the whole volume that has started.
+    pub whole: Option<Whole>,
+    /// The tickets of the maintenance turn: each waits for all before it, and the first has the turn once it has started.
+    pub maint: Turns,
+    /// The command of each of these, in the same order.
+    pub commands: Vec<MaintCall>,
     /// How many calls of each stream were answered.
     pub indices: Vec<u64>,
     pub journal: Journal,

@@ -4,13 +4,13 @@ use Rattle.volume_model.specs.declared.call.Reply.TheVariants as reply
 use Rattle.volume_model.specs.declared.call.Refusal.TheVariants.{NoReplica}
 use Rattle.volume_model.specs.Modes.{mode_of, HasNoSource}
 use Rattle.range_turns.specs.Order.{ticket_at, IsClear}
-use Rattle.volume_core.specs.Answers.{Begins}
-use Rattle.volume_core.specs.State.{State, state_of, modes_in}
+use Rattle.volume_core.specs.Answers.{Begins, IsRoomier}
+use Rattle.volume_core.specs.State.{State, state_of, told_of, modes_in}
 use Rattle.volume_core.specs.Steps.{with_place, ended}
-use Rattle.volume_core.specs.Sound.{IsSound}
-use Rattle.volume_core.proofs.Rows.{begins_sound}
-use Rattle.volume_core.proofs.Ends.{refused_start_sound}
-use Rattle.volume_core.proofs.Moves.{begins_may, begins_sees, ended_may, ended_sees}
+use Rattle.volume_core.specs.Sound.{IsSound, IsCalm}
+use Rattle.volume_core.proofs.Keep.{begins_kept, refused_start_kept, calm_by, calm_of, place_kept, roomier_kept, roomier_place}
+use Rattle.volume_core.proofs.Rows.{place_sound}
+use Rattle.volume_core.proofs.Moves.{may_roomier, begins_may, begins_sees, ended_may, ended_sees}
 use Rattle.volume_core.proofs.world.World.admit.Goals as goal
 
 pub returns-in_ok-begin-in-Some-source-clause-sound : goal.returns-in_ok-begin-in-Some-source-clause-sound
@@ -22,15 +22,16 @@ returns-in_ok-begin-in-Some-source-clause-sound c =
     let read : mode_of (modes_in s) c.in-Some-source.source ≡ Rw = search rules in
     let begun : Begins (with_place s) c.waiting_at-i.result c.in-Some-source.source (state_of c.begin.new.self) =
     subst (λ (x : State). Begins x c.waiting_at-i.result c.in-Some-source.source (state_of c.begin.new.self)) placed c.in_ok-begin-in-Some-source.ensures.ok in
-    begins_sound s (state_of c.begin.new.self) c.waiting_at-i.result c.in-Some-source.source c.requires.sound at.stands.within at.waits clear read (ticket_at s.tickets c.waiting_at-i.result).kind refl begun
+    begins_kept s (state_of c.begin.new.self) c.waiting_at-i.result c.in-Some-source.source c.requires.sound at.stands.within at.waits clear read (ticket_at s.tickets c.waiting_at-i.result).kind refl begun
 
 pub returns-in-None-clause-sound : goal.returns-in-None-clause-sound
 returns-in-None-clause-sound c =
     let s : State = state_of c.args.self.now in
     let at = c.waiting_at-i.ensures in
+    let clear : IsClear s.tickets c.waiting_at-i.result = search rules in
     let none : HasNoSource (modes_in s) = search rules in
     let e : state_of c.end_at.new.self ≡ ended (with_place s) c.waiting_at-i.result (reply.Refused NoReplica) = search rules in
-    subst IsSound (sym e) (refused_start_sound s c.waiting_at-i.result c.requires.sound at.stands.within at.range none)
+    subst IsSound (sym e) (refused_start_kept s c.waiting_at-i.result c.requires.sound at.stands.within clear at.waits at.range none)
 
 pub returns-in_ok-begin-in-Some-source-clause-may : goal.returns-in_ok-begin-in-Some-source-clause-may
 returns-in_ok-begin-in-Some-source-clause-may c =
@@ -61,3 +62,31 @@ returns-in-None-clause-sees c =
     let s : State = state_of c.args.self.now in
     let e : state_of c.end_at.new.self ≡ ended (with_place s) c.waiting_at-i.result (reply.Refused NoReplica) = search rules in
     ended_sees s (state_of c.end_at.new.self) c.args.t c.waiting_at-i.result c.requires.sound (returns-in-None-clause-sound c) c.waiting_at-i.ensures.stands (s.book.spare + 1) (reply.Refused NoReplica) e
+
+-- ---- where nothing is in its way, no call on the whole volume is started
+
+pub begin-requires-clause-calm : goal.begin-requires-clause-calm
+begin-requires-clause-calm c =
+    let s : State = state_of c.args.self.now in
+    let at = c.waiting_at-i.ensures in
+    let clear : IsClear s.tickets c.waiting_at-i.result = search rules in
+    let placed : state_of c.make_place.new.self ≡ with_place s = search rules in
+    subst IsCalm (sym placed) (place_sound (told_of s).volume s.nodes s (calm_of s c.requires.sound (calm_by s c.waiting_at-i.result c.requires.sound at.stands.within clear (λ w. at.waits))))
+
+pub returns-in_err-begin-in-Some-source-clause-sound : goal.returns-in_err-begin-in-Some-source-clause-sound
+returns-in_err-begin-in-Some-source-clause-sound c =
+    let s : State = state_of c.args.self.now in
+    let at = c.waiting_at-i.ensures in
+    let clear : IsClear s.tickets c.waiting_at-i.result = search rules in
+    let placed : state_of c.make_place.new.self ≡ with_place s = search rules in
+    let err : IsRoomier (state_of c.make_place.new.self) (state_of c.begin.new.self) = search rules in
+    roomier_kept (with_place s) (state_of c.begin.new.self) (place_kept s c.requires.sound) (calm_by s c.waiting_at-i.result c.requires.sound at.stands.within clear (λ w. at.waits))
+    (subst (λ (x : State). IsRoomier x (state_of c.begin.new.self)) placed err)
+
+pub returns-in_err-begin-in-Some-source-clause-may : goal.returns-in_err-begin-in-Some-source-clause-may
+returns-in_err-begin-in-Some-source-clause-may c =
+    let s : State = state_of c.args.self.now in
+    let placed : state_of c.make_place.new.self ≡ with_place s = search rules in
+    let err : IsRoomier (state_of c.make_place.new.self) (state_of c.begin.new.self) = search rules in
+    λ n call o. may_roomier n s (state_of c.begin.new.self) (returns-in_err-begin-in-Some-source-clause-sound c)
+    (roomier_place s (state_of c.begin.new.self) (subst (λ (x : State). IsRoomier x (state_of c.begin.new.self)) placed err))

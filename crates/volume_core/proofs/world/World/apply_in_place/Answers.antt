@@ -6,6 +6,7 @@ use Rattle.replica_node.specs.Node.{Node}
 use Rattle.replica_node.specs.Room.{put_at}
 use Rattle.open_calls.specs.declared.parts.Part.TheVariants.{Taken}
 use Rattle.open_calls.specs.Calls.{open_at, node_at, with_part_at, whole_of}
+use Rattle.open_calls.proofs.FreeLemmas.{write_no_whole}
 use Rattle.volume_core.specs.Answers.{TakesInPlace}
 use Rattle.volume_core.specs.Places.{IsWriteAt}
 use Rattle.volume_core.specs.Sound.{IsSound}
@@ -13,13 +14,13 @@ use Rattle.volume_core.specs.State.{State, state_of, modes_in}
 use Rattle.volume_core.specs.Steps.{wrote}
 use Rattle.volume_core.specs.Streams.{ForOwner, MayGo, Stays}
 use Rattle.volume_core.proofs.Moves.{refused_may, refused_stays, step_may, step_stays, parted}
-use Rattle.volume_core.proofs.Rows.{wrote_sound}
+use Rattle.volume_core.proofs.Keep.{wrote_kept}
 use Rattle.volume_core.proofs.world.World.apply_in_place.Goals as goal
 
 -- the replica took the write, or nothing changed
 module _ (s s2 : State) (t i r : ℕ) (ok : IsSound s) (at : IsWriteAt s t i) where
   taken_sound : (done : Bool) → mode_of (modes_in s) r ≢ Err → TakesInPlace s i r done s2 → IsSound s2
-  taken_sound true up took = subst IsSound (sym took.1) (wrote_sound s i r ok at.stands.within at.writes up)
+  taken_sound true up took = subst IsSound (sym took.1) (wrote_kept s i ok at.stands.within at.writes.started (write_no_whole _ at.writes.writes) r at.writes up)
   taken_sound false up took = subst IsSound (sym took.1) ok
 
   taken_may : (done : Bool) → IsSound s2 → TakesInPlace s i r done s2 → ForOwner t s (λ n c. MayGo n s s2)
@@ -36,15 +37,15 @@ module _ (s s2 : State) (t i r : ℕ) (ok : IsSound s) (at : IsWriteAt s t i) wh
 pub returns-clause-sound : goal.returns-clause-sound
 returns-clause-sound c =
     let up : mode_of (modes_in (state_of c.args.self.now)) c.args.replica ≢ Err = search rules in
-    taken_sound (state_of c.args.self.now) (state_of c.write_over.new.self) c.args.t c.in-Some.i c.args.replica c.requires.sound c.in-Some.ensures
+    taken_sound (state_of c.args.self.now) (state_of c.write_over.new.self) c.args.t c.in-Some.i c.args.replica c.requires.sound c.in-Some.ensures.place
     c.write_over.result up c.write_over.ensures
 
 pub returns-clause-may : goal.returns-clause-may
 returns-clause-may c =
-    taken_may (state_of c.args.self.now) (state_of c.write_over.new.self) c.args.t c.in-Some.i c.args.replica c.requires.sound c.in-Some.ensures
+    taken_may (state_of c.args.self.now) (state_of c.write_over.new.self) c.args.t c.in-Some.i c.args.replica c.requires.sound c.in-Some.ensures.place
     c.write_over.result (returns-clause-sound c) c.write_over.ensures
 
 pub returns-clause-stays : goal.returns-clause-stays
 returns-clause-stays c =
-    taken_stays (state_of c.args.self.now) (state_of c.write_over.new.self) c.args.t c.in-Some.i c.args.replica c.requires.sound c.in-Some.ensures
+    taken_stays (state_of c.args.self.now) (state_of c.write_over.new.self) c.args.t c.in-Some.i c.args.replica c.requires.sound c.in-Some.ensures.place
     c.write_over.result (returns-clause-sound c) c.write_over.ensures

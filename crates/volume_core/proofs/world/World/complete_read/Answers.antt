@@ -7,7 +7,7 @@ use Rattle.open_calls.specs.Calls.{open_at}
 use Rattle.open_calls.proofs.FreeLemmas.{read_no_whole}
 use Rattle.volume_core.specs.State.{state_of}
 use Rattle.volume_core.specs.Sound.{IsSound}
-use Rattle.volume_core.proofs.Ends.{read_sound, none_sound, started_room}
+use Rattle.volume_core.proofs.Keep.{read_kept, none_kept}
 use Rattle.volume_core.proofs.world.World.complete_read.Goals as goal
 
 pub returns-in-Some-clause-sound : goal.returns-in-Some-clause-sound
@@ -16,11 +16,11 @@ returns-in-Some-clause-sound c =
     let at = c.requires.is.1 in
     let read : c.index.result.now ≡ open_at s.calls c.args.i = grind (arith, elements) in
     let acked : part_at (open_at s.calls c.args.i).parts c.in-Some._replica ≡ Acked = subst (λ (x : OpenCall). part_at x.parts c.in-Some._replica ≡ Acked) read c.in-Some.ensures in
-    subst IsSound (sym c.end_read.ensures.state) (read_sound s c.args.i c.requires.sound at.stands.within at.reads c.in-Some._replica acked)
+    subst IsSound (sym c.end_read.ensures.state) (read_kept s c.args.i c.requires.sound at.stands.within at.reads c.in-Some._replica acked)
 
 pub returns-in-None-clause-sound : goal.returns-in-None-clause-sound
 returns-in-None-clause-sound c =
     let s = state_of c.args.self.now in
     let at = c.requires.is.1 in
     subst IsSound (sym c.end_at.ensures.state)
-    (none_sound s c.args.i c.requires.sound at.stands.within (read_no_whole _ at.reads.reads) c.in-None.ensures.found (started_room s c.args.i c.requires.sound at.stands.within at.reads.started))
+    (none_kept s c.args.i c.requires.sound at.stands.within at.reads.started (read_no_whole _ at.reads.reads) c.in-None.ensures.found)

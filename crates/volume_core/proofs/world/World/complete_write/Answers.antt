@@ -10,7 +10,7 @@ use Rattle.open_calls.specs.Calls.{open_at}
 use Rattle.open_calls.specs.Parts.{part_at, is_pending_at}
 use Rattle.volume_core.specs.State.{State, state_of, modes_in}
 use Rattle.volume_core.specs.Sound.{IsSound}
-use Rattle.volume_core.proofs.Ends.{write_sound}
+use Rattle.volume_core.proofs.Keep.{write_kept}
 use Rattle.volume_core.proofs.world.World.complete_write.Goals as goal
 
 -- none is pending of the World, where none is of these modes and this call
@@ -26,9 +26,9 @@ returns-in-Some-source-clause-sound c =
     let s = state_of c.args.self.now in
     let at = c.requires.is.1 in
     let read : c.index.result.now ≡ open_at s.calls c.args.i = grind (arith, elements) in
-    let acknowledged = none_pending s c.args.i c.modes.result.now c.index.result.now c.modes.ensures read c.requires.sound.clients.agree.as_many c.in_default.ensures in
+    let acknowledged = none_pending s c.args.i c.modes.result.now c.index.result.now c.modes.ensures read c.requires.calm.clients.agree.as_many c.in_default.ensures in
     subst IsSound (sym c.end_at.ensures.state)
-    (write_sound s c.args.i c.requires.sound at.stands.within at.writes reply.Done
+    (write_kept s c.args.i c.requires.sound at.stands.within at.writes reply.Done
     (record { acknowledged = acknowledged; reply = has_source (modes_in s) c.in-Some-source.field-0 (sym c.in-Some-source.ensures.value) }))
 
 pub returns-in-None-clause-sound : goal.returns-in-None-clause-sound
@@ -36,6 +36,6 @@ returns-in-None-clause-sound c =
     let s = state_of c.args.self.now in
     let at = c.requires.is.1 in
     let read : c.index.result.now ≡ open_at s.calls c.args.i = grind (arith, elements) in
-    let acknowledged = none_pending s c.args.i c.modes.result.now c.index.result.now c.modes.ensures read c.requires.sound.clients.agree.as_many c.in_default.ensures in
+    let acknowledged = none_pending s c.args.i c.modes.result.now c.index.result.now c.modes.ensures read c.requires.calm.clients.agree.as_many c.in_default.ensures in
     subst IsSound (sym c.end_at-in-None.ensures.state)
-    (write_sound s c.args.i c.requires.sound at.stands.within at.writes (reply.Refused NoReplica) (record { acknowledged = acknowledged; reply = (refl, c.in-None.ensures.found) }))
+    (write_kept s c.args.i c.requires.sound at.stands.within at.writes (reply.Refused NoReplica) (record { acknowledged = acknowledged; reply = (refl, c.in-None.ensures.found) }))

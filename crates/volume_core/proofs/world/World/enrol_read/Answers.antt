@@ -1,10 +1,11 @@
+use Rattle.std.specs.Prelude.{None}
 use Rattle.std.proofs.Common.{◌≡◌, ◌+◌, ◌≤◌, [], length, false, sym, subst, rules}
 use Rattle.vol_units.specs.Range.{blocks_around}
 use Rattle.range_turns.specs.declared.ticket.Kind.TheVariants as kind
 use Rattle.volume_core.specs.State.{state_of}
 use Rattle.volume_core.specs.Steps.{enrolled}
 use Rattle.volume_core.specs.Sound.{IsSound}
-use Rattle.volume_core.proofs.Rows.{call_enrolled}
+use Rattle.volume_core.proofs.Keep.{call_enrolled}
 use Rattle.volume_model.specs.declared.call.Call.TheVariants as call
 use Rattle.volume_core.specs.Answers.{IsBehind}
 use Rattle.volume_core.proofs.Moves.{behind_may, behind_sees}
@@ -12,6 +13,9 @@ use Rattle.volume_core.proofs.world.World.enrol_read.Goals as goal
 
 no_write : kind.Read ≡ kind.Write → ⊥
 no_write e = cc
+
+no_whole : kind.Read ≡ kind.Whole → ⊥
+no_whole e = cc
 
 pub returns-clause-sound : goal.returns-clause-sound
 returns-clause-sound c =
@@ -21,9 +25,9 @@ returns-clause-sound c =
     let around : range ≡ blocks_around at c.args.count = search rules in
     let good : at + c.args.count ≤ s.size = search rules in
     let e : state_of c.put_behind.new.self ≡ enrolled s (record { number = c.in_ok-number.number; range = range; kind = kind.Read; started = false })
-    (record { stream = c.args.stream; saw = length s.book.entries; at = at; length = c.args.count; bytes = []; front = []; back = []; buffer = []; parts = [] }) = search rules in
+    (record { stream = c.args.stream; saw = length s.book.entries; at = at; length = c.args.count; bytes = []; front = []; back = []; buffer = []; parts = []; op = None }) = search rules in
     subst IsSound (sym e)
-    (call_enrolled s kind.Read c.in_ok-number.number c.args.stream at c.args.count range [] c.requires.sound c.bytes-size.ensures.size.whole around good (λ _. c.requires.short) (λ w. absurd (no_write w)) c.requires.stream c.requires.idle c.in_ok-number.ensures.fresh)
+    (call_enrolled s kind.Read c.in_ok-number.number c.args.stream at c.args.count range [] c.requires.sound no_whole c.requires.free c.bytes-size.ensures.size.whole around good (λ _. c.requires.short) (λ w. absurd (no_write w)) c.requires.stream c.requires.idle c.in_ok-number.ensures.fresh)
 
 pub returns-clause-may : goal.returns-clause-may
 returns-clause-may c =

@@ -4,7 +4,7 @@ use Rattle.volume_model.specs.Faults.{last_count}
 use Rattle.volume_model.specs.Modes.{mode_of}
 use Rattle.volume_core.specs.State.{state_of, modes_in}
 use Rattle.volume_core.specs.Sound.{IsSound}
-use Rattle.volume_core.proofs.Ends.{faulted_sound}
+use Rattle.volume_core.proofs.Keep.{faulted_kept}
 use Rattle.volume_core.proofs.Moves.{may_same, stays_same, fault_may}
 use Rattle.volume_core.proofs.world.World.fault.Goals as goal
 
@@ -12,7 +12,7 @@ pub returns-clause-sound : goal.returns-clause-sound
 returns-clause-sound c =
     let up : mode_of (modes_in (state_of c.args.self.now)) c.args.replica ≢ Err = search rules in
     let above : last_count c.args.stream c.args.replica c.args.self.now.journal.entries < c.args.count = search rules in
-    subst IsSound (sym c.mark_fault.ensures) (faulted_sound (state_of c.args.self.now) c.args.stream c.args.replica c.args.count c.requires.sound up above)
+    subst IsSound (sym c.mark_fault.ensures) (faulted_kept (state_of c.args.self.now) c.args.stream c.args.replica c.args.count c.requires.sound up above)
 
 pub returns-clause-may : goal.returns-clause-may
 returns-clause-may c = fault_may c.args.stream (state_of c.args.self.now) (state_of c.mark_fault.new.self) c.args.replica c.args.count c.mark_fault.ensures (returns-clause-sound c)

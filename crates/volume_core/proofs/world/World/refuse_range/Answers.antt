@@ -4,7 +4,7 @@ use Rattle.volume_model.specs.declared.call.Reply.TheVariants as reply
 use Rattle.volume_core.specs.State.{State, state_of}
 use Rattle.volume_core.specs.Steps.{with_place, answered}
 use Rattle.volume_core.specs.Sound.{IsSound}
-use Rattle.volume_core.proofs.Ends.{refused_sound}
+use Rattle.volume_core.proofs.Keep.{refused_kept}
 use Rattle.volume_core.proofs.Moves.{nothing_more, answered_may, answered_sees}
 use Rattle.volume_core.proofs.world.World.refuse_range.Goals as goal
 
@@ -12,7 +12,7 @@ pub returns-clause-sound : goal.returns-clause-sound
 returns-clause-sound c =
     let s : State = state_of c.args.self.now in
     let e : state_of c.push_answer.new.self ≡ answered (with_place s) c.args.stream (length s.book.entries) c.args.call (reply.Refused OutOfRange) = search rules in
-    subst IsSound (sym e) (refused_sound s c.args.stream c.args.call c.requires.sound c.requires.stream c.requires.idle c.requires.range c.requires.refused)
+    subst IsSound (sym e) (refused_kept s c.args.stream c.args.call c.requires.sound c.requires.stream c.requires.idle c.requires.free c.requires.range c.requires.refused)
 
 pub returns-clause-may : goal.returns-clause-may
 returns-clause-may c =
