@@ -28,11 +28,12 @@ use Rattle.volume_core.specs.State.{State, opening_of, told_of, modes_in}
 use Rattle.volume_core.specs.Sound.{IsSound}
 use Rattle.commands_at_rest.specs.AtRest.{IsForRest, refused_in, snapshots_told}
 use Rattle.commands_at_rest.specs.Changes.{CanSnap, IsFit}
+use Rattle.commands_at_rest.proofs.Rest.{rest_calm}
 
 -- ---- what the journal tells
 
 told_names : (s : State) → IsSound s → TellOf (names_of s.book) (told_of s)
-told_names s ok = names_tell (opening_of s) s.book.opening.names s.book.entries ok.told.legal ok.opened.named ok.opened.names
+told_names s ok = names_tell (opening_of s) s.book.opening.names s.book.entries ok.on.told.legal ok.on.opened.named ok.on.opened.names
 
 pub told_used : (s : State) (name : List ℕ) → IsSound s → is_used_in (names_of s.book) name ≡ is_used (told_of s).used name
 told_used s name ok = is_used-names_in (names_of s.book) name ∙ ap (λ u. is_used u name) (told_names s ok).used
@@ -41,7 +42,7 @@ pub told_live : (s : State) (name : List ℕ) → IsSound s → is_live_in (name
 told_live s name ok = (told_names s ok).live name
 
 told_named : (s : State) → IsSound s → AreNamed (told_of s)
-told_named s ok = stay_named (opening_of s) s.book.entries ok.told.legal ok.opened.named
+told_named s ok = stay_named (opening_of s) s.book.entries ok.on.told.legal ok.on.opened.named
 
 -- each entry raises the head's number by one at most
 replay_raises : (p : PlainState) (es : List Entry) → (replay p es).volume.snapshots.number ≤ p.volume.snapshots.number + length es
@@ -49,7 +50,7 @@ replay_raises p [] = omega arith
 replay_raises p (e ∷ es) = omega (arith, entry_raises p e, replay_raises (after_entry p e) es)
 
 pub number_fits : (s : State) → IsSound s → length s.book.entries < 2 ^ 63 → (snapshots_told s).number + 1 < 2 ^ 64
-number_fits s ok few = omega (arith, replay_raises (opening_of s).state s.book.entries, ok.opened.number, few)
+number_fits s ok few = omega (arith, replay_raises (opening_of s).state s.book.entries, ok.on.opened.number, few)
 
 -- ---- nothing stands against it
 
@@ -131,10 +132,10 @@ same_refusal s command.Status asks = absurd asks
 same_refusal s (command.Fail r) asks = absurd asks
 same_refusal s (command.Add r) asks = absurd asks
 
-pub fits : (s : State) (c : Command) (r : ℕ) → IsSound s → IsForRest c → refused_in s c ≡ None → length s.book.entries < 2 ^ 63
+pub fits : (s : State) (c : Command) (r : ℕ) → IsSound s → s.tickets ≡ [] → IsForRest c → refused_in s c ≡ None → length s.book.entries < 2 ^ 63
     → mode_of (modes_in s) r ≢ Err → IsFit c (node_at s.nodes r)
-fits s c r ok asks free few up =
-    fits_plainly (told_of s) (node_at s.nodes r) c (told_named s ok) (ok.clients.agree.tree r up) (number_fits s ok few) (same_refusal s c asks ∙ free_refusal s c asks free) asks
+fits s c r ok none asks free few up =
+    fits_plainly (told_of s) (node_at s.nodes r) c (told_named s ok) ((rest_calm s ok none).clients.agree.tree r up) (number_fits s ok few) (same_refusal s c asks ∙ free_refusal s c asks free) asks
 
 -- ---- what stands against a command
 

@@ -29,20 +29,20 @@ use Rattle.volume_core.specs.Steps.{with_entry}
 use Rattle.volume_core.specs.Sound.{IsSound, owed_entries, is_up}
 use Rattle.commands_at_rest.specs.AtRest.{TakesOut, FollowAll, volume_behind, snapshots_told}
 use Rattle.commands_at_rest.specs.Changes.{ChangesTo}
-use Rattle.commands_at_rest.proofs.Rest.{part_sound}
+use Rattle.commands_at_rest.proofs.Rest.{rest_calm, part_sound}
 
 -- ---- what goes next can go from each replica
 
 pub can_go : (s : State) (f : FoldOrDrop) → next_of (snapshots_told s) ≡ Some f → CanBeDone (snapshots_told s).tree (snapshots_told s).on f
 can_go s f next = (next_can (snapshots_told s).tree (snapshots_told s).on f next).can
 
-pub can_there : (s : State) (f : FoldOrDrop) (r : ℕ) → IsSound s → next_of (snapshots_told s) ≡ Some f → mode_of (modes_in s) r ≢ Err
+pub can_there : (s : State) (f : FoldOrDrop) (r : ℕ) → IsSound s → s.tickets ≡ [] → next_of (snapshots_told s) ≡ Some f → mode_of (modes_in s) r ≢ Err
     → CanBeDone (tree_of (node_at s.nodes r)) (node_at s.nodes r).on f
-can_there s f r ok next up = subst (λ (t : Snapshots). CanBeDone t.tree t.on f) (sym (ok.clients.agree.tree r up)) (can_go s f next)
+can_there s f r ok none next up = subst (λ (t : Snapshots). CanBeDone t.tree t.on f) (sym ((rest_calm s ok none).clients.agree.tree r up)) (can_go s f next)
 
 -- and a replica that has not failed tells which that is
-pub told_next : (s : State) (r : ℕ) → IsSound s → mode_of (modes_in s) r ≢ Err → next_of (snapshots_of (node_at s.nodes r)) ≡ next_of (snapshots_told s)
-told_next s r ok up = ap next_of (ok.clients.agree.tree r up)
+pub told_next : (s : State) (r : ℕ) → IsSound s → s.tickets ≡ [] → mode_of (modes_in s) r ≢ Err → next_of (snapshots_of (node_at s.nodes r)) ≡ next_of (snapshots_told s)
+told_next s r ok none up = ap next_of ((rest_calm s ok none).clients.agree.tree r up)
 
 -- ---- one part
 
@@ -60,9 +60,9 @@ module _ (s s1 s2 : State) (f : FoldOrDrop) (to : ChangesTo (λ v. purged v f) (
     follow = record { count = to.count; up = λ r e. (to.up r e).volume; failed = to.failed };
   }
 
-  pub part_keeps : IsSound s → s.tickets ≡ [] → HasSource (modes_in s) → next_of (snapshots_told s) ≡ Some f → owed_entries s + 1 ≤ s.book.spare → IsSound s2
-  part_keeps ok none source next room =
-      subst IsSound (sym (part_done s s1 s2 f to is1 is2)) (part_sound s f s1.nodes ok none source (can_go s f next) to room)
+  pub part_keeps : IsSound s → s.tickets ≡ [] → s.commands ≡ [] → HasSource (modes_in s) → next_of (snapshots_told s) ≡ Some f → owed_entries s + 1 ≤ s.book.spare → IsSound s2
+  part_keeps ok none turns source next room =
+      subst IsSound (sym (part_done s s1 s2 f to is1 is2)) (part_sound s f s1.nodes ok none turns source (can_go s f next) to room)
 
 -- ---- one after another
 
@@ -116,6 +116,12 @@ no_part s ok places = record {
 pub read_so_far : (s now : State) (r : ℕ) → mode_of (modes_in s) r ≡ Rw → PurgeSoFar s now → mode_of (modes_in now) r ≡ Rw
 read_so_far s now r e far = ap (λ ms. mode_of ms r) (takes_modes s now far.done far.takes) ∙ e
 
+pub rest_so_far : (s now : State) → s.tickets ≡ [] → PurgeSoFar s now → now.tickets ≡ []
+rest_so_far s now none far = ap (λ (x : State). x.tickets) far.takes.state ∙ none
+
+pub turns_so_far : (s now : State) → s.commands ≡ [] → PurgeSoFar s now → now.commands ≡ []
+turns_so_far s now turns far = ap (λ (x : State). x.commands) far.takes.state ∙ turns
+
 module _ (now next : State) (f : FoldOrDrop) (t : TakesOut now (f ∷ []) next) where
   entries_next : next.book.entries ≡ now.book.entries ++ entry.Mark (mark.Purged f) ∷ []
   entries_next = ap (λ (x : State). x.book.entries) t.state
@@ -127,7 +133,7 @@ module _ (now next : State) (f : FoldOrDrop) (t : TakesOut now (f ∷ []) next) 
   snapshots_next = ap snapshots_told t.state ∙ ap (λ (p : PlainState). p.volume.snapshots) (replay-push (opening_of now).state now.book.entries (entry.Mark (mark.Purged f)))
 
   pub owed_next : owed_entries next ≡ owed_entries now
-  owed_next = ap (λ (x : State). count_by (λ t. t.started) x.tickets + count_by is_up (modes_in next)) t.state ∙ ap (λ ms. count_by (λ t. t.started) now.tickets + count_by is_up ms) (takes_modes now next (f ∷ []) t)
+  owed_next = ap (λ (x : State). count_by (λ t. t.started) x.tickets + length x.commands + count_by is_up (modes_in next)) t.state ∙ ap (λ ms. count_by (λ t. t.started) now.tickets + length now.commands + count_by is_up ms) (takes_modes now next (f ∷ []) t)
 
   pub fewer : next_of (snapshots_told now) ≡ Some f → length (snapshots_told next).tree + 1 ≡ length (snapshots_told now).tree
   fewer is = ap (λ (x : Snapshots). length x.tree + 1) snapshots_next ∙ length-with_part (snapshots_told now) f (can_go now f is)

@@ -1,6 +1,6 @@
 -- While no ticket is there: what becomes of the replicas, and an entry more, keep the invariant.
 use Rattle.std.proofs.Common.{◌≡◌, ◌≢◌, ℕ, ◌+◌, ◌<◌, ◌≤◌, List, [], ◌∷◌, ◌++◌, length, set, length-set, refl, sym, ap, subst, ◌∙◌, arith}
-use Rattle.std.specs.Prelude.{None, slice_index_or}
+use Rattle.std.specs.Prelude.{Option, None, Some, slice_index_or}
 use Rattle.std.specs.List.{count_by}
 use Rattle.std.proofs.lemmas.List.{ext_get_or, get_or_default}
 use Rattle.command_text.specs.declared.command.Command.{Command}
@@ -26,6 +26,7 @@ use Rattle.volume_model.proofs.OwnNames.{IsOwn}
 use Rattle.volume_model.proofs.PushLemmas.{modes_after-push, IsLegal-push}
 use Rattle.volume_model.proofs.RebuildLemmas.{open_purged}
 use Rattle.volume_model.proofs.StepLemmas.{replay-push}
+use Rattle.journal_book.specs.Book.{Book}
 use Rattle.range_turns.specs.declared.ticket.Ticket.{Ticket}
 use Rattle.replica_node.specs.Node.{Node}
 use Rattle.replica_state.specs.Volume.{volume_of_node}
@@ -35,13 +36,24 @@ use Rattle.open_calls.specs.Clients.{AreClients, Agree, IsIdle, behind_last}
 use Rattle.open_calls.proofs.Gone.{seen_clients}
 use Rattle.open_calls.proofs.PartLemmas.{up_in, rw_up}
 use Rattle.open_calls.proofs.SeenLemmas.{seen_mark, seen_answer}
+use Rattle.whole_calls.specs.declared.maint.MaintCall.{MaintCall}
+use Rattle.whole_calls.specs.declared.whole.Whole.{Whole}
+use Rattle.whole_calls.specs.Whole.{IsWhole}
+use Rattle.whole_calls.specs.Maint.{AreQueued}
 use Rattle.volume_core.specs.State.{State, opening_of, told_of, modes_in, index_at}
 use Rattle.volume_core.specs.Steps.{answered, with_entry}
-use Rattle.volume_core.specs.Sound.{IsSound, is_up, owed_entries}
-use Rattle.volume_core.proofs.Ends.{same_clients}
+use Rattle.volume_core.specs.Sound.{IsSound, IsCalm, AreSettled, is_up, owed_entries}
+use Rattle.volume_core.proofs.Ends as ends
+use Rattle.volume_core.proofs.Keep.{calm_of, of_calm}
 use Rattle.volume_core.proofs.Told.{answer_told, mark_ordered}
 use Rattle.commands_at_rest.specs.Changes.{ChangesTo}
 use Rattle.commands_at_rest.specs.AtRest.{IsForRest}
+
+-- the clients of the same volume, streams and modes
+same_clients : (v w : Volume) (size n m : ℕ) (es : List Entry) (ms ks : List Mode) (tickets : List Ticket) (calls : List OpenCall) (nodes : List Node) → v ≡ w → n ≡ m → ms ≡ ks
+    → AreClients v size n es ms tickets calls nodes → AreClients w size m es ks tickets calls nodes
+same_clients v w size n m es ms ks tickets calls nodes e f g ok =
+    ends.same_clients w size n m es ms ks tickets calls nodes f g (subst (λ x. AreClients x size n es ms tickets calls nodes) e ok)
 
 -- ---- the replicas
 
@@ -109,18 +121,58 @@ source_at modes has = (has.0, get_or_default modes has.0 Err Rw has.1 ∙ has.2)
 -- ---- no call is open
 
 pub idle_rest : (s : State) (stream : ℕ) → IsSound s → s.tickets ≡ [] → IsIdle stream s.calls
-idle_rest s stream ok none = λ i h. absurd (omega (arith, h, ok.clients.paired, ap length none))
+idle_rest s stream ok none = λ i h. absurd (omega (arith, h, ok.on.clients.paired, ap length none))
+
+-- none on the whole volume has started
+pub rest_whole : (s : State) → IsSound s → s.tickets ≡ [] → s.whole ≡ None
+rest_whole s ok none = go s.whole ok.whole
+  where
+    go : (w : Option Whole) → IsWhole (told_of s) (modes_in s) s.tickets s.calls s.nodes w → w ≡ None
+    go None is = refl
+    go (Some w) is = absurd (omega (arith, is.stands.within, ap length none))
+
+pub rest_calm : (s : State) → IsSound s → s.tickets ≡ [] → IsCalm s
+rest_calm s ok none = calm_of s ok (rest_whole s ok none)
+
+-- where no command is queued, none is with other entries
+queued_none : (n m : ℕ) (es fs : List Entry) (maint : List Ticket) (commands : List MaintCall) → commands ≡ [] → AreQueued n es maint commands → AreQueued m fs maint commands
+queued_none n m es fs maint commands turns ok =
+    let few : length commands ≡ 0 = ap length turns in
+    record {
+      paired = ok.paired;
+      order = ok.order;
+      kinds = ok.kinds;
+      want = ok.want;
+      within = λ k h. absurd (omega (arith, h, few));
+      alone = ok.alone;
+      past = λ k h. absurd (omega (arith, h, few));
+      saw = λ k h. absurd (omega (arith, h, few));
+    }
+
+-- other replicas, counts and entries, which leave the modes, keep the invariant where they keep it of the replicas as they are
+pub rest_kept : (s : State) (nodes : List Node) (indices : List ℕ) (book : Book) → IsSound s → s.tickets ≡ [] → s.commands ≡ [] → modes_in s ≡ modes_in (record s { nodes = nodes; indices = indices; book = book })
+    → IsCalm (record s { nodes = nodes; indices = indices; book = book }) → IsSound (record s { nodes = nodes; indices = indices; book = book })
+rest_kept s nodes indices book ok none turns modes calm =
+    let few : length s.tickets ≡ 0 = ap length none in
+    of_calm (record s { nodes = nodes; indices = indices; book = book }) (rest_whole s ok none) calm
+    (λ i h. absurd (omega (arith, h, few)))
+    (record {
+      queued = queued_none (length s.indices) (length indices) s.book.entries book.entries s.maint s.commands turns ok.maint.queued;
+      fits = λ i h. absurd (omega (arith, h, few));
+    })
+    (subst AreSettled modes ok.settled)
 
 -- ---- a part of a purge
 
 part_alike : (f : FoldOrDrop) → IsOfSnapshots (λ v. purged v f)
 part_alike f v w e = ap (λ t. with_part t f) e
 
-pub part_sound : (s : State) (f : FoldOrDrop) (nodes : List Node) → IsSound s → s.tickets ≡ [] → HasSource (modes_in s)
+pub part_sound : (s : State) (f : FoldOrDrop) (nodes : List Node) → IsSound s → s.tickets ≡ [] → s.commands ≡ [] → HasSource (modes_in s)
     → CanBeDone (told_of s).volume.snapshots.tree (told_of s).volume.snapshots.on f
     → ChangesTo (λ v. purged v f) (modes_in s) s.nodes nodes → owed_entries s + 1 ≤ s.book.spare
     → IsSound (record s { nodes = nodes; book = with_entry s.book (entry.Mark (mark.Purged f)) })
-part_sound s f nodes ok none source can to room =
+part_sound s f nodes sound none turns source can to room =
+    let ok = rest_calm s sound none in
     let o = opening_of s in
     let es = s.book.entries in
     let m = mark.Purged f in
@@ -128,7 +180,7 @@ part_sound s f nodes ok none source can to room =
     let modes : modes_in s ≡ modes_after o.modes longer = sym (modes_after-push o.modes es (entry.Mark m)) in
     let read = source_at (modes_in s) source in
     let v = (told_of s).volume in
-    record {
+    rest_kept s nodes s.indices (with_entry s.book (entry.Mark m)) sound none turns modes (record {
       opened = ok.opened;
       told = record {
         legal = IsLegal-push o es (entry.Mark m) ok.told.legal (can, source);
@@ -139,7 +191,7 @@ part_sound s f nodes ok none source can to room =
           (seen_clients (purged v f) s.size (length s.indices) es longer (modes_in s) s.tickets s.calls nodes (seen_mark es s.calls ok.clients.seen m)
           (rest_clients (λ w. purged w f) v s.size (length s.indices) es (modes_in s) s.tickets s.calls s.nodes nodes none (part_alike f) read.0 read.1 to ok.clients));
       spare = omega (arith, room, ap (count_by is_up) modes);
-    }
+    })
 
 -- ---- an answer
 
@@ -158,17 +210,18 @@ rest_own p a c asks is = λ name e. subst IsForRest (same name (sym is ∙ e)) a
     same : (name : List ℕ) → call.Command c ≡ call.Command (command.Snapshot name) → c ≡ command.Snapshot name
     same name e = cc
 
-module _ (s : State) (ok : IsSound s) (stream saw : ℕ) (c : Command) (r : Reply) where
+module _ (s : State) (sound : IsSound s) (stream saw : ℕ) (c : Command) (r : Reply) where
   abbrev pub its_answer : Answer
   its_answer = record { call = call.Command c; reply = r; index = index_at s.indices stream; saw = saw; stream = stream }
 
   -- behind these entries, on replicas that are what it leaves
-  pub rest_answered : (nodes : List Node) → s.tickets ≡ [] → IsForRest c → stream < length s.indices → behind_last stream s.book.entries ≤ saw → saw ≤ length s.book.entries
+  pub rest_answered : (nodes : List Node) → s.tickets ≡ [] → s.commands ≡ [] → IsForRest c → stream < length s.indices → behind_last stream s.book.entries ≤ saw → saw ≤ length s.book.entries
       → IsAnswered (told_of s) (modes_in s) its_answer
       → AreClients (after_entry (told_of s) (entry.Answer its_answer)).volume s.size (length s.indices) s.book.entries (modes_in s) s.tickets s.calls nodes
       → owed_entries s + 1 ≤ s.book.spare
       → IsSound (answered (record s { nodes = nodes }) stream saw (call.Command c) r)
-  rest_answered nodes none asks within past seen may clients room =
+  rest_answered nodes none turns asks within past seen may clients room =
+      let ok = rest_calm s sound none in
       let o = opening_of s in
       let es = s.book.entries in
       let e = entry.Answer its_answer in
@@ -176,11 +229,12 @@ module _ (s : State) (ok : IsSound s) (stream saw : ℕ) (c : Command) (r : Repl
       let v = (after_entry (told_of s) e).volume in
       let modes : modes_in s ≡ modes_after o.modes longer = sym (modes_after-push o.modes es e) in
       let streams = length s.indices in
-      record {
+      let indices = set s.indices stream (index_at s.indices stream + 1) in
+      rest_kept s nodes indices (with_entry s.book e) sound none turns modes (record {
         opened = ok.opened;
         told = answer_told o es s.indices None its_answer ok.told (rest_own (told_of s) its_answer c asks refl) (rest_no_add c asks) may within refl past seen;
         clients = same_clients v (replay o.state longer).volume s.size streams (length (set s.indices stream (index_at s.indices stream + 1))) longer (modes_in s) (modes_after o.modes longer) s.tickets s.calls nodes
             (ap (λ (p : PlainState). p.volume) (sym (replay-push o.state es e))) (sym (length-set s.indices stream (index_at s.indices stream + 1))) modes
-            (seen_clients v s.size streams es longer (modes_in s) s.tickets s.calls nodes (seen_answer es s.calls clients.seen its_answer (idle_rest s stream ok none)) clients);
+            (seen_clients v s.size streams es longer (modes_in s) s.tickets s.calls nodes (seen_answer es s.calls clients.seen its_answer (idle_rest s stream sound none)) clients);
         spare = omega (arith, room, ap (count_by is_up) modes);
-      }
+      })

@@ -31,21 +31,27 @@ use Rattle.open_calls.proofs.SeenLemmas.{behind_within}
 use Rattle.volume_core.specs.State.{State, told_of, modes_in, index_at}
 use Rattle.volume_core.specs.Steps.{answered, answer_entry}
 use Rattle.volume_core.specs.Sound.{IsSound, owed_entries}
-use Rattle.volume_core.specs.Streams.{MayAppend, MayGo, IsAnsweredTo, calls_in, running, open_of, opens, origin_of}
+use Rattle.volume_core.specs.Streams.{MayAppend, MayGo, IsAnsweredTo, calls_in, running, turning, open_of, opens, origin_of}
 use Rattle.commands_at_rest.specs.AtRest.{IsForRest, IsDoneAtRest, TakesOut, FollowAll, spot_in, snapshots_told, refused_in, entries_of, with_places}
 use Rattle.commands_at_rest.specs.Changes.{ChangesTo}
 use Rattle.commands_at_rest.proofs.Fits.{free_source}
 use Rattle.commands_at_rest.proofs.Parts.{takes_modes, behind_marks}
-use Rattle.commands_at_rest.proofs.Rest.{IsOfSnapshots, rest_clients, rest_answered}
+use Rattle.commands_at_rest.proofs.Rest.{IsOfSnapshots, rest_calm, rest_clients, rest_answered}
 
 -- ---- more places
 
 pub places_sound : (s : State) (n : ℕ) → IsSound s → IsSound (with_places s n)
 places_sound s n ok = record {
-  opened = ok.opened;
-  told = record { legal = ok.told.legal; ordered = ok.told.ordered };
-  clients = ok.clients;
-  spare = omega (arith, ok.spare);
+  on = record {
+    opened = ok.on.opened;
+    told = record { legal = ok.on.told.legal; ordered = ok.on.told.ordered };
+    clients = ok.on.clients;
+    spare = omega (arith, ok.on.spare);
+  };
+  whole = ok.whole;
+  maint = record { queued = ok.maint.queued; fits = ok.maint.fits };
+  disk = ok.disk;
+  settled = ok.settled;
 }
 
 -- ---- the answer
@@ -92,12 +98,12 @@ command_alike (command.Add r) v w e = e
 
 module _ (s s2 : State) (stream : ℕ) (c : Command) (why : Refusal) (asks : IsForRest c) (refused : refused_in s c ≡ Some why)
     (is : s2 ≡ answered (with_places s 1) stream (length s.book.entries) (call.Command c) (reply.Refused why)) where
-  pub refused_sound : IsSound s → s.tickets ≡ [] → stream < length s.indices → IsSound s2
-  refused_sound ok none within =
-      subst IsSound (sym is) (rest_answered (with_places s 1) (places_sound s 1 ok) stream (length s.book.entries) c (reply.Refused why) s.nodes none asks within
+  pub refused_sound : IsSound s → s.tickets ≡ [] → s.commands ≡ [] → stream < length s.indices → IsSound s2
+  refused_sound ok none turns within =
+      subst IsSound (sym is) (rest_answered (with_places s 1) (places_sound s 1 ok) stream (length s.book.entries) c (reply.Refused why) s.nodes none turns asks within
       (behind_within stream s.book.entries) (omega arith)
       (reply_right s stream (length s.book.entries) (index_at s.indices stream) c (reply.Refused why) asks (ap (λ w. reply_for w (spot_in s) (call.Command c)) refused) (λ e done. absurd cc))
-      ok.clients (omega (arith, ok.spare)))
+      (rest_calm s ok none).clients (omega (arith, ok.on.spare)))
 
   entries_refused : entries_of s stream c ≡ answer_entry s stream (length s.book.entries) (call.Command c) (reply.Refused why) ∷ []
   entries_refused = ap (λ w. entries_for w (spot_in s) stream (length s.book.entries) (index_at s.indices stream) (call.Command c)) refused
@@ -123,15 +129,15 @@ module _ (s s1 s2 : State) (stream : ℕ) (c : Command) (asks : IsForRest c) (ot
   changed_is : s2 ≡ answered (record (with_places s 1) { nodes = s1.nodes }) stream (length s.book.entries) (call.Command c) reply.Done
   changed_is = is2 ∙ ap (λ (x : State). answered x stream (length s.book.entries) (call.Command c) reply.Done) is1
 
-  pub changed_sound : IsSound s → s.tickets ≡ [] → stream < length s.indices → IsSound s2
-  changed_sound ok none within =
+  pub changed_sound : IsSound s → s.tickets ≡ [] → s.commands ≡ [] → stream < length s.indices → IsSound s2
+  changed_sound ok none turns within =
       let source = free_source s c asks free in
-      subst IsSound (sym changed_is) (rest_answered (with_places s 1) (places_sound s 1 ok) stream (length s.book.entries) c reply.Done s1.nodes none asks within
+      subst IsSound (sym changed_is) (rest_answered (with_places s 1) (places_sound s 1 ok) stream (length s.book.entries) c reply.Done s1.nodes none turns asks within
       (behind_within stream s.book.entries) (omega arith)
       (reply_right s stream (length s.book.entries) (index_at s.indices stream) c reply.Done asks (done_reply s c asks free) (λ e done. absurd (other e)))
       (rest_clients (λ v. volume_after_command v c) (told_of s).volume s.size (length s.indices) s.book.entries (modes_in s) s.tickets s.calls s.nodes s1.nodes none
-      (command_alike c) source.0 (source_is (modes_in s) source.0 source.1).read to ok.clients)
-      (omega (arith, ok.spare)))
+      (command_alike c) source.0 (source_is (modes_in s) source.0 source.1).read to (rest_calm s ok none).clients)
+      (omega (arith, ok.on.spare)))
 
   no_marks : (d : Command) → IsForRest d → d ≢ command.Purge → entries_for None (spot_in s) stream (length s.book.entries) (index_at s.indices stream) (call.Command d)
       ≡ answer_entry s stream (length s.book.entries) (call.Command d) reply.Done ∷ []
@@ -178,18 +184,19 @@ module _ (s s1 s2 : State) (stream most : ℕ) (free : refused_in s command.Purg
   free_after : refused_in s1 command.Purge ≡ None
   free_after = ap (λ ms. want_of_replica true (source_of ms)) (takes_modes (with_places s most) s1 (parts_of (snapshots_told s)) takes) ∙ free
 
-  pub purged_sound : IsSound s1 → s.tickets ≡ [] → stream < length s.indices → next_of (snapshots_told s1) ≡ None → owed_entries s1 + 1 ≤ s1.book.spare → IsSound s2
-  purged_sound ok none within purged room =
+  pub purged_sound : IsSound s1 → s.tickets ≡ [] → s.commands ≡ [] → stream < length s.indices → next_of (snapshots_told s1) ≡ None → owed_entries s1 + 1 ≤ s1.book.spare → IsSound s2
+  purged_sound ok none turns within purged room =
       let es : s1.book.entries ≡ s.book.entries ++ marks = ap (λ (x : State). x.book.entries) takes.state in
       let indices : s1.indices ≡ s.indices = ap (λ (x : State). x.indices) takes.state in
       let none1 : s1.tickets ≡ [] = ap (λ (x : State). x.tickets) takes.state ∙ none in
+      let turns1 : s1.commands ≡ [] = ap (λ (x : State). x.commands) takes.state ∙ turns in
       let saw = length s.book.entries in
-      subst IsSound (sym is) (rest_answered s1 ok stream saw command.Purge reply.Done s1.nodes none1 tt (subst (λ l. stream < length l) (sym indices) within)
+      subst IsSound (sym is) (rest_answered s1 ok stream saw command.Purge reply.Done s1.nodes none1 turns1 tt (subst (λ l. stream < length l) (sym indices) within)
       (subst (λ l. behind_last stream l ≤ saw) (sym es) (behind_marks stream s.book.entries (parts_of (snapshots_told s))))
       (omega (arith, ap length es, length-append s.book.entries marks))
       (reply_right s1 stream saw (index_at s1.indices stream) command.Purge reply.Done tt (done_reply s1 command.Purge tt free_after)
       (λ e done. next_left (snapshots_told s1).tree (snapshots_told s1).on purged))
-      ok.clients room)
+      (rest_calm s1 ok none1).clients room)
 
   entries_purged : entries_of s stream command.Purge ≡ marks ++ the_answer ∷ []
   entries_purged = ap (λ w. entries_for w (spot_in s) stream (length s.book.entries) (index_at s.indices stream) (call.Command command.Purge)) free
@@ -259,6 +266,7 @@ module _ (s s2 : State) (stream place : ℕ) (c : Command) (done : IsDoneAtRest 
         ∙ ap (λ k. record { first = s.first; opening = s.book.opening; size = s.size; streams = length s.indices; replicas = k }) done.follow.count;
     added = (entries_of s stream c, ap (λ (x : State). x.book.entries) done.state, may_unless s stream (refused_in s c) c last_answer asks refl);
     others = λ other h. ap (λ (x : State). running x other) done.state;
+    turns = λ other h. ap (λ (x : State). turning x other) done.state;
   }
 
   pub done_sees : s.tickets ≡ [] → IsAnsweredTo stream (call.Command c) s s2

@@ -13,8 +13,8 @@ use journal_book::{Call, Command, Refusal, Reply};
 use std::alloc::{AllocError, Global};
 use volume_core::World;
 
-/// Carries out a command of a stream and answers it, while no ticket is there, and gives the place of the answer. All
-/// memory is taken first: out of memory changes nothing.
+/// Carries out a command of a stream and answers it, while no ticket is there and no command has the maintenance turn
+/// or waits for it, and gives the place of the answer. All memory is taken first: out of memory changes nothing.
 pub fn command_at_rest(
     world: &mut World,
     alloc: Global,
@@ -24,6 +24,7 @@ pub fn command_at_rest(
     requires sound { IsSound (state_of world.old) }
     requires stream { stream < length world.old.indices.items }
     requires rest { world.old.turns.tickets ≡ [] }
+    requires turns { world.old.commands.items ≡ [] }
     requires asks { IsForRest command.now }
     ensures sound { IsSound (state_of world.new) }
     ensures ok { IfOk result (λ place.
@@ -48,6 +49,7 @@ fn carry_out(
     requires sound { IsSound (state_of world.old) }
     requires stream { stream < length world.old.indices.items }
     requires rest { world.old.turns.tickets ≡ [] }
+    requires turns { world.old.commands.items ≡ [] }
     requires asks { IsForRest command.now }
     ensures sound { IsSound (state_of world.new) }
     ensures ok { IfOk result (λ place.
@@ -71,6 +73,7 @@ fn refuse(world: &mut World, stream: u8, command: &Command, why: Refusal) -> Res
     requires sound { IsSound (state_of world.old) }
     requires stream { stream < length world.old.indices.items }
     requires rest { world.old.turns.tickets ≡ [] }
+    requires turns { world.old.commands.items ≡ [] }
     requires asks { IsForRest command.now }
     requires refused { refused_in (state_of world.old) command.now ≡ Some why }
     ensures sound { IsSound (state_of world.new) }

@@ -29,6 +29,7 @@ pub(crate) fn change(
     requires sound { IsSound (state_of world.old) }
     requires stream { stream < length world.old.indices.items }
     requires rest { world.old.turns.tickets ≡ [] }
+    requires turns { world.old.commands.items ≡ [] }
     requires asks { IsForRest command.now }
     requires other { command.now ≢ Command.Purge }
     requires free { refused_in (state_of world.old) command.now ≡ None }

@@ -23,6 +23,7 @@ pub(crate) fn purge(world: &mut World, stream: u8) -> Result<u64, AllocError>
     requires sound { IsSound (state_of world.old) }
     requires stream { stream < length world.old.indices.items }
     requires rest { world.old.turns.tickets ≡ [] }
+    requires turns { world.old.commands.items ≡ [] }
     requires free { refused_in (state_of world.old) Command.Purge ≡ None }
     ensures sound { IsSound (state_of world.new) }
     ensures ok { IfOk result (λ place.
@@ -42,6 +43,7 @@ pub(crate) fn purge(world: &mut World, stream: u8) -> Result<u64, AllocError>
 fn take_out_parts(world: &mut World, source: u8)
     requires sound { IsSound (state_of world.old) }
     requires rest { world.old.turns.tickets ≡ [] }
+    requires turns { world.old.commands.items ≡ [] }
     requires source { mode_of (modes_in (state_of world.old)) source ≡ Mode.Rw }
     requires places { owed_entries (state_of world.old) + layer_count (snapshots_told (state_of world.old))
         ≤ world.old.journal.spare }
@@ -58,6 +60,7 @@ fn take_out_parts(world: &mut World, source: u8)
 /// What goes next, as that replica tells it.
 fn next_part(world: &World, source: u8) -> Option<FoldOrDrop>
     requires sound { IsSound (state_of world.now) }
+    requires rest { world.now.turns.tickets ≡ [] }
     requires source { mode_of (modes_in (state_of world.now)) source ≡ Mode.Rw }
     ensures { result ≡ next_of (snapshots_told (state_of world.now)) }
 {
@@ -68,6 +71,7 @@ fn next_part(world: &World, source: u8) -> Option<FoldOrDrop>
 fn take_out_part(world: &mut World, part: &FoldOrDrop)
     requires sound { IsSound (state_of world.old) }
     requires rest { world.old.turns.tickets ≡ [] }
+    requires turns { world.old.commands.items ≡ [] }
     requires source { HasSource (modes_in (state_of world.old)) }
     requires next { next_of (snapshots_told (state_of world.old)) ≡ Some part.now }
     requires places { owed_entries (state_of world.old) + 1 ≤ world.old.journal.spare }

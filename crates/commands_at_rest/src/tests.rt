@@ -13,6 +13,7 @@ use volume_core::{Call, Entry, Reply, VolumeSize};
 fn one_of_two(alloc: Global, size: VolumeSize) -> Result<World, AllocError>
     ensures sound { IfOk result (λ w. IsSound (state_of w)) }
     ensures rest { IfOk result (λ w. w.turns.tickets ≡ []) }
+    ensures turns { IfOk result (λ w. w.commands.items ≡ []) }
     ensures streams { IfOk result (λ w. length w.indices.items ≡ 1) }
 {
     let mut world = World::blank(alloc, size, 2, 1)?;
@@ -23,10 +24,12 @@ fn one_of_two(alloc: Global, size: VolumeSize) -> Result<World, AllocError>
 fn ask(world: &mut World, alloc: Global, command: &Command) -> Result<u64, AllocError>
     requires sound { IsSound (state_of world.old) }
     requires rest { world.old.turns.tickets ≡ [] }
+    requires turns { world.old.commands.items ≡ [] }
     requires streams { length world.old.indices.items ≡ 1 }
     requires asks { IsForRest command.now }
     ensures sound { IsSound (state_of world.new) }
     ensures rest { world.new.turns.tickets ≡ [] }
+    ensures turns { world.new.commands.items ≡ [] }
     ensures streams { length world.new.indices.items ≡ 1 }
 {
     command_at_rest(world, alloc, 0, command)

@@ -12,7 +12,7 @@ returns-clause-sound c =
     let s = state_of c.args.world.now in
     let command = c.args.command.now in
     let is : state_of c.push_answer.new.self ≡ answered (with_places s 1) c.args.stream (length s.book.entries) (call.Command command) (reply.Refused c.args.why) = search rules in
-    refused_sound s (state_of c.push_answer.new.self) c.args.stream command c.args.why c.requires.asks c.requires.refused is c.requires.sound c.requires.rest c.requires.stream
+    refused_sound s (state_of c.push_answer.new.self) c.args.stream command c.args.why c.requires.asks c.requires.refused is c.requires.sound c.requires.rest c.requires.turns c.requires.stream
 
 pub returns-clause-ok : goal.returns-clause-ok
 returns-clause-ok c =

@@ -20,7 +20,7 @@ change_replicas-requires-clause-fit c =
     let e : state_of c.make_places.new.world ≡ with_places s 1 = search rules in
     let few : length s.book.entries < 2 ^ 63 = omega (arith, c.len-saw.ensures.value, c.len-saw.ensures.most) in
     subst (λ (x : State). (r : ℕ) → mode_of (modes_in x) r ≢ Err → IsFit command (node_at x.nodes r)) (sym e)
-    (λ r up. fits s command r c.requires.sound c.requires.asks c.requires.free few up)
+    (λ r up. fits s command r c.requires.sound c.requires.rest c.requires.asks c.requires.free few up)
 
 pub returns-clause-sound : goal.returns-clause-sound
 returns-clause-sound c =
@@ -31,7 +31,7 @@ returns-clause-sound c =
     let is : state_of c.push_answer.new.self ≡ answered s1 c.args.stream (length s.book.entries) (call.Command command) reply.Done = search rules in
     changed_sound s s1 (state_of c.push_answer.new.self) c.args.stream command c.requires.asks c.requires.other c.requires.free
     (subst (λ (x : State). ChangesTo (λ v. volume_after_command v command) (modes_in x) x.nodes s1.nodes) e c.change_replicas.ensures.changes)
-    (c.change_replicas.ensures.state ∙ ap (λ (x : State). record x { nodes = s1.nodes }) e) is c.requires.sound c.requires.rest c.requires.stream
+    (c.change_replicas.ensures.state ∙ ap (λ (x : State). record x { nodes = s1.nodes }) e) is c.requires.sound c.requires.rest c.requires.turns c.requires.stream
 
 pub returns-clause-ok : goal.returns-clause-ok
 returns-clause-ok c =

@@ -19,7 +19,7 @@ returns-clause-sound c =
     let is : s2 ≡ answered s1 c.args.stream (length s.book.entries) (call.Command command.Purge) reply.Done = search rules in
     purged_sound s s1 s2 c.args.stream most c.requires.free
     (subst (λ (x : State). TakesOut x (parts_of (snapshots_told x)) s1) e c.take_out_parts.ensures.parts) is
-    c.take_out_parts.ensures.sound c.requires.rest c.requires.stream c.take_out_parts.ensures.purged c.take_out_parts.ensures.places
+    c.take_out_parts.ensures.sound c.requires.rest c.requires.turns c.requires.stream c.take_out_parts.ensures.purged c.take_out_parts.ensures.places
 
 pub returns-clause-ok : goal.returns-clause-ok
 returns-clause-ok c =

@@ -1,6 +1,6 @@
 use Rattle.std.proofs.Common.{sym, ◌∙◌, arith}
 use Rattle.volume_core.specs.State.{state_of, modes_in}
-use Rattle.commands_at_rest.proofs.Parts.{no_part, read_so_far, fewer, part_more, all_parts}
+use Rattle.commands_at_rest.proofs.Parts.{no_part, read_so_far, rest_so_far, turns_so_far, fewer, part_more, all_parts}
 use Rattle.commands_at_rest.proofs.Rest.{source_in}
 use Rattle.commands_at_rest.proofs.purge.take_out_parts.Goals as goal
 
@@ -9,6 +9,15 @@ loop-part-init c = no_part (state_of c.args.world.now) c.requires.sound c.requir
 
 pub next_part-requires-clause-source : goal.next_part-requires-clause-source
 next_part-requires-clause-source c = read_so_far (state_of c.args.world.now) (state_of c.loop-part.world) c.args.source c.requires.source c.loop-part.invariant
+
+pub next_part-requires-clause-rest : goal.next_part-requires-clause-rest
+next_part-requires-clause-rest c = rest_so_far (state_of c.args.world.now) (state_of c.loop-part.world) c.requires.rest c.loop-part.invariant
+
+pub take_out_part-requires-clause-rest : goal.take_out_part-requires-clause-rest
+take_out_part-requires-clause-rest c = rest_so_far (state_of c.args.world.now) (state_of c.loop-part.world) c.requires.rest c.loop-part.invariant
+
+pub take_out_part-requires-clause-turns : goal.take_out_part-requires-clause-turns
+take_out_part-requires-clause-turns c = turns_so_far (state_of c.args.world.now) (state_of c.loop-part.world) c.requires.turns c.loop-part.invariant
 
 pub take_out_part-requires-clause-source : goal.take_out_part-requires-clause-source
 take_out_part-requires-clause-source c =
