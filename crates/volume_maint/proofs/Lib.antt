@@ -1,0 +1,9 @@
+pub mod Asks
+pub mod Begins
+pub mod Purging
+pub mod Refusals
+pub mod TurnSound
+pub mod TurnStreams
+pub mod WholeSound
+pub mod WholeEnds
+pub mod WholeAsked

@@ -1,0 +1,27 @@
+use Rattle.std.proofs.Common.{◌≡◌, sym, subst, rules}
+use Rattle.whole_calls.specs.Maint.{command_at}
+use Rattle.volume_core.specs.State.{State, state_of}
+use Rattle.volume_core.specs.Sound.{IsSound}
+use Rattle.volume_core.specs.Streams.{MayGo}
+use Rattle.volume_maint.specs.Steps.{turn_ended}
+use Rattle.volume_maint.specs.Places.{IsFreeTurn}
+use Rattle.volume_maint.specs.Answers.{MayEnd}
+use Rattle.volume_maint.proofs.TurnSound.{ended_kept}
+use Rattle.volume_maint.proofs.TurnStreams.{ended_goes, for_asker}
+use Rattle.volume_maint.proofs.turn.end_maint.Goals as goal
+
+pub returns-clause-sound : goal.returns-clause-sound
+returns-clause-sound c =
+    let s : State = state_of c.args.world.now in
+    let turn : IsFreeTurn s c.args.t = search rules in
+    let may : MayEnd s (command_at s.commands 0).command c.args.reply = search rules in
+    let is : state_of c.push_answer.new.self ≡ turn_ended s c.args.reply = search rules in
+    subst IsSound (sym is) (ended_kept s c.args.t c.args.reply c.requires.sound turn may)
+
+pub returns-clause-may : goal.returns-clause-may
+returns-clause-may c =
+    let s : State = state_of c.args.world.now in
+    let turn : IsFreeTurn s c.args.t = search rules in
+    let is : state_of c.push_answer.new.self ≡ turn_ended s c.args.reply = search rules in
+    for_asker s c.args.t 0 (λ stream. MayGo stream s (state_of c.push_answer.new.self)) turn.stands
+    (ended_goes s (state_of c.push_answer.new.self) c.requires.sound (returns-clause-sound c) c.args.reply is)

@@ -1,0 +1,54 @@
+use Rattle.std.proofs.Common.{◌≡◌, sym, subst, rules}
+use Rattle.std.specs.Prelude.{None, Some}
+use Rattle.volume_model.specs.declared.call.Reply.TheVariants as reply
+use Rattle.volume_model.proofs.SpotLemmas.{has_source}
+use Rattle.range_turns.specs.Order.{IsClear}
+use Rattle.open_calls.specs.declared.whole_op.WholeOp.{WholeOp}
+use Rattle.open_calls.specs.Calls.{open_at, command_of}
+use Rattle.volume_core.specs.State.{State, state_of, modes_in}
+use Rattle.volume_core.specs.Steps.{with_place}
+use Rattle.volume_core.specs.Sound.{IsSound}
+use Rattle.volume_core.proofs.Keep.{calm_by}
+use Rattle.volume_maint.specs.Answers.{refused_in, BeginsWhole}
+use Rattle.volume_maint.specs.Steps.{whole_ended}
+use Rattle.volume_maint.proofs.Begins.{begun_sound, free_source, asked_op, still_op}
+use Rattle.volume_maint.proofs.WholeEnds.{refused_whole}
+use Rattle.volume_maint.proofs.whole.admit_whole.Goals as goal
+
+pub refuse-requires-clause-none : goal.refuse-requires-clause-none
+refuse-requires-clause-none c =
+    let s : State = state_of c.args.world.now in
+    let at = c.waiting_whole_at-i.ensures in
+    let clear : IsClear s.tickets c.waiting_whole_at-i.result = search rules in
+    calm_by s c.waiting_whole_at-i.result c.requires.sound at.stands.within clear (λ w. at.waits)
+
+pub returns-in-Some-refusal-clause-sound : goal.returns-in-Some-refusal-clause-sound
+returns-in-Some-refusal-clause-sound c =
+    let s : State = state_of c.args.world.now in
+    let i = c.waiting_whole_at-i.result in
+    let at = c.waiting_whole_at-i.ensures in
+    let clear : IsClear s.tickets i = search rules in
+    let asks : (open_at s.calls i).op ≡ Some c.op_at-op.result = search rules in
+    let why : refused_in s (command_of c.op_at-op.result) ≡ Some c.in-Some-refusal.why = search rules in
+    let is : state_of c.refuse.new.world ≡ whole_ended (with_place s) i c.op_at-op.result (reply.Refused c.in-Some-refusal.why) = search rules in
+    subst IsSound (sym is) (refused_whole s i c.op_at-op.result c.in-Some-refusal.why c.requires.sound at.stands.within at.kind at.waits clear asks why)
+
+pub long_source-source-requires-clause-read : goal.long_source-source-requires-clause-read
+long_source-source-requires-clause-read c =
+    let s : State = state_of c.args.world.now in
+    let free : refused_in s (command_of c.op_at-op.result) ≡ None = search rules in
+    let source = free_source s c.op_at-op.result free in
+    has_source (modes_in s) source.0 source.1
+
+pub returns-clause-sound : goal.returns-clause-sound
+returns-clause-sound c =
+    let s : State = state_of c.args.world.now in
+    let i = c.waiting_whole_at-i.result in
+    let op : WholeOp = c.op_at-op.result in
+    let at = c.waiting_whole_at-i.ensures in
+    let clear : IsClear s.tickets i = search rules in
+    let asks : (open_at s.calls i).op ≡ Some op = search rules in
+    let free : refused_in s (command_of op) ≡ None = search rules in
+    let begins : BeginsWhole s i op (state_of c.begin.new.world) = c.in_ok-begin.ensures.ok in
+    subst IsSound (sym begins.2) (begun_sound s i c.requires.sound at.stands.within at.kind at.waits clear op begins.0 asks (asked_op s i op c.requires.sound at.stands.within at.kind asks)
+    (still_op s i op c.requires.sound at.stands.within at.kind at.waits asks) free c.long_source-source.result c.long_source-source.ensures begins.1)

@@ -1,0 +1,20 @@
+use Rattle.std.proofs.Common.{rules, ◌≢◌, ◌<◌, ◌^◌, length}
+use Rattle.volume_model.specs.declared.mode.Mode.TheVariants.{Err}
+use Rattle.volume_model.specs.Modes.{mode_of}
+use Rattle.volume_core.specs.State.{state_of, modes_in}
+use Rattle.volume_maint.proofs.WholeSound.{OwesPart, owes_fits, owes_kept}
+use Rattle.volume_maint.proofs.whole.part.Goals as goal
+
+pub part_on-requires-clause-fit : goal.part_on-requires-clause-fit
+part_on-requires-clause-fit c =
+    let s = state_of c.args.world.now in
+    let owes : OwesPart s c.args.t c.args.replica = search rules in
+    let few : length s.book.entries < 2 ^ 63 = search rules in
+    let up : mode_of (modes_in s) c.args.replica ≢ Err = search rules in
+    owes_fits s c.args.t c.args.replica c.requires.sound owes few up
+
+pub returns-clause-sound : goal.returns-clause-sound
+returns-clause-sound c =
+    let s = state_of c.args.world.now in
+    let owes : OwesPart s c.args.t c.args.replica = search rules in
+    owes_kept s c.args.t c.args.replica c.requires.sound owes (state_of c.part_on.new.world) c.part_on.ensures

@@ -1,0 +1,111 @@
+-- What the steps on the whole volume, of the maintenance turn and of folding make of a World.
+use Rattle.std.specs.Prelude.{ℕ, List, [], ◌∷◌, ◌++◌, false, map, slice_set, remove, Option, None, Some}
+use Rattle.sparse_image.specs.Image.{Tables}
+use Rattle.volume_model.specs.declared.call.Call.TheVariants as call
+use Rattle.volume_model.specs.declared.call.Reply.{Reply}
+use Rattle.volume_model.specs.declared.entry.Entry.TheVariants as entry
+use Rattle.volume_model.specs.declared.mark.FoldOrDrop.{FoldOrDrop}
+use Rattle.volume_model.specs.declared.mark.Mark.TheVariants as mark
+use Rattle.range_turns.specs.declared.ticket.Kind.TheVariants as kind
+use Rattle.range_turns.specs.declared.ticket.Ticket.{Ticket}
+use Rattle.range_turns.specs.Order.{ticket_at, with_started}
+use Rattle.replica_node.specs.Fold.{page_folded}
+use Rattle.open_calls.specs.declared.whole_op.WholeOp.{WholeOp}
+use Rattle.open_calls.specs.declared.whole_op.WholeOp.TheVariants as whole
+use Rattle.open_calls.specs.Calls.{open_at, node_at, command_of, whole_call}
+use Rattle.open_calls.specs.Parts.{part_for}
+use Rattle.whole_calls.specs.declared.maint.MaintCall.{MaintCall}
+use Rattle.whole_calls.specs.declared.whole.Whole.{Whole}
+use Rattle.whole_calls.specs.Due.{part_on}
+use Rattle.whole_calls.specs.Whole.{parted, part_acked}
+use Rattle.whole_calls.specs.Maint.{command_at}
+use Rattle.volume_core.specs.State.{State, modes_in}
+use Rattle.volume_core.specs.Steps.{with_place, with_entry, answered, enrolled, without_call}
+
+-- ---- the maintenance turn
+
+-- a ticket of all blocks, which has not started
+abbrev pub whole_ticket : ℕ → Ticket
+whole_ticket number = record {
+  number = number;
+  range = record { first = 0; end = 0 };
+  kind = kind.Whole;
+  started = false;
+}
+
+-- a command is put behind those that have the turn or wait for it, with a place for its answer
+abbrev pub maint_enrolled : State → ℕ → MaintCall → State
+maint_enrolled s number c = record (with_place s) {
+  maint = s.maint ++ whole_ticket number ∷ [];
+  commands = s.commands ++ c ∷ [];
+}
+
+-- the first has the turn
+abbrev pub turn_begun : State → State
+turn_begun s = record s { maint = with_started s.maint 0 }
+
+-- the command at k is gone
+abbrev pub without_command : State → ℕ → State
+without_command s k = record s { maint = remove s.maint k; commands = remove s.commands k }
+
+-- the first ends with that reply
+abbrev pub turn_ended : State → Reply → State
+turn_ended s r = answered (without_command s 0) (command_at s.commands 0).stream (command_at s.commands 0).saw
+    (call.Command (command_at s.commands 0).command) r
+
+-- ---- the whole volume
+
+-- an operation of a stream, which saw so much, is enrolled behind all calls
+abbrev pub whole_enrolled : State → ℕ → ℕ → ℕ → WholeOp → State
+whole_enrolled s number stream saw op = enrolled s (whole_ticket number) (whole_call stream saw op)
+
+-- the one at i starts, with these spare heads: each replica that has not failed owes its part
+abbrev pub begun_of : State → ℕ → WholeOp → List (Option Tables) → Whole
+begun_of s i op spares = record {
+  number = (ticket_at s.tickets i).number;
+  op = op;
+  parts = map part_for (modes_in s);
+  spares = spares;
+}
+
+abbrev pub whole_begun : State → ℕ → WholeOp → List (Option Tables) → State
+whole_begun s i op spares = record (with_place s) {
+  tickets = with_started s.tickets i;
+  whole = Some (begun_of s i op spares);
+}
+
+-- the replica takes its part, and acknowledges it
+abbrev pub whole_parted : State → Whole → ℕ → State
+whole_parted s w r = record s {
+  nodes = slice_set s.nodes r (part_on w.op (node_at s.nodes r));
+  whole = Some (parted w r);
+}
+
+abbrev pub whole_acked : State → Whole → ℕ → State
+whole_acked s w r = record s { whole = Some (part_acked w r) }
+
+-- the command ends with it that has the turn; a snapshot has none
+abbrev pub turn_over : WholeOp → State → State
+turn_over (whole.Snapshot name) s = s
+turn_over (whole.Remove name) s = without_command s 0
+turn_over (whole.Revert name) s = without_command s 0
+turn_over (whole.Purge f) s = without_command s 0
+
+-- the operation at i goes
+abbrev pub without_whole : State → ℕ → State
+without_whole s i = record (without_call s i) { whole = None }
+
+-- it ends with the answer of its command
+abbrev pub whole_ended : State → ℕ → WholeOp → Reply → State
+whole_ended s i op r = answered (turn_over op (without_whole s i)) (open_at s.calls i).stream (open_at s.calls i).saw
+    (call.Command (command_of op)) r
+
+-- it ends with the mark of a part of a purge
+abbrev pub whole_marked : State → ℕ → FoldOrDrop → State
+whole_marked s i f = record (without_whole s i) { book = with_entry s.book (entry.Mark (mark.Purged f)) }
+
+-- ---- folding
+
+-- the replica folds a page of c onto p
+abbrev pub folded_on : State → ℕ → List ℕ → List ℕ → ℕ → State
+folded_on s r p c page = record s { nodes = slice_set s.nodes r (page_folded (node_at s.nodes r) p c page) }

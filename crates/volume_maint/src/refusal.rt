@@ -1,0 +1,92 @@
+//! What stands against a command, and how one that has the turn may end.
+
+ghost use Rattle.std.specs.Prelude.{◌≡◌, ◌≢◌, ◌<◌, length, false, true, None};
+ghost use Rattle.volume_model.specs.declared.call.Call.TheVariants as call;
+ghost use Rattle.volume_model.specs.PlainStep.{refusal_of, room_refusal, live_refusal};
+ghost use Rattle.whole_calls.specs.Maint.{command_at};
+ghost use Rattle.volume_core.specs.State.{state_of, told_of, modes_in};
+ghost use Rattle.volume_core.specs.Sound.{IsSound};
+ghost use Rattle.volume_maint.specs.Places.{IsWholeCommand};
+ghost use Rattle.volume_maint.specs.Answers.{refused_in, MayEnd};
+
+use crate::answers::NextPart;
+use crate::fold::fold_next;
+use vol_units::{LayerName, MOST_LAYERS};
+use volume_core::{Command, Refusal, Reply, World};
+
+/// What stands against a command, as the journal tells it, the first in the order in which refusals are tried.
+pub(crate) fn refusal(world: &World, command: &Command) -> Option<Refusal>
+    requires sound { IsSound (state_of world.now) }
+    requires asks { IsWholeCommand command.now }
+    ensures { result ≡ refused_in (state_of world.now) command.now }
+{
+    if let Some(why) = volume_refusal(world, command) {
+        return Some(why);
+    }
+    match world.journal.source() {
+        Some(_) => None,
+        None => Some(Refusal::NoReplica),
+    }
+}
+
+/// What stands against it in the volume.
+fn volume_refusal(world: &World, command: &Command) -> Option<Refusal>
+    requires sound { IsSound (state_of world.now) }
+    requires asks { IsWholeCommand command.now }
+    ensures { result ≡ refusal_of (modes_in (state_of world.now)) (told_of (state_of world.now))
+        (call.Command command.now) }
+{
+    match command {
+        Command::Snapshot(name) => {
+            if world.journal.used(&LayerName::from(*name)) {
+                return Some(Refusal::NameUsed);
+            }
+            chain_refusal(world)
+        }
+        Command::Remove(name) | Command::Revert(name) => name_refusal(world, name),
+        Command::Purge => None,
+        Command::Status | Command::Fail(_) | Command::Add(_) => unreachable!(),
+    }
+}
+
+/// What stands against one layer more.
+fn chain_refusal(world: &World) -> Option<Refusal>
+    requires { IsSound (state_of world.now) }
+    ensures { result ≡ room_refusal (told_of (state_of world.now)).volume }
+{
+    if world.journal.layers() < MOST_LAYERS as u64 {
+        None
+    } else {
+        Some(Refusal::ChainFull)
+    }
+}
+
+/// What stands against the use of the snapshot of the name.
+fn name_refusal(world: &World, name: &LayerName) -> Option<Refusal>
+    requires { IsSound (state_of world.now) }
+    ensures { result ≡ live_refusal (told_of (state_of world.now)).volume name.now }
+{
+    if world.journal.live(name) {
+        None
+    } else {
+        Some(Refusal::NoSuchSnapshot)
+    }
+}
+
+/// Whether the first command of the turn may be answered so, as far as that shows now.
+pub(crate) fn may_end(world: &World, reply: &Reply) -> bool
+    requires sound { IsSound (state_of world.now) }
+    requires some { 0 < length world.now.commands.items }
+    ensures may { result ≡ true
+        → MayEnd (state_of world.now) (command_at world.now.commands.items 0).command reply.now }
+    ensures not { result ≡ false
+        → MayEnd (state_of world.now) (command_at world.now.commands.items 0).command reply.now
+        → (state_of world.now).whole ≢ None }
+{
+    let command = world.commands[0].command;
+    match reply {
+        Reply::Refused(why) => refusal(world, &command) == Some(*why),
+        Reply::Done => command == Command::Purge && fold_next(world) == NextPart::Nothing,
+        Reply::Read(_) | Reply::Status { .. } | Reply::Aborted(_) => false,
+    }
+}

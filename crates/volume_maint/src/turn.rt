@@ -1,0 +1,121 @@
+//! The maintenance turn.
+
+ghost use Rattle.std.specs.Prelude.{◌≡◌, ℕ, ◌<◌, length, IfOk, IfErr, OnOk, OnErr};
+ghost use Rattle.range_turns.specs.Order.{IsFresh};
+ghost use Rattle.open_calls.specs.Clients.{IsIdle};
+ghost use Rattle.whole_calls.specs.Maint.{HasNoCommand, IsMaint, command_at};
+ghost use Rattle.volume_core.specs.State.{state_of};
+ghost use Rattle.volume_core.specs.Sound.{IsSound};
+ghost use Rattle.volume_core.specs.Streams.{MayGo};
+ghost use Rattle.volume_maint.specs.Steps.{maint_enrolled, without_command};
+ghost use Rattle.volume_maint.specs.Places.{AwaitsTurn, IsFreeTurn, ForAsker};
+ghost use Rattle.volume_maint.specs.Answers.{TurnsTo, EndsTurn, AgainstEndTurn};
+
+use crate::places::{free_turn_at, waiting_command_at};
+use crate::refusal::may_end;
+use range_turns::{BlockRange, Kind, MayStart, TicketNumber};
+use std::alloc::AllocError;
+use volume_core::{Call, Command, NotThis, Reply, World};
+use whole_calls::MaintCall;
+
+/// Puts a command of a stream that has no call open behind those that have the maintenance turn or wait for it. The
+/// place of its answer is made.
+pub fn enrol_maint(
+    world: &mut World,
+    stream: u8,
+    command: &Command,
+) -> Result<TicketNumber, AllocError>
+    requires sound { IsSound (state_of world.old) }
+    requires stream { stream < length world.old.indices.items }
+    requires idle { IsIdle stream world.old.calls.items }
+    requires free { HasNoCommand stream world.old.commands.items }
+    requires wants { IsMaint command.now }
+    ensures sound { IsSound (state_of world.new) }
+    ensures fresh { IfOk result (IsFresh world.old.maint.tickets) }
+    ensures ok { IfOk result (λ number. state_of world.new ≡ maint_enrolled (state_of world.old) number
+        (record { stream = stream; saw = length world.old.journal.entries; command = command.now })) }
+    ensures err { OnErr result (state_of world.new ≡ state_of world.old) }
+    ensures may { MayGo stream (state_of world.old) (state_of world.new) }
+{
+    world.commands.reserve(1)?;
+    world.maint.reserve(1)?;
+    world.journal.reserve(world.journal.spare() + 1)?;
+    let all = BlockRange { first: 0, end: 0 };
+    let number = world.maint.enrol(all, Kind::Whole);
+    let call = MaintCall {
+        stream,
+        saw: world.journal.len(),
+        command: *command,
+    };
+    world.commands.push(call).unwrap();
+    Ok(number)
+}
+
+/// Gives the turn to a command that waits for it, where none is before it. It takes no memory.
+pub fn admit_maint(world: &mut World, t: TicketNumber) -> MayStart
+    requires sound { IsSound (state_of world.old) }
+    requires waits { (k : ℕ) × AwaitsTurn (state_of world.old) t k }
+    ensures sound { IsSound (state_of world.new) }
+    ensures turns { TurnsTo (state_of world.old) t result (state_of world.new) }
+    ensures may { ForAsker (state_of world.old) t (λ stream. MayGo stream (state_of world.old) (state_of world.new)) }
+{
+    let k = waiting_command_at(world, t);
+    if k > 0 {
+        return MayStart::After(world.maint.ticket(0).number);
+    }
+    world.maint.start_at(0);
+    MayStart::Yes
+}
+
+/// Takes back a command that waits for the turn. It takes no memory.
+pub fn withdraw_maint(world: &mut World, t: TicketNumber)
+    requires sound { IsSound (state_of world.old) }
+    requires waits { (k : ℕ) × AwaitsTurn (state_of world.old) t k }
+    ensures sound { IsSound (state_of world.new) }
+    ensures gone { (k : ℕ) × AwaitsTurn (state_of world.old) t k
+        × (state_of world.new ≡ without_command (state_of world.old) k) }
+    ensures may { ForAsker (state_of world.old) t (λ stream. MayGo stream (state_of world.old) (state_of world.new)) }
+{
+    let k = waiting_command_at(world, t);
+    take_command(world, k);
+}
+
+/// Ends the command that has the turn with that reply, where it may be answered so, and gives the place of the answer.
+/// It takes no memory.
+pub fn end_maint(world: &mut World, t: TicketNumber, reply: Reply) -> Result<u64, NotThis>
+    requires sound { IsSound (state_of world.old) }
+    ensures sound { IsSound (state_of world.new) }
+    ensures place { IfOk result (λ place. place ≡ length world.old.journal.entries) }
+    ensures ok { OnOk result (EndsTurn (state_of world.old) t reply (state_of world.new)) }
+    ensures why { IfErr result (λ why. (why ≡ NotThis.Ticket) × AgainstEndTurn (state_of world.old) t reply) }
+    ensures err { OnErr result (state_of world.new ≡ state_of world.old) }
+    ensures may { ForAsker (state_of world.old) t (λ stream. MayGo stream (state_of world.old) (state_of world.new)) }
+{
+    if !free_turn_at(world, t) || !may_end(world, &reply) {
+        return Err(NotThis::Ticket);
+    }
+    let call = take_command(world, 0);
+    Ok(world.push_answer(call.stream, call.saw, Call::Command(call.command), reply))
+}
+
+/// Gives the turn back without an answer, once memory ran out. It takes no memory.
+pub fn abandon(world: &mut World, t: TicketNumber)
+    requires sound { IsSound (state_of world.old) }
+    requires turn { IsFreeTurn (state_of world.old) t }
+    ensures sound { IsSound (state_of world.new) }
+    ensures gone { state_of world.new ≡ without_command (state_of world.old) 0 }
+    ensures may { ForAsker (state_of world.old) t (λ stream. MayGo stream (state_of world.old) (state_of world.new)) }
+{
+    take_command(world, 0);
+}
+
+/// Takes the command at k out.
+pub(crate) fn take_command(world: &mut World, k: usize) -> MaintCall
+    requires ticket { k < length world.old.maint.tickets }
+    requires command { k < length world.old.commands.items }
+    ensures value { result ≡ command_at world.old.commands.items k }
+    ensures gone { state_of world.new ≡ without_command (state_of world.old) k }
+{
+    world.maint.end_at(k);
+    world.commands.remove(k)
+}
