@@ -6,15 +6,17 @@ use Rattle.volume_model.specs.declared.mode.Mode.TheVariants.{Err}
 use Rattle.volume_model.specs.Faults.{last_count}
 use Rattle.volume_model.specs.Modes.{mode_of}
 use Rattle.open_calls.specs.Clients.{IsIdle}
+use Rattle.whole_calls.specs.Maint.{HasNoCommand}
 use Rattle.volume_core.specs.Answers.{IsOnRange, IsNow}
 use Rattle.volume_core.specs.Places.{IsWaitingAt}
 use Rattle.volume_core.specs.State.{State, modes_in}
 use Rattle.commands_at_rest.specs.AtRest.{IsForRest}
 
--- there is the stream, and it has no call open
+-- there is the stream, and it has no call open, and no command that has the maintenance turn or waits for it
 pub record IsFreeStream (s : State) (stream : ℕ) : Type 0 where
   pub within : stream < length s.indices
   pub idle : IsIdle stream s.calls
+  pub alone : HasNoCommand stream s.commands
 
 -- the stream may enrol the call: a read or a write that is not too long
 pub record MayEnrol (s : State) (stream : ℕ) (c : Call) : Type 0 where
@@ -35,8 +37,9 @@ pub record MayFault (s : State) (stream r count : ℕ) : Type 0 where
   pub up : mode_of (modes_in s) r ≢ Err
   pub rose : last_count stream r s.book.entries < count
 
--- the command may be carried out at rest: no ticket is there
+-- the command may be carried out at rest: no ticket is there, and no command of the maintenance turn
 pub record MayRest (s : State) (stream : ℕ) (c : Command) : Type 0 where
   pub within : stream < length s.indices
   pub rest : s.tickets ≡ []
+  pub turns : s.commands ≡ []
   pub asks : IsForRest c

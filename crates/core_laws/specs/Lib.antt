@@ -1,2 +1,4 @@
 pub mod Guards
+pub mod MaintGuards
+pub mod MaintTakes
 pub mod Takes

@@ -1,7 +1,7 @@
 //! Whether a step may be asked for.
 
 ghost use Rattle.std.specs.Prelude.{◌≡◌, ℕ, ◌<◌, length, true, false};
-ghost use Rattle.open_calls.specs.Clients.{IsIdle};
+ghost use Rattle.whole_calls.specs.Maint.{HasNoCommand};
 ghost use Rattle.volume_core.specs.Answers.{IsOnRange, IsNow};
 ghost use Rattle.volume_core.specs.State.{state_of};
 ghost use Rattle.commands_at_rest.specs.AtRest.{IsForRest};
@@ -9,6 +9,7 @@ ghost use Rattle.core_laws.specs.Guards.{IsFreeStream, MayEnrol, MayAnswer, IsWa
 
 use vol_units::LONGEST_CALL;
 use volume_core::{Call, Command, Kind, TicketNumber, World};
+use volume_maint::is_idle;
 
 /// Whether the stream may enrol the call.
 pub(crate) fn may_enrol(world: &World, stream: u8, call: &Call) -> bool
@@ -31,7 +32,10 @@ pub(crate) fn may_rest(world: &World, stream: u8, command: &Command) -> bool
     ensures yes { result ≡ true → MayRest (state_of world.now) stream command.now }
     ensures no { result ≡ false → MayRest (state_of world.now) stream command.now → ⊥ }
 {
-    (stream as usize) < world.indices.len() && world.turns.is_empty() && is_for_rest(command)
+    (stream as usize) < world.indices.len()
+        && world.turns.is_empty()
+        && world.commands.is_empty()
+        && is_for_rest(command)
 }
 
 fn is_for_rest(command: &Command) -> bool
@@ -61,20 +65,22 @@ pub(crate) fn is_waiting(world: &World, ticket: TicketNumber) -> bool
     !found.started && found.kind != Kind::Whole
 }
 
-/// Whether there is the stream, and it has no call open.
-fn is_free(world: &World, stream: u8) -> bool
+/// Whether there is the stream, and it has no call open and no command of the maintenance turn.
+pub(crate) fn is_free(world: &World, stream: u8) -> bool
     ensures yes { result ≡ true → IsFreeStream (state_of world.now) stream }
     ensures no { result ≡ false → IsFreeStream (state_of world.now) stream → ⊥ }
 {
-    (stream as usize) < world.indices.len() && is_idle(world, stream)
+    (stream as usize) < world.indices.len()
+        && is_idle(world, stream)
+        && has_no_command(world, stream)
 }
 
-fn is_idle(world: &World, stream: u8) -> bool
-    ensures yes { result ≡ true → IsIdle stream world.now.calls.items }
-    ensures no { result ≡ false → IsIdle stream world.now.calls.items → ⊥ }
+pub(crate) fn has_no_command(world: &World, stream: u8) -> bool
+    ensures yes { result ≡ true → HasNoCommand stream world.now.commands.items }
+    ensures no { result ≡ false → HasNoCommand stream world.now.commands.items → ⊥ }
 {
-    for i in 0..world.calls.len() {
-        if world.calls[i].stream == stream {
+    for k in 0..world.commands.len() {
+        if world.commands[k].stream == stream {
             return false;
         }
     }

@@ -2,15 +2,20 @@
 #![tactic(auto)]
 
 mod guards;
+mod maint_guards;
+mod maint_step;
 mod run;
 mod step;
 mod take;
+mod take_maint;
 
+pub use maint_step::MaintStep;
 pub use run::run_steps;
 pub use step::Step;
 pub use volume_core::{
     Bytes, Call, Command, Entry, Mode, Refusal, Reply, TicketNumber, VolumeSize, World,
 };
+pub use volume_maint::{FoldOrDrop, LayerName, SnapName, WholeOp};
 
 #[cfg(test)]
 mod tests;

@@ -1,3 +1,4 @@
+use crate::maint_step::MaintStep;
 use volume_core::{Call, Command, TicketNumber};
 
 /// A step that may be asked of a World. It names no blocks: those of a write are made where it is taken.
@@ -21,6 +22,9 @@ pub enum Step {
     Fault { stream: u8, replica: u8, count: u64 },
     /// A call ends.
     Complete(TicketNumber),
-    /// A stream has a command carried out on all replicas, while no ticket is there.
+    /// A stream has a command carried out on all replicas, while no ticket is there and no command of the maintenance
+    /// turn.
     AtRest { stream: u8, command: Command },
+    /// A step of the maintenance turn, of a call on the whole volume, or of folding.
+    Maint(MaintStep),
 }

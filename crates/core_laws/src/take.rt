@@ -11,6 +11,7 @@ ghost use Rattle.core_laws.specs.Takes.{Makes};
 
 use crate::guards::{is_waiting, may_answer, may_enrol, may_rest};
 use crate::step::Step;
+use crate::take_maint::take_maint_step;
 use commands_at_rest::command_at_rest;
 use std::alloc::{AllocError, Global};
 use volume_core::{Blocks, Call, Command, TicketNumber, World};
@@ -49,6 +50,7 @@ pub(crate) fn take_step(world: &mut World, alloc: Global, step: &Step) -> Result
             Ok(())
         }
         Step::AtRest { stream, command } => at_rest(world, alloc, *stream, command),
+        Step::Maint(step) => take_maint_step(world, alloc, step),
     }
 }
 

@@ -7,7 +7,6 @@ use plain_disk::PlainDisk;
 use std::alloc::{AllocError, Global};
 use std::process::Abort;
 use std::test::Fail;
-use vol_units::{LayerName, SnapName};
 use volume_core::Kind;
 use volume_model::{Answer, Mark};
 
@@ -111,6 +110,94 @@ fn all_of(steps: &mut Vec<Step>, ticket: TicketNumber, replicas: u8) -> Result<(
     Ok(())
 }
 
+/// An operation on the whole volume, over few names.
+fn any_op(numbers: &mut Numbers) -> Result<WholeOp, Fail> {
+    let name = SnapName::read([b"a", b"b", b"c"][numbers.below(3) as usize % 3])?;
+    let layer = LayerName::from(name);
+    let other = SnapName::read([b"a", b"b", b"c"][numbers.below(3) as usize % 3])?;
+    Ok(match numbers.below(8) {
+        0..=3 => WholeOp::Snapshot(name),
+        4 => WholeOp::Revert(layer),
+        5 => WholeOp::Purge(FoldOrDrop::Drop(layer)),
+        6 => WholeOp::Purge(FoldOrDrop::Fold {
+            parent: layer,
+            child: LayerName::from(other),
+        }),
+        _ => WholeOp::Remove(layer),
+    })
+}
+
+/// All steps of an operation and of the command that asks for it, of which an acknowledgement may be missing.
+fn all_of_op(
+    steps: &mut Vec<Step>,
+    numbers: &mut Numbers,
+    stream: u8,
+    replicas: u8,
+) -> Result<(), Fail> {
+    let op = any_op(numbers)?;
+    let first = TicketNumber::of(0);
+    let command = op.command();
+    push_maint(steps, MaintStep::Enrol { stream, command })?;
+    push_maint(steps, MaintStep::Admit(first))?;
+    fold_for(steps, &op, replicas)?;
+    push_maint(steps, MaintStep::EnrolWhole { stream, op })?;
+    for number in 0..6 {
+        let ticket = TicketNumber::of(number);
+        push_maint(steps, MaintStep::AdmitWhole(ticket))?;
+        for replica in 0..replicas {
+            push_maint(steps, MaintStep::Part { ticket, replica })?;
+            if numbers.below(40) > 0 {
+                push_maint(steps, MaintStep::AckWhole { ticket, replica })?;
+            }
+        }
+        push_maint(steps, MaintStep::CompleteWhole(ticket))?;
+    }
+    let reply = Reply::Done;
+    push_maint(
+        steps,
+        MaintStep::End {
+            ticket: first,
+            reply,
+        },
+    )?;
+    push_maint(steps, MaintStep::Abandon(first))?;
+    Ok(())
+}
+
+/// What a part of a purge asks to be folded before it.
+fn fold_for(steps: &mut Vec<Step>, op: &WholeOp, replicas: u8) -> Result<(), AllocError> {
+    match op {
+        WholeOp::Purge(part) => fold_part(steps, part, replicas),
+        WholeOp::Snapshot(_) | WholeOp::Remove(_) | WholeOp::Revert(_) => Ok(()),
+    }
+}
+
+/// The volume is one page long.
+fn fold_part(steps: &mut Vec<Step>, part: &FoldOrDrop, replicas: u8) -> Result<(), AllocError> {
+    match part {
+        FoldOrDrop::Fold { parent, child: _ } => fold_on_each(steps, *parent, replicas),
+        FoldOrDrop::Drop(_) => Ok(()),
+    }
+}
+
+fn fold_on_each(steps: &mut Vec<Step>, parent: LayerName, replicas: u8) -> Result<(), AllocError> {
+    let page = 0;
+    for replica in 0..replicas {
+        let step = MaintStep::FoldPage {
+            replica,
+            parent,
+            page,
+        };
+        push_maint(steps, step)?;
+    }
+    Ok(())
+}
+
+fn push_maint(steps: &mut Vec<Step>, step: MaintStep) -> Result<(), AllocError> {
+    steps.push(Step::Maint(step))?;
+    Ok(())
+}
+
 /// A list of steps, most of which find nothing to do.
 fn any_steps(
     alloc: Global,
@@ -120,14 +207,36 @@ fn any_steps(
 ) -> Result<Vec<Step>, Fail> {
     let mut steps = Vec::new(alloc);
     for _ in 0..150 {
-        if numbers.below(5) == 0 {
-            let ticket = TicketNumber::of(u64::from(numbers.below(u32::from(streams))));
-            all_of(&mut steps, ticket, replicas)?;
-        } else {
-            steps.push(any_step(alloc, numbers, streams, replicas)?)?;
+        match numbers.below(20) {
+            0..=3 => {
+                let ticket = TicketNumber::of(u64::from(numbers.below(u32::from(streams))));
+                all_of(&mut steps, ticket, replicas)?;
+            }
+            4 => {
+                let stream = numbers.byte_below(streams);
+                all_of_op(&mut steps, numbers, stream, replicas)?;
+            }
+            _ => steps.push(any_step(alloc, numbers, streams, replicas)?)?,
         }
     }
     Ok(steps)
+}
+
+/// How many commands of the journal are done, and parts of a purge.
+fn done_whole(world: &World) -> u64 {
+    let mut done: u64 = 0;
+    for place in 0..world.journal.len() {
+        let is_done = match world.journal.entry(place) {
+            Entry::Mark(mark) => matches!(mark, Mark::Purged(_)),
+            Entry::Answer(answer) => {
+                matches!(answer.call, Call::Command(_)) && same(&answer.reply, &Reply::Done)
+            }
+        };
+        if is_done {
+            done = done.saturating_add(1);
+        }
+    }
+    done
 }
 
 /// Whether two replies are the same.
@@ -201,8 +310,12 @@ fn is_held(world: &World, block: u32) -> bool {
     false
 }
 
-/// Each replica that is read reads as the disk in the blocks in which calls lie, outside those that are held.
+/// Each replica that is read reads as the disk in the blocks in which calls lie, outside those that are held. A started
+/// call on the whole volume may hold all of them.
 fn agrees(rt: &impl Abort, world: &World, disk: &PlainDisk) {
+    if world.whole.is_some() {
+        return;
+    }
     let mut replica = 0;
     for node in &world.nodes {
         if world.mode(replica) == Mode::Rw {
@@ -223,7 +336,7 @@ fn agrees(rt: &impl Abort, world: &World, disk: &PlainDisk) {
 fn random_lists_of_steps_make_legal_histories(rt: HostRuntime) -> Result<(), Fail> {
     let alloc = rt.alloc();
     let size = VolumeSize::new(SIZE as u64)?;
-    let mut answers = 0;
+    let (mut answers, mut done) = (0, 0);
     for seed in 0..200 {
         let mut numbers = Numbers(seed);
         let replicas = 1 + numbers.byte_below(3);
@@ -234,8 +347,10 @@ fn random_lists_of_steps_make_legal_histories(rt: HostRuntime) -> Result<(), Fai
         let disk = replayed(&rt, alloc, &world, replicas)?;
         agrees(&rt, &world, &disk);
         answers = world.journal.len().saturating_add(answers);
+        done = done_whole(&world).saturating_add(done);
     }
     assert!(rt; answers > 2_000, "only {answers} entries");
+    assert!(rt; done > 200, "only {done} of the whole volume");
     Ok(())
 }
 
