@@ -1,5 +1,5 @@
 use super::*;
-use outer_traits::{Failed, OuterError, Sink, Source};
+use outer_traits::{Failed, Gate, OuterError, Point, Sink, Source};
 use std::io::{Error, ErrorKind, Read, Result, Write};
 
 /// A stream that fails at each odd call, as where a signal interrupts it, and moves one byte at each other.
@@ -56,5 +56,17 @@ fn a_stream_that_works_does_not_fail_here(rt: HostRuntime) {
     for (read, wrote) in [(2, Ok(2)), (1, Ok(1)), (0, Err(OuterError::Failed))] {
         assert_eq!(rt; source.read(&mut [0; 2]), Ok(read));
         assert_eq!(rt; sink.write(b"ab"), wrote);
+    }
+}
+
+#[test]
+fn an_open_gate_is_passed() {
+    for point in [
+        Point::BeforeCarry(0),
+        Point::AfterCarry(0),
+        Point::Waiting,
+        Point::Ended(0),
+    ] {
+        OpenGate.pass(0, point);
     }
 }

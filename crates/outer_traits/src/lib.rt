@@ -5,6 +5,7 @@
 
 mod ends;
 mod error;
+mod gate;
 mod input;
 mod line;
 mod output;
@@ -15,6 +16,7 @@ mod wiring;
 
 pub use ends::Ends;
 pub use error::{Failed, Outer, OuterError};
+pub use gate::{Gate, Point};
 pub use input::read_whole;
 pub use line::Line;
 pub use output::{PIECE, pass_on, write_all};
