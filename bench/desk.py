@@ -1,0 +1,127 @@
+#!/usr/bin/env python3
+"""desk.py PROGRAM [REPEATS]
+
+Times turns at a desk, by the built program of the crate `desk_trial`, and beside it the same work in C under a mutex of the C
+library, and under a lock of tickets that waits as the desk does. Each call is two turns: in the first it is begun, in the second
+it is noted. One thread alone, two that want it all the time, and sixteen. Nanoseconds of the clock for each turn, of all turns of
+a run together; by turns, medians with the least and the greatest. Then sixteen threads make a thousand calls each, a hundred
+times. The C program is compiled by `cc`.
+"""
+import os
+import statistics
+import subprocess
+import sys
+import tempfile
+import time
+
+# How many calls each of so many threads makes.
+CALLS = {1: 4_000_000, 2: 2_000_000, 16: 2_000}
+
+LOCKS = r'''
+#define _GNU_SOURCE
+#include <pthread.h>
+#include <stdatomic.h>
+#include <stdio.h>
+#include <stdlib.h>
+#include <string.h>
+#include <unistd.h>
+#include <linux/futex.h>
+#include <sys/syscall.h>
+
+typedef struct { unsigned long stream, value; } note;
+static pthread_mutex_t mutex = PTHREAD_MUTEX_INITIALIZER;
+static _Atomic unsigned long drawn, served;
+static note *notes;
+static unsigned long noted, room, begun[16], calls;
+static int tickets;
+
+static void enter(void) {
+    if (!tickets) { pthread_mutex_lock(&mutex); return; }
+    unsigned long ticket = atomic_fetch_add(&drawn, 1);
+    for (int looks = 0;;) {
+        unsigned long serving = atomic_load(&served);
+        if (serving == ticket) return;
+        if (serving + 1 == ticket && looks < 100) { looks++; __builtin_ia32_pause(); }
+        else syscall(SYS_futex, &served, FUTEX_WAIT_PRIVATE, (int)serving, 0, 0, 0);
+    }
+}
+
+static void leave(void) {
+    if (!tickets) { pthread_mutex_unlock(&mutex); return; }
+    unsigned long ended = atomic_fetch_add(&served, 1);
+    if (atomic_load(&drawn) != ended + 1) syscall(SYS_futex, &served, FUTEX_WAKE_PRIVATE, 1 << 30, 0, 0, 0);
+}
+
+static void *serve(void *given) {
+    unsigned long stream = (unsigned long)given;
+    for (unsigned long value = 0; value < calls; value++) {
+        enter();
+        begun[stream] = value + 1;
+        leave();
+        enter();
+        if (noted == room) { room = room ? 2 * room : 4; notes = realloc(notes, room * sizeof(note)); }
+        notes[noted++] = (note){stream, begun[stream] - 1};
+        begun[stream] = 0;
+        leave();
+    }
+    return 0;
+}
+
+int main(int count, char **words) {
+    pthread_t threads[16];
+    unsigned long streams = strtoul(words[2], 0, 10);
+    tickets = !strcmp(words[1], "tickets");
+    calls = strtoul(words[3], 0, 10);
+    for (unsigned long i = 0; i < streams; i++) pthread_create(&threads[i], 0, serve, (void *)i);
+    for (unsigned long i = 0; i < streams; i++) pthread_join(threads[i], 0);
+    printf("%lu notes\n", noted);
+    return 0;
+}
+'''
+
+
+def compiled(folder):
+    """The C program."""
+    program = os.path.join(folder, 'locks')
+    subprocess.run(['cc', '-O2', '-pthread', '-x', 'c', '-', '-o', program], input=LOCKS.encode(), check=True)
+    return program
+
+
+def seconds(words, threads, calls):
+    """The seconds that a run takes, which has to note each call."""
+    start = time.perf_counter()
+    told = subprocess.run([*words, str(threads), str(calls)], stdout=subprocess.PIPE, check=True).stdout
+    taken = time.perf_counter() - start
+    assert told == b'%d notes\n' % (threads * calls), told
+    return taken
+
+
+def turn(words, threads):
+    """The nanoseconds of a turn. A run is so long that its start does not count."""
+    return seconds(words, threads, CALLS[threads]) * 1e9 / (threads * CALLS[threads] * 2)
+
+
+def told(times):
+    return '%6.0f (%.0f to %.0f)' % (statistics.median(times), min(times), max(times))
+
+
+def main():
+    program, repeats = sys.argv[1], int(sys.argv[2]) if len(sys.argv) > 2 else 7
+    with tempfile.TemporaryDirectory() as folder:
+        locks = compiled(folder)
+        forms = {'desk': [program], 'mutex in C': [locks, 'mutex'], 'tickets in C': [locks, 'tickets']}
+        for threads in CALLS:
+            taken = {name: [] for name in forms}
+            for _ in range(repeats):
+                for name, words in forms.items():
+                    taken[name].append(turn(words, threads))
+            for name in forms:
+                print('%2d threads, %-12s ns a turn %s' % (threads, name, told(taken[name])))
+    start = time.perf_counter()
+    for _ in range(100):
+        seconds([program], 16, 1000)
+    print('16 threads with 1000 calls each, a hundred times: %.1f s' % (time.perf_counter() - start))
+
+
+if __name__ == '__main__':
+    main()

@@ -1,0 +1,53 @@
+-- Drawing a ticket keeps the rule of a desk.
+use Rattle.std.proofs.Common.{◌≡◌, ℕ, ◌+◌, ◌%◌, ◌^◌, List, [], ◌∷◌, set, get_or, Some, refl, sym, ap, ◌∙◌, subst, arith, length-set}
+use mathlib.Core.Option.{some, some-injective}
+use mathlib.Core.Option as maybe
+use lib.ListN.{get_elem?}
+use Rattle.atomic_table.specs.Table.{step, keeps, Allows}
+use Rattle.desk_lock.specs.declared.views.Known.{Known}
+use Rattle.desk_lock.specs.declared.views.View.TheVariants.{Knows}
+use Rattle.desk_lock.specs.declared.views.Stage.TheVariants.{Idle, Waits}
+use Rattle.desk_lock.specs.Account.{Account}
+use Rattle.desk_lock.specs.Known.{staged}
+use Rattle.desk_lock.specs.Rule.{Place, ticket, has_ticket, holds_it, out_of, drew}
+use Rattle.desk_lock.proofs.Lists.{outs-set, outs-le, seats_stay, apart_stays}
+use Rattle.desk_lock.proofs.Stages.{wraps, knows_is, ticket_within, more_drawn, R, Sits, lies_still}
+
+module _ {S Entry OpenCall Origin : Type 0} (account : Account S Entry OpenCall Origin) where
+  pub draws : (slots id : ℕ) (me : Place S) (v : Known S) → me.0 ≡ Knows v → v.stage ≡ Idle → Allows (R account) slots id me 0 (λ n. (n + 1) % 2 ^ 64) (drew (step slots 0 1 0 maybe.none) me)
+  draws slots id me v is idle s r _ at _ =
+      let a : ℕ = r.drawn in
+      let w : Known S = staged v (Waits a) in
+      let at' : get_elem? s.views id ≡ some (Knows v) = at ∙ ap some is in
+      let mine = r.each_seat id v at' in
+      let sum = outs-set s.views id (Knows v) (Knows w) at' in
+      let was : out_of (Knows v) ≡ 0 = ap has_ticket idle in
+      let all = r.counted in
+      let some_out = outs-le s.views in (
+        Knows w,
+        keeps,
+        tt,
+        record {
+          served = r.served;
+          drawn = a + 1;
+          made = r.made;
+          seat_of = r.seat_of;
+          now = r.now;
+          words = ap (λ (ws : List ℕ). set ws 0 ((get_or ws 0 0 + 1) % 2 ^ 64)) r.words ∙ ap (λ (z : ℕ). z ∷ (r.served % 2 ^ 64) ∷ []) (wraps a);
+          counted = omega arith;
+          wide = length-set s.views id (Knows w) ∙ r.wide;
+          few = r.few;
+          lies = lies_still r.now s 0 ((get_or s.words 0 0 + 1) % 2 ^ 64) id me.1 (Knows v) (Knows w) r.lies at' (λ u e. ap (λ (z : Known S). holds_it z.stage) (sym (knows_is v u e)) ∙ ap holds_it idle);
+          sound = r.sound;
+          each_seat = seats_stay (Sits account r.served (a + 1) r.made r.seat_of r.now s.homes) s.views id (Knows w)
+              (λ u e. subst (Sits account r.served (a + 1) r.made r.seat_of r.now s.homes id) (knows_is w u e)
+              record { finds = mine.finds; on_stage = (omega arith, omega arith); placed = mine.placed })
+              (λ j u ne there. let t = r.each_seat j u there in
+              record { finds = t.finds; on_stage = more_drawn r.served a r.now s.homes u.last u.stage t.on_stage; placed = t.placed });
+          apart = apart_stays s.views id (Knows w) r.apart (λ x u b j e xt ne there ut.
+              let f : Some a ≡ Some b = ap (λ (z : Known S). ticket z.stage) (knows_is w x e) ∙ xt in let g : a ≡ b = cc in
+              let t = r.each_seat j u there in let h = (ticket_within r.served a r.now s.homes u.last u.stage b t.on_stage ut).1 in omega arith);
+          silent = r.silent;
+        },
+        (refl, λ u e. (a, ap (λ (ws : List ℕ). get_or ws 0 0) r.words, ap (λ (z : Known S). Knows (staged z (Waits a))) (knows_is v u (sym is ∙ e)))),
+      )

@@ -1,0 +1,10 @@
+pub mod Lists
+pub mod Stages
+pub mod Draws
+pub mod Looks
+pub mod Later
+pub mod Passes
+pub mod Splits
+pub mod Ends
+pub mod Turned
+pub mod Workers

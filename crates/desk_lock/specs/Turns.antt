@@ -1,0 +1,22 @@
+-- What the steps under a desk's calls say of a seat of the table.
+use Rattle.std.specs.Prelude.{◌≡◌, ℕ, [], ◌∷◌, None}
+use Rattle.desk_lock.specs.declared.views.Known.{Known}
+use Rattle.desk_lock.specs.declared.views.View.TheVariants.{Knows}
+use Rattle.desk_lock.specs.declared.views.Stage.TheVariants.{Idle, Holds}
+use Rattle.desk_lock.specs.Account.{Account}
+use Rattle.desk_lock.specs.Known.{knowing, Fits}
+use Rattle.desk_lock.specs.Rule.{Place}
+
+module _ {S : Type 0} where
+  -- no ticket is out with it
+  abbrev pub IsIdle : Place S → Type 0
+  IsIdle m = (v : Known S) × (m.0 ≡ Knows v) × (v.stage ≡ Idle) × (m.1 ≡ [])
+
+  -- it took the state x
+  abbrev pub HasTurn : Known S → S → Place S → Type 0
+  HasTurn v x m = (a : ℕ) × (m ≡ (Knows (knowing v x (Holds a)), (0, None) ∷ []))
+
+module _ {S Entry OpenCall Origin : Type 0} (account : Account S Entry OpenCall Origin) where
+  -- from idle to its turn, with the state x
+  abbrev pub Takes : Place S → S → Place S → Type 0
+  Takes m x m' = (v : Known S) → m.0 ≡ Knows v → Fits account x v × HasTurn v x m'

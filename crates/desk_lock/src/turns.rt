@@ -1,0 +1,69 @@
+//! One turn at a desk, as steps on its table.
+ghost use Rattle.std.specs.Prelude.{◌≡◌, [], ◌∷◌, None};
+ghost use Rattle.desk_lock.specs.declared.views.Known.{Known};
+ghost use Rattle.desk_lock.specs.declared.views.View.TheVariants.{Knows};
+ghost use Rattle.desk_lock.specs.declared.views.Stage.TheVariants.{Idle, Holds};
+ghost use Rattle.desk_lock.specs.Account.{MayLeave};
+ghost use Rattle.desk_lock.specs.Known.{knowing};
+ghost use Rattle.desk_lock.specs.Turns.{IsIdle, Takes};
+
+use crate::kept::Kept;
+use crate::plays::{Draw, Look, PassOn};
+use crate::seats::{Desk, Pass};
+use std::hint::spin_loop;
+use std::sync::Wait;
+
+// The words of the table: tickets drawn, and turns ended.
+const DRAWN: usize = 0;
+
+pub(crate) const SERVED: usize = 1;
+
+// How often the next in line looks before it sleeps, as all others do at once.
+const LOOKS: u32 = 100;
+
+impl<S: Kept> Desk<S> {
+    // Draws a ticket, waits for its turn, and takes the state out.
+    pub(crate) fn take<R: Wait>(&self, rt: &R, pass: &mut Pass<S>) -> S
+        requires { (pass.old.table_id ≡ self.now.table.shared.table_id) × IsIdle pass.old.me }
+        ensures same { (pass.new.table_id ≡ pass.old.table_id) × (pass.new.id ≡ pass.old.id) }
+        ensures takes { Takes S.account pass.old.me result pass.new.me }
+    {
+        let shared = &self.table.shared;
+        let ticket = shared.fetch_add::<Draw>(pass, DRAWN, 1);
+        let mut looks = 0;
+        for _ in rt.forever() {
+            let serving = shared.load::<Look>(pass, SERVED);
+            if serving == ticket {
+                return shared.exchange(pass, 0, None).unwrap();
+            }
+            // The next in line looks again at once, for a while, since a turn is mostly short.
+            if serving.wrapping_add(1) == ticket && looks < LOOKS {
+                looks += 1;
+                spin_loop();
+            } else {
+                shared.park(rt, SERVED, (serving & 0xffff_ffff) as u32);
+            }
+        }
+        unreachable!()
+    }
+
+    // Puts the state back, and passes the turn on.
+    pub(crate) fn put(&self, pass: &mut Pass<S>, state: S)
+        requires turn { (pass.old.table_id ≡ self.now.table.shared.table_id) × (pass.old.me.1 ≡ (0, None) ∷ []) }
+        requires may { (v : Known S) × (a : _) × (pass.old.me.0 ≡ Knows v) × (v.stage ≡ Holds a)
+            × MayLeave S.account v.number v.last state }
+        ensures same { (pass.new.table_id ≡ pass.old.table_id) × (pass.new.id ≡ pass.old.id) }
+        ensures left { (v : Known S) → pass.old.me.0 ≡ Knows v → pass.new.me ≡ (Knows (knowing v state Idle), []) }
+    {
+        let shared = &self.table.shared;
+        match shared.exchange(pass, 0, Some(state)) {
+            None => {}
+            Some(_) => unreachable!(),
+        }
+        let ended = shared.fetch_add::<PassOn>(pass, SERVED, 1);
+        // Who drew a ticket before this look may sleep, and who draws one later finds the turn passed on.
+        if shared.peek(DRAWN) != ended.wrapping_add(1) {
+            shared.wake_all(SERVED);
+        }
+    }
+}
