@@ -24,16 +24,17 @@ AgainstGive modes r (against.Mode m) = (m ≡ mode_of modes r) × (m ≢ Rw)
 AgainstGive modes r why = ⊥
 
 -- a replica acknowledges the open call: it had no step of it, as one that failed before the call started
-abbrev pub AgainstAck : List Mode → OwnCall → ℕ → NotThis → Type 0
-AgainstAck modes o r (against.Mode m) = (m ≡ mode_of modes r) × (m ≡ Err) × (¬ IsTaken (part_at o.parts r))
-AgainstAck modes o r (against.Pending q) = (q ≡ r) × (¬ IsTaken (part_at o.parts r))
-AgainstAck modes o r why = ⊥
+abbrev pub RefusesAck : List Mode → OwnCall → ℕ → NotThis → Type 0
+RefusesAck modes o r (against.Mode m) = (m ≡ mode_of modes r) × (m ≡ Err) × (¬ IsTaken (part_at o.parts r))
+RefusesAck modes o r (against.Pending q) = (q ≡ r) × (¬ IsTaken (part_at o.parts r))
+RefusesAck modes o r why = ⊥
 
 -- the stream's line to a replica fails: it had failed, or the count is not above the line's last
-abbrev pub AgainstFault : List Mode → Mine → ℕ → ℕ → NotThis → Type 0
-AgainstFault modes m r count (against.Mode mode) = (mode ≡ mode_of modes r) × (mode ≡ Err)
-AgainstFault modes m r count (against.Count last) = (last ≡ last_count m.stream r (entries_in m.entries)) × (count ≤ last)
-AgainstFault modes m r count why = ⊥
+abbrev pub RefusesFault : List Mode → Mine → ℕ → ℕ → NotThis → Type 0
+RefusesFault modes m r count (against.Mode mode) = (mode ≡ mode_of modes r) × (mode ≡ Err)
+RefusesFault modes m r count (against.Count last) =
+    (last ≡ last_count m.stream r (entries_in m.entries)) × (count ≤ last)
+RefusesFault modes m r count why = ⊥
 
 -- that replica has still to acknowledge the call: of a read, it is read and none has
 abbrev pub AwaitsIn : Call → List Mode → List Part → ℕ → Type 0
@@ -41,6 +42,6 @@ AwaitsIn (call.Write offset bytes) modes parts r = is_pending_at (mode_of modes 
 AwaitsIn c modes parts r = (mode_of modes r ≡ Rw) × ((q : ℕ) → part_at parts q ≢ Acked)
 
 -- the open call ends
-abbrev pub AgainstEnd : List Mode → OwnCall → NotThis → Type 0
-AgainstEnd modes o (against.Pending r) = AwaitsIn o.call modes o.parts r
-AgainstEnd modes o why = ⊥
+abbrev pub RefusesEnd : List Mode → OwnCall → NotThis → Type 0
+RefusesEnd modes o (against.Pending r) = AwaitsIn o.call modes o.parts r
+RefusesEnd modes o why = ⊥

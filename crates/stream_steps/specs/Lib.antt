@@ -1,3 +1,4 @@
 pub mod Mine
 pub mod Against
 pub mod Steps
+pub mod Maint

@@ -11,6 +11,7 @@ use Rattle.volume_model.specs.declared.mode.Mode.{Mode}
 use Rattle.volume_model.specs.History.{Spot}
 use Rattle.volume_model.specs.OneWorker.{behind_entries}
 use Rattle.open_calls.specs.declared.parts.Part.{Part}
+use Rattle.open_calls.specs.declared.whole_op.WholeOp.{WholeOp}
 
 -- an entry of the stream, with the mode of each replica before it
 pub record Placed : Type 0 where
@@ -26,8 +27,9 @@ answer_placed modes a = record { modes = modes; entry = entry.Answer a }
 abbrev pub fault_placed : List Mode → ℕ → ℕ → ℕ → Placed
 fault_placed modes stream r count = record { modes = modes; entry = entry.Mark (mark.Fault stream r count) }
 
--- The stream's open call: its ticket's number and blocks, whether it has started, what was asked, what the caller had
--- seen, all bytes of a started write's blocks, the bytes that a read has so far, and how far each replica is.
+-- An open call of the stream: its ticket's number and blocks, whether it has started, what was asked, what the caller
+-- had seen, all bytes of a started write's blocks, the bytes that a read has so far, how far each replica is, and what
+-- is done to the whole volume, if it is that.
 pub record OwnCall : Type 0 where
   pub number : ℕ
   pub range : BlockRange
@@ -37,14 +39,15 @@ pub record OwnCall : Type 0 where
   pub whole : List ℕ
   pub buffer : List ℕ
   pub parts : List Part
+  pub op : Option WholeOp
 
 -- a journal, and where the run stands behind it
 pub record Log : Type 0 where
   pub spot : Spot
   pub entries : List Entry
 
--- Of one stream: its entries and open calls, how many replicas there are, and the whole journal where nobody else adds
--- to it.
+-- Of one stream: its entries and open calls, that of a command that has the maintenance turn or waits for it before one
+-- for the whole volume, how many replicas there are, and the whole journal where nobody else adds to it.
 pub record Mine : Type 0 where
   pub stream : ℕ
   pub replicas : ℕ

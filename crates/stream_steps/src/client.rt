@@ -3,7 +3,7 @@ ghost use Rattle.vol_units.specs.declared.size.TheConstants.{BLOCK_BYTES, LARGES
 ghost use Rattle.volume_model.specs.Modes.{mode_of, IsSource, HasNoSource};
 ghost use Rattle.volume_core.specs.Answers.{IsNow, IsOnRange};
 ghost use Rattle.stream_steps.specs.Mine.{Mine, OwnCall, IsOwn, with_running};
-ghost use Rattle.stream_steps.specs.Against.{AgainstTake, AgainstGive, AgainstAck, AgainstFault, AgainstEnd};
+ghost use Rattle.stream_steps.specs.Against.{AgainstTake, AgainstGive, RefusesAck, RefusesFault, RefusesEnd};
 ghost use Rattle.stream_steps.specs.Steps.{HasNotStarted, HasStarted, IsStartedWrite, IsStartedRead, IsFrameCall, IsOnBlocks, EnrolsTo, AnswersNow, Answers, AdmitsTo, IsNotAfter, AreBlocksOfCall, TakesTo, AcksTo, FaultsTo};
 
 use std::alloc::{AllocError, Global};
@@ -168,7 +168,7 @@ pub trait ClientSteps {
         ensures ok { OnOk result ((o : OwnCall) → IsOwn t o (mine self.old)
             → AcksTo o replica (mine self.old) (mine self.new)) }
         ensures why { IfErr result (λ why. (o : OwnCall) → IsOwn t o (mine self.old)
-            → AgainstAck (modes self.new) o replica why) }
+            → RefusesAck (modes self.new) o replica why) }
         ensures err { OnErr result (mine self.new ≡ mine self.old) };
 
     /// The stream's line to a replica has failed, and so the replica.
@@ -178,7 +178,7 @@ pub trait ClientSteps {
         ensures home { home self.new ≡ home self.old }
         ensures ok { OnOk result (FaultsTo replica count (mine self.old) (mine self.new)) }
         ensures failed { OnOk result (mode_of (modes self.new) replica ≡ Mode.Err) }
-        ensures why { IfErr result (AgainstFault (modes self.new) (mine self.old) replica count) }
+        ensures why { IfErr result (RefusesFault (modes self.new) (mine self.old) replica count) }
         ensures err { OnErr result (mine self.new ≡ mine self.old) };
 
     /// Answers the open call, once its replicas have acknowledged it.
@@ -190,6 +190,6 @@ pub trait ClientSteps {
         ensures ok { OnOk result ((o : OwnCall) → IsOwn t o (mine self.old)
             → Answers o (mine self.old) (mine self.new)) }
         ensures why { IfErr result (λ why. (o : OwnCall) → IsOwn t o (mine self.old)
-            → AgainstEnd (modes self.new) o why) }
+            → RefusesEnd (modes self.new) o why) }
         ensures err { OnErr result (mine self.new ≡ mine self.old) };
 }

@@ -1,0 +1,256 @@
+ghost use Rattle.command_text.specs.declared.command.Command.{Command};
+ghost use Rattle.open_calls.specs.declared.whole_op.WholeOp.{WholeOp};
+ghost use Rattle.std.specs.Prelude.{◌≡◌, ◌≢◌, ℕ, ◌<◌, List, [], ◌∷◌, false, true, IfOk, IfErr, OnOk, OnErr, IfSome, None, Ok};
+ghost use Rattle.vol_units.specs.Name.{begins_sys};
+ghost use Rattle.volume_model.specs.declared.call.Call.TheVariants as call;
+ghost use Rattle.volume_model.specs.declared.call.Reply.{Reply};
+ghost use Rattle.volume_model.specs.Modes.{mode_of};
+ghost use Rattle.open_calls.specs.Calls.{command_of};
+ghost use Rattle.stream_steps.specs.Mine.{Mine, OwnCall, with_running};
+ghost use Rattle.stream_steps.specs.Against.{RefusesFault};
+ghost use Rattle.stream_steps.specs.Steps.{CommandsTo, EnrolsAt, FaultsTo, IsAtOnce};
+ghost use Rattle.stream_steps.specs.Maint.{IsMaint, HasTurn, AwaitsTurn, TurnsTo, IsYes, HasWhole, EnrolsWhole, EnrolsUnder, AnswersWhole, AdmitsWhole, IsNotLater, PartsTo, AcksWhole, AgainstPart, WholeEnds, IsNext};
+
+use std::alloc::{AllocError, Global};
+use std::sync::Wait;
+use volume_core::{Command, Mode, NotThis, Reply, TicketNumber};
+use volume_maint::{AdmitWhole, LayerName, MayStart, NextPart, WholeOp};
+
+/// The core's steps for one stream whose commands are carried to the replicas, each whole by itself. What others do
+/// between two of them is not said.
+pub trait CommandSteps {
+    ghost use Rattle.std.specs.Prelude.{List};
+    ghost use Rattle.volume_model.specs.declared.mode.Mode.{Mode};
+    ghost use Rattle.stream_steps.specs.Mine.{Mine};
+
+    /// What is known of the own stream.
+    ghost mine: { Self → Mine };
+
+    // The mode of each replica, as it was seen last.
+    ghost modes: { Self → List Mode };
+
+    // What no step changes.
+    ghost Home: { Type 0 };
+
+    ghost home: { Self → Home };
+
+    // That the next step can be taken.
+    ghost ready: { Self → Type 0 };
+
+    /// Answers a command at once: a replica fails, or the status is told.
+    fn answer_at_once<R: Wait>(
+        &mut self,
+        rt: &R,
+        alloc: Global,
+        command: &Command,
+    ) -> Result<u64, AllocError>
+        requires ready { ready self.old }
+        requires idle { (mine self.old).running ≡ [] }
+        requires once { IsAtOnce command.now }
+        ensures ready { ready self.new }
+        ensures home { home self.new ≡ home self.old }
+        ensures ok { OnOk result (CommandsTo command.now (mine self.old) (mine self.new)) }
+        ensures err { OnErr result (mine self.new ≡ mine self.old) };
+
+    /// The mode of a replica.
+    fn mode_of<R: Wait>(&mut self, rt: &R, replica: u8) -> Mode
+        requires ready { ready self.old }
+        ensures ready { ready self.new }
+        ensures home { home self.new ≡ home self.old }
+        ensures same { mine self.new ≡ mine self.old }
+        ensures is { result ≡ mode_of (modes self.new) replica };
+
+    /// The stream's line to a replica has failed, and so the replica.
+    fn line_failed<R: Wait>(&mut self, rt: &R, replica: u8, count: u64) -> Result<(), NotThis>
+        requires ready { ready self.old }
+        ensures ready { ready self.new }
+        ensures home { home self.new ≡ home self.old }
+        ensures ok { OnOk result (FaultsTo replica count (mine self.old) (mine self.new)) }
+        ensures failed { OnOk result (mode_of (modes self.new) replica ≡ Mode.Err) }
+        ensures why { IfErr result (RefusesFault (modes self.new) (mine self.old) replica count) }
+        ensures err { OnErr result (mine self.new ≡ mine self.old) };
+
+    /// How many pages the volume has.
+    fn page_count<R: Wait>(&mut self, rt: &R) -> u32
+        requires ready { ready self.old }
+        ensures ready { ready self.new }
+        ensures home { home self.new ≡ home self.old }
+        ensures same { mine self.new ≡ mine self.old };
+
+    // ---- the maintenance turn
+
+    /// Puts a command behind those that have the maintenance turn or wait for it.
+    fn enrol_maint<R: Wait>(
+        &mut self,
+        rt: &R,
+        alloc: Global,
+        command: &Command,
+    ) -> Result<TicketNumber, AllocError>
+        requires ready { ready self.old }
+        requires idle { (mine self.old).running ≡ [] }
+        requires wants { IsMaint command.now }
+        ensures ready { ready self.new }
+        ensures home { home self.new ≡ home self.old }
+        ensures ok { IfOk result (λ t. EnrolsAt t (call.Command command.now) (mine self.old) (mine self.new)) }
+        ensures err { OnErr result (mine self.new ≡ mine self.old) };
+
+    /// Gives the turn to the command, where no earlier one has it or waits for it.
+    fn admit_maint<R: Wait>(&mut self, rt: &R, t: TicketNumber) -> MayStart
+        requires ready { ready self.old }
+        requires waits { (c : Command) × (o : OwnCall) × AwaitsTurn t c o (mine self.old) }
+        ensures ready { ready self.new }
+        ensures home { home self.new ≡ home self.old }
+        ensures turns { (c : Command) (o : OwnCall) → AwaitsTurn t c o (mine self.old)
+            → TurnsTo o result (mine self.old) (mine self.new) }
+        ensures free { IfSome (mine self.old).log (λ log. IsYes result) };
+
+    /// Ends a purge that has the turn: it is done, or there is no replica. It is refused where it cannot be answered
+    /// so.
+    fn end_maint<R: Wait>(&mut self, rt: &R, t: TicketNumber, reply: Reply) -> Result<u64, NotThis>
+        requires ready { ready self.old }
+        requires turn { (o : OwnCall) × HasTurn t Command.Purge o (mine self.old) }
+        ensures ready { ready self.new }
+        ensures home { home self.new ≡ home self.old }
+        ensures ok { OnOk result ((o : OwnCall) → HasTurn t Command.Purge o (mine self.old)
+            → AnswersWhole o reply (mine self.old) (mine self.new)) }
+        ensures err { OnErr result (mine self.new ≡ mine self.old) };
+
+    /// Gives the turn back without an answer, once memory ran out.
+    fn abandon<R: Wait>(&mut self, rt: &R, t: TicketNumber)
+        requires ready { ready self.old }
+        requires turn { (c : Command) × (o : OwnCall) × HasTurn t c o (mine self.old) }
+        ensures ready { ready self.new }
+        ensures home { home self.new ≡ home self.old }
+        ensures gone { mine self.new ≡ with_running (mine self.old) [] };
+
+    // ---- the whole volume
+
+    /// Puts a snapshot behind all calls.
+    fn enrol_snapshot<R: Wait>(
+        &mut self,
+        rt: &R,
+        alloc: Global,
+        op: &WholeOp,
+    ) -> Result<TicketNumber, AllocError>
+        requires ready { ready self.old }
+        requires idle { (mine self.old).running ≡ [] }
+        requires snapshot { (name : List ℕ) × (op.now ≡ WholeOp.Snapshot name) × (begins_sys name ≡ false) }
+        ensures ready { ready self.new }
+        ensures home { home self.new ≡ home self.old }
+        ensures ok { IfOk result (λ t. EnrolsWhole t op.now [] (mine self.old) (mine self.new)) }
+        ensures saw { IfOk result (λ t. EnrolsAt t (call.Command (command_of op.now)) (mine self.old) (mine self.new)) }
+        ensures err { OnErr result (mine self.new ≡ mine self.old) };
+
+    /// Puts what the command does that has the turn behind all calls. None: a part of a purge that cannot go, or a
+    /// replica that is read has a block of its child yet.
+    fn enrol_whole<R: Wait>(
+        &mut self,
+        rt: &R,
+        alloc: Global,
+        t: TicketNumber,
+        op: &WholeOp,
+    ) -> Result<Option<TicketNumber>, AllocError>
+        requires ready { ready self.old }
+        requires turn { (o : OwnCall) × HasTurn t (command_of op.now) o (mine self.old) }
+        ensures ready { ready self.new }
+        ensures home { home self.new ≡ home self.old }
+        ensures ok { IfOk result (λ w. IfSome w (λ n. (o : OwnCall) → HasTurn t (command_of op.now) o (mine self.old)
+            → EnrolsUnder n op.now o (mine self.old) (mine self.new))) }
+        ensures none { result ≡ Ok None → mine self.new ≡ mine self.old }
+        ensures err { OnErr result (mine self.new ≡ mine self.old) };
+
+    /// Starts the operation, where no earlier call is in its way.
+    fn admit_whole<R: Wait>(
+        &mut self,
+        rt: &R,
+        alloc: Global,
+        t: TicketNumber,
+    ) -> Result<AdmitWhole, AllocError>
+        requires ready { ready self.old }
+        requires waits { (op : WholeOp) × (turn : List OwnCall) × (o : OwnCall)
+            × HasWhole t op turn o (mine self.old) × (o.started ≡ false) }
+        ensures ready { ready self.new }
+        ensures home { home self.new ≡ home self.old }
+        ensures ok { IfOk result (λ a. (op : WholeOp) (turn : List OwnCall) (o : OwnCall)
+            → HasWhole t op turn o (mine self.old) → AdmitsWhole turn o a (mine self.old) (mine self.new)) }
+        ensures free { IfOk result (λ a. IfSome (mine self.old).log (λ log. IsNotLater a)) }
+        ensures err { OnErr result (mine self.new ≡ mine self.old) };
+
+    /// Takes the operation back, which has not started.
+    fn withdraw_whole<R: Wait>(&mut self, rt: &R, t: TicketNumber)
+        requires ready { ready self.old }
+        requires waits { (op : WholeOp) × (turn : List OwnCall) × (o : OwnCall)
+            × HasWhole t op turn o (mine self.old) × (o.started ≡ false) }
+        ensures ready { ready self.new }
+        ensures home { home self.new ≡ home self.old }
+        ensures gone { (op : WholeOp) (turn : List OwnCall) (o : OwnCall)
+            → HasWhole t op turn o (mine self.old) → mine self.new ≡ with_running (mine self.old) turn };
+
+    /// A replica takes its part of the operation.
+    fn part<R: Wait>(&mut self, rt: &R, t: TicketNumber, replica: u8) -> Result<(), NotThis>
+        requires ready { ready self.old }
+        requires started { (op : WholeOp) × (turn : List OwnCall) × (o : OwnCall)
+            × HasWhole t op turn o (mine self.old) × (o.started ≡ true) }
+        ensures ready { ready self.new }
+        ensures home { home self.new ≡ home self.old }
+        ensures ok { OnOk result ((op : WholeOp) (turn : List OwnCall) (o : OwnCall)
+            → HasWhole t op turn o (mine self.old) → PartsTo turn o replica (mine self.old) (mine self.new)) }
+        ensures why { IfErr result (λ why. (op : WholeOp) (turn : List OwnCall) (o : OwnCall)
+            → HasWhole t op turn o (mine self.old) → AgainstPart (modes self.new) o replica why) }
+        ensures err { OnErr result (mine self.new ≡ mine self.old) };
+
+    /// A replica, which took its part, has acknowledged it.
+    fn ack_whole<R: Wait>(&mut self, rt: &R, t: TicketNumber, replica: u8) -> Result<(), NotThis>
+        requires ready { ready self.old }
+        requires started { (op : WholeOp) × (turn : List OwnCall) × (o : OwnCall)
+            × HasWhole t op turn o (mine self.old) × (o.started ≡ true) }
+        ensures ready { ready self.new }
+        ensures home { home self.new ≡ home self.old }
+        ensures ok { OnOk result ((op : WholeOp) (turn : List OwnCall) (o : OwnCall)
+            → HasWhole t op turn o (mine self.old) → AcksWhole turn o replica (mine self.old) (mine self.new)) }
+        ensures err { OnErr result (mine self.new ≡ mine self.old) };
+
+    /// Ends the operation, once each replica has acknowledged its part or has failed.
+    fn complete_whole<R: Wait>(&mut self, rt: &R, t: TicketNumber) -> Result<u64, NotThis>
+        requires ready { ready self.old }
+        requires started { (op : WholeOp) × (turn : List OwnCall) × (o : OwnCall)
+            × HasWhole t op turn o (mine self.old) × (o.started ≡ true) }
+        ensures ready { ready self.new }
+        ensures home { home self.new ≡ home self.old }
+        ensures ok { OnOk result ((op : WholeOp) (turn : List OwnCall) (o : OwnCall)
+            → HasWhole t op turn o (mine self.old) → WholeEnds op turn o (mine self.old) (mine self.new)) }
+        ensures err { OnErr result (mine self.new ≡ mine self.old) };
+
+    // ---- a purge
+
+    /// What the purge that has the turn does next.
+    fn fold_next<R: Wait>(&mut self, rt: &R, t: TicketNumber) -> NextPart
+        requires ready { ready self.old }
+        requires turn { (o : OwnCall) × HasTurn t Command.Purge o (mine self.old) }
+        ensures ready { ready self.new }
+        ensures home { home self.new ≡ home self.old }
+        ensures same { mine self.new ≡ mine self.old }
+        ensures is { IfSome (mine self.old).log (IsNext result) };
+
+    /// Whether a replica is read and has a block of the page in the one child of the layer.
+    fn fold_wanted<R: Wait>(&mut self, rt: &R, replica: u8, parent: &LayerName, page: u32) -> bool
+        requires ready { ready self.old }
+        ensures ready { ready self.new }
+        ensures home { home self.new ≡ home self.old }
+        ensures same { mine self.new ≡ mine self.old };
+
+    /// A replica folds a page of the layer's one child onto the layer.
+    fn fold_page<R: Wait>(
+        &mut self,
+        rt: &R,
+        t: TicketNumber,
+        replica: u8,
+        parent: &LayerName,
+        page: u32,
+    ) -> Result<(), NotThis>
+        requires ready { ready self.old }
+        requires turn { (o : OwnCall) × HasTurn t Command.Purge o (mine self.old) }
+        ensures ready { ready self.new }
+        ensures home { home self.new ≡ home self.old }
+        ensures same { mine self.new ≡ mine self.old };
+}
