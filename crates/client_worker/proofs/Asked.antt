@@ -14,7 +14,7 @@ use Rattle.volume_core.specs.declared.world.NotThis.{NotThis}
 use Rattle.volume_core.specs.declared.world.NotThis.TheVariants as against
 use Rattle.stream_steps.specs.Mine.{Mine, OwnCall, IsOwn, entries_in}
 use Rattle.stream_steps.specs.Steps.{IsReadCall, AcksTo}
-use Rattle.stream_steps.specs.Against.{AgainstTake, AgainstGive, AgainstAck, AgainstFault, AgainstEnd}
+use Rattle.stream_steps.specs.Against.{AgainstTake, AgainstGive, RefusesAck, RefusesFault, RefusesEnd}
 use Rattle.client_worker.specs.Ends.{NoneAcked}
 use Rattle.client_worker.specs.Asking.{HasTaken, HasAcked, AckedOrFailed, AckedOrUnread}
 use Rattle.client_worker.proofs.Going.{one_of}
@@ -33,16 +33,16 @@ give_unread modes r against.Ticket h = absurd h
 give_unread modes r (against.Pending q) h = absurd h
 give_unread modes r (against.Count n) h = absurd h
 
-fault_failed : (modes : List Mode) (m : Mine) (r count : ℕ) (why : NotThis) → last_count m.stream r (entries_in m.entries) < count → AgainstFault modes m r count why → mode_of modes r ≡ mode.Err
+fault_failed : (modes : List Mode) (m : Mine) (r count : ℕ) (why : NotThis) → last_count m.stream r (entries_in m.entries) < count → RefusesFault modes m r count why → mode_of modes r ≡ mode.Err
 fault_failed modes m r count (against.Mode x) above h = sym h.0 ∙ h.1
 fault_failed modes m r count (against.Count last) above h = absurd (omega (arith, above, h.0, h.1))
 fault_failed modes m r count against.Ticket above h = absurd h
 fault_failed modes m r count (against.Pending q) above h = absurd h
 
-end_unacked : (modes : List Mode) (o : OwnCall) (c : Call) (parts : List Part) (why : NotThis) → IsReadCall c → o.call ≡ c → AgainstEnd modes o why → (r : ℕ) → part_at o.parts r ≢ Acked
+end_unacked : (modes : List Mode) (o : OwnCall) (c : Call) (parts : List Part) (why : NotThis) → IsReadCall c → o.call ≡ c → RefusesEnd modes o why → (r : ℕ) → part_at o.parts r ≢ Acked
 end_unacked modes o (call.Read offset n) parts (against.Pending q) w e h = by o.call e h
   where
-    by : (c : Call) → c ≡ call.Read offset n → AgainstEnd modes (record o { call = c }) (against.Pending q) → (r : ℕ) → part_at o.parts r ≢ Acked
+    by : (c : Call) → c ≡ call.Read offset n → RefusesEnd modes (record o { call = c }) (against.Pending q) → (r : ℕ) → part_at o.parts r ≢ Acked
     by (call.Read offset2 k) same a = a.1
     by (call.Write offset2 bytes) same a = cc
     by call.Ping same a = a.1
@@ -64,12 +64,12 @@ pub place_why : (res : Result Bool NotThis) (why : NotThis) (modes : List Mode) 
 place_why (Ok b) why modes r e h = absurd cc
 place_why (Err x) why modes r e h = take_failed modes r x h
 
-pub fault_why : (res : Result (Unit {0}) NotThis) (modes : List Mode) (m : Mine) (r count : ℕ) → last_count m.stream r (entries_in m.entries) < count → OnOk res (mode_of modes r ≡ mode.Err) → IfErr res (AgainstFault modes m r count) → mode_of modes r ≡ mode.Err
+pub fault_why : (res : Result (Unit {0}) NotThis) (modes : List Mode) (m : Mine) (r count : ℕ) → last_count m.stream r (entries_in m.entries) < count → OnOk res (mode_of modes r ≡ mode.Err) → IfErr res (RefusesFault modes m r count) → mode_of modes r ≡ mode.Err
 fault_why (Ok u) modes m r count above ok why = ok
 fault_why (Err x) modes m r count above ok why = fault_failed modes m r count x above why
 
 -- a read that cannot end was acknowledged by nobody
-pub none_why : (res : Result ℕ NotThis) (t : ℕ) (modes : List Mode) (a b : Mine) → is_ok res ≡ false → OnErr res (b ≡ a) → IfErr res (λ why. (o : OwnCall) → IsOwn t o a → AgainstEnd modes o why) → ((o : OwnCall) × IsOwn t o a × IsReadCall o.call) → NoneAcked b
+pub none_why : (res : Result ℕ NotThis) (t : ℕ) (modes : List Mode) (a b : Mine) → is_ok res ≡ false → OnErr res (b ≡ a) → IfErr res (λ why. (o : OwnCall) → IsOwn t o a → RefusesEnd modes o why) → ((o : OwnCall) × IsOwn t o a × IsReadCall o.call) → NoneAcked b
 none_why (Ok n) t modes a b e err why op = absurd cc
 none_why (Err x) t modes a b e err why op = λ o run.
     let same : o ≡ op.0 = one_of o op.0 (sym run ∙ ap (λ (m : Mine). m.running) err ∙ op.1.is) in
@@ -83,7 +83,7 @@ part_here parts r p inside = get_or-set_same parts r p Apart (omega (arith, insi
 pub has_taken : (o : OwnCall) (r : ℕ) (buffer : List ℕ) → HasTaken (record o { buffer = buffer; parts = set o.parts r Taken }) r
 has_taken o r buffer = λ inside. subst IsTaken (sym (part_here o.parts r Taken inside)) tt
 
-not_refused : (modes : List Mode) (o : OwnCall) (r : ℕ) (why : NotThis) → HasTaken o r → AgainstAck modes o r why → HasAcked o r ⊎ (mode_of modes r ≡ mode.Err)
+not_refused : (modes : List Mode) (o : OwnCall) (r : ℕ) (why : NotThis) → HasTaken o r → RefusesAck modes o r why → HasAcked o r ⊎ (mode_of modes r ≡ mode.Err)
 not_refused modes o r (against.Mode m) taken h = inr (sym h.0 ∙ h.1)
 not_refused modes o r (against.Pending q) taken h = inl (λ inside. absurd (h.1 (taken inside)))
 not_refused modes o r against.Ticket taken h = absurd h
@@ -91,7 +91,7 @@ not_refused modes o r (against.Count n) taken h = absurd h
 
 -- what an acknowledgement leaves
 pub acked_why : (res : Result (Unit {0}) NotThis) (t r : ℕ) (modes : List Mode) (o : OwnCall) (a b : Mine) → IsOwn t o a → HasTaken o r
-    → OnOk res ((x : OwnCall) → IsOwn t x a → AcksTo x r a b) → OnErr res (b ≡ a) → IfErr res (λ why. (x : OwnCall) → IsOwn t x a → AgainstAck modes x r why) → AckedOrFailed modes r b
+    → OnOk res ((x : OwnCall) → IsOwn t x a → AcksTo x r a b) → OnErr res (b ≡ a) → IfErr res (λ why. (x : OwnCall) → IsOwn t x a → RefusesAck modes x r why) → AckedOrFailed modes r b
 acked_why (Ok u) t r modes o a b own taken ok err why = λ p run.
     let same : p ≡ record o { parts = set o.parts r Acked } = one_of p (record o { parts = set o.parts r Acked }) (sym run ∙ ap (λ (m : Mine). m.running) (ok o own)) in
     subst (λ (x : OwnCall). HasAcked x r ⊎ (mode_of modes r ≡ mode.Err)) (sym same) (inl (λ inside. part_here o.parts r Acked inside))

@@ -15,7 +15,7 @@ use Rattle.client_worker.specs.Serving.{IsOwnFault, StaysOpen, KeepsOpen}
 pub no_faults : (stream : ℕ) → All (IsOwnFault stream) []
 no_faults stream = λ k d l. absurd (omega (arith, l))
 
-one_fault : (stream r count : ℕ) → All (IsOwnFault stream) (entry.Mark (mark.Fault stream r count) ∷ [])
+pub one_fault : (stream r count : ℕ) → All (IsOwnFault stream) (entry.Mark (mark.Fault stream r count) ∷ [])
 one_fault stream r count zero d l = refl
 one_fault stream r count (suc k) d l = absurd (omega (arith, l))
 

@@ -12,7 +12,7 @@ use Rattle.stream_steps.specs.Mine.{Mine, Log, OwnCall, IsOwn, entries_in, longe
 use Rattle.stream_steps.specs.Steps.{IsUncarried, EnrolsAt, AnswersNow, Answers, Refuses}
 use Rattle.stream_steps.proofs.MineLemmas.{entries-append, longer_none, longer_twice, more_none, more_twice}
 use Rattle.client_worker.specs.Serving.{IsOwnFault, StaysOpen, KeepsOpen, Serves, AreServed, GrewBy, Grew, GrewSome}
-use Rattle.client_worker.specs.Ends.{Begins, EndsTo, TakesUp}
+use Rattle.client_worker.specs.Ends.{BeginsAs, EndsTo, TakesUp}
 use Rattle.client_worker.proofs.Going.{after, goes_running, own_of, no_faults}
 
 -- ---- one call
@@ -61,7 +61,7 @@ takes_refused o a b s = record {
 }
 
 -- one that has started
-pub takes_started : (o p : OwnCall) (a b c : Mine) → Begins o p a b → EndsTo p b c → TakesUp o a c
+pub takes_started : (o p : OwnCall) (a b c : Mine) → BeginsAs o p a b → EndsTo p b c → TakesUp o a c
 takes_started o p a b c g s = record {
   ends = record {
     marks = s.marks;

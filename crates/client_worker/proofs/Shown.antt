@@ -39,7 +39,7 @@ shown_later m before now told told2 later on h = record {
 -- ---- one entry more
 
 -- the stream has one entry more, and these calls open
-shown_more : (x : Placed) (os : List OwnCall) (a b : Mine) (counts : List ℕ) (carried : List (Option (List (List ℕ)))) → b ≡ with_more a (x ∷ []) os → Counted b counts → IsCarried a.replicas (told_in carried) x.modes x.entry
+pub shown_more : (x : Placed) (os : List OwnCall) (a b : Mine) (counts : List ℕ) (carried : List (Option (List (List ℕ)))) → b ≡ with_more a (x ∷ []) os → Counted b counts → IsCarried a.replicas (told_in carried) x.modes x.entry
     → AreCarried a.replicas (told_in carried) a.entries → ((o : OwnCall) → os ≡ o ∷ [] → AreAcked (told_in carried) o) → IsShown b counts carried
 shown_more x os a b counts carried e counted here before acked =
     subst (λ (m : Mine). IsShown m counts carried) (sym e) (record {
@@ -56,7 +56,7 @@ pub shown_told : {E : Type 0} (res : Result (Unit {0}) E) (r count : ℕ) (a b :
 shown_told (Ok u) r count a b counts carried ok err low h = shown_fault r count a b counts carried ok low h
 shown_told (Err e) r count a b counts carried ok err low h = shown_same a b err counts carried h
 
-no_call : (o : OwnCall) → [] ≡ o ∷ [] → ⊥
+pub no_call : (o : OwnCall) → [] ≡ o ∷ [] → ⊥
 no_call o e = cc
 
 -- ---- an answer

@@ -5,7 +5,7 @@ use Rattle.volume_core.specs.declared.admit.Admit.TheVariants as admit
 use Rattle.volume_core.specs.declared.job.Job.{Job}
 use Rattle.stream_steps.specs.Mine.{Mine, OwnCall, IsOwn, with_running}
 use Rattle.stream_steps.specs.Steps.{Refuses, AdmitsTo, StartsCall, HasNotStarted}
-use Rattle.client_worker.specs.Ends.{KeepsShown, Begins}
+use Rattle.client_worker.specs.Ends.{KeepsShown, BeginsAs}
 use Rattle.client_worker.proofs.Shown.{shown_starts, shown_refuses}
 
 module _ (t : ℕ) (m0 m m2 : Mine) (a : Admit) (same : m ≡ m0) (ok : (o : OwnCall) → IsOwn t o m → AdmitsTo o a m m2) where
@@ -28,7 +28,7 @@ module _ (t : ℕ) (m0 m m2 : Mine) (a : Admit) (same : m ≡ m0) (ok : (o : Own
   refused_shown place e op = shown_refuses op.0 m0 m2 (refused place e op.0 op.1)
 
 -- what the start says of the call
-pub begins : (o : OwnCall) (job : Job) (a b : Mine) (s : StartsCall o job a b) → Begins o s.own a b
+pub begins : (o : OwnCall) (job : Job) (a b : Mine) (s : StartsCall o job a b) → BeginsAs o s.own a b
 begins o job a b s = record {
   is = s.is;
   number = ap (λ (x : OwnCall). x.number) s.same;
@@ -38,7 +38,7 @@ begins o job a b s = record {
 }
 
 -- the call that has started is the stream's
-pub begun_own : (t : ℕ) (o p : OwnCall) (a b : Mine) → IsOwn t o a → Begins o p a b → IsOwn t p b
+pub begun_own : (t : ℕ) (o p : OwnCall) (a b : Mine) → IsOwn t o a → BeginsAs o p a b → IsOwn t p b
 begun_own t o p a b own g = record { is = ap (λ (m : Mine). m.running) g.is; number = trans_number }
   where
     trans_number : p.number ≡ t

@@ -24,7 +24,7 @@ use Rattle.client_worker.specs.Rooms.{CarriesWrite, CarriesRead}
 
 -- ---- with more frames behind
 
-exchange-more : (request reply : List ℕ) (xs ys : List (List ℕ)) → HasExchange request reply xs → HasExchange request reply (xs ++ ys)
+pub exchange-more : (request reply : List ℕ) (xs ys : List (List ℕ)) → HasExchange request reply xs → HasExchange request reply (xs ++ ys)
 exchange-more request reply xs ys h = (h.0, h.1 ++ ys, ap (λ l. l ++ ys) h.2 ∙ append_assoc h.0 (request ∷ reply ∷ h.1) ys)
 
 read-more : (offset : ℤ) (bytes : List ℕ) (xs ys : List (List ℕ)) → HasRead offset bytes xs → HasRead offset bytes (xs ++ ys)
@@ -46,7 +46,7 @@ part-more (call.Other k) buffer xs ys h = tt
 part-more (call.Command c) buffer xs ys h = tt
 
 -- what holds of the frames that are told, and of more frames with them
-still : (P : List (List ℕ) → Type 0) → ((xs ys : List (List ℕ)) → P xs → P (xs ++ ys)) → (s t : Option (List (List ℕ))) (more : List (List ℕ)) → TellsMore s t more → IfSome s P → IfSome t P
+pub still : (P : List (List ℕ) → Type 0) → ((xs ys : List (List ℕ)) → P xs → P (xs ++ ys)) → (s t : Option (List (List ℕ))) (more : List (List ℕ)) → TellsMore s t more → IfSome s P → IfSome t P
 still P grow s None more h p = tt
 still P grow None (Some now) more h p = absurd h
 still P grow (Some before) (Some now) more h p = subst P (sym h) (grow before more p)
@@ -104,7 +104,7 @@ carry_ok (Err x) s t frame e c = absurd cc
 -- ---- the exchange of the open call
 
 -- the request is told last, so that the reply makes the exchange
-exchange-now : (request reply : List ℕ) (front frames : List (List ℕ)) → frames ≡ front ++ request ∷ [] → HasExchange request reply (frames ++ reply ∷ [])
+pub exchange-now : (request reply : List ℕ) (front frames : List (List ℕ)) → frames ≡ front ++ request ∷ [] → HasExchange request reply (frames ++ reply ∷ [])
 exchange-now request reply front frames e = (front, [], ap (λ l. l ++ reply ∷ []) e ∙ append_assoc front (request ∷ []) (reply ∷ []))
 
 -- what is left to be told, where the request is told last
@@ -127,7 +127,7 @@ part_of_write call.Ping o buffer frames w s has = absurd w
 part_of_write (call.Other k) o buffer frames w s has = absurd w
 part_of_write (call.Command c) o buffer frames w s has = absurd w
 
-header_alone : (h : Head) → header h ≡ frame h []
+pub header_alone : (h : Head) → header h ≡ frame h []
 header_alone h = sym (append-nil (header h))
 
 -- the request of a started write came through, and its reply is next

@@ -13,7 +13,8 @@ use Rattle.client_worker.specs.Serving.{IsOwnFault, IsShown}
 
 -- what lines show of the first is shown of the second
 abbrev pub KeepsShown : Mine → Mine → Type 0
-KeepsShown m m2 = (counts : List ℕ) (carried : List (Option (List (List ℕ)))) → IsShown m counts carried → IsShown m2 counts carried
+KeepsShown m m2 = (counts : List ℕ) (carried : List (Option (List (List ℕ)))) → IsShown m counts carried
+    → IsShown m2 counts carried
 
 -- no replica has acknowledged the open call
 abbrev pub NoneAcked : Mine → Type 0
@@ -22,7 +23,7 @@ NoneAcked m = (o : OwnCall) → m.running ≡ o ∷ [] → (r : ℕ) → part_at
 -- ---- the start
 
 -- the call has started, as that one, while a replica is read and written
-pub record Begins (o own : OwnCall) (m m2 : Mine) : Type 0 where
+pub record BeginsAs (o own : OwnCall) (m m2 : Mine) : Type 0 where
   pub is : m2 ≡ with_running m (own ∷ [])
   pub number : own.number ≡ o.number
   pub call : own.call ≡ o.call

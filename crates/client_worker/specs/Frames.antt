@@ -23,7 +23,8 @@ write_head seq first n = record { seq = seq; kind = write_kind; offset = pos (fi
 
 -- has put them
 abbrev pub write_reply_head : ℕ → ℕ → ℕ → Head
-write_reply_head seq first n = record { seq = seq; kind = response_kind; offset = pos (first * BLOCK_BYTES); size = n; len = 0 }
+write_reply_head seq first n =
+    record { seq = seq; kind = response_kind; offset = pos (first * BLOCK_BYTES); size = n; len = 0 }
 
 -- ---- the frames
 

@@ -6,7 +6,7 @@ use Rattle.frame_wire.specs.Spelling.{header_length}
 use Rattle.client_worker.specs.declared.rooms.Rooms.{Rooms}
 use Rattle.stream_steps.specs.Mine.{Mine, OwnCall}
 use Rattle.stream_steps.specs.Steps.{Refuses, IsStarted, IsStartedWrite}
-use Rattle.client_worker.specs.Ends.{Begins, NoneAcked}
+use Rattle.client_worker.specs.Ends.{BeginsAs, NoneAcked}
 
 -- so many boxes, all there
 pub record AreBoxes (n : ℕ) (blocks : List (Option (List ℕ))) : Type 0 where
@@ -56,7 +56,7 @@ pub record HoldsWrite (o : OwnCall) (block replicas : ℕ) (rooms : Rooms) : Typ
 -- the write starts, and its request is filled
 pub record BeginsIn (o : OwnCall) (block replicas : ℕ) (rooms : Rooms) (m m2 : Mine) : Type 0 where
   pub own : OwnCall
-  pub begins : Begins o own m m2
+  pub begins : BeginsAs o own m m2
   pub filled : HoldsWrite own block replicas rooms
 
 -- it begins at that block, or there is no replica
@@ -67,7 +67,7 @@ BeginsOr o (Some block) replicas rooms m m2 = BeginsIn o block replicas rooms m 
 -- the read of so many bytes starts, and no replica has acknowledged it
 pub record ReadsIn (o : OwnCall) (offset : ℤ) (n : ℕ) (m m2 : Mine) : Type 0 where
   pub own : OwnCall
-  pub begins : Begins o own m m2
+  pub begins : BeginsAs o own m m2
   pub none : NoneAcked m2
   pub started : own.started ≡ true
   pub call : own.call ≡ call.Read offset n

@@ -62,7 +62,8 @@ pub record Serves (stream : ℕ) (log : Option Log) (c : Call) (es : List Entry)
   pub call : answer.call ≡ c
   pub by : answer.stream ≡ stream
   pub saw : IfSome log (λ l. answer.saw ≡ length_of l)
-  pub source : (bytes : List ℕ) → answer.reply ≡ reply.Read bytes → marks ≡ [] → IfSome log (λ l. HasSource l.spot.modes)
+  pub source : (bytes : List ℕ) → answer.reply ≡ reply.Read bytes → marks ≡ []
+      → IfSome log (λ l. HasSource l.spot.modes)
 
 -- the same of these calls, each taken up behind the entries of the one before
 abbrev pub AreServed : ℕ → Option Log → List Call → List Entry → Type 0

@@ -10,9 +10,9 @@ ghost use Rattle.client_worker.specs.Ends.{NoneAcked};
 ghost use Rattle.client_worker.specs.Asking.{AckedOrFailed, AckedOrUnread};
 ghost use Rattle.client_worker.specs.Rooms.{AreBoxes, CarriesWrite, CarriesRead};
 
-use crate::carry::{pass, reply_with};
 use crate::channel::{Channel, next_exchange};
 use crate::frames::{put_header, read_head, read_reply_head, write_head, write_reply_head};
+use crate::pass::{pass, reply_with};
 use frame_wire::{HEADER_LENGTH, encode_header};
 use outer_traits::Line;
 use std::sync::Wait;

@@ -1,6 +1,7 @@
 //! A line of the stream to one replica, and what is carried on it.
 
-ghost use Rattle.std.specs.Prelude.{◌≡◌, ◌<◌, length, map};
+ghost use Rattle.std.specs.Prelude.{◌≡◌, ℕ, ◌<◌, ◌≤◌, length, map, vec_capacity, slice_index_or, true, false};
+ghost use Rattle.client_worker.specs.Asking.{TellOn, TellsFrame};
 
 use outer_traits::Line;
 
@@ -19,8 +20,8 @@ impl<L: Line + Drop> Channel<L> {
     }
 }
 
-/// The number of the next exchange on the line to a replica, which is begun.
-pub(crate) fn next_exchange<L: Line + Drop>(channels: &mut [Channel<L>], replica: u8) -> u32
+/// The number of the next exchange on the line to a replica, which is begun. The request and its reply share it.
+pub fn next_exchange<L: Line + Drop>(channels: &mut [Channel<L>], replica: u8) -> u32
     requires { replica < length channels.old }
     ensures count { length channels.new ≡ length channels.old }
     ensures ends { map (λ c. L.ends c.line) channels.new ≡ map (λ c. L.ends c.line) channels.old }
@@ -30,4 +31,29 @@ pub(crate) fn next_exchange<L: Line + Drop>(channels: &mut [Channel<L>], replica
     let channel = &mut channels[replica as usize];
     channel.seq = channel.seq.wrapping_add(1);
     channel.seq
+}
+
+/// Carries a frame on the line to a replica, and says whether it came through: where it did not, the line has failed
+/// once more. It arrives in the room, which takes no memory.
+pub fn carry<L: Line + Drop>(
+    channels: &mut [Channel<L>],
+    replica: u8,
+    frame: &[u8],
+    room: &mut Vec<u8>,
+) -> bool
+    requires line { replica < length channels.old }
+    requires room { length frame.now ≤ vec_capacity room.old }
+    ensures count { length channels.new ≡ length channels.old }
+    ensures ends { map (λ c. L.ends c.line) channels.new ≡ map (λ c. L.ends c.line) channels.old }
+    ensures room { vec_capacity room.old ≤ vec_capacity room.new }
+    ensures later { (k : ℕ) → slice_index_or (map (λ c. L.count c.line) channels.old) k 0
+        ≤ slice_index_or (map (λ c. L.count c.line) channels.new) k 0 }
+    ensures failed { result ≡ false → slice_index_or (map (λ c. L.count c.line) channels.old) replica 0
+        < slice_index_or (map (λ c. L.count c.line) channels.new) replica 0 }
+    ensures told { TellOn (map (λ c. L.carried c.line) channels.old) (map (λ c. L.carried c.line) channels.new) }
+    ensures carried { result ≡ true → TellsFrame (map (λ c. L.carried c.line) channels.old)
+        (map (λ c. L.carried c.line) channels.new) replica frame.now }
+{
+    room.clear();
+    channels[replica as usize].line.carry(frame, room).is_ok()
 }

@@ -67,8 +67,8 @@ fn offset_of(block: u32) -> i64
     i64::from(block) * BLOCK_BYTES as i64
 }
 
-/// Puts a header before the data of a frame.
-pub(crate) fn put_header(bytes: &mut [u8], head: &Head)
+/// Puts a header before the data of a frame, whose first bytes are left for it.
+pub fn put_header(bytes: &mut [u8], head: &Head)
     requires { header_length ≤ length bytes.old }
     ensures { bytes.new ≡ frame head.now (drop header_length bytes.old) }
 {

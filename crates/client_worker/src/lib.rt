@@ -2,16 +2,17 @@
 #![tactic(auto)]
 
 mod asks;
-mod carry;
 mod channel;
 mod ends;
 mod frames;
 pub mod laws;
+mod pass;
 mod rooms;
 mod serve;
 mod stream;
 
-pub use channel::Channel;
+pub use channel::{Channel, carry, next_exchange};
+pub use frames::put_header;
 pub use outer_traits::Line;
 pub use rooms::Rooms;
 pub use script_text::Frames;

@@ -3,7 +3,7 @@ use Rattle.stream_steps.specs.Mine.{IsOwn}
 use Rattle.client_worker.proofs.Going.{goes_then, goes_acked}
 use Rattle.client_worker.proofs.Shown.{shown_replied}
 use Rattle.client_worker.proofs.Asked.{acked_why, asked_failed}
-use Rattle.client_worker.proofs.carry.reply_with.Goals as goal
+use Rattle.client_worker.proofs.pass.reply_with.Goals as goal
 
 pub ack-requires-clause-started : goal.ack-requires-clause-started
 ack-requires-clause-started g c =

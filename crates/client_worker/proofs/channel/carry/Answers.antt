@@ -4,7 +4,7 @@ use Rattle.outer_traits.specs.Causes.{HasLineCause}
 use Rattle.outer_traits.specs.Lines.{Carries}
 use Rattle.client_worker.proofs.Counts.{later_set, rose_set, line_rose}
 use Rattle.client_worker.proofs.Told.{on_set, here_set, carry_more, carry_ok}
-use Rattle.client_worker.proofs.carry.carry.Goals as goal
+use Rattle.client_worker.proofs.channel.carry.Goals as goal
 
 pub returns-clause-ends : goal.returns-clause-ends
 returns-clause-ends g c =

@@ -3,7 +3,7 @@ use Rattle.client_worker.proofs.Going.{goes_told}
 use Rattle.client_worker.proofs.Counts.{at_map}
 use Rattle.client_worker.proofs.Shown.{shown_told}
 use Rattle.client_worker.proofs.Asked.{fault_why}
-use Rattle.client_worker.proofs.carry.tell_fault.Goals as goal
+use Rattle.client_worker.proofs.pass.tell_fault.Goals as goal
 
 pub returns-clause-shown : goal.returns-clause-shown
 returns-clause-shown g c =

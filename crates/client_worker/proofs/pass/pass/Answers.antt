@@ -1,7 +1,7 @@
 use Rattle.std.proofs.Common.{refl, map, arith}
 use Rattle.client_worker.proofs.Going.{goes_same}
 use Rattle.client_worker.proofs.Shown.{shown_later}
-use Rattle.client_worker.proofs.carry.pass.Goals as goal
+use Rattle.client_worker.proofs.pass.pass.Goals as goal
 
 pub returns-then-carry-clause-shown : goal.returns-then-carry-clause-shown
 returns-then-carry-clause-shown g c =

@@ -1,6 +1,6 @@
 //! A frame is carried to a replica, and a replica whose line fails has failed.
 
-ghost use Rattle.std.specs.Prelude.{◌≡◌, ℕ, ◌+◌, ◌<◌, ◌≤◌, [], ◌∷◌, length, map, vec_capacity, slice_index_or, true, false};
+ghost use Rattle.std.specs.Prelude.{◌≡◌, ◌<◌, ◌≤◌, length, map, vec_capacity, slice_index_or, true, false};
 ghost use Rattle.volume_model.specs.Faults.{last_count};
 ghost use Rattle.volume_model.specs.Modes.{mode_of};
 ghost use Rattle.outer_traits.specs.Lines.{TellsMore};
@@ -10,35 +10,11 @@ ghost use Rattle.client_worker.specs.Exchanges.{told_in};
 ghost use Rattle.client_worker.specs.Serving.{IsShown, KeepsOpen};
 ghost use Rattle.client_worker.specs.Asking.{TellOn, TellsFrame, LacksReply, HasTaken, AckedOrFailed};
 
-use crate::channel::Channel;
+use crate::channel::{Channel, carry};
 use outer_traits::Line;
 use std::sync::Wait;
 use stream_steps::ClientSteps;
 use volume_core::{Mode, TicketNumber};
-
-/// Carries a frame on the line to a replica, and says whether it came through.
-fn carry<L: Line + Drop>(
-    channels: &mut [Channel<L>],
-    replica: u8,
-    frame: &[u8],
-    room: &mut Vec<u8>,
-) -> bool
-    requires line { replica < length channels.old }
-    requires room { length frame.now ≤ vec_capacity room.old }
-    ensures count { length channels.new ≡ length channels.old }
-    ensures ends { map (λ c. L.ends c.line) channels.new ≡ map (λ c. L.ends c.line) channels.old }
-    ensures room { vec_capacity room.old ≤ vec_capacity room.new }
-    ensures later { (k : ℕ) → slice_index_or (map (λ c. L.count c.line) channels.old) k 0
-        ≤ slice_index_or (map (λ c. L.count c.line) channels.new) k 0 }
-    ensures failed { result ≡ false → slice_index_or (map (λ c. L.count c.line) channels.old) replica 0
-        < slice_index_or (map (λ c. L.count c.line) channels.new) replica 0 }
-    ensures told { TellOn (map (λ c. L.carried c.line) channels.old) (map (λ c. L.carried c.line) channels.new) }
-    ensures carried { result ≡ true → TellsFrame (map (λ c. L.carried c.line) channels.old)
-        (map (λ c. L.carried c.line) channels.new) replica frame.now }
-{
-    room.clear();
-    channels[replica as usize].line.carry(frame, room).is_ok()
-}
 
 /// The line to a replica has failed: the core is told its count.
 fn tell_fault<R: Wait, C: ClientSteps, L: Line + Drop>(
