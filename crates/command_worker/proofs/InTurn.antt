@@ -1,0 +1,59 @@
+-- A command is answered, and then the next.
+use Rattle.std.proofs.Common.{◌≡◌, ℕ, ◌+◌, ◌<◌, List, [], ◌∷◌, ◌++◌, length, take, drop, Option, subst, sym, refl, ap, ◌∙◌, append_assoc, append-nil}
+use Rattle.std.specs.Prelude.{All}
+use Rattle.std.proofs.lemmas.List.{take_more, take-append-drop}
+use Rattle.std.proofs.Math.ListN.{get_or}
+use Rattle.command_text.specs.declared.command.Command.{Command}
+use Rattle.volume_model.specs.declared.entry.Entry.{Entry}
+use Rattle.stream_steps.specs.Mine.{Mine, Log, with_entries, with_running, longer}
+use Rattle.stream_steps.proofs.MineLemmas.{entries_none, entries_twice, longer_none, longer_twice}
+use Rattle.command_worker.specs.Purges.{MayComeBefore}
+use Rattle.command_worker.specs.Serving.{Commands, AreCommanded, GrewByCommand, GaveUp, Commanded, CommandedSome}
+
+pub commanded_none : (m : Mine) → m.running ≡ [] → Commanded [] m m
+commanded_none m idle = record { own = []; all = []; is = ap (with_running m) idle ∙ sym (entries_none m []); done = refl }
+
+-- none is open behind them
+pub commanded_idle : (cs : List Command) (a b : Mine) → Commanded cs a b → b.running ≡ []
+commanded_idle cs a b g = ap (λ (m : Mine). m.running) g.is
+
+-- a command behind others
+commanded_push : (stream : ℕ) (log : Option Log) (cs : List Command) (c : Command) (es fs : List Entry) → AreCommanded stream log cs es → Commands stream (longer log es) c fs
+    → AreCommanded stream log (cs ++ c ∷ []) (es ++ fs)
+commanded_push stream log [] c es fs none k =
+    (fs, [], ap (λ xs. xs ++ fs) none ∙ sym (append-nil fs), subst (λ l. Commands stream l c fs) (ap (longer log) none ∙ longer_none log) k, refl)
+commanded_push stream log (x ∷ cs) c es fs d k = (
+  d.0,
+  d.1 ++ fs,
+  ap (λ xs. xs ++ fs) d.2 ∙ append_assoc d.0 d.1 fs,
+  d.3,
+  commanded_push stream (longer log d.0) cs c d.1 fs d.4 (subst (λ l. Commands stream l c fs) (ap (longer log) d.2 ∙ sym (longer_twice log d.0 d.1)) k),
+)
+
+pub commanded_next : (cs : List Command) (c : Command) (a b d : Mine) → Commanded cs a b → GrewByCommand c b d → Commanded (cs ++ c ∷ []) a d
+commanded_next cs c a b d g s = record {
+  own = g.own ++ s.own;
+  all = g.all ++ s.all;
+  is = s.is ∙ ap (λ (m : Mine). with_entries m s.own s.all []) g.is ∙ entries_twice a g.own s.own g.all s.all [] [];
+  done = commanded_push a.stream a.log cs c g.all s.all g.done
+      (subst (λ l. Commands a.stream l c s.all) (ap (λ (m : Mine). m.log) g.is) (subst (λ (n : ℕ). Commands n b.log c s.all) (ap (λ (m : Mine). m.stream) g.is) s.done));
+}
+
+-- and so of the first of a list
+pub commanded_more : (cs : List Command) (i : ℕ) (c : Command) (a b d : Mine) → i < length cs → Commanded (take i cs) a b → GrewByCommand (get_or cs i c) b d
+    → Commanded (take (i + 1) cs) a d
+commanded_more cs i c a b d h g s = subst (λ xs. Commanded xs a d) (sym (take_more cs i c h)) (commanded_next (take i cs) (get_or cs i c) a b d g s)
+
+-- as far as memory lasted
+pub commanded_some : (cs : List Command) (i : ℕ) (a b d : Mine) → Commanded (take i cs) a b → GaveUp b d → CommandedSome cs a d
+commanded_some cs i a b d g s = record {
+  some = take i cs;
+  left = drop i cs;
+  are = take-append-drop i cs;
+  own = g.own ++ s.own;
+  all = g.all;
+  marks = s.marks;
+  is = s.is ∙ ap (λ (m : Mine). with_entries m s.own s.marks []) g.is ∙ entries_twice a g.own s.own g.all s.marks [] [];
+  done = g.done;
+  more = subst (λ (n : ℕ). All (MayComeBefore n) s.marks) (ap (λ (m : Mine). m.stream) g.is) s.are;
+}

@@ -1,0 +1,60 @@
+-- What lines show of the stream while it answers commands: of a command there is nothing to show but the counts.
+use Rattle.std.proofs.Common.{◌≡◌, ℕ, List, [], ◌∷◌, Option, Result, Ok, Err, OnOk, OnErr, subst, sym, refl, ap}
+use Rattle.volume_model.specs.declared.call.Call.{Call}
+use Rattle.volume_model.specs.declared.call.Call.TheVariants as call
+use Rattle.volume_model.specs.declared.entry.Answer.{Answer}
+use Rattle.volume_model.specs.declared.entry.Entry.{Entry}
+use Rattle.volume_model.specs.declared.mode.Mode.{Mode}
+use Rattle.command_text.specs.declared.command.Command.{Command}
+use Rattle.stream_steps.specs.Mine.{Placed, Mine, OwnCall, entries_in, with_entries, with_more, with_running, answer_placed}
+use Rattle.stream_steps.specs.Steps.{FaultsTo}
+use Rattle.stream_steps.proofs.MineLemmas.{entries_none}
+use Rattle.client_worker.specs.Exchanges.{told_in, CarriedOf}
+use Rattle.client_worker.specs.Serving.{IsShown}
+use Rattle.client_worker.specs.Ends.{KeepsShown}
+use Rattle.client_worker.proofs.Counts.{counted_answer}
+use Rattle.client_worker.proofs.Shown.{shown_same, shown_more, no_call}
+
+-- with no call open
+abbrev pub KeepsIdle : Mine → Mine → Type 0
+KeepsIdle a b = KeepsShown (with_running a []) (with_running b [])
+
+pub idle_same : (a b : Mine) → b ≡ a → KeepsIdle a b
+idle_same a b e = shown_same (with_running a []) (with_running b []) (ap (λ (m : Mine). with_running m []) e)
+
+-- other calls are open
+pub idle_running : (os : List OwnCall) (a b : Mine) → b ≡ with_running a os → KeepsIdle a b
+idle_running os a b e = shown_same (with_running a []) (with_running b []) (ap (λ (m : Mine). with_running m []) e)
+
+pub idle_then : (a b c : Mine) → KeepsIdle a b → KeepsIdle b c → KeepsIdle a c
+idle_then a b c f k = λ counts carried h. k counts carried (f counts carried h)
+
+-- where none is
+pub idle_of : (m : Mine) → m.running ≡ [] → m ≡ with_running m []
+idle_of m e = ap (with_running m) e
+
+-- a line failed
+pub idle_told : {E : Type 0} (res : Result (Unit {0}) E) (r count : ℕ) (a b : Mine) → OnOk res (FaultsTo r count a b) → OnErr res (b ≡ a)
+    → OnOk res (FaultsTo r count (with_running a []) (with_running b [])) × OnErr res (with_running b [] ≡ with_running a [])
+idle_told (Ok u) r count a b ok err = (record { modes = ok.modes; is = ap (λ (m : Mine). with_running m []) ok.is }, tt)
+idle_told (Err e) r count a b ok err = (tt, ap (λ (m : Mine). with_running m []) err)
+
+-- entries that are not the stream's show nothing
+pub shown_log : (a : Mine) (own : List Placed) (es fs : List Entry) (counts : List ℕ) (carried : List (Option (List (List ℕ)))) → IsShown (with_entries a own es []) counts carried → IsShown (with_entries a own fs []) counts carried
+shown_log a own es fs counts carried h = record { counted = h.counted; answered = h.answered; acked = h.acked }
+
+pub idle_others : (es : List Entry) (os : List OwnCall) (a b : Mine) → b ≡ with_entries a [] es os → KeepsIdle a b
+idle_others es os a b e = λ counts carried h.
+    subst (λ (m : Mine). IsShown m counts carried) (sym (ap (λ (m : Mine). with_running m []) e))
+    (shown_log a [] [] es counts carried (subst (λ (m : Mine). IsShown m counts carried) (sym (entries_none a [])) h))
+
+-- a command is answered, whatever other entries came
+pub idle_answer : (c : Command) (modes : List Mode) (answer : Answer) (es : List Entry) (a b : Mine) → b ≡ with_entries a (answer_placed modes answer ∷ []) es [] → answer.call ≡ call.Command c → KeepsShown (with_running a []) b
+idle_answer c modes answer es a b e is = λ counts carried h.
+    let own = answer_placed modes answer ∷ [] in
+    subst (λ (m : Mine). IsShown m counts carried) (sym e)
+    (shown_log (with_running a []) own (entries_in own) es counts carried
+    (shown_more (answer_placed modes answer) [] (with_running a []) (with_more (with_running a []) own []) counts carried refl
+    (counted_answer modes answer [] (with_running a []) (with_more (with_running a []) own []) counts refl h.counted)
+    (subst (λ (x : Call). CarriedOf a.replicas (told_in carried) modes x answer.reply) (sym is) tt)
+    h.answered (λ p no. absurd (no_call p no))))

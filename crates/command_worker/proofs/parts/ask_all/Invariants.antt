@@ -1,0 +1,17 @@
+use Rattle.std.proofs.Common.{◌≡◌, ◌≤◌, length, map, vec_capacity}
+use Rattle.command_worker.specs.Frames.{AsksBy, part_text}
+use Rattle.command_worker.specs.Whole.{KeepsWhole, WholeShown}
+use Rattle.command_worker.proofs.parts.ask_all.Given as goal
+
+-- the operation goes on
+abbrev pub invariant-loop-r : goal.invariant-loop-r
+invariant-loop-r g l = record {
+  ready : g.C.CommandSteps.ready l.steps;
+  home : g.C.CommandSteps.home l.steps ≡ g.C.CommandSteps.home l.initial.steps;
+  count : length l.channels ≡ length l.initial.channels;
+  ends : map (λ x. g.L.Line.ends x.line) l.channels ≡ map (λ x. g.L.Line.ends x.line) l.initial.channels;
+  room : vec_capacity l.initial.room ≤ vec_capacity l.room;
+  asks : AsksBy (part_text l.fn.op) l.request;
+  shown : WholeShown l.fn.t (g.C.CommandSteps.mine l.steps) (map (λ x. g.L.Line.count x.line) l.channels) (map (λ x. g.L.Line.carried x.line) l.channels);
+  goes : KeepsWhole l.fn.t (g.C.CommandSteps.mine l.initial.steps) (g.C.CommandSteps.mine l.steps);
+}

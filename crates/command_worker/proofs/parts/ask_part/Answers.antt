@@ -1,0 +1,33 @@
+use Rattle.std.proofs.Common.{rules, ◌≡◌, ◌-◌, length, map, true, pos}
+use Rattle.client_worker.specs.Exchanges.{told_in}
+use Rattle.command_worker.specs.Frames.{ask_head, part_text}
+use Rattle.command_worker.proofs.FrameLemmas.{asks_now}
+use Rattle.command_worker.proofs.PartLemmas.{keeps_on, keeps_same, keeps_then, keeps_parts, whole_kept, shown_on, shown_seq, shown_parts, asked_last}
+use Rattle.command_worker.proofs.parts.ask_part.Goals as goal
+
+pub returns-then-eq-clause-goes : goal.returns-then-eq-clause-goes
+returns-then-eq-clause-goes g c = keeps_same c.args.t (g.C.CommandSteps.mine c.args.steps.now) (g.C.CommandSteps.mine c.mode_of.new.self) c.mode_of.ensures.same
+
+pub returns-then-not-pass-clause-shown : goal.returns-then-not-pass-clause-shown
+returns-then-not-pass-clause-shown g c = shown_on c.args.t (g.C.CommandSteps.mine c.mode_of.new.self) (g.C.CommandSteps.mine c.pass.new.steps) (map (λ x. g.L.Line.count x.line) c.next_exchange-seq.new.channels) (map (λ x. g.L.Line.count x.line) c.pass.new.channels) (map (λ x. g.L.Line.carried x.line) c.next_exchange-seq.new.channels) (map (λ x. g.L.Line.carried x.line) c.pass.new.channels) c.pass.ensures.goes c.pass.ensures.told (shown_seq c.args.t (g.C.CommandSteps.mine c.args.steps.now) (g.C.CommandSteps.mine c.mode_of.new.self) (map (λ x. g.L.Line.count x.line) c.args.channels.now) (map (λ x. g.L.Line.count x.line) c.next_exchange-seq.new.channels) (map (λ x. g.L.Line.carried x.line) c.args.channels.now) (map (λ x. g.L.Line.carried x.line) c.next_exchange-seq.new.channels) c.mode_of.ensures.same c.next_exchange-seq.ensures.faults c.next_exchange-seq.ensures.carried c.requires.shown) c.pass.ensures.shown
+
+pub returns-then-is_err-clause-shown : goal.returns-then-is_err-clause-shown
+returns-then-is_err-clause-shown g c = shown_parts c.part.result c.args.t c.args.replica c.args.op.now (g.C.CommandSteps.mine c.pass.new.steps) (g.C.CommandSteps.mine c.part.new.self) (map (λ x. g.L.Line.count x.line) c.pass.new.channels) (map (λ x. g.L.Line.carried x.line) c.pass.new.channels) (whole_kept c.args.t true c.args.op.now (g.C.CommandSteps.mine c.args.steps.now) (g.C.CommandSteps.mine c.pass.new.steps) (keeps_then c.args.t (g.C.CommandSteps.mine c.args.steps.now) (g.C.CommandSteps.mine c.mode_of.new.self) (g.C.CommandSteps.mine c.pass.new.steps) (keeps_same c.args.t (g.C.CommandSteps.mine c.args.steps.now) (g.C.CommandSteps.mine c.mode_of.new.self) c.mode_of.ensures.same) (keeps_on c.args.t (g.C.CommandSteps.mine c.mode_of.new.self) (g.C.CommandSteps.mine c.pass.new.steps) c.pass.ensures.goes)) c.requires.started) c.part.ensures.ok c.part.ensures.err (shown_on c.args.t (g.C.CommandSteps.mine c.mode_of.new.self) (g.C.CommandSteps.mine c.pass.new.steps) (map (λ x. g.L.Line.count x.line) c.next_exchange-seq.new.channels) (map (λ x. g.L.Line.count x.line) c.pass.new.channels) (map (λ x. g.L.Line.carried x.line) c.next_exchange-seq.new.channels) (map (λ x. g.L.Line.carried x.line) c.pass.new.channels) c.pass.ensures.goes c.pass.ensures.told (shown_seq c.args.t (g.C.CommandSteps.mine c.args.steps.now) (g.C.CommandSteps.mine c.mode_of.new.self) (map (λ x. g.L.Line.count x.line) c.args.channels.now) (map (λ x. g.L.Line.count x.line) c.next_exchange-seq.new.channels) (map (λ x. g.L.Line.carried x.line) c.args.channels.now) (map (λ x. g.L.Line.carried x.line) c.next_exchange-seq.new.channels) c.mode_of.ensures.same c.next_exchange-seq.ensures.faults c.next_exchange-seq.ensures.carried c.requires.shown) c.pass.ensures.shown)
+
+pub reply_part-requires-clause-started : goal.reply_part-requires-clause-started
+reply_part-requires-clause-started g c = whole_kept c.args.t true c.args.op.now (g.C.CommandSteps.mine c.pass.new.steps) (g.C.CommandSteps.mine c.part.new.self) (keeps_parts c.part.result c.args.t c.args.replica (g.C.CommandSteps.mine c.pass.new.steps) (g.C.CommandSteps.mine c.part.new.self) c.part.ensures.ok c.part.ensures.err) (whole_kept c.args.t true c.args.op.now (g.C.CommandSteps.mine c.args.steps.now) (g.C.CommandSteps.mine c.pass.new.steps) (keeps_then c.args.t (g.C.CommandSteps.mine c.args.steps.now) (g.C.CommandSteps.mine c.mode_of.new.self) (g.C.CommandSteps.mine c.pass.new.steps) (keeps_same c.args.t (g.C.CommandSteps.mine c.args.steps.now) (g.C.CommandSteps.mine c.mode_of.new.self) c.mode_of.ensures.same) (keeps_on c.args.t (g.C.CommandSteps.mine c.mode_of.new.self) (g.C.CommandSteps.mine c.pass.new.steps) c.pass.ensures.goes)) c.requires.started)
+
+pub reply_part-requires-clause-asked : goal.reply_part-requires-clause-asked
+reply_part-requires-clause-asked g c =
+    let head : c.ask_head.result ≡ ask_head c.next_exchange-seq.result (pos 0) (length c.args.request.now - 26) = search rules in
+    asked_last c.next_exchange-seq.result c.args.op.now c.put_header.new.bytes (told_in (map (λ x. g.L.Line.carried x.line) c.next_exchange-seq.new.channels) c.args.replica) (told_in (map (λ x. g.L.Line.carried x.line) c.pass.new.channels) c.args.replica)
+    (asks_now c.next_exchange-seq.result (pos 0) (part_text c.args.op.now) c.args.request.now c.put_header.new.bytes c.ask_head.result c.requires.asks head c.put_header.ensures)
+    (c.pass.ensures.carried (search rules))
+
+pub reply_part-requires-clause-shown : goal.reply_part-requires-clause-shown
+reply_part-requires-clause-shown g c = shown_parts c.part.result c.args.t c.args.replica c.args.op.now (g.C.CommandSteps.mine c.pass.new.steps) (g.C.CommandSteps.mine c.part.new.self) (map (λ x. g.L.Line.count x.line) c.pass.new.channels) (map (λ x. g.L.Line.carried x.line) c.pass.new.channels) (whole_kept c.args.t true c.args.op.now (g.C.CommandSteps.mine c.args.steps.now) (g.C.CommandSteps.mine c.pass.new.steps) (keeps_then c.args.t (g.C.CommandSteps.mine c.args.steps.now) (g.C.CommandSteps.mine c.mode_of.new.self) (g.C.CommandSteps.mine c.pass.new.steps) (keeps_same c.args.t (g.C.CommandSteps.mine c.args.steps.now) (g.C.CommandSteps.mine c.mode_of.new.self) c.mode_of.ensures.same) (keeps_on c.args.t (g.C.CommandSteps.mine c.mode_of.new.self) (g.C.CommandSteps.mine c.pass.new.steps) c.pass.ensures.goes)) c.requires.started) c.part.ensures.ok c.part.ensures.err (shown_on c.args.t (g.C.CommandSteps.mine c.mode_of.new.self) (g.C.CommandSteps.mine c.pass.new.steps) (map (λ x. g.L.Line.count x.line) c.next_exchange-seq.new.channels) (map (λ x. g.L.Line.count x.line) c.pass.new.channels) (map (λ x. g.L.Line.carried x.line) c.next_exchange-seq.new.channels) (map (λ x. g.L.Line.carried x.line) c.pass.new.channels) c.pass.ensures.goes c.pass.ensures.told (shown_seq c.args.t (g.C.CommandSteps.mine c.args.steps.now) (g.C.CommandSteps.mine c.mode_of.new.self) (map (λ x. g.L.Line.count x.line) c.args.channels.now) (map (λ x. g.L.Line.count x.line) c.next_exchange-seq.new.channels) (map (λ x. g.L.Line.carried x.line) c.args.channels.now) (map (λ x. g.L.Line.carried x.line) c.next_exchange-seq.new.channels) c.mode_of.ensures.same c.next_exchange-seq.ensures.faults c.next_exchange-seq.ensures.carried c.requires.shown) c.pass.ensures.shown)
+
+pub returns-clause-goes : goal.returns-clause-goes
+returns-clause-goes g c =
+    keeps_then c.args.t (g.C.CommandSteps.mine c.args.steps.now) (g.C.CommandSteps.mine c.pass.new.steps) (g.C.CommandSteps.mine c.reply_part.new.steps) (keeps_then c.args.t (g.C.CommandSteps.mine c.args.steps.now) (g.C.CommandSteps.mine c.mode_of.new.self) (g.C.CommandSteps.mine c.pass.new.steps) (keeps_same c.args.t (g.C.CommandSteps.mine c.args.steps.now) (g.C.CommandSteps.mine c.mode_of.new.self) c.mode_of.ensures.same) (keeps_on c.args.t (g.C.CommandSteps.mine c.mode_of.new.self) (g.C.CommandSteps.mine c.pass.new.steps) c.pass.ensures.goes))
+    (keeps_then c.args.t (g.C.CommandSteps.mine c.pass.new.steps) (g.C.CommandSteps.mine c.part.new.self) (g.C.CommandSteps.mine c.reply_part.new.steps) (keeps_parts c.part.result c.args.t c.args.replica (g.C.CommandSteps.mine c.pass.new.steps) (g.C.CommandSteps.mine c.part.new.self) c.part.ensures.ok c.part.ensures.err) c.reply_part.ensures.goes)

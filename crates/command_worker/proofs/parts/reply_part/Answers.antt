@@ -1,0 +1,20 @@
+use Rattle.std.proofs.Common.{map, true, pos}
+use Rattle.command_worker.proofs.FrameLemmas.{replies_now}
+use Rattle.command_worker.proofs.PartLemmas.{keeps_on, keeps_then, keeps_acks, whole_kept, shown_on, shown_acks}
+use Rattle.command_worker.proofs.parts.reply_part.Goals as goal
+
+pub returns-then-pass-clause-shown : goal.returns-then-pass-clause-shown
+returns-then-pass-clause-shown g c =
+    shown_acks c.ack_whole.result c.args.t c.args.replica c.args.seq c.args.op.now (g.C.CommandSteps.mine c.pass.new.steps) (g.C.CommandSteps.mine c.ack_whole.new.self) (map (λ x. g.L.Line.count x.line) c.pass.new.channels) (map (λ x. g.L.Line.carried x.line) c.args.channels.now) (map (λ x. g.L.Line.carried x.line) c.pass.new.channels) c.encode_header-reply.result
+    (whole_kept c.args.t true c.args.op.now (g.C.CommandSteps.mine c.args.steps.now) (g.C.CommandSteps.mine c.pass.new.steps) (keeps_on c.args.t (g.C.CommandSteps.mine c.args.steps.now) (g.C.CommandSteps.mine c.pass.new.steps) c.pass.ensures.goes) c.requires.started) c.requires.asked
+    (replies_now c.args.seq (pos 0) c.encode_header-reply.result c.done_head.result c.done_head.ensures c.encode_header-reply.ensures) (c.pass.ensures.carried c.if-pass.true)
+    c.ack_whole.ensures.ok c.ack_whole.ensures.err
+    (shown_on c.args.t (g.C.CommandSteps.mine c.args.steps.now) (g.C.CommandSteps.mine c.pass.new.steps) (map (λ x. g.L.Line.count x.line) c.args.channels.now) (map (λ x. g.L.Line.count x.line) c.pass.new.channels) (map (λ x. g.L.Line.carried x.line) c.args.channels.now) (map (λ x. g.L.Line.carried x.line) c.pass.new.channels) c.pass.ensures.goes c.pass.ensures.told c.requires.shown c.pass.ensures.shown)
+
+pub returns-then-pass-clause-goes : goal.returns-then-pass-clause-goes
+returns-then-pass-clause-goes g c =
+    keeps_then c.args.t (g.C.CommandSteps.mine c.args.steps.now) (g.C.CommandSteps.mine c.pass.new.steps) (g.C.CommandSteps.mine c.ack_whole.new.self) (keeps_on c.args.t (g.C.CommandSteps.mine c.args.steps.now) (g.C.CommandSteps.mine c.pass.new.steps) c.pass.ensures.goes)
+    (keeps_acks c.ack_whole.result c.args.t c.args.replica (g.C.CommandSteps.mine c.pass.new.steps) (g.C.CommandSteps.mine c.ack_whole.new.self) c.ack_whole.ensures.ok c.ack_whole.ensures.err)
+
+pub returns-else-pass-clause-shown : goal.returns-else-pass-clause-shown
+returns-else-pass-clause-shown g c = shown_on c.args.t (g.C.CommandSteps.mine c.args.steps.now) (g.C.CommandSteps.mine c.pass.new.steps) (map (λ x. g.L.Line.count x.line) c.args.channels.now) (map (λ x. g.L.Line.count x.line) c.pass.new.channels) (map (λ x. g.L.Line.carried x.line) c.args.channels.now) (map (λ x. g.L.Line.carried x.line) c.pass.new.channels) c.pass.ensures.goes c.pass.ensures.told c.requires.shown c.pass.ensures.shown

@@ -1,0 +1,74 @@
+use Rattle.std.proofs.Common.{rules, ◌≡◌, [], ◌∷◌, map, true, false, subst, Ok, None}
+use Rattle.command_text.specs.declared.command.Command.TheVariants as command
+use Rattle.open_calls.specs.declared.whole_op.WholeOp.TheVariants as whole
+use Rattle.stream_steps.specs.Mine.{OwnCall}
+use Rattle.stream_steps.specs.Maint.{HasTurn, EnrolsUnder}
+use Rattle.command_worker.specs.Whole.{StartsOr}
+use Rattle.command_worker.proofs.CommandLemmas.{enrolled_waits, starts_so, on_err}
+use Rattle.command_worker.proofs.PartLemmas.{started_is, started_whole, starts_shown}
+use Rattle.command_worker.proofs.RoundLemmas.{some_of, turn_there, under_has, out_same, out_left, out_refused, out_done}
+use Rattle.command_worker.proofs.ShownLemmas.{idle_running}
+use Rattle.command_worker.proofs.purge.take_out.Goals as goal
+
+pub returns-in_err-whole-clause-err : goal.returns-in_err-whole-clause-err
+returns-in_err-whole-clause-err g c = on_err c.from_residual.result (λ o h. out_same c.args.t o (g.C.CommandSteps.mine c.args.steps.now) (g.C.CommandSteps.mine c.fold_before.new.steps) c.args.part h c.fold_before.ensures.goes (g.C.CommandSteps.mine c.enrol_whole.new.self) c.in_err-whole.ensures.err)
+
+pub returns-in_default-clause-ok : goal.returns-in_default-clause-ok
+returns-in_default-clause-ok g c = λ o h.
+    let e : c.enrol_whole.result ≡ Ok None = search rules in
+    out_same c.args.t o (g.C.CommandSteps.mine c.args.steps.now) (g.C.CommandSteps.mine c.fold_before.new.steps) c.args.part h c.fold_before.ensures.goes (g.C.CommandSteps.mine c.enrol_whole.new.self) (c.enrol_whole.ensures.none e)
+
+pub start-requires-clause-waits : goal.start-requires-clause-waits
+start-requires-clause-waits g c =
+    let w = some_of c.in_ok-whole.field-0 c.in-Some.whole (λ k. (x : OwnCall) → HasTurn c.args.t command.Purge x (g.C.CommandSteps.mine c.fold_before.new.steps) → EnrolsUnder k (whole.Purge c.args.part) x (g.C.CommandSteps.mine c.fold_before.new.steps) (g.C.CommandSteps.mine c.enrol_whole.new.self)) c.in-Some.is c.in_ok-whole.ensures.ok c.requires.turn.0 (turn_there c.args.t c.requires.turn.0 (g.C.CommandSteps.mine c.args.steps.now) (g.C.CommandSteps.mine c.fold_before.new.steps) c.args.part c.requires.turn.1 c.fold_before.ensures.goes) in
+    let waits = enrolled_waits c.in-Some.whole (whole.Purge c.args.part) (c.requires.turn.0 ∷ []) (g.C.CommandSteps.mine c.fold_before.new.steps) (g.C.CommandSteps.mine c.enrol_whole.new.self) w.whole in
+    let base = idle_running (c.requires.turn.0 ∷ w.whole.own ∷ []) (g.C.CommandSteps.mine c.fold_before.new.steps) (g.C.CommandSteps.mine c.enrol_whole.new.self) w.whole.is (map (λ x. g.L.Line.count x.line) c.fold_before.new.channels) (map (λ x. g.L.Line.carried x.line) c.fold_before.new.channels) c.fold_before.ensures.shown in
+    ((whole.Purge c.args.part), waits)
+
+pub returns-in_err-start-clause-shown : goal.returns-in_err-start-clause-shown
+returns-in_err-start-clause-shown g c =
+    let w = some_of c.in_ok-whole.field-0 c.in-Some.whole (λ k. (x : OwnCall) → HasTurn c.args.t command.Purge x (g.C.CommandSteps.mine c.fold_before.new.steps) → EnrolsUnder k (whole.Purge c.args.part) x (g.C.CommandSteps.mine c.fold_before.new.steps) (g.C.CommandSteps.mine c.enrol_whole.new.self)) c.in-Some.is c.in_ok-whole.ensures.ok c.requires.turn.0 (turn_there c.args.t c.requires.turn.0 (g.C.CommandSteps.mine c.args.steps.now) (g.C.CommandSteps.mine c.fold_before.new.steps) c.args.part c.requires.turn.1 c.fold_before.ensures.goes) in
+    let waits = enrolled_waits c.in-Some.whole (whole.Purge c.args.part) (c.requires.turn.0 ∷ []) (g.C.CommandSteps.mine c.fold_before.new.steps) (g.C.CommandSteps.mine c.enrol_whole.new.self) w.whole in
+    let base = idle_running (c.requires.turn.0 ∷ w.whole.own ∷ []) (g.C.CommandSteps.mine c.fold_before.new.steps) (g.C.CommandSteps.mine c.enrol_whole.new.self) w.whole.is (map (λ x. g.L.Line.count x.line) c.fold_before.new.channels) (map (λ x. g.L.Line.carried x.line) c.fold_before.new.channels) c.fold_before.ensures.shown in
+    c.start.ensures.shown (map (λ x. g.L.Line.count x.line) c.fold_before.new.channels) (map (λ x. g.L.Line.carried x.line) c.fold_before.new.channels) base
+
+pub returns-in_err-start-clause-err : goal.returns-in_err-start-clause-err
+returns-in_err-start-clause-err g c = on_err c.from_residual-in_err-start.result (λ o h.
+    let w = some_of c.in_ok-whole.field-0 c.in-Some.whole (λ k. (x : OwnCall) → HasTurn c.args.t command.Purge x (g.C.CommandSteps.mine c.fold_before.new.steps) → EnrolsUnder k (whole.Purge c.args.part) x (g.C.CommandSteps.mine c.fold_before.new.steps) (g.C.CommandSteps.mine c.enrol_whole.new.self)) c.in-Some.is c.in_ok-whole.ensures.ok o (turn_there c.args.t o (g.C.CommandSteps.mine c.args.steps.now) (g.C.CommandSteps.mine c.fold_before.new.steps) c.args.part h c.fold_before.ensures.goes) in
+    out_left c.args.t o (g.C.CommandSteps.mine c.args.steps.now) (g.C.CommandSteps.mine c.fold_before.new.steps) c.args.part h c.fold_before.ensures.goes c.in-Some.whole (g.C.CommandSteps.mine c.enrol_whole.new.self) w (g.C.CommandSteps.mine c.start.new.steps) (c.in_err-start.ensures.err (whole.Purge c.args.part) (o ∷ []) w.whole.own (under_has c.args.t o (g.C.CommandSteps.mine c.args.steps.now) (g.C.CommandSteps.mine c.fold_before.new.steps) c.args.part h c.fold_before.ensures.goes c.in-Some.whole (g.C.CommandSteps.mine c.enrol_whole.new.self) w)))
+
+pub returns-then-not-branch-clause-shown : goal.returns-then-not-branch-clause-shown
+returns-then-not-branch-clause-shown g c =
+    let w = some_of c.in_ok-whole.field-0 c.in-Some.whole (λ k. (x : OwnCall) → HasTurn c.args.t command.Purge x (g.C.CommandSteps.mine c.fold_before.new.steps) → EnrolsUnder k (whole.Purge c.args.part) x (g.C.CommandSteps.mine c.fold_before.new.steps) (g.C.CommandSteps.mine c.enrol_whole.new.self)) c.in-Some.is c.in_ok-whole.ensures.ok c.requires.turn.0 (turn_there c.args.t c.requires.turn.0 (g.C.CommandSteps.mine c.args.steps.now) (g.C.CommandSteps.mine c.fold_before.new.steps) c.args.part c.requires.turn.1 c.fold_before.ensures.goes) in
+    let waits = enrolled_waits c.in-Some.whole (whole.Purge c.args.part) (c.requires.turn.0 ∷ []) (g.C.CommandSteps.mine c.fold_before.new.steps) (g.C.CommandSteps.mine c.enrol_whole.new.self) w.whole in
+    let base = idle_running (c.requires.turn.0 ∷ w.whole.own ∷ []) (g.C.CommandSteps.mine c.fold_before.new.steps) (g.C.CommandSteps.mine c.enrol_whole.new.self) w.whole.is (map (λ x. g.L.Line.count x.line) c.fold_before.new.channels) (map (λ x. g.L.Line.carried x.line) c.fold_before.new.channels) c.fold_before.ensures.shown in
+    c.start.ensures.shown (map (λ x. g.L.Line.count x.line) c.fold_before.new.channels) (map (λ x. g.L.Line.carried x.line) c.fold_before.new.channels) base
+
+pub returns-then-not-branch-clause-ok : goal.returns-then-not-branch-clause-ok
+returns-then-not-branch-clause-ok g c = λ o h.
+    let w = some_of c.in_ok-whole.field-0 c.in-Some.whole (λ k. (x : OwnCall) → HasTurn c.args.t command.Purge x (g.C.CommandSteps.mine c.fold_before.new.steps) → EnrolsUnder k (whole.Purge c.args.part) x (g.C.CommandSteps.mine c.fold_before.new.steps) (g.C.CommandSteps.mine c.enrol_whole.new.self)) c.in-Some.is c.in_ok-whole.ensures.ok o (turn_there c.args.t o (g.C.CommandSteps.mine c.args.steps.now) (g.C.CommandSteps.mine c.fold_before.new.steps) c.args.part h c.fold_before.ensures.goes) in
+    let no : c.in_ok-start.field-0 ≡ false = search rules in
+    out_refused c.args.t o (g.C.CommandSteps.mine c.args.steps.now) (g.C.CommandSteps.mine c.fold_before.new.steps) c.args.part h c.fold_before.ensures.goes c.in-Some.whole (g.C.CommandSteps.mine c.enrol_whole.new.self) w (g.C.CommandSteps.mine c.start.new.steps) (subst (λ x. StartsOr x (o ∷ []) w.whole.own (g.C.CommandSteps.mine c.enrol_whole.new.self) (g.C.CommandSteps.mine c.start.new.steps)) no (c.in_ok-start.ensures.ok (whole.Purge c.args.part) (o ∷ []) w.whole.own (under_has c.args.t o (g.C.CommandSteps.mine c.args.steps.now) (g.C.CommandSteps.mine c.fold_before.new.steps) c.args.part h c.fold_before.ensures.goes c.in-Some.whole (g.C.CommandSteps.mine c.enrol_whole.new.self) w)))
+
+pub carry_whole-requires-clause-started : goal.carry_whole-requires-clause-started
+carry_whole-requires-clause-started g c =
+    let w = some_of c.in_ok-whole.field-0 c.in-Some.whole (λ k. (x : OwnCall) → HasTurn c.args.t command.Purge x (g.C.CommandSteps.mine c.fold_before.new.steps) → EnrolsUnder k (whole.Purge c.args.part) x (g.C.CommandSteps.mine c.fold_before.new.steps) (g.C.CommandSteps.mine c.enrol_whole.new.self)) c.in-Some.is c.in_ok-whole.ensures.ok c.requires.turn.0 (turn_there c.args.t c.requires.turn.0 (g.C.CommandSteps.mine c.args.steps.now) (g.C.CommandSteps.mine c.fold_before.new.steps) c.args.part c.requires.turn.1 c.fold_before.ensures.goes) in
+    let waits = enrolled_waits c.in-Some.whole (whole.Purge c.args.part) (c.requires.turn.0 ∷ []) (g.C.CommandSteps.mine c.fold_before.new.steps) (g.C.CommandSteps.mine c.enrol_whole.new.self) w.whole in
+    let base = idle_running (c.requires.turn.0 ∷ w.whole.own ∷ []) (g.C.CommandSteps.mine c.fold_before.new.steps) (g.C.CommandSteps.mine c.enrol_whole.new.self) w.whole.is (map (λ x. g.L.Line.count x.line) c.fold_before.new.channels) (map (λ x. g.L.Line.carried x.line) c.fold_before.new.channels) c.fold_before.ensures.shown in
+    let yes : c.in_ok-start.field-0 ≡ true = search rules in
+    started_is c.in-Some.whole (whole.Purge c.args.part) waits.0 waits.1 (g.C.CommandSteps.mine c.enrol_whole.new.self) (g.C.CommandSteps.mine c.start.new.steps) waits.2 (starts_so c.in-Some.whole (whole.Purge c.args.part) c.in_ok-start.field-0 (g.C.CommandSteps.mine c.enrol_whole.new.self) (g.C.CommandSteps.mine c.start.new.steps) yes c.in_ok-start.ensures.ok waits)
+
+pub carry_whole-requires-clause-shown : goal.carry_whole-requires-clause-shown
+carry_whole-requires-clause-shown g c =
+    let w = some_of c.in_ok-whole.field-0 c.in-Some.whole (λ k. (x : OwnCall) → HasTurn c.args.t command.Purge x (g.C.CommandSteps.mine c.fold_before.new.steps) → EnrolsUnder k (whole.Purge c.args.part) x (g.C.CommandSteps.mine c.fold_before.new.steps) (g.C.CommandSteps.mine c.enrol_whole.new.self)) c.in-Some.is c.in_ok-whole.ensures.ok c.requires.turn.0 (turn_there c.args.t c.requires.turn.0 (g.C.CommandSteps.mine c.args.steps.now) (g.C.CommandSteps.mine c.fold_before.new.steps) c.args.part c.requires.turn.1 c.fold_before.ensures.goes) in
+    let waits = enrolled_waits c.in-Some.whole (whole.Purge c.args.part) (c.requires.turn.0 ∷ []) (g.C.CommandSteps.mine c.fold_before.new.steps) (g.C.CommandSteps.mine c.enrol_whole.new.self) w.whole in
+    let base = idle_running (c.requires.turn.0 ∷ w.whole.own ∷ []) (g.C.CommandSteps.mine c.fold_before.new.steps) (g.C.CommandSteps.mine c.enrol_whole.new.self) w.whole.is (map (λ x. g.L.Line.count x.line) c.fold_before.new.channels) (map (λ x. g.L.Line.carried x.line) c.fold_before.new.channels) c.fold_before.ensures.shown in
+    let yes : c.in_ok-start.field-0 ≡ true = search rules in
+    starts_shown c.in-Some.whole (whole.Purge c.args.part) waits.0 waits.1 (g.C.CommandSteps.mine c.enrol_whole.new.self) (g.C.CommandSteps.mine c.start.new.steps) (map (λ x. g.L.Line.count x.line) c.fold_before.new.channels) (map (λ x. g.L.Line.carried x.line) c.fold_before.new.channels) waits.2 (starts_so c.in-Some.whole (whole.Purge c.args.part) c.in_ok-start.field-0 (g.C.CommandSteps.mine c.enrol_whole.new.self) (g.C.CommandSteps.mine c.start.new.steps) yes c.in_ok-start.ensures.ok waits) (c.start.ensures.shown (map (λ x. g.L.Line.count x.line) c.fold_before.new.channels) (map (λ x. g.L.Line.carried x.line) c.fold_before.new.channels) base)
+
+pub returns-clause-ok : goal.returns-clause-ok
+returns-clause-ok g c = λ o h.
+    let w = some_of c.in_ok-whole.field-0 c.in-Some.whole (λ k. (x : OwnCall) → HasTurn c.args.t command.Purge x (g.C.CommandSteps.mine c.fold_before.new.steps) → EnrolsUnder k (whole.Purge c.args.part) x (g.C.CommandSteps.mine c.fold_before.new.steps) (g.C.CommandSteps.mine c.enrol_whole.new.self)) c.in-Some.is c.in_ok-whole.ensures.ok o (turn_there c.args.t o (g.C.CommandSteps.mine c.args.steps.now) (g.C.CommandSteps.mine c.fold_before.new.steps) c.args.part h c.fold_before.ensures.goes) in
+    let yes : c.in_ok-start.field-0 ≡ true = search rules in
+    let s = subst (λ x. StartsOr x (o ∷ []) w.whole.own (g.C.CommandSteps.mine c.enrol_whole.new.self) (g.C.CommandSteps.mine c.start.new.steps)) yes (c.in_ok-start.ensures.ok (whole.Purge c.args.part) (o ∷ []) w.whole.own (under_has c.args.t o (g.C.CommandSteps.mine c.args.steps.now) (g.C.CommandSteps.mine c.fold_before.new.steps) c.args.part h c.fold_before.ensures.goes c.in-Some.whole (g.C.CommandSteps.mine c.enrol_whole.new.self) w)) in
+    out_done c.args.t o (g.C.CommandSteps.mine c.args.steps.now) (g.C.CommandSteps.mine c.fold_before.new.steps) c.args.part h c.fold_before.ensures.goes c.in-Some.whole (g.C.CommandSteps.mine c.enrol_whole.new.self) w (g.C.CommandSteps.mine c.start.new.steps) (g.C.CommandSteps.mine c.carry_whole.new.steps) s (c.carry_whole.ensures.done (o ∷ []) s.own (started_whole c.in-Some.whole (whole.Purge c.args.part) (o ∷ []) w.whole.own (g.C.CommandSteps.mine c.enrol_whole.new.self) (g.C.CommandSteps.mine c.start.new.steps) (under_has c.args.t o (g.C.CommandSteps.mine c.args.steps.now) (g.C.CommandSteps.mine c.fold_before.new.steps) c.args.part h c.fold_before.ensures.goes c.in-Some.whole (g.C.CommandSteps.mine c.enrol_whole.new.self) w) s)) c.requires.next

@@ -1,0 +1,5 @@
+pub mod Serving
+pub mod Frames
+pub mod Rooms
+pub mod Whole
+pub mod Purges

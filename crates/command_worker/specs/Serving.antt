@@ -1,0 +1,73 @@
+-- How what a worker knows of its stream grows while it answers the stream's commands.
+use Rattle.std.specs.Prelude.{◌≡◌, ℕ, List, [], ◌∷◌, ◌++◌, All, false, Option, IfSome}
+use Rattle.vol_units.specs.Name.{begins_sys}
+use Rattle.command_text.specs.declared.command.Command.{Command}
+use Rattle.command_text.specs.declared.command.Command.TheVariants as command
+use Rattle.volume_model.specs.declared.call.Call.TheVariants as call
+use Rattle.volume_model.specs.declared.entry.Answer.{Answer}
+use Rattle.volume_model.specs.declared.entry.Entry.{Entry}
+use Rattle.volume_model.specs.declared.entry.Entry.TheVariants as entry
+use Rattle.stream_steps.specs.Mine.{Mine, Placed, Log, with_entries, longer, length_of}
+use Rattle.stream_steps.specs.Steps.{AreMarks, IsCommandAt}
+use Rattle.command_worker.specs.Purges.{MayComeBefore}
+
+-- A command that this worker takes: no replica is rebuilt yet, and a snapshot has a name that a user may give.
+abbrev pub IsForCommands : Command → Type 0
+IsForCommands (command.Snapshot name) = begins_sys name ≡ false
+IsForCommands (command.Add r) = ⊥
+IsForCommands c = Unit {0}
+
+-- The entries are marks, and then the answer of a command that was taken up behind that journal. Where no line failed,
+-- they are those that one worker makes of it there.
+pub record Commands (stream : ℕ) (log : Option Log) (c : Command) (es : List Entry) : Type 0 where
+  pub marks : List Entry
+  pub answer : Answer
+  pub is : es ≡ marks ++ entry.Answer answer ∷ []
+  pub are : All (MayComeBefore stream) marks
+  pub call : answer.call ≡ call.Command c
+  pub by : answer.stream ≡ stream
+  pub saw : IfSome log (λ l. answer.saw ≡ length_of l)
+  pub turn : IfSome log (λ l. AreMarks marks → IsCommandAt stream c es answer l)
+
+-- the same of these commands, each taken up behind the entries of the one before
+abbrev pub AreCommanded : ℕ → Option Log → List Command → List Entry → Type 0
+AreCommanded stream log [] es = es ≡ []
+AreCommanded stream log (c ∷ cs) es = (first more : List Entry) × (es ≡ first ++ more)
+    × Commands stream log c first × AreCommanded stream (longer log first) cs more
+
+-- ---- one command
+
+-- the whole journal, where it is known, grew by the entries of the command, and none is open
+pub record GrewByCommand (c : Command) (m m2 : Mine) : Type 0 where
+  pub own : List Placed
+  pub all : List Entry
+  pub is : m2 ≡ with_entries m own all []
+  pub done : Commands m.stream m.log c all
+
+-- memory ran out: it grew by marks, and none is open
+pub record GaveUp (m m2 : Mine) : Type 0 where
+  pub own : List Placed
+  pub marks : List Entry
+  pub is : m2 ≡ with_entries m own marks []
+  pub are : All (MayComeBefore m.stream) marks
+
+-- ---- all of them
+
+-- the whole journal, where it is known, grew by those of these commands, each once and in their order, and none is open
+pub record Commanded (cs : List Command) (m m2 : Mine) : Type 0 where
+  pub own : List Placed
+  pub all : List Entry
+  pub is : m2 ≡ with_entries m own all []
+  pub done : AreCommanded m.stream m.log cs all
+
+-- the same of some of the first of them, as far as memory lasted, and then by marks of the next one
+pub record CommandedSome (cs : List Command) (m m2 : Mine) : Type 0 where
+  pub some : List Command
+  pub left : List Command
+  pub are : some ++ left ≡ cs
+  pub own : List Placed
+  pub all : List Entry
+  pub marks : List Entry
+  pub is : m2 ≡ with_entries m own (all ++ marks) []
+  pub done : AreCommanded m.stream m.log some all
+  pub more : All (MayComeBefore m.stream) marks
