@@ -1,0 +1,4 @@
+pub mod Shapes
+pub mod Grown
+pub mod TurnSteps
+pub mod WholeSteps

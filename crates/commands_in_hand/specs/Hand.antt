@@ -1,0 +1,62 @@
+-- What the one worker of a World knows of its stream of commands.
+use Rattle.std.specs.Prelude.{◌≡◌, ◌≢◌, ℕ, ◌<◌, List, [], ◌++◌, length, map, Option, None, Some}
+use Rattle.range_turns.specs.declared.ticket.Ticket.{Ticket}
+use Rattle.range_turns.specs.declared.ticket.Kind.{Kind}
+use Rattle.range_turns.specs.declared.ticket.Kind.TheVariants as kind
+use Rattle.volume_model.specs.declared.call.Call.TheVariants as call
+use Rattle.open_calls.specs.declared.open_call.OpenCall.{OpenCall}
+use Rattle.open_calls.specs.declared.parts.Part.{Part}
+use Rattle.whole_calls.specs.declared.maint.MaintCall.{MaintCall}
+use Rattle.whole_calls.specs.declared.whole.Whole.{Whole}
+use Rattle.volume_core.specs.State.{State}
+use Rattle.volume_core.specs.Sound.{IsSound}
+use Rattle.volume_core.specs.Streams.{running, turning}
+use Rattle.volume_maint.specs.Answers.{spot_of}
+use Rattle.stream_steps.specs.Mine.{Mine, OwnCall}
+use Rattle.world_in_hand.specs.Hand.{own_call, own_entries}
+
+-- a command that has the maintenance turn or waits for it, with its ticket, as its stream's worker sees it
+abbrev pub own_turn : Ticket × MaintCall → OwnCall
+own_turn p = record {
+  number = p.0.number;
+  range = p.0.range;
+  started = p.0.started;
+  call = call.Command p.1.command;
+  saw = p.1.saw;
+  whole = [];
+  buffer = [];
+  parts = [];
+  op = None;
+}
+
+-- how far each replica is: of an operation on the whole volume, as the World keeps it of the one that has started
+abbrev pub parts_in : Option Whole → Kind → List Part → List Part
+parts_in None k parts = parts
+parts_in (Some w) kind.Read parts = parts
+parts_in (Some w) kind.Write parts = parts
+parts_in (Some w) kind.Whole parts = w.parts
+
+-- an open call with its ticket
+abbrev pub own_whole : Option Whole → Ticket × OpenCall → OwnCall
+own_whole w p = record (own_call p) { parts = parts_in w p.0.kind p.1.parts }
+
+-- of a World that nobody else changes: the stream's command of the turn, and then what it has open
+abbrev pub mine_in : ℕ → State → Mine
+mine_in stream s = record {
+  stream = stream;
+  replicas = length s.nodes;
+  entries = own_entries stream s.book.opening.modes s.book.entries;
+  running = map own_turn (turning s stream) ++ map (own_whole s.whole) (running s stream);
+  log = Some (record { spot = spot_of s; entries = s.book.entries });
+}
+
+-- no other stream has a call open, or a command of the turn
+pub record IsAlone (stream : ℕ) (s : State) : Type 0 where
+  pub calls : (other : ℕ) → other ≢ stream → running s other ≡ []
+  pub turns : (other : ℕ) → other ≢ stream → turning s other ≡ []
+
+-- a step of the stream can be taken: the World is sound, the stream is one of its streams, and it is alone
+pub record IsReady (stream : ℕ) (s : State) : Type 0 where
+  pub sound : IsSound s
+  pub there : stream < length s.indices
+  pub alone : IsAlone stream s

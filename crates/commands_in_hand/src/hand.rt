@@ -1,0 +1,41 @@
+ghost use Rattle.std.specs.Prelude.{◌≡◌, ◌<◌, [], length};
+ghost use Rattle.volume_core.specs.State.{state_of};
+ghost use Rattle.volume_core.specs.Sound.{IsSound};
+ghost use Rattle.commands_in_hand.specs.Hand.{IsReady, mine_in};
+
+use volume_core::World;
+
+/// A World in the hands of the one worker there is, which serves a stream of commands now.
+#[derive(Drop)]
+pub struct CommandsInHand {
+    pub world: World,
+    pub stream: u8,
+}
+
+impl CommandsInHand {
+    /// A World of which no call is open, and no command has the maintenance turn or waits for it.
+    pub fn of(world: World, stream: u8) -> CommandsInHand
+        requires sound { IsSound (state_of world) }
+        requires stream { stream < length world.indices.items }
+        requires rest { world.turns.tickets ≡ [] }
+        requires turns { world.commands.items ≡ [] }
+        ensures ready { IsReady result.stream (state_of result.world) }
+        ensures idle { (mine_in result.stream (state_of result.world)).running ≡ [] }
+        ensures world { result.world ≡ world }
+        ensures stream { result.stream ≡ stream }
+    {
+        CommandsInHand { world, stream }
+    }
+
+    /// Gives the World back, of which no call is open.
+    pub fn into_world(self) -> World
+        requires ready { IsReady self.stream (state_of self.world) }
+        requires idle { (mine_in self.stream (state_of self.world)).running ≡ [] }
+        ensures sound { IsSound (state_of result) }
+        ensures rest { result.turns.tickets ≡ [] }
+        ensures turns { result.commands.items ≡ [] }
+        ensures world { result ≡ self.world }
+    {
+        self.world
+    }
+}
