@@ -15,6 +15,7 @@ use Rattle.volume_model.specs.History.{IsLegal}
 use Rattle.volume_model.specs.Names.{names_in}
 use Rattle.volume_model.proofs.OneWorkerLemmas.{length-modes_after}
 use Rattle.replica_state.specs.Volume.{volume_of_node}
+use Rattle.whole_calls.proofs.Forms.{length-forms}
 use Rattle.volume_core.specs.State.{State, state_of, opening_of}
 use Rattle.volume_core.specs.Sound.{IsSound}
 use Rattle.volume_core.specs.Streams.{Origin, origin_of}
@@ -61,7 +62,7 @@ pub same_replicas : (s s2 : State) → origin_of s2 ≡ origin_of s → length s
 same_replicas s s2 origin = ap (λ (o : Origin). o.replicas) origin
 
 pub modes_many : (s : State) → IsSound s → length (opening_of s).modes ≡ length s.nodes
-modes_many s sound = sym (length-modes_after s.book.opening.modes s.book.entries) ∙ sound.clients.agree.as_many
+modes_many s sound = sym (length-modes_after s.book.opening.modes s.book.entries) ∙ sound.on.clients.agree.as_many ∙ length-forms s.whole s.nodes
 
 same_own : (n m : ℕ) (ms ns : List Mode) (es : List Entry) → n ≡ m → ms ≡ ns → own_entries n ms es ≡ own_entries m ns es
 same_own n m ms ns es e f = λ i. own_entries (e i) (f i) es
@@ -78,7 +79,7 @@ module _ (h h2 : WorldInHand) (between : IsBetween h) (ready : IsReady h2.stream
   s2 = state_of h2.world
 
   legal : IsLegal (opening_of s) s2.book.entries
-  legal = subst (λ o. IsLegal o s2.book.entries) (same_opening s s2 origin) ready.sound.told.legal
+  legal = subst (λ o. IsLegal o s2.book.entries) (same_opening s s2 origin) ready.sound.on.told.legal
 
   own_now : own_entries h2.stream s2.book.opening.modes s2.book.entries ≡ own_entries h.stream (opening_of s).modes s2.book.entries
   own_now = same_own h2.stream h.stream s2.book.opening.modes s.book.opening.modes s2.book.entries own (ap (λ (o : Origin). o.opening.modes) origin)
@@ -91,7 +92,7 @@ module _ (h h2 : WorldInHand) (between : IsBetween h) (ready : IsReady h2.stream
       → HasTurn (map call_of frames) h h2 (λ r. slice_index_or counts r 0) (told_in told)
   frames_turned frames counts told none many shown grew =
       frames_are (opening_of s) (length h.world.nodes.items) h.stream s.book.entries (entries_in grew.added) s2.book.entries (ap (λ (m : Mine). log_entries m.log) grew.is) none legal
-      ready.sound.told.ordered.order ready.sound.told.ordered.rise (map call_of frames) (λ r. slice_index_or counts r 0) (told_in told) (frame_calls frames) grew.served
+      ready.sound.on.told.ordered.order ready.sound.on.told.ordered.rise (map call_of frames) (λ r. slice_index_or counts r 0) (told_in told) (frame_calls frames) grew.served
       (λ r high. get_or_past counts r 0 (omega (arith, many, high)))
       (λ r. subst (λ n. last_count n r (entries_in (own_entries h.stream (opening_of s).modes s2.book.entries)) ≤ slice_index_or counts r 0) own
       (subst (λ ps. last_count h2.stream r (entries_in ps) ≤ slice_index_or counts r 0) own_now (shown.counted r)))
@@ -102,7 +103,7 @@ module _ (h h2 : WorldInHand) (between : IsBetween h) (ready : IsReady h2.stream
       → HasTurn (map call.Command commands) h h2 counts told
   commands_turned commands counts told none grew =
       commands_are (opening_of s) (length h.world.nodes.items) h.stream s.book.entries grew.all s2.book.entries (ap (λ (m : Mine). log_entries m.log) grew.is) none legal
-      ready.sound.told.ordered.order ready.sound.told.ordered.rise commands counts told grew.done
+      ready.sound.on.told.ordered.order ready.sound.on.told.ordered.rise commands counts told grew.done
 
   -- of a stream
   pub stream_of_frames : {T E : Type 0} (r : Result T E) (st : Stream) (frames : List Frame) (counts : List ℕ) (told : List (Option (List (List ℕ)))) → st ≡ stream.Frames frames → HasNoEntry h

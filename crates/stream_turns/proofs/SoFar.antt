@@ -161,7 +161,7 @@ served_is script h h2 s streams counts told n begun between rest origin turns sa
       (subst (λ css. IsHistory (opening_of (state_of h.world)) counts (stream_of css) s.world.journal.entries) (ap (map stream_calls) same)
       (subst (λ (w : World). IsHistory (opening_of (state_of h.world)) counts (stream_of (map stream_calls streams)) w.journal.entries) (sym world)
       (is_history (opening_of (state_of h.world)) (length h.world.nodes.items) (map stream_calls streams) h2.world.journal.entries counts told turns legal
-      between.ready.sound.told.ordered.order between.ready.sound.told.ordered.rise)));
+      between.ready.sound.on.told.ordered.order between.ready.sound.on.told.ordered.rise)));
   turns = λ well. ap (λ (w : World). w.journal.entries) world
       ∙ turns.turns (λ w low r here. well w r (omega (arith, low, length-map streams stream_calls, ap length same)) (omega (arith, here, many)))
       ∙ (λ i. served (start i) (map stream_calls (same i)));
@@ -185,4 +185,4 @@ served_is script h h2 s streams counts told n begun between rest origin turns sa
     many = begins_many script.size script.replicas n (state_of h.world) begun
 
     legal : IsLegal (opening_of (state_of h.world)) h2.world.journal.entries
-    legal = subst (λ o. IsLegal o h2.world.journal.entries) (same_opening (state_of h.world) (state_of h2.world) origin) between.ready.sound.told.legal
+    legal = subst (λ o. IsLegal o h2.world.journal.entries) (same_opening (state_of h.world) (state_of h2.world) origin) between.ready.sound.on.told.legal

@@ -1,5 +1,5 @@
 -- What stood against a step, as the stream of the call sees it: its own call has started, so the ticket does not.
-use Rattle.std.proofs.Common.{◌≡◌, ◌≢◌, ℕ, ◌⊎◌, inl, inr, ⊎_elim, List, [], ◌∷◌, true, Result, Ok, OnErr, IfErr, subst, sym, refl, ap, ◌∙◌}
+use Rattle.std.proofs.Common.{◌≡◌, ◌≢◌, ℕ, ◌⊎◌, inl, inr, ⊎_elim, List, [], ◌∷◌, true, Result, Ok, OnErr, IfErr, Option, Some, None, subst, sym, refl, ap, ◌∙◌}
 use Rattle.std.proofs.Common.{Err as Failed}
 use Rattle.range_turns.specs.declared.ticket.Kind.{Kind}
 use Rattle.range_turns.specs.declared.ticket.Kind.TheVariants as kind
@@ -12,7 +12,8 @@ use Rattle.open_calls.specs.declared.open_call.OpenCall.{OpenCall}
 use Rattle.open_calls.specs.declared.parts.Part.{Part}
 use Rattle.open_calls.specs.declared.parts.Part.TheVariants.{Acked}
 use Rattle.open_calls.specs.Parts.{part_at, is_pending_at, IsTaken}
-use Rattle.open_calls.specs.Calls.{open_at, call_asked}
+use Rattle.open_calls.specs.declared.whole_op.WholeOp.{WholeOp}
+use Rattle.open_calls.specs.Calls.{open_at, call_asked, whole_asked}
 use Rattle.volume_core.specs.declared.world.NotThis.{NotThis}
 use Rattle.volume_core.specs.declared.world.NotThis.TheVariants as against
 use Rattle.volume_core.specs.Against as core
@@ -20,7 +21,7 @@ use Rattle.volume_core.specs.Places.{IsWriteAt, IsReadAt, IsCallAt}
 use Rattle.volume_core.specs.State.{State, modes_in}
 use Rattle.volume_core.specs.Sound.{IsSound}
 use Rattle.stream_steps.specs.Mine.{OwnCall, IsOwn}
-use Rattle.stream_steps.specs.Against.{AgainstTake, AgainstGive, AgainstAck, AgainstFault, AgainstEnd, AwaitsIn}
+use Rattle.stream_steps.specs.Against.{AgainstTake, AgainstGive, RefusesAck, RefusesFault, RefusesEnd, AwaitsIn}
 use Rattle.stream_steps.specs.Steps.{HasStarted, IsStartedWrite, IsStartedRead, IsWriteCall, IsReadCall}
 use Rattle.world_in_hand.specs.Hand.{mine_in}
 use Rattle.world_in_hand.proofs.OwnLemmas.{IsAt, own_stands, own_place, own_last}
@@ -28,15 +29,23 @@ use Rattle.world_in_hand.proofs.Answered.{asks_range, place_stands}
 
 -- ---- where the own call stands
 
+whole_no_write : (op : Option WholeOp) → IsWriteCall (whole_asked op) → ⊥
+whole_no_write None w = w
+whole_no_write (Some op) w = w
+
+whole_no_read : (op : Option WholeOp) → IsReadCall (whole_asked op) → ⊥
+whole_no_read None r = r
+whole_no_read (Some op) r = r
+
 asks_write : (k : Kind) (c : OpenCall) (d : Call) → call_asked k c ≡ d → IsWriteCall d → k ≡ kind.Write
 asks_write kind.Read c d e w = absurd (subst IsWriteCall (sym e) w)
 asks_write kind.Write c d e w = refl
-asks_write kind.Whole c d e w = absurd (subst IsWriteCall (sym e) w)
+asks_write kind.Whole c d e w = absurd (whole_no_write c.op (subst IsWriteCall (sym e) w))
 
 asks_read : (k : Kind) (c : OpenCall) (d : Call) → call_asked k c ≡ d → IsReadCall d → k ≡ kind.Read
 asks_read kind.Read c d e r = refl
 asks_read kind.Write c d e r = absurd (subst IsReadCall (sym e) r)
-asks_read kind.Whole c d e r = absurd (subst IsReadCall (sym e) r)
+asks_read kind.Whole c d e r = absurd (whole_no_read c.op (subst IsReadCall (sym e) r))
 
 write_or_read : (k : Kind) → k ≢ kind.Whole → (k ≡ kind.Write) ⊎ (k ≡ kind.Read)
 write_or_read kind.Read other = inr refl
@@ -105,7 +114,7 @@ module _ (n t : ℕ) (o : OwnCall) (s : State) (ok : IsSound s) (own : IsOwn t o
   not_taken : (r : ℕ) → core.HadNoStep s t r → ¬ IsTaken (part_at o.parts r)
   not_taken r h = subst (λ (x : OwnCall). ¬ IsTaken (part_at x.parts r)) (own_stands n t o s h.0 ok own h.1.stands).is h.2
 
-  against_ack : (r : ℕ) → HasStarted o → (why : NotThis) → core.AgainstAck s t r why → AgainstAck (modes_in s) o r why
+  against_ack : (r : ℕ) → HasStarted o → (why : NotThis) → core.AgainstAck s t r why → RefusesAck (modes_in s) o r why
   against_ack r b against.Ticket a = let p = call_place b in absurd (a p.0 p.1)
   against_ack r b (against.Mode m) a = (a.0, a.1, not_taken r a.2)
   against_ack r b (against.Pending q) a = (a.0, not_taken r a.2)
@@ -126,7 +135,7 @@ module _ (n t : ℕ) (o : OwnCall) (s : State) (ok : IsSound s) (own : IsOwn t o
   awaits : (r i : ℕ) → StandsAt s.tickets t i → AwaitsIn (call_asked (ticket_at s.tickets i).kind (open_at s.calls i)) (modes_in s) (open_at s.calls i).parts r → AwaitsIn o.call (modes_in s) o.parts r
   awaits r i at h = subst (λ (x : OwnCall). AwaitsIn x.call (modes_in s) x.parts r) (own_stands n t o s i ok own at).is h
 
-  against_end : HasStarted o → (why : NotThis) → core.AgainstEnd s t why → AgainstEnd (modes_in s) o why
+  against_end : HasStarted o → (why : NotThis) → core.AgainstEnd s t why → RefusesEnd (modes_in s) o why
   against_end b against.Ticket a =
       let p = call_place b in
       ⊎_elim
@@ -159,20 +168,20 @@ module _ {A : Type 0} (n t r : ℕ) (s s2 : State) (ok : IsSound s) where
   gives_why (Failed why) o own w same a = subst (λ (x : State). AgainstGive (modes_in x) r why) (sym same) (against_give n t o s ok own r w why a)
 
   pub acks_why : (res : Result A NotThis) → OnErr res (s2 ≡ s) → IfErr res (core.AgainstAck s t r) → ((o : OwnCall) × IsOwn t o (mine_in n s) × HasStarted o)
-      → IfErr res (λ why. (o : OwnCall) → IsOwn t o (mine_in n s) → AgainstAck (modes_in s2) o r why)
+      → IfErr res (λ why. (o : OwnCall) → IsOwn t o (mine_in n s) → RefusesAck (modes_in s2) o r why)
   acks_why (Ok x) same a op = tt
-  acks_why (Failed why) same a op = λ o own. subst (λ (x : State). AgainstAck (modes_in x) o r why) (sym same) (against_ack n t o s ok own r (started_as n t s op o own) why a)
+  acks_why (Failed why) same a op = λ o own. subst (λ (x : State). RefusesAck (modes_in x) o r why) (sym same) (against_ack n t o s ok own r (started_as n t s op o own) why a)
 
   pub ends_why : (res : Result A NotThis) → OnErr res (s2 ≡ s) → IfErr res (core.AgainstEnd s t) → ((o : OwnCall) × IsOwn t o (mine_in n s) × HasStarted o)
-      → IfErr res (λ why. (o : OwnCall) → IsOwn t o (mine_in n s) → AgainstEnd (modes_in s2) o why)
+      → IfErr res (λ why. (o : OwnCall) → IsOwn t o (mine_in n s) → RefusesEnd (modes_in s2) o why)
   ends_why (Ok x) same a op = tt
-  ends_why (Failed why) same a op = λ o own. subst (λ (x : State). AgainstEnd (modes_in x) o why) (sym same) (against_end n t o s ok own (started_as n t s op o own) why a)
+  ends_why (Failed why) same a op = λ o own. subst (λ (x : State). RefusesEnd (modes_in x) o why) (sym same) (against_end n t o s ok own (started_as n t s op o own) why a)
 
-  pub faults_why : (count : ℕ) (res : Result A NotThis) → OnErr res (s2 ≡ s) → IfErr res (core.AgainstFault s n r count) → IfErr res (AgainstFault (modes_in s2) (mine_in n s) r count)
+  pub faults_why : (count : ℕ) (res : Result A NotThis) → OnErr res (s2 ≡ s) → IfErr res (core.AgainstFault s n r count) → IfErr res (RefusesFault (modes_in s2) (mine_in n s) r count)
   faults_why count (Ok x) same a = tt
-  faults_why count (Failed why) same a = subst (λ (x : State). AgainstFault (modes_in x) (mine_in n s) r count why) (sym same) (by why a)
+  faults_why count (Failed why) same a = subst (λ (x : State). RefusesFault (modes_in x) (mine_in n s) r count why) (sym same) (by why a)
     where
-      by : (why : NotThis) → core.AgainstFault s n r count why → AgainstFault (modes_in s) (mine_in n s) r count why
+      by : (why : NotThis) → core.AgainstFault s n r count why → RefusesFault (modes_in s) (mine_in n s) r count why
       by against.Ticket a = a
       by (against.Mode m) a = a
       by (against.Pending q) a = a

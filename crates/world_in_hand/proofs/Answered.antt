@@ -26,10 +26,12 @@ use Rattle.volume_model.proofs.StepLemmas.{modes_after-append}
 use Rattle.replica_node.specs.Node.{Node}
 use Rattle.open_calls.specs.declared.open_call.OpenCall.{OpenCall}
 use Rattle.open_calls.specs.declared.parts.Part.TheVariants.{Acked}
+use Rattle.open_calls.specs.declared.whole_op.WholeOp.{WholeOp}
 use Rattle.open_calls.specs.Parts.{part_at, part_for, IsTaken}
-use Rattle.open_calls.specs.Calls.{open_at, call_asked, no_call, begun}
+use Rattle.open_calls.specs.Calls.{open_at, call_asked, whole_asked, no_call, begun}
 use Rattle.open_calls.specs.Clients.{Fits}
 use Rattle.open_calls.proofs.PartLemmas.{part_of, part_for_new, up_in, rw_up}
+use Rattle.whole_calls.specs.Due.{forms}
 use Rattle.volume_core.specs.State.{State, modes_in, index_at, told_of}
 use Rattle.volume_core.specs.Steps.{acked, wrote, has_read, started, with_place, answered, faulted}
 use Rattle.volume_core.specs.Sound.{IsSound}
@@ -122,7 +124,7 @@ enrols_mine n c s s2 (Ok (enrol.Ticket t)) ok idle may is sees =
       own = own_call (new, b.new);
       is = only_open n s s2 may (own_call (new, b.new) ∷ []) (ap (λ (x : State). x.book.entries) b.state)
           (ap (λ (x : State). map own_call (running x n)) b.state
-          ∙ ap (map own_call) (calls-push_own n s.tickets s.calls new b.new ok.clients.paired b.by (calls-idle n s.tickets s.calls (idle_from n s ok idle))));
+          ∙ ap (map own_call) (calls-push_own n s.tickets s.calls new b.new ok.on.clients.paired b.by (calls-idle n s.tickets s.calls (idle_from n s ok idle))));
       number = refl;
       call = b.is;
       waits = refl;
@@ -144,7 +146,7 @@ module _ (n t : ℕ) (o : OwnCall) (job : Job) (s s2 : State) (i : ℕ) (ok : Is
   here = own_stands n t o s i ok own waits.stands
 
   inside : i < length s.calls
-  inside = omega (arith, waits.stands.within, ok.clients.paired)
+  inside = omega (arith, waits.stands.within, ok.on.clients.paired)
 
   new : Ticket
   new = record (ticket_at s.tickets i) { started = true }
@@ -168,7 +170,7 @@ module _ (n t : ℕ) (o : OwnCall) (job : Job) (s s2 : State) (i : ℕ) (ok : Is
           (ap (λ (x : State). map own_call (running x n)) is
           ∙ ap (map own_call) (calls-set_own n s.tickets s.calls i (record (ticket_at s.tickets i) { started = true }) (begun (open_at s.calls i) (modes_in s) front back buffer) here.at.x here.at.runs waits.stands.within inside here.at.stream here.at.stream));
       same = ap (λ (c : Call). record (own_call (ticket_at s.tickets i, open_at s.calls i)) { started = true; call = c; whole = (front ++ (open_at s.calls i).bytes) ++ back; buffer = buffer; parts = map part_for (modes_in s) })
-          (same_asked (ticket_at s.tickets i).kind (open_at s.calls i) (begun (open_at s.calls i) (modes_in s) front back buffer) refl refl refl)
+          (same_asked (ticket_at s.tickets i).kind (open_at s.calls i) (begun (open_at s.calls i) (modes_in s) front back buffer) refl refl refl refl)
           ∙ ap (λ (x : OwnCall). record x { started = true; whole = (front ++ (open_at s.calls i).bytes) ++ back; buffer = buffer; parts = map part_for (modes_in s) }) here.is;
       of = of;
       job = j;
@@ -192,8 +194,8 @@ module _ (n t : ℕ) (o : OwnCall) (job : Job) (s s2 : State) (i : ℕ) (ok : Is
       (subst (λ c. IsJobFor c job (own_call (record (ticket_at s.tickets i) { started = true }, begun (open_at s.calls i) (modes_in s) b.front b.back []))) asked
       (λ q. (front_is q ++ (open_at s.calls i).bytes) ++ back_is q))
     where
-      fits : Fits s.size (length s.indices) (length s.nodes) (ticket_at s.tickets i) (open_at s.calls i)
-      fits = ok.clients.fits i waits.stands.within
+      fits : Fits s.size (length s.indices) (length (forms s.whole s.nodes)) (ticket_at s.tickets i) (open_at s.calls i)
+      fits = ok.on.clients.fits i waits.stands.within
 
       sum : (f m k : List ℕ) (from until : ℕ) → from + (length f + length m + length k) ≡ until → from + length ((f ++ m) ++ k) ≡ until
       sum f m k from until e = ap (λ x. from + x) (length-append (f ++ m) k ∙ ap (λ x. x + length k) (length-append f m)) ∙ e
@@ -222,11 +224,11 @@ admits_mine n t s s2 (Failed e) ok may is sees = tt
 none_before : (n t : ℕ) (o : OwnCall) (s : State) (i j : ℕ) → IsReady n s → IsOwn t o (mine_in n s) → StandsAt s.tickets t i → j < i → ⊥
 none_before n t o s i j ready own stands before =
     let at = own_stands n t o s i ready.sound own stands in
-    let pair = ready.sound.clients.paired in
+    let pair = ready.sound.on.clients.paired in
     let inside : j < length s.calls = omega (arith, before, stands.within, pair) in
     let there : i < length s.calls = omega (arith, stands.within, pair) in
     ⊎_elim
-    (λ is. ready.sound.clients.seen.alone j i before there (is ∙ sym at.at.stream))
+    (λ is. ready.sound.on.clients.seen.alone j i before there (is ∙ sym at.at.stream))
     (λ other. calls-none (open_at s.calls j).stream s.tickets s.calls j (ready.alone (open_at s.calls j).stream other) (omega (arith, before, stands.within)) inside refl)
     (cases_eq (open_at s.calls j).stream n)
 
@@ -264,15 +266,19 @@ fault_fails n r count s s2 (Failed e) is = tt
 
 -- ---- what steps ask
 
+whole_no_blocks : (op : Option WholeOp) → IsOnBlocks (whole_asked op) → ⊥
+whole_no_blocks None blocks = blocks
+whole_no_blocks (Some op) blocks = blocks
+
 pub asks_range : (k : Kind) (c : OpenCall) (d : Call) → call_asked k c ≡ d → IsOnBlocks d → k ≢ kind.Whole
-asks_range k c d e blocks w = subst IsOnBlocks (sym (ap (λ j. call_asked j c) (sym w) ∙ e)) blocks
+asks_range k c d e blocks w = whole_no_blocks c.op (subst IsOnBlocks (sym (ap (λ j. call_asked j c) (sym w) ∙ e)) blocks)
 
 -- no two have one number
 unique_number : (s : State) → IsSound s → (i j : ℕ) → i < length s.tickets → j < length s.tickets → (ticket_at s.tickets i).number ≡ (ticket_at s.tickets j).number → i ≡ j
 unique_number s ok i j a b e = ⊎_elim
-    (λ (low : i < j). absurd (ok.clients.order.numbered i j low b e))
+    (λ (low : i < j). absurd (ok.on.clients.order.numbered i j low b e))
     (λ (high : j ≤ i). ⊎_elim
-    (λ (more : j < i). absurd (ok.clients.order.numbered j i more a (sym e)))
+    (λ (more : j < i). absurd (ok.on.clients.order.numbered j i more a (sym e)))
     (λ (same : i ≤ j). omega (arith, high, same))
     (cases_lt j i))
     (cases_lt i j)
@@ -301,7 +307,7 @@ waits_at n t o s ok own w =
 pub buffer_at : (n t : ℕ) (o : OwnCall) (s : State) (into : List ℕ) → IsSound s → IsOwn t o (mine_in n s) → length into ≡ length o.buffer → (i : ℕ) → IsReadAt s t i → length into ≡ (open_at s.calls i).length
 buffer_at n t o s into ok own long i at =
     let here = own_stands n t o s i ok own at.stands in
-    long ∙ ap (λ (x : OwnCall). length x.buffer) (sym here.is) ∙ (ok.clients.fits i at.stands.within).buffer at.reads
+    long ∙ ap (λ (x : OwnCall). length x.buffer) (sym here.is) ∙ (ok.on.clients.fits i at.stands.within).buffer at.reads
 
 -- blocks of the write
 pub blocks_at : (n t : ℕ) (o : OwnCall) (s : State) (blocks : List (Option (List ℕ))) → IsSound s → IsOwn t o (mine_in n s) → AreBlocksOfCall o blocks → (i : ℕ) → IsWriteAt s t i → AreBlocksOfWrite (ticket_at s.tickets i) (open_at s.calls i) blocks

@@ -3,3 +3,4 @@ pub mod StepLemmas
 pub mod Answered
 pub mod AgainstLemmas
 pub mod ControlLemmas
+pub mod Turns

@@ -83,7 +83,7 @@ one_running (x ∷ []) o e = (x, refl, cc)
 one_running (x ∷ y ∷ xs) o e = absurd cc
 
 pub idle_from : (n : ℕ) (s : State) → IsSound s → (mine_in n s).running ≡ [] → IsIdle n s.calls
-idle_from n s ok e = idle-calls n s.tickets s.calls ok.clients.paired (none_running (running s n) e)
+idle_from n s ok e = idle-calls n s.tickets s.calls ok.on.clients.paired (none_running (running s n) e)
 
 pub open_from : (n t : ℕ) (o : OwnCall) (s : State) → IsOwn t o (mine_in n s) → IsOpen n t o.call s
 open_from n t o s own =
@@ -165,12 +165,13 @@ module _ (n : ℕ) (s s2 : State) (may : MayGo n s s2) where
       → mine_in n s2 ≡ with_more (mine_in n s) ps os
   grown ps os es e own back r = grown_by ps os es e own r ∙ ap (λ (l : List Entry). with_entries (mine_in n s) ps l os) (sym back)
 
-  -- the next step can be taken
-  pub ready_on : IsReady n s → IsReady n s2
-  ready_on r = record {
+  -- the next step can be taken, where the commands are the same
+  pub ready_on : s2.commands ≡ s.commands → IsReady n s → IsReady n s2
+  ready_on same r = record {
     sound = may.sound;
     there = subst (λ k. n < k) (sym same_streams) r.there;
     alone = λ other h. may.others other h ∙ r.alone other h;
+    turns = same ∙ r.turns;
   }
 
 -- a state that is the same
@@ -188,7 +189,7 @@ at_rest s ok none = by s.tickets refl
     by (t ∷ ts) e =
         let within : 0 < length s.tickets = subst (λ (l : List Ticket). 0 < length l) (sym e) (omega arith) in
         let stream = (open_at s.calls 0).stream in
-        absurd (calls-none stream s.tickets s.calls 0 (none stream (ok.clients.fits 0 within).stream) within (omega (arith, within, ok.clients.paired)) refl)
+        absurd (calls-none stream s.tickets s.calls 0 (none stream (ok.on.clients.fits 0 within).stream) within (omega (arith, within, ok.on.clients.paired)) refl)
 
 -- so where the stream has none and no other has
 pub rests : (n : ℕ) (s : State) → IsReady n s → (mine_in n s).running ≡ [] → s.tickets ≡ []
@@ -201,5 +202,5 @@ rests n s ready idle = at_rest s ready.sound (λ m _. ⊎_elim
 pub none_of : (m : ℕ) (s : State) → s.tickets ≡ [] → running s m ≡ []
 none_of m s none = ap (λ ts. calls_in m ts s.calls) none
 
-pub ready_at : (m : ℕ) (s : State) → IsSound s → m < length s.indices → s.tickets ≡ [] → IsReady m s
-ready_at m s ok there none = record { sound = ok; there = there; alone = λ other _. none_of other s none }
+pub ready_at : (m : ℕ) (s : State) → IsSound s → m < length s.indices → s.tickets ≡ [] → s.commands ≡ [] → IsReady m s
+ready_at m s ok there none turns = record { sound = ok; there = there; alone = λ other _. none_of other s none; turns = turns }

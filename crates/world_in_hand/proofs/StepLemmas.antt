@@ -20,16 +20,18 @@ use Rattle.open_calls.specs.declared.open_call.OpenCall.{OpenCall}
 use Rattle.open_calls.specs.declared.parts.Part.{Part}
 use Rattle.open_calls.specs.declared.parts.Part.TheVariants.{Apart, Owed, Taken, Acked}
 use Rattle.open_calls.specs.Parts.{part_at, is_awaited, is_pending_at, IsTaken}
-use Rattle.open_calls.specs.Calls.{open_at, node_at, call_asked, no_call, with_part_at, read_from}
+use Rattle.open_calls.specs.Calls.{open_at, node_at, call_asked, whole_asked, no_call, with_part_at, read_from}
 use Rattle.open_calls.specs.Clients.{IsReading}
+use Rattle.open_calls.proofs.FreeLemmas.{write_no_whole, read_no_whole}
 use Rattle.open_calls.proofs.PartLemmas.{up_in, rw_up, taken_in}
 use Rattle.volume_core.specs.State.{State, modes_in, index_at}
 use Rattle.volume_core.specs.Steps.{acked, wrote, has_read, ended, faulted}
-use Rattle.volume_core.specs.Sound.{IsSound}
+use Rattle.volume_core.specs.Sound.{IsSound, IsCalm}
 use Rattle.volume_core.specs.Places.{IsWriteAt}
 use Rattle.volume_core.specs.Answers.{EndsWrite, EndsRead, IsWriteReply, Completes}
 use Rattle.volume_core.specs.Streams.{running, opens, open_of, calls_in, MayGo, IsAnsweredTo}
 use Rattle.volume_core.proofs.CallLemmas.{calls-set_own}
+use Rattle.volume_core.proofs.Keep.{calm_at}
 use Rattle.stream_steps.specs.Mine.{OwnCall, IsOwn, with_running, answer_placed, fault_placed}
 use Rattle.stream_steps.specs.Steps.{Answers, FaultsTo, TakesTo, AcksTo}
 use Rattle.world_in_hand.specs.Hand.{own_call, mine_in}
@@ -37,23 +39,23 @@ use Rattle.world_in_hand.proofs.OwnLemmas.{own_answer, own_fault, IsAt, own_stan
 
 -- ---- a call is changed
 
-pub same_asked : (k : Kind) (c d : OpenCall) → d.at ≡ c.at → d.length ≡ c.length → d.bytes ≡ c.bytes → call_asked k d ≡ call_asked k c
-same_asked kind.Read c d a l b = λ i. call_asked kind.Read (record c { at = a i; length = l i })
-same_asked kind.Write c d a l b = λ i. call_asked kind.Write (record c { at = a i; bytes = b i })
-same_asked kind.Whole c d a l b = refl
+pub same_asked : (k : Kind) (c d : OpenCall) → d.at ≡ c.at → d.length ≡ c.length → d.bytes ≡ c.bytes → d.op ≡ c.op → call_asked k d ≡ call_asked k c
+same_asked kind.Read c d a l b o = λ i. call_asked kind.Read (record c { at = a i; length = l i })
+same_asked kind.Write c d a l b o = λ i. call_asked kind.Write (record c { at = a i; bytes = b i })
+same_asked kind.Whole c d a l b o = ap whole_asked o
 
 pub parted_own : (t : Ticket) (c : OpenCall) (r : ℕ) (part : Part) → own_call (t, with_part_at c r part) ≡ record (own_call (t, c)) { parts = set c.parts r part }
-parted_own t c r part = ap (λ (x : Call). record (own_call (t, c)) { call = x; parts = set c.parts r part }) (same_asked t.kind c (with_part_at c r part) refl refl refl)
+parted_own t c r part = ap (λ (x : Call). record (own_call (t, c)) { call = x; parts = set c.parts r part }) (same_asked t.kind c (with_part_at c r part) refl refl refl refl)
 
 pub read_own : (t : Ticket) (c : OpenCall) (r : ℕ) (node : Node) → own_call (t, read_from c r node) ≡ record (own_call (t, c)) { buffer = (read_from c r node).buffer; parts = set c.parts r Taken }
-read_own t c r node = ap (λ (x : Call). record (own_call (t, c)) { call = x; buffer = (read_from c r node).buffer; parts = set c.parts r Taken }) (same_asked t.kind c (read_from c r node) refl refl refl)
+read_own t c r node = ap (λ (x : Call). record (own_call (t, c)) { call = x; buffer = (read_from c r node).buffer; parts = set c.parts r Taken }) (same_asked t.kind c (read_from c r node) refl refl refl refl)
 
 module _ (n t : ℕ) (o : OwnCall) (s s2 : State) (i : ℕ) (ok : IsSound s) (own : IsOwn t o (mine_in n s)) (stands : StandsAt s.tickets t i) (may : MayGo n s s2) where
   here : IsAt n t o s i
   here = own_stands n t o s i ok own stands
 
   pub call_in : i < length s.calls
-  call_in = omega (arith, stands.within, ok.clients.paired)
+  call_in = omega (arith, stands.within, ok.on.clients.paired)
 
   running_set : (y : OpenCall) → y.stream ≡ (open_at s.calls i).stream → s2.tickets ≡ s.tickets → s2.calls ≡ set s.calls i y → map own_call (running s2 n) ≡ own_call (ticket_at s.tickets i, y) ∷ []
   running_set y same et ec =
@@ -131,12 +133,15 @@ refused_backed replicas modes o r e = record { done = λ d. absurd (no_done (sym
     no_read bytes e = cc
 
 module _ (s : State) (i : ℕ) (o : OwnCall) (ok : IsSound s) (within : i < length s.tickets) (is : own_call (ticket_at s.tickets i, open_at s.calls i) ≡ o) (r : Reply) where
+  calm : {t : ℕ} → IsWriteAt s t i → IsCalm s
+  calm at = calm_at s i ok within at.writes.started (write_no_whole (ticket_at s.tickets i).kind at.writes.writes)
+
   write_backed : (t : ℕ) → IsWriteAt s t i → EndsWrite s i r → IsBacked (length s.nodes) (modes_in s) o r
   write_backed t at e = record {
     done = λ d q read.
-        let inside : q < length s.nodes = subst (λ k. q < k) ok.clients.agree.as_many (up_in (modes_in s) q (rw_up (mode_of (modes_in s) q) read)) in
+        let inside : q < length s.nodes = subst (λ k. q < k) (calm at).clients.agree.as_many (up_in (modes_in s) q (rw_up (mode_of (modes_in s) q) read)) in
         let pending : is_awaited (part_at (open_at s.calls i).parts q) ≡ false = subst (λ m. is_pending_at m (part_at (open_at s.calls i).parts q) ≡ false) read (e.acknowledged q inside) in
-        let owed = (ok.clients.writes i within at.writes).owed q (rw_up (mode_of (modes_in s) q) read) in
+        let owed = ((calm at).clients.writes i within at.writes).owed q (rw_up (mode_of (modes_in s) q) read) in
         subst (λ (x : OwnCall). part_at x.parts q ≡ Acked) is (acked_unless (part_at (open_at s.calls i).parts q) pending owed);
     read = λ bytes d. absurd (subst (IsWriteReply (modes_in s)) d e.reply);
   }
@@ -145,7 +150,8 @@ module _ (s : State) (i : ℕ) (o : OwnCall) (ok : IsSound s) (within : i < leng
   read_backed reads e = ⊎_elim
       (λ found.
       let bytes = e.bytes found.0 found.1 in
-      let many : length (open_at s.calls i).parts ≡ length s.nodes = (ok.clients.fits i within).parts reads.started (λ whole. not_whole (sym reads.reads ∙ whole)) in
+      let calm = calm_at s i ok within reads.started (read_no_whole (ticket_at s.tickets i).kind reads.reads) in
+      let many : length (open_at s.calls i).parts ≡ length s.nodes = (calm.clients.fits i within).parts reads.started (λ whole. not_whole (sym reads.reads ∙ whole)) in
       let inside : found.0 < length s.nodes = subst (λ k. found.0 < k) many (taken_in (open_at s.calls i).parts found.0 (subst IsTaken (sym found.1) tt)) in
       record {
         done = λ d. absurd (no_done (open_at s.calls i).buffer (sym bytes ∙ d));

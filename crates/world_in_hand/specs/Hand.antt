@@ -26,6 +26,7 @@ own_call p = record {
   whole = whole_of p.1;
   buffer = p.1.buffer;
   parts = p.1.parts;
+  op = p.1.op;
 }
 
 -- the mark is a fault of a line of the stream
@@ -59,8 +60,10 @@ mine_in stream s = record {
 abbrev pub IsAlone : ℕ → State → Type 0
 IsAlone stream s = (other : ℕ) → other ≢ stream → running s other ≡ []
 
--- a step of the stream can be taken: the World is sound, the stream is one of its streams, and no other has a call open
+-- A step of the stream can be taken: the World is sound, the stream is one of its streams, no other has a call open,
+-- and no command has the maintenance turn or waits for it.
 pub record IsReady (stream : ℕ) (s : State) : Type 0 where
   pub sound : IsSound s
   pub there : stream < length s.indices
   pub alone : IsAlone stream s
+  pub turns : s.commands ≡ []

@@ -13,11 +13,12 @@ pub struct WorldInHand {
 }
 
 impl WorldInHand {
-    /// A World of which no call is open.
+    /// A World of which no call is open, and no command has the maintenance turn or waits for it.
     pub fn of(world: World, stream: u8) -> WorldInHand
         requires sound { IsSound (state_of world) }
         requires stream { stream < length world.indices.items }
         requires rest { world.turns.tickets ≡ [] }
+        requires turns { world.commands.items ≡ [] }
         ensures ready { IsReady result.stream (state_of result.world) }
         ensures idle { (mine_in result.stream (state_of result.world)).running ≡ [] }
         ensures world { result.world ≡ world }

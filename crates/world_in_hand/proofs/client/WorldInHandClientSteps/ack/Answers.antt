@@ -2,6 +2,7 @@ use Rattle.volume_core.specs.State.{state_of}
 use Rattle.world_in_hand.proofs.OwnLemmas.{open_from, ready_on}
 use Rattle.world_in_hand.proofs.Answered.{acks_mine}
 use Rattle.world_in_hand.proofs.AgainstLemmas.{acks_why}
+use Rattle.world_in_hand.proofs.Turns.{turns_acked}
 use Rattle.world_in_hand.proofs.client.WorldInHandClientSteps.ack.Goals as goal
 
 pub returns-clause-ok : goal.returns-clause-ok
@@ -16,7 +17,8 @@ returns-clause-ready g c =
     let op = c.requires.started in
     let n = c.args.self.now.stream in
     let s = state_of c.args.self.now.world in
-    ready_on n s (state_of c.ack.new.self) (c.ack.ensures.may n op.0.call (open_from n c.args.t op.0 s op.1)) c.requires.ready
+    ready_on n s (state_of c.ack.new.self) (c.ack.ensures.may n op.0.call (open_from n c.args.t op.0 s op.1))
+    (turns_acked c.args.t c.args.replica s (state_of c.ack.new.self) c.ack.result c.ack.ensures.ok c.ack.ensures.err) c.requires.ready
 
 pub returns-clause-why : goal.returns-clause-why
 returns-clause-why g c =

@@ -1,6 +1,7 @@
 use Rattle.volume_core.specs.State.{state_of}
 use Rattle.world_in_hand.proofs.OwnLemmas.{open_from, ready_on}
 use Rattle.world_in_hand.proofs.Answered.{admits_mine, admit_owners, never_after, waits_at}
+use Rattle.world_in_hand.proofs.Turns.{turns_admitted}
 use Rattle.world_in_hand.proofs.client.WorldInHandClientSteps.admit.Goals as goal
 
 pub admit-requires-clause-waits : goal.admit-requires-clause-waits
@@ -19,7 +20,8 @@ returns-clause-ready g c =
     let op = c.requires.waits in
     let n = c.args.self.now.stream in
     let s = state_of c.args.self.now.world in
-    ready_on n s (state_of c.admit.new.self) (c.admit.ensures.may n op.0.call (open_from n c.args.t op.0 s op.1)) c.requires.ready
+    ready_on n s (state_of c.admit.new.self) (c.admit.ensures.may n op.0.call (open_from n c.args.t op.0 s op.1))
+    (turns_admitted c.args.t s (state_of c.admit.new.self) c.admit.result c.admit.ensures.ok c.admit.ensures.err) c.requires.ready
 
 pub returns-clause-free : goal.returns-clause-free
 returns-clause-free g c =

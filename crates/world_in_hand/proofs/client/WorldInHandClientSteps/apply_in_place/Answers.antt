@@ -2,6 +2,7 @@ use Rattle.volume_core.specs.State.{state_of}
 use Rattle.world_in_hand.proofs.OwnLemmas.{open_from, ready_on}
 use Rattle.world_in_hand.proofs.Answered.{placed_mine}
 use Rattle.world_in_hand.proofs.AgainstLemmas.{takes_why}
+use Rattle.world_in_hand.proofs.Turns.{turns_placed}
 use Rattle.world_in_hand.proofs.client.WorldInHandClientSteps.apply_in_place.Goals as goal
 
 pub returns-clause-ready : goal.returns-clause-ready
@@ -9,7 +10,8 @@ returns-clause-ready g c =
     let op = c.requires.writes in
     let n = c.args.self.now.stream in
     let s = state_of c.args.self.now.world in
-    ready_on n s (state_of c.apply_in_place.new.self) (c.apply_in_place.ensures.may n op.0.call (open_from n c.args.t op.0 s op.1)) c.requires.ready
+    ready_on n s (state_of c.apply_in_place.new.self) (c.apply_in_place.ensures.may n op.0.call (open_from n c.args.t op.0 s op.1))
+    (turns_placed c.args.t c.args.replica s (state_of c.apply_in_place.new.self) c.apply_in_place.result c.apply_in_place.ensures.ok c.apply_in_place.ensures.err) c.requires.ready
 
 pub returns-clause-done : goal.returns-clause-done
 returns-clause-done g c =

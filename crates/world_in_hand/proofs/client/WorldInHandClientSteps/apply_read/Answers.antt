@@ -2,6 +2,7 @@ use Rattle.volume_core.specs.State.{state_of}
 use Rattle.world_in_hand.proofs.OwnLemmas.{open_from, ready_on}
 use Rattle.world_in_hand.proofs.Answered.{reads_mine, buffer_at}
 use Rattle.world_in_hand.proofs.AgainstLemmas.{gives_why}
+use Rattle.world_in_hand.proofs.Turns.{turns_read}
 use Rattle.world_in_hand.proofs.client.WorldInHandClientSteps.apply_read.Goals as goal
 
 pub apply_read-requires-clause-into : goal.apply_read-requires-clause-into
@@ -19,7 +20,8 @@ returns-clause-ready g c =
     let op = c.requires.reads in
     let n = c.args.self.now.stream in
     let s = state_of c.args.self.now.world in
-    ready_on n s (state_of c.apply_read.new.self) (c.apply_read.ensures.may n op.0.call (open_from n c.args.t op.0 s op.1)) c.requires.ready
+    ready_on n s (state_of c.apply_read.new.self) (c.apply_read.ensures.may n op.0.call (open_from n c.args.t op.0 s op.1))
+    (turns_read c.args.t c.args.replica c.apply_read.new.into s (state_of c.apply_read.new.self) c.apply_read.result c.apply_read.ensures.ok c.apply_read.ensures.err) c.requires.ready
 
 pub returns-clause-why : goal.returns-clause-why
 returns-clause-why g c =

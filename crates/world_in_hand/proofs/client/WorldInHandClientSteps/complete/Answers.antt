@@ -3,6 +3,7 @@ use Rattle.world_in_hand.proofs.OwnLemmas.{open_from, ready_on}
 use Rattle.world_in_hand.proofs.StepLemmas.{completes_mine}
 use Rattle.world_in_hand.proofs.Answered.{owners}
 use Rattle.world_in_hand.proofs.AgainstLemmas.{ends_why}
+use Rattle.world_in_hand.proofs.Turns.{turns_completed}
 use Rattle.world_in_hand.proofs.client.WorldInHandClientSteps.complete.Goals as goal
 
 pub returns-clause-ok : goal.returns-clause-ok
@@ -18,7 +19,8 @@ returns-clause-ready g c =
     let op = c.requires.started in
     let n = c.args.self.now.stream in
     let s = state_of c.args.self.now.world in
-    ready_on n s (state_of c.complete.new.self) (c.complete.ensures.may n op.0.call (open_from n c.args.t op.0 s op.1)) c.requires.ready
+    ready_on n s (state_of c.complete.new.self) (c.complete.ensures.may n op.0.call (open_from n c.args.t op.0 s op.1))
+    (turns_completed c.args.t s (state_of c.complete.new.self) c.complete.result c.complete.ensures.ok c.complete.ensures.err) c.requires.ready
 
 pub returns-clause-why : goal.returns-clause-why
 returns-clause-why g c =

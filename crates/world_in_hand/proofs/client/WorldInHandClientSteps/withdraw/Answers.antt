@@ -2,6 +2,7 @@ use Rattle.volume_core.specs.State.{state_of}
 use Rattle.world_in_hand.proofs.OwnLemmas.{open_from, ready_on}
 use Rattle.world_in_hand.proofs.StepLemmas.{gone_mine}
 use Rattle.world_in_hand.proofs.Answered.{waits_at}
+use Rattle.world_in_hand.proofs.Turns.{turns_withdrawn}
 use Rattle.world_in_hand.proofs.client.WorldInHandClientSteps.withdraw.Goals as goal
 
 pub withdraw-requires-clause-waits : goal.withdraw-requires-clause-waits
@@ -21,4 +22,5 @@ returns-clause-ready g c =
     let op = c.requires.waits in
     let n = c.args.self.now.stream in
     let s = state_of c.args.self.now.world in
-    ready_on n s (state_of c.withdraw.new.self) (c.withdraw.ensures.may n op.0.call (open_from n c.args.t op.0 s op.1)) c.requires.ready
+    ready_on n s (state_of c.withdraw.new.self) (c.withdraw.ensures.may n op.0.call (open_from n c.args.t op.0 s op.1))
+    (turns_withdrawn c.args.t s (state_of c.withdraw.new.self) c.withdraw.ensures.gone) c.requires.ready

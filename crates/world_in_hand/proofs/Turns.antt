@@ -1,0 +1,99 @@
+-- No step that a stream's worker takes changes the commands that have the maintenance turn or wait for it.
+use Rattle.std.proofs.Common.{◌≡◌, ℕ, ◌<◌, Bool, true, false, List, [], length, Result, Ok, Err as Failed, OnOk, OnErr, IfOk, Option, Some, None, refl, ap, ◌∙◌, arith}
+use Rattle.command_text.specs.declared.command.Command.{Command}
+use Rattle.volume_model.specs.declared.call.Call.{Call}
+use Rattle.volume_model.specs.declared.mode.Mode.{Mode}
+use Rattle.volume_model.specs.declared.mode.Mode.TheVariants.{Rw, Wo, Err}
+use Rattle.volume_model.specs.Modes.{mode_of}
+use Rattle.range_turns.specs.declared.ticket.Kind.{Kind}
+use Rattle.range_turns.specs.declared.ticket.Kind.TheVariants as kind
+use Rattle.range_turns.specs.Order.{ticket_at}
+use Rattle.open_calls.specs.Calls.{open_at}
+use Rattle.open_calls.specs.Parts.{part_at, IsTaken}
+use Rattle.whole_calls.specs.Maint.{HasNoCommand}
+use Rattle.volume_core.specs.declared.admit.Admit.{Admit}
+use Rattle.volume_core.specs.declared.admit.Admit.TheVariants as admit
+use Rattle.volume_core.specs.declared.enrol.Enrolled.{Enrolled}
+use Rattle.volume_core.specs.declared.enrol.Enrolled.TheVariants as enrol
+use Rattle.volume_core.specs.Answers.{EnrolsAs, IsAdmit, BeginsBy, IsRoomier, IsAnsweredNow, TakesInPlace, Completes, failed_in, after_fail, failed_by}
+use Rattle.volume_core.specs.Places.{IsWriteAt, IsReadAt, IsCallAt, IsWaitingAt}
+use Rattle.volume_core.specs.State.{State, modes_in}
+use Rattle.volume_core.specs.Steps.{with_place, without_call, wrote, has_read, acked, faulted}
+use Rattle.commands_at_rest.specs.AtRest.{IsDoneAtRest}
+
+-- where there is no command, none is of the stream
+pub turn_free : (n : ℕ) (s : State) → s.commands ≡ [] → HasNoCommand n s.commands
+turn_free n s none = λ k h. absurd (omega (arith, h, ap length none))
+
+same_turns : (s s2 : State) → s2 ≡ s → s2.commands ≡ s.commands
+same_turns s s2 e = ap (λ (x : State). x.commands) e
+
+-- ---- enrolled and answered
+
+pub turns_enrolled : {E : Type 0} (n : ℕ) (c : Call) (s s2 : State) (res : Result Enrolled E) → IfOk res (λ e. EnrolsAs s n c e s2) → OnErr res (s2 ≡ s) → s2.commands ≡ s.commands
+turns_enrolled n c s s2 (Ok (enrol.Ticket t)) is err = ap (λ (x : State). x.commands) is.1.state
+turns_enrolled n c s s2 (Ok (enrol.OutOfRange place)) is err = ap (λ (x : State). x.commands) is.2
+turns_enrolled n c s s2 (Failed e) is err = same_turns s s2 err
+
+failed_turns : (s : State) (r : ℕ) (m : Mode) → (failed_in m s r).commands ≡ s.commands
+failed_turns s r Rw = refl
+failed_turns s r Wo = refl
+failed_turns s r Err = refl
+
+after_turns : (s : State) (f : Option ℕ) → (after_fail s f).commands ≡ s.commands
+after_turns s None = refl
+after_turns s (Some r) = failed_turns s r (mode_of (modes_in s) r)
+
+pub turns_answered : {E : Type 0} (n : ℕ) (c : Call) (s s2 : State) (res : Result ℕ E) → IfOk res (λ place. IsAnsweredNow s n c place s2) → OnErr res (s2 ≡ s) → s2.commands ≡ s.commands
+turns_answered n c s s2 (Ok place) is err = ap (λ (x : State). x.commands) is.state ∙ after_turns (with_place s) (failed_by c)
+turns_answered n c s s2 (Failed e) is err = same_turns s s2 err
+
+pub turns_rested : {E : Type 0} (n : ℕ) (c : Command) (s s2 : State) (res : Result ℕ E) → IfOk res (λ place. IsDoneAtRest s n c place s2) → OnErr res (s2 ≡ s) → s2.commands ≡ s.commands
+turns_rested n c s s2 (Ok place) is err = ap (λ (x : State). x.commands) is.state
+turns_rested n c s s2 (Failed e) is err = same_turns s s2 err
+
+-- ---- started and taken back
+
+begun_turns : (k : Kind) (s s2 : State) (i source : ℕ) → BeginsBy k (with_place s) i source s2 → s2.commands ≡ s.commands
+begun_turns kind.Read s s2 i source b = ap (λ (x : State). x.commands) b.state
+begun_turns kind.Write s s2 i source b = ap (λ (x : State). x.commands) b.state
+begun_turns kind.Whole s s2 i source b = absurd b
+
+pub turns_admitted : {E : Type 0} (t : ℕ) (s s2 : State) (res : Result Admit E) → IfOk res (λ a. IsAdmit s t a s2) → OnErr res (IsRoomier s s2) → s2.commands ≡ s.commands
+turns_admitted t s s2 (Ok (admit.Go job)) is err = begun_turns (ticket_at s.tickets is.0).kind s s2 is.0 is.3.source is.3.begins
+turns_admitted t s s2 (Ok (admit.After k)) is err = same_turns s s2 is.3
+turns_admitted t s s2 (Ok (admit.NoReplica place)) is err = ap (λ (x : State). x.commands) is.5
+turns_admitted t s s2 (Failed e) is err = ap (λ (x : State). x.commands) err.state
+
+pub turns_withdrawn : (t : ℕ) (s s2 : State) → (i : ℕ) × IsWaitingAt s t i × (s2 ≡ without_call s i) → s2.commands ≡ s.commands
+turns_withdrawn t s s2 is = ap (λ (x : State). x.commands) is.2
+
+-- ---- on one replica
+
+placed_turns : (s s2 : State) (i r : ℕ) (done : Bool) → TakesInPlace s i r done s2 → s2.commands ≡ s.commands
+placed_turns s s2 i r true is = ap (λ (x : State). x.commands) is.1
+placed_turns s s2 i r false is = same_turns s s2 is.1
+
+pub turns_placed : {E : Type 0} (t r : ℕ) (s s2 : State) (res : Result Bool E) → IfOk res (λ done. (i : ℕ) × IsWriteAt s t i × TakesInPlace s i r done s2) → OnErr res (s2 ≡ s) → s2.commands ≡ s.commands
+turns_placed t r s s2 (Ok done) is err = placed_turns s s2 is.0 r done is.2
+turns_placed t r s s2 (Failed e) is err = same_turns s s2 err
+
+pub turns_wrote : {E : Type 0} (t r : ℕ) (s s2 : State) (res : Result (Unit {0}) E) → OnOk res ((i : ℕ) × IsWriteAt s t i × (s2 ≡ wrote s i r)) → OnErr res (s2 ≡ s) → s2.commands ≡ s.commands
+turns_wrote t r s s2 (Ok u) is err = ap (λ (x : State). x.commands) is.2
+turns_wrote t r s s2 (Failed e) is err = same_turns s s2 err
+
+pub turns_read : {E : Type 0} (t r : ℕ) (into : List ℕ) (s s2 : State) (res : Result (Unit {0}) E) → OnOk res ((i : ℕ) × IsReadAt s t i × (s2 ≡ has_read s i r) × (into ≡ (open_at s2.calls i).buffer)) → OnErr res (s2 ≡ s) → s2.commands ≡ s.commands
+turns_read t r into s s2 (Ok u) is err = ap (λ (x : State). x.commands) is.2
+turns_read t r into s s2 (Failed e) is err = same_turns s s2 err
+
+pub turns_acked : {E : Type 0} (t r : ℕ) (s s2 : State) (res : Result (Unit {0}) E) → OnOk res ((i : ℕ) × IsCallAt s t i × IsTaken (part_at (open_at s.calls i).parts r) × (s2 ≡ acked s i r)) → OnErr res (s2 ≡ s) → s2.commands ≡ s.commands
+turns_acked t r s s2 (Ok u) is err = ap (λ (x : State). x.commands) is.3
+turns_acked t r s s2 (Failed e) is err = same_turns s s2 err
+
+pub turns_faulted : {E : Type 0} (n r count : ℕ) (s s2 : State) (res : Result (Unit {0}) E) → OnOk res (s2 ≡ faulted s n r count) → OnErr res (s2 ≡ s) → s2.commands ≡ s.commands
+turns_faulted n r count s s2 (Ok u) is err = ap (λ (x : State). x.commands) is
+turns_faulted n r count s s2 (Failed e) is err = same_turns s s2 err
+
+pub turns_completed : {E : Type 0} (t : ℕ) (s s2 : State) (res : Result ℕ E) → OnOk res (Completes s t s2) → OnErr res (s2 ≡ s) → s2.commands ≡ s.commands
+turns_completed t s s2 (Ok place) is err = ap (λ (x : State). x.commands) is.2
+turns_completed t s s2 (Failed e) is err = same_turns s s2 err
