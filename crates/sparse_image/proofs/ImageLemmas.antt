@@ -5,7 +5,7 @@ use Rattle.std.proofs.lemmas.List.{set_past, get_or-replicate, get_or_past, leng
 use Rattle.std.proofs.lemmas.Bool.{cases_eq, cases_lt, eq-eqb, ne_eqb, false≢true}
 use Rattle.std.proofs.Math.Bool.{or-true}
 use Rattle.std.proofs.lemmas.Bool.Decides.{nat_tests}
-use Rattle.sparse_image.specs.Image.{Table, Tables, place_at, table_at, block_at, has_page, IsEmpty, MakesPages, ChangesBlock, EmptiesPage, LaysPageOver, page_over}
+use Rattle.sparse_image.specs.Image.{Table, Tables, place_at, table_at, block_at, has_page, IsEmpty, MakesPages, ChangesBlock, EmptiesPage, LaysPageOver, PutsTable, page_over}
 use Rattle.sparse_image.specs.Whole.{IsTable, IsImage}
 use Rattle.sparse_image.proofs.TableLemmas.{place_at-page_over, length-page_over}
 
@@ -82,7 +82,7 @@ from_later : (first end page : ℕ) → first < end → page ≢ first → from_
 from_later first end page some other = grind (arith, nat_tests)
 
 -- a table that is not made has no places
-unmade_none : (table : Table) → IsTable table → eqb (length table) 512 ≡ false → table ≡ []
+pub unmade_none : (table : Table) → IsTable table → eqb (length table) 512 ≡ false → table ≡ []
 unmade_none [] whole unmade = refl
 unmade_none (p ∷ table) whole unmade = absurd (false≢true (sym unmade ∙ eq-eqb (length (p ∷ table)) 512 (whole.size (omega arith))))
 
@@ -230,6 +230,15 @@ EmptiesPage-set old new page s = record {
   others = block_elsewhere old new page [] s;
   unmade = page_here old new page [] s;
   other_pages = page_elsewhere old new page [] s;
+}
+
+pub PutsTable-set : (old new : Tables) (page : ℕ) (table : Table) → SetsTable old new page table → PutsTable old new page table
+PutsTable-set old new page table s = record {
+  count = s.count;
+  blocks = block_here old new page table s;
+  others = block_elsewhere old new page table s;
+  made = page_here old new page table s;
+  other_pages = page_elsewhere old new page table s;
 }
 
 or_false : (t : Bool) → t ≡ (t || false)

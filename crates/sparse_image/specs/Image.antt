@@ -1,5 +1,5 @@
 -- The blocks of an image, by their numbers, and its pages.
-use Rattle.std.specs.Prelude.{◌≡◌, ◌≢◌, ℕ, ◌+◌, ◌*◌, ◌/◌, ◌%◌, max, min, nat_lt, Bool, false, ◌||◌, ◌==◌, List, [], ◌∷◌, length, Option, None, slice_index_or}
+use Rattle.std.specs.Prelude.{◌≡◌, ◌≢◌, ℕ, ◌+◌, ◌*◌, ◌/◌, ◌%◌, max, min, nat_lt, Bool, false, ◌||◌, ◌==◌, ◌<◌, true, List, [], ◌∷◌, length, Option, None, is_some, slice_index_or}
 use Rattle.std.specs.Option.{option_or}
 use Rattle.vol_units.specs.declared.range.BlockRange.{BlockRange}
 use Rattle.sparse_image.specs.declared.block.TheConstants.{PAGE_BLOCKS}
@@ -74,3 +74,26 @@ abbrev pub page_over : Table → Table → Table
 page_over [] below = below
 page_over (a ∷ above) [] = a ∷ above
 page_over (a ∷ above) (b ∷ below) = option_or a b ∷ page_over above below
+
+-- ---- a page that is copied
+
+-- a place of the table has a block
+abbrev pub HasBlock : Table → Type 0
+HasBlock table = (i : ℕ) × (i < PAGE_BLOCKS) × (is_some (place_at table i) ≡ true)
+
+-- no place has one
+abbrev pub HasNoBlock : Table → Type 0
+HasNoBlock table = (i : ℕ) → place_at table i ≡ None
+
+-- each place of a page has a box, so that blocks can be copied there
+pub record IsLent (table : Table) : Type 0 where
+  pub count : length table ≡ PAGE_BLOCKS
+  pub boxes : (i : ℕ) → i < PAGE_BLOCKS → is_some (place_at table i) ≡ true
+
+-- the page is that table after it, and the blocks of other pages stay
+pub record PutsTable (old new : Tables) (page : ℕ) (table : Table) : Type 0 where
+  pub count : length new ≡ length old
+  pub blocks : (block : ℕ) → block / PAGE_BLOCKS ≡ page → block_at new block ≡ place_at table (block % PAGE_BLOCKS)
+  pub others : (block : ℕ) → block / PAGE_BLOCKS ≢ page → block_at new block ≡ block_at old block
+  pub made : has_page new page ≡ (length table == PAGE_BLOCKS)
+  pub other_pages : (other : ℕ) → other ≢ page → has_page new other ≡ has_page old other

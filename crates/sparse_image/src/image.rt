@@ -1,13 +1,15 @@
-ghost use Rattle.std.specs.Prelude.{◌≡◌, ◌==◌, ◌&&◌, nat_le, nat_lt, ◌+◌, ◌*◌, ◌/◌, ◌<◌, ◌≤◌, length, Some, IfOk, IfSome, OnOk, OnErr, IsTrue, false, is_some, slice_range};
+ghost use Rattle.std.specs.Prelude.{◌≡◌, ◌==◌, ◌&&◌, nat_le, nat_lt, ◌+◌, ◌*◌, ◌/◌, ◌<◌, ◌≤◌, length, Some, IfOk, IfSome, OnOk, OnErr, IsTrue, true, false, is_some, slice_range};
 ghost use Rattle.std.specs.Option.{option_map, option_copied};
 ghost use Rattle.vol_units.specs.Bytes.{with_bytes_at, zeros};
 ghost use Rattle.sparse_image.specs.Disk.{bytes_of, disk_of};
-ghost use Rattle.sparse_image.specs.Image.{block_at, has_page, IsEmpty, MakesPages, is_page_of, ChangesBlock, EmptiesPage, LaysPageOver};
+ghost use Rattle.sparse_image.specs.Image.{block_at, has_page, IsEmpty, MakesPages, is_page_of, ChangesBlock, EmptiesPage, LaysPageOver, table_at, HasBlock, HasNoBlock, IsLent, PutsTable};
+ghost use Rattle.sparse_image.specs.Whole.{IsTable};
 
 use crate::block::{BLOCK_BYTES, Block, PAGE_BLOCKS};
 use crate::page::Page;
 use std::alloc::{AllocError, Global};
 use std::marker::Model;
+use std::mem;
 use vol_units::BlockRange;
 
 /// The blocks of one layer.
@@ -160,5 +162,29 @@ impl Image {
         ensures under { LaysPageOver self.old below.old below.new page }
     {
         self.pages[page as usize].move_onto(&mut below.pages[page as usize]);
+    }
+    /// Copies the blocks of a page into a page that is lent, which has the same after. Where the page has none it is
+    /// false, and the boxes that are lent stay. It takes no memory.
+    pub fn copy_page(&self, page: u32, into: &mut Page) -> bool
+        requires inside { page < length self.now }
+        requires lent { IsLent into.old }
+        ensures some { result ≡ true → HasBlock (table_at self.now page) }
+        ensures none { result ≡ false → HasNoBlock (table_at self.now page) }
+        ensures copied { result ≡ true → into.new ≡ table_at self.now page }
+        ensures same { result ≡ false → into.new ≡ into.old }
+    {
+        into.copy_of(&self.pages[page as usize])
+    }
+
+    /// Swaps a page with another. The boxes move, and nothing is copied.
+    pub fn swap_page(&mut self, page: u32, with: &mut Page)
+        requires { page < length self.old }
+        ensures own { PutsTable self.old self.new page with.old }
+        ensures back { with.new ≡ table_at self.old page }
+        ensures table { IsTable with.old }
+    {
+        // What a page keeps, a proof learns here.
+        let _made = with.is_made();
+        mem::swap(&mut self.pages[page as usize], with);
     }
 }

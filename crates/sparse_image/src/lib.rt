@@ -8,3 +8,4 @@ mod place;
 
 pub use block::{BLOCK_BYTES, Block, PAGE_BLOCKS};
 pub use image::Image;
+pub use page::Page;

@@ -1,4 +1,4 @@
-ghost use Rattle.std.specs.Prelude.{◌≡◌, ◌+◌, ◌≤◌, length, None, Some, false, is_some};
+ghost use Rattle.std.specs.Prelude.{◌≡◌, ◌+◌, ◌≤◌, length, None, Some, true, false, is_some};
 ghost use Rattle.std.specs.Option.{option_map, option_copied, option_or};
 ghost use Rattle.vol_units.specs.Bytes.{with_bytes_at};
 
@@ -27,6 +27,12 @@ impl Place {
         Place { block: None }
     }
 
+    pub fn is_there(&self) -> bool
+        ensures { result ≡ is_some self.now }
+    {
+        self.block.is_some()
+    }
+
     pub fn get(&self) -> Option<&Block>
         ensures { option_copied result ≡ self.now }
     {
@@ -52,6 +58,21 @@ impl Place {
     {
         if let Some(block) = self.block.take() {
             below.block = Some(block);
+        }
+    }
+
+    /// Copies the block of another place into the box that is here. Where that has none, the box goes.
+    pub fn copy_of(&mut self, other: &Place)
+        requires { is_some self.old ≡ true }
+        ensures { self.new ≡ other.now }
+    {
+        match &other.block {
+            Some(from) => {
+                if let Some(into) = &mut self.block {
+                    into.copy_from_slice(&from[..]);
+                }
+            }
+            None => self.block = None,
         }
     }
 
