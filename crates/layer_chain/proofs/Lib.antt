@@ -1,6 +1,7 @@
 pub mod ChangeLemmas
 pub mod ChildLemmas
 pub mod Cuts
+pub mod EmptiedLemmas
 pub mod FoldLaws
 pub mod FoldLemmas
 pub mod ReadLaws

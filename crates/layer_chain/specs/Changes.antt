@@ -1,8 +1,9 @@
 -- What a change makes of a tree.
-use Rattle.std.specs.Prelude.{◌≡◌, ℕ, ◌+◌, Bool, true, false, List, ◌∷◌, Option, None, Some, slice_set, remove}
-use Rattle.sparse_image.specs.Image.{Tables, EmptiesPage, LaysPageOver}
+use Rattle.std.specs.Prelude.{◌≡◌, ℕ, ◌+◌, Bool, true, false, List, ◌∷◌, map, All, Option, None, Some, slice_set, remove}
+use Rattle.sparse_image.specs.Image.{Table, Tables, IsEmpty, EmptiesPage, LaysPageOver, PutsTable}
 use Rattle.layer_chain.specs.Tree.{Tree, layer_at, reads, head_reads}
 use Rattle.layer_chain.specs.declared.layer.Layer.{Layer}
+use Rattle.layer_chain.specs.declared.layer.LayerMeta.{LayerMeta}
 
 -- one more layer, newer than the others
 abbrev pub pushed : Tree → Layer → Tree
@@ -45,6 +46,24 @@ pub record KeepsReadings (old new : Tree) : Type 0 where
   pub layers : (name : Option (List ℕ)) (block : ℕ) → reads new.layers name block ≡ reads old.layers name block
   pub head : (block : ℕ) → head_reads new block ≡ head_reads old block
 
+-- ---- without blocks
+
+-- what is told of the layers, the newest first
+abbrev pub metas_in : List Layer → List LayerMeta
+metas_in layers = map (λ l. l.meta) layers
+
+-- no layer has a block
+abbrev pub AreEmpty : List Layer → ℕ → Type 0
+AreEmpty layers page_count = All (λ (l : Layer). IsEmpty l.image page_count) layers
+
+-- the same layers and the same head, all without a block
+pub record IsEmptied (old new : Tree) (page_count : ℕ) : Type 0 where
+  pub metas : metas_in new.layers ≡ metas_in old.layers
+  pub images : AreEmpty new.layers page_count
+  pub head : IsEmpty new.head page_count
+  pub on : new.on ≡ old.on
+  pub number : new.number ≡ old.number
+
 -- ---- what folding and dropping are made of
 
 -- other layers
@@ -66,6 +85,11 @@ pub record MovesPage (old new : List Layer) (p c page : ℕ) : Type 0 where
   pub child : EmptiesPage (layer_at old c).image (layer_at new c).image page
   pub parent : LaysPageOver (layer_at old c).image (layer_at old p).image (layer_at new p).image page
   pub rest : new ≡ with_images old p c (layer_at new p).image (layer_at new c).image
+
+-- the page of the layer at the place is that table, and nothing else is new
+pub record PutsPage (old new : List Layer) (place page : ℕ) (table : Table) : Type 0 where
+  pub image : PutsTable (layer_at old place).image (layer_at new place).image page table
+  pub rest : new ≡ slice_set old place (with_image (layer_at old place) (layer_at new place).image)
 
 -- the layer at p is taken out
 abbrev pub taken_out : Tree → ℕ → Tree

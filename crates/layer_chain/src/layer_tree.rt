@@ -2,9 +2,10 @@ ghost use Rattle.std.specs.Prelude.{◌≡◌, ℕ, ◌+◌, ◌*◌, ◌/◌, �
 ghost use Rattle.std.specs.Option.{option_copied, option_map};
 ghost use Rattle.vol_units.specs.Bytes.{with_bytes_at};
 ghost use Rattle.sparse_image.specs.Disk.{disk_of};
-ghost use Rattle.sparse_image.specs.Image.{block_at, has_page, MakesPages, is_page_of, ChangesBlock};
+ghost use Rattle.sparse_image.specs.Image.{block_at, has_page, table_at, MakesPages, is_page_of, ChangesBlock};
+ghost use Rattle.sparse_image.specs.Whole.{IsTable};
 ghost use Rattle.layer_chain.specs.Tree.{IsBlank, IsWholeTree, IsNew, IsThere, IsAt, IsChild, IsParent, reads, head_reads, marked_chain, layer_at, name_of, parent_of};
-ghost use Rattle.layer_chain.specs.Changes.{pushed, with_head, headed, snapped_tree, reverted_tree, marked_at, with_layers, MovesPage, taken_out, replaced};
+ghost use Rattle.layer_chain.specs.Changes.{pushed, with_head, headed, snapped_tree, reverted_tree, marked_at, with_layers, MovesPage, PutsPage, IsEmptied, taken_out, replaced};
 ghost use Rattle.layer_chain.specs.Children.{Tells, IsLeaf, IsOnlyChild, children_named};
 
 use crate::chain::chain_in;
@@ -12,7 +13,7 @@ use crate::children::{Children, children_in, standing_in};
 use crate::layer::{Layer, LayerMeta};
 use crate::moving::move_page_in;
 use crate::reading::{index_in, read_in};
-use sparse_image::{BLOCK_BYTES, Block, Image, PAGE_BLOCKS};
+use sparse_image::{BLOCK_BYTES, Block, Image, PAGE_BLOCKS, Page};
 use std::alloc::{AllocError, Global};
 use std::marker::Model;
 use std::mem;
@@ -167,6 +168,22 @@ impl LayerTree {
         standing_in(&self.layers, &self.on, place)
     }
 
+    /// The same layers and the same head, all without a block.
+    pub fn emptied(&self, alloc: Global, page_count: u32) -> Result<LayerTree, AllocError>
+        ensures { IfOk result (λ t. IsEmptied self.now t page_count) }
+    {
+        let mut tree = LayerTree::new(alloc, page_count)?;
+        // The oldest is pushed first, so that each parent is there before its child.
+        for done in 0..self.layers.len() {
+            let place = self.layers.len() - 1 - done;
+            let meta = self.layers[place].meta.copied(alloc)?;
+            let image = Image::with_pages(alloc, page_count)?;
+            tree.push_layer(Layer { meta, image });
+        }
+        tree.put_head(self.number, self.on, Image::with_pages(alloc, page_count)?);
+        Ok(tree)
+    }
+
     /// One more layer, newer than the others.
     pub fn push_layer(&mut self, layer: Layer)
         requires room { length self.old.layers + 1 < MOST_LAYERS }
@@ -236,6 +253,18 @@ impl LayerTree {
         ensures rest { self.new ≡ with_layers self.old self.new.layers }
     {
         move_page_in(&mut self.layers, parent, child, page);
+    }
+
+    /// Swaps a page of the layer at a place with another. The boxes move, and nothing is copied.
+    pub fn swap_page(&mut self, place: usize, page: u32, with: &mut Page)
+        requires within { place < length self.old.layers }
+        requires inside { page < length (layer_at self.old.layers place).image }
+        ensures puts { PutsPage self.old.layers self.new.layers place page with.old }
+        ensures rest { self.new ≡ with_layers self.old self.new.layers }
+        ensures back { with.new ≡ table_at (layer_at self.old.layers place).image page }
+        ensures table { IsTable with.old }
+    {
+        self.layers[place].image.swap_page(page, with);
     }
 
     /// The layer goes, and the one that stands on it stands in its place, with its blocks.
