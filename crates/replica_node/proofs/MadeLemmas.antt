@@ -1,9 +1,11 @@
 -- A block of an image is in a page that is made, and stays so.
-use Rattle.std.proofs.Common.{◌≡◌, ⊎_elim, ℕ, ◌*◌, ◌/◌, Bool, true, false, List, Option, None, is_some, refl, sym, ap, ◌∙◌}
+use Rattle.std.proofs.Common.{◌≡◌, ⊎_elim, ℕ, ◌*◌, ◌/◌, ◌%◌, Bool, true, false, List, Option, None, is_some, refl, sym, ap, ◌∙◌}
 use Rattle.std.specs.Prelude.{◌||◌}
 use Rattle.std.specs.Option.{option_or}
 use Rattle.std.proofs.lemmas.Bool.{cases_eq, false≢true}
-use Rattle.sparse_image.specs.Image.{Tables, block_at, has_page, IsEmpty, ChangesBlock, EmptiesPage, LaysPageOver}
+use Rattle.sparse_image.specs.Image.{Table, Tables, block_at, place_at, has_page, IsEmpty, ChangesBlock, EmptiesPage, LaysPageOver, PutsTable}
+use Rattle.sparse_image.specs.Whole.{IsTable}
+use Rattle.sparse_image.proofs.ImageLemmas.{unmade_none}
 use Rattle.replica_node.specs.Node.{IsInPages, IsImageOf}
 
 -- neither is
@@ -61,5 +63,16 @@ made_emptied old new count page empties is = record {
   made = λ k unmade. ⊎_elim
       (λ here. empties.blocks k here)
       (λ other. empties.others k other ∙ is.made k (sym (empties.other_pages (k / 512) other) ∙ unmade))
+      (cases_eq (k / 512) page);
+}
+
+-- a page is put
+pub made_put : (old new : Tables) (count page : ℕ) (table : Table) → PutsTable old new page table → IsTable table → IsImageOf count old → IsImageOf count new
+made_put old new count page table puts whole is = record {
+  pages = ap (λ l. l * 512) puts.count ∙ is.pages;
+  made = λ k unmade. ⊎_elim
+      (λ here. puts.blocks k here
+      ∙ ap (λ t. place_at t (k % 512)) (unmade_none table whole (sym puts.made ∙ sym (ap (has_page new) here) ∙ unmade)))
+      (λ other. puts.others k other ∙ is.made k (sym (puts.other_pages (k / 512) other) ∙ unmade))
       (cases_eq (k / 512) page);
 }

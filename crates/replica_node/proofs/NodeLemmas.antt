@@ -33,11 +33,11 @@ length-made_in image count = length-listed (λ block. has_page image (block / 51
 pub length-own_in : (image : Tables) (count : ℕ) → length (own_in image count) ≡ count
 length-own_in image count = length-listed (λ block. is_some (block_at image block)) count
 
-made_in-empty : (image : Tables) (page_count count : ℕ) → IsEmpty image page_count → made_in image count ≡ replicate count false
+pub made_in-empty : (image : Tables) (page_count count : ℕ) → IsEmpty image page_count → made_in image count ≡ replicate count false
 made_in-empty image page_count count e =
     listed-all (λ block. has_page image (block / 512)) count false (λ block. e.pages (block / 512))
 
-own_in-empty : (image : Tables) (page_count count : ℕ) → IsEmpty image page_count → own_in image count ≡ replicate count false
+pub own_in-empty : (image : Tables) (page_count count : ℕ) → IsEmpty image page_count → own_in image count ≡ replicate count false
 own_in-empty image page_count count e =
     listed-all (λ block. is_some (block_at image block)) count false (λ block. ap is_some (e.blocks block))
 
@@ -317,7 +317,7 @@ blank_block t page_count k none e = both (e.blocks k) (no_reading t.layers t.on 
 pub length-none : length (bytes_of None) ≡ 4096
 length-none = length-zeros 4096
 
-as_disk : (image : Tables) (n : ℕ) → IsEmpty image n → joined (λ k. bytes_of (block_at image k)) (length image * 512) ≡ zeros (n * 2097152)
+pub as_disk : (image : Tables) (n : ℕ) → IsEmpty image n → joined (λ k. bytes_of (block_at image k)) (length image * 512) ≡ zeros (n * 2097152)
 unfolding disk_of
 as_disk image n e = disk_of-empty image n e
 

@@ -10,7 +10,7 @@ pub use blocks::Blocks;
 pub use layer_chain::LayerMeta;
 pub use node::ReplicaNode;
 pub use snapshot_ops::Spare;
-pub use sparse_image::{BLOCK_BYTES, Block};
+pub use sparse_image::{BLOCK_BYTES, Block, PAGE_BLOCKS, Page};
 pub use vol_units::{BlockRange, LayerName, VolumeSize};
 pub use volume_model::FoldOrDrop;
 

@@ -3,6 +3,8 @@ ghost use Rattle.std.specs.Option.{option_copied};
 ghost use Rattle.vol_units.specs.Bytes.{zeros, bytes_at, with_bytes_at};
 ghost use Rattle.vol_units.specs.declared.size.TheConstants.{LARGEST_SIZE, PAGE_BYTES};
 ghost use Rattle.sparse_image.specs.Disk.{bytes_of};
+ghost use Rattle.sparse_image.specs.Image.{IsLent};
+ghost use Rattle.layer_chain.specs.Tree.{IsAt, IsThere, IsWholeTree};
 ghost use Rattle.replica_node.specs.Room.{HasRoom, KeepsRoom, with_room, with_room_of, put_at, bytes_in, head_blocks};
 ghost use Rattle.volume_model.specs.Names.{NamesOnce};
 ghost use Rattle.volume_model.specs.Purge.{CanFold, CanDrop, next_in};
@@ -10,13 +12,14 @@ ghost use Rattle.volume_model.specs.Snapshots.{is_live, chain_of};
 ghost use Rattle.coalesce.specs.Way.{IsWayOf, HasNoWay};
 ghost use Rattle.replica_node.specs.Node.{Kept, blank, snapped_node, reverted_node, marked, disk_of_layer, block_in, has_own, node_of, IsNode, IsKept, IsFree, IsSpareOf};
 ghost use Rattle.replica_node.specs.Fold.{tree_of, snapshots_of, own_named, HasBlockOf, HasNoBlockOf, IsBare, page_folded, replaced_node, folded_away, dropped_node};
+ghost use Rattle.replica_node.specs.Held.{IsChained, IsPageOf, PutsPage, emptied};
 
 use crate::blocks::Blocks;
 use crate::fold::fold_pages;
 use crate::own::{has_block, has_block_of};
 use layer_chain::LayerTree;
 use snapshot_ops::Spare;
-use sparse_image::{BLOCK_BYTES, Block};
+use sparse_image::{BLOCK_BYTES, Block, Page};
 use std::alloc::{AllocError, Global};
 use std::marker::Model;
 use vol_units::{BlockRange, LayerName, MOST_LAYERS, VolumeSize};
@@ -56,6 +59,14 @@ impl ReplicaNode {
     {
         let tree = LayerTree::new(alloc, size.page_count())?;
         Ok(ReplicaNode::of_tree(size, tree))
+    }
+
+    /// The same layers and head, all without a block: what a replica is at first that is to be rebuilt from this one.
+    pub fn blank_like(&self, alloc: Global) -> Result<ReplicaNode, AllocError>
+        ensures { IfOk result (λ node. node ≡ emptied self.now) }
+    {
+        let tree = self.tree.emptied(alloc, self.size.page_count())?;
+        Ok(ReplicaNode::of_tree(self.size, tree))
     }
 
     /// A head for the next snapshot or revert. It takes all memory that they need.
@@ -157,6 +168,32 @@ impl ReplicaNode {
         // That no name comes twice, a proof learns here.
         let _count = self.tree.count();
         coalesce::delete_leaf(&mut self.tree, name);
+    }
+
+    /// Copies the blocks that a layer itself has of a page into a page that is lent. Where it has none it is false, and
+    /// what is lent stays as it is. It takes no memory.
+    pub fn copy_page_out(&self, layer: &LayerName, page: u32, into: &mut Page) -> bool
+        requires kept { IsKept self.now (Some layer.now) }
+        requires inside { page * PAGE_BYTES < length self.now.disk }
+        requires lent { IsLent into.old }
+        ensures some { result ≡ true → HasBlockOf self.now layer.now page }
+        ensures none { result ≡ false → HasNoBlockOf self.now layer.now page }
+        ensures copied { result ≡ true → IsPageOf self.now layer.now page into.new }
+        ensures same { result ≡ false → into.new ≡ into.old }
+    {
+        let place = place_of(&self.tree, layer);
+        self.tree.image(place).copy_page(page, into)
+    }
+
+    /// Puts a page in the place of the layer's own, which comes back. It takes no memory.
+    pub fn copy_page_in(&mut self, layer: &LayerName, page: u32, with: &mut Page)
+        requires kept { IsKept self.old (Some layer.now) }
+        requires inside { page * PAGE_BYTES < length self.old.disk }
+        ensures puts { PutsPage self.old self.new layer.now page with.old }
+        ensures back { IsPageOf self.old layer.now page with.new }
+    {
+        let place = place_of(&self.tree, layer);
+        self.tree.swap_page(place, page, with);
     }
 
     /// Makes places in the head for the blocks of a range, so that writing them takes no memory.
@@ -296,11 +333,15 @@ impl ReplicaNode {
         self.size.bytes() as usize
     }
 
+    /// The blocks of the volume. What the head and each layer read as is made of the blocks that they themselves have.
     pub fn block_count(&self) -> u32
         ensures value { result * BLOCK_BYTES ≡ length self.now.disk }
         ensures own { All (λ (k : Kept). length k.own ≡ result) self.now.layers }
         ensures disks { All (λ (k : Kept). length k.disk ≡ length self.now.disk) self.now.layers }
+        ensures chained { IsChained self.now result }
     {
+        // That the layers are a tree, a proof learns here.
+        let _count = self.tree.count();
         self.size.block_count()
     }
 
@@ -351,6 +392,20 @@ impl ReplicaNode {
             ↔ (bytes_at self.now.disk start BLOCK_BYTES ≡ bytes_at other.now.disk start BLOCK_BYTES) }
     {
         reads_same(self.tree.read_head(block), other.tree.read_head(block))
+    }
+}
+
+/// The place of the layer of a name.
+fn place_of(tree: &LayerTree, name: &LayerName) -> usize
+    requires { IsThere (Some name.now) tree.now.layers }
+    ensures at { IsAt tree.now.layers name.now result }
+    ensures whole { IsWholeTree tree.now }
+{
+    // That the layers are a tree, a proof learns here.
+    let _count = tree.count();
+    match tree.index_of(name) {
+        Some(place) => place,
+        None => unreachable!(),
     }
 }
 

@@ -1,3 +1,4 @@
+ghost use Rattle.sparse_image.specs.Image.{IsLent};
 ghost use Rattle.volume_model.specs.Purge.{CanBeDone};
 ghost use Rattle.replica_node.specs.Fold.{tree_of};
 
@@ -94,5 +95,62 @@ fn the_last_block_of_a_page_is_the_layers_own(rt: HostRuntime) -> Result<(), Fai
     }
     assert_eq!(rt; node.is_bare(&full), false);
     assert_eq!(rt; node.is_bare(&bare) && node.is_bare(&absent), true);
+    Ok(())
+}
+
+fn copy_page(
+    from: &ReplicaNode,
+    onto: &mut ReplicaNode,
+    layer: &LayerName,
+    page: u32,
+    lent: &mut Page,
+) -> Result<bool, Fail>
+    requires { IsLent lent.old }
+{
+    let pages = from.page_count().min(onto.page_count());
+    if page >= pages || !from.has_layer(layer) || !onto.has_layer(layer) {
+        return Err(Fail::new("no such page"));
+    }
+    let found = from.copy_page_out(layer, page, lent);
+    if found {
+        onto.copy_page_in(layer, page, lent);
+    }
+    Ok(found)
+}
+
+fn same_blocks(one: &ReplicaNode, other: &ReplicaNode, block: u32) -> Result<bool, Fail> {
+    if block >= one.block_count().min(other.block_count()) {
+        return Err(Fail::new("no such block"));
+    }
+    Ok(one.same_block(other, block))
+}
+
+#[test]
+fn a_copied_replica_reads_as_its_source(rt: HostRuntime) -> Result<(), Fail> {
+    let alloc = rt.alloc();
+    let mut node = ReplicaNode::blank(alloc, VolumeSize::new(4_194_304)?)?;
+    let mut blocks = Blocks::with_count(alloc, 1)?;
+    if node.block_count() < 512 || blocks.len() != 1 || !blocks.is_full() {
+        return Err(Fail::new("no box"));
+    }
+    let range = BlockRange {
+        first: 511,
+        end: 512,
+    };
+    blocks.fill(&[7; BLOCK_BYTES]);
+    node.make_room(alloc, range)?;
+    node.write_blocks(range, &mut blocks);
+    let low = LayerName::sys(0);
+    keep(&mut node, alloc, low)?;
+    let mut other = node.blank_like(alloc)?;
+    assert_eq!(rt; (other.layer_count(), other.head_number()), (2, 1));
+    assert_eq!(rt; same_blocks(&node, &other, 511)?, false);
+    let mut page = Page::unmade(alloc);
+    for (number, has) in [(1, false), (0, true)] {
+        page = page.lent(alloc)?;
+        assert_eq!(rt; copy_page(&node, &mut other, &low, number, &mut page)?, has);
+    }
+    assert_eq!(rt; page.has_block(), false);
+    assert_eq!(rt; same_blocks(&node, &other, 511)?, true);
     Ok(())
 }
