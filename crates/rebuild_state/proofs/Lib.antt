@@ -1,0 +1,4 @@
+pub mod RebuildLemmas
+pub mod WriteLemmas
+pub mod PromoteLemmas
+pub mod ListedLemmas

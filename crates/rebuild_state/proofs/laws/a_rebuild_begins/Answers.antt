@@ -1,0 +1,6 @@
+use Rattle.std.proofs.Common.{◌≡◌, true}
+use Rattle.rebuild_state.proofs.RebuildLemmas.{rebuild_begins}
+use Rattle.rebuild_state.proofs.laws.a_rebuild_begins.Goals as goal
+
+pub returns : goal.returns
+returns c = λ is_listed free source name bare. rebuild_begins is_listed (λ block. free block ≡ true) source name bare
