@@ -1,0 +1,4 @@
+pub mod Frames
+pub mod Copying
+pub mod Told
+pub mod Rooms
