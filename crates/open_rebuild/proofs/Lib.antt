@@ -1,0 +1,6 @@
+pub mod UnderWay
+pub mod RangeSteps
+pub mod WholeSteps
+pub mod PageSteps
+pub mod ModeSteps
+pub mod PlaceLemmas

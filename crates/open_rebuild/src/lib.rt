@@ -1,0 +1,14 @@
+//! What is true of a volume at every moment while one of its replicas is rebuilt, and what keeps it.
+#![tactic(auto)]
+
+mod frozen_layers;
+pub mod laws;
+mod rebuilding;
+
+pub use frozen_layers::FrozenLayers;
+pub use rebuild_state::ListedPages;
+pub use rebuilding::Rebuilding;
+pub use replica_node::LayerName;
+
+#[cfg(test)]
+mod tests;
