@@ -1,5 +1,6 @@
 pub mod Asks
 pub mod Begins
+pub mod Owes
 pub mod Purging
 pub mod Refusals
 pub mod TurnSound

@@ -41,7 +41,7 @@ commands-start_other n (u ∷ ts) (d ∷ cs) zero t b = without_head n t d ts cs
 commands-start_other n (u ∷ ts) (d ∷ cs) (suc k) t b = ap (λ (ps : Pairs). cond (eqb d.stream n) ((u, d) ∷ ps) ps) (commands-start_other n ts cs k t b)
 
 -- it is gone
-commands-remove_other : (n : ℕ) (ts : List Ticket) (cs : List MaintCall) (k : ℕ) → length cs ≡ length ts → (command_at cs k).stream ≢ n → commands_in n (remove ts k) (remove cs k) ≡ commands_in n ts cs
+pub commands-remove_other : (n : ℕ) (ts : List Ticket) (cs : List MaintCall) (k : ℕ) → length cs ≡ length ts → (command_at cs k).stream ≢ n → commands_in n (remove ts k) (remove cs k) ≡ commands_in n ts cs
 commands-remove_other n [] [] zero e b = refl
 commands-remove_other n [] [] (suc k) e b = refl
 commands-remove_other n [] (d ∷ cs) k e b = absurd (omega arith)

@@ -5,6 +5,7 @@ use Rattle.command_text.specs.declared.command.Command.{Command}
 use Rattle.command_text.specs.declared.command.Command.TheVariants as command
 use Rattle.range_turns.specs.declared.ticket.Kind.TheVariants as kind
 use Rattle.range_turns.specs.Order.{ticket_at, StandsAt}
+use Rattle.open_calls.specs.Calls.{open_at}
 use Rattle.open_calls.specs.Clients.{IsIdle}
 use Rattle.whole_calls.specs.declared.whole.Whole.{Whole}
 use Rattle.whole_calls.specs.Maint.{command_at}
@@ -36,6 +37,10 @@ pub record AwaitsWhole (s : State) (t i : ℕ) : Type 0 where
   pub stands : StandsAt s.tickets t i
   pub kind : (ticket_at s.tickets i).kind ≡ kind.Whole
   pub waits : (ticket_at s.tickets i).started ≡ false
+
+-- so for the stream whose call has that ticket
+abbrev pub ForCaller : State → ℕ → (ℕ → Type 0) → Type 0
+ForCaller s t fact = (i : ℕ) → StandsAt s.tickets t i → fact (open_at s.calls i).stream
 
 -- the started call on the whole volume has that ticket, at i
 pub record IsWholeOn (s : State) (t : ℕ) (w : Whole) (i : ℕ) : Type 0 where

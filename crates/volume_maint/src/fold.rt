@@ -11,6 +11,7 @@ ghost use Rattle.whole_calls.specs.Maint.{CanGo, HasTurn, command_at};
 ghost use Rattle.whole_calls.specs.Whole.{IsFolded};
 ghost use Rattle.volume_core.specs.State.{state_of, modes_in};
 ghost use Rattle.volume_core.specs.Sound.{IsSound};
+ghost use Rattle.volume_core.specs.Streams.{MayGo};
 ghost use Rattle.volume_maint.specs.Steps.{folded_on};
 ghost use Rattle.volume_maint.specs.Places.{IsTurnOf};
 ghost use Rattle.volume_maint.specs.Answers.{snapshots_told, IsNew, IsOntoNew, HasNoChild, child_of, IsNextPart, WantsFold, FoldsPage, AgainstFold};
@@ -189,6 +190,7 @@ pub fn fold_page(
     ensures ok { OnOk result (FoldsPage (state_of world.old) replica parent.now page (state_of world.new)) }
     ensures why { IfErr result (AgainstFold (state_of world.old) replica parent.now page) }
     ensures err { OnErr result (state_of world.new ≡ state_of world.old) }
+    ensures may { MayGo (command_at world.old.commands.items 0).stream (state_of world.old) (state_of world.new) }
 {
     let mode = world.journal.mode(replica);
     if mode != Mode::Rw {

@@ -12,8 +12,9 @@ ghost use Rattle.whole_calls.specs.Whole.{IsFit, IsSpared, spare_at};
 ghost use Rattle.volume_core.specs.State.{state_of, modes_in};
 ghost use Rattle.volume_core.specs.Steps.{with_place, enrolled, without_call};
 ghost use Rattle.volume_core.specs.Sound.{IsSound};
+ghost use Rattle.volume_core.specs.Streams.{MayGo};
 ghost use Rattle.volume_maint.specs.Steps.{whole_ticket, whole_parted, whole_ended};
-ghost use Rattle.volume_maint.specs.Places.{AwaitsWhole, IsWholeOn};
+ghost use Rattle.volume_maint.specs.Places.{AwaitsWhole, ForCaller, IsWholeOn};
 ghost use Rattle.volume_maint.specs.Answers.{snapshots_told, IsLongSource, MayAsk, seen_by, EnrolsWhole, CannotGo, AdmitsWhole, BeginsWhole, TakesPart, AgainstPart};
 
 use crate::answers::AdmitWhole;
@@ -42,6 +43,7 @@ pub fn enrol_whole(
     ensures sound { IsSound (state_of world.new) }
     ensures ok { IfOk result (λ t. EnrolsWhole (state_of world.old) stream op.now t (state_of world.new)) }
     ensures err { OnErr result (state_of world.new ≡ state_of world.old) }
+    ensures may { MayGo stream (state_of world.old) (state_of world.new) }
 {
     if !can_be_asked(world, op) {
         return Ok(None);
@@ -105,6 +107,7 @@ pub fn admit_whole(
     ensures sound { IsSound (state_of world.new) }
     ensures ok { IfOk result (λ a. AdmitsWhole (state_of world.old) t a (state_of world.new)) }
     ensures err { OnErr result (state_of world.new ≡ state_of world.old) }
+    ensures may { ForCaller (state_of world.old) t (λ stream. MayGo stream (state_of world.old) (state_of world.new)) }
 {
     let i = waiting_whole_at(world, t);
     if let Some(j) = world.turns.in_way(i) {
@@ -190,6 +193,7 @@ pub fn withdraw_whole(world: &mut World, t: TicketNumber)
     ensures sound { IsSound (state_of world.new) }
     ensures gone { (i : ℕ) × AwaitsWhole (state_of world.old) t i
         × (state_of world.new ≡ without_call (state_of world.old) i) }
+    ensures may { ForCaller (state_of world.old) t (λ stream. MayGo stream (state_of world.old) (state_of world.new)) }
 {
     let i = waiting_whole_at(world, t);
     take_call(world, i);
@@ -202,6 +206,7 @@ pub fn part(world: &mut World, t: TicketNumber, replica: u8) -> Result<(), NotTh
     ensures ok { OnOk result (TakesPart (state_of world.old) t replica (state_of world.new)) }
     ensures why { IfErr result (AgainstPart (state_of world.old) t replica) }
     ensures err { OnErr result (state_of world.new ≡ state_of world.old) }
+    ensures may { ForCaller (state_of world.old) t (λ stream. MayGo stream (state_of world.old) (state_of world.new)) }
 {
     let mode = world.journal.mode(replica);
     if mode == Mode::Err {

@@ -12,8 +12,9 @@ ghost use Rattle.whole_calls.specs.Maint.{IsAskedBy};
 ghost use Rattle.volume_core.specs.State.{state_of, modes_in, index_at};
 ghost use Rattle.volume_core.specs.Steps.{with_entry, without_call};
 ghost use Rattle.volume_core.specs.Sound.{IsSound};
+ghost use Rattle.volume_core.specs.Streams.{MayGo};
 ghost use Rattle.volume_maint.specs.Steps.{turn_over, whole_acked, whole_ended};
-ghost use Rattle.volume_maint.specs.Places.{IsWholeOn};
+ghost use Rattle.volume_maint.specs.Places.{ForCaller, IsWholeOn};
 ghost use Rattle.volume_maint.specs.Answers.{AcksPart, AgainstAckPart};
 ghost use Rattle.volume_maint.specs.Answers.{EndsWhole, AgainstEndWhole, whole_done, whole_lost};
 
@@ -30,6 +31,7 @@ pub fn ack_whole(world: &mut World, t: TicketNumber, replica: u8) -> Result<(), 
     ensures ok { OnOk result (AcksPart (state_of world.old) t replica (state_of world.new)) }
     ensures why { IfErr result (AgainstAckPart (state_of world.old) t replica) }
     ensures err { OnErr result (state_of world.new ≡ state_of world.old) }
+    ensures may { ForCaller (state_of world.old) t (λ stream. MayGo stream (state_of world.old) (state_of world.new)) }
 {
     let Some(_place) = started_whole_at(world, t) else {
         return Err(NotThis::Ticket);
@@ -72,6 +74,7 @@ pub fn complete_whole(world: &mut World, t: TicketNumber) -> Result<u64, NotThis
     ensures ok { OnOk result (EndsWhole (state_of world.old) t (state_of world.new)) }
     ensures why { IfErr result (AgainstEndWhole (state_of world.old) t) }
     ensures err { OnErr result (state_of world.new ≡ state_of world.old) }
+    ensures may { ForCaller (state_of world.old) t (λ stream. MayGo stream (state_of world.old) (state_of world.new)) }
 {
     let Some(i) = started_whole_at(world, t) else {
         return Err(NotThis::Ticket);

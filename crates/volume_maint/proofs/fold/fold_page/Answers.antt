@@ -12,6 +12,7 @@ use Rattle.volume_core.specs.State.{State, state_of, modes_in}
 use Rattle.volume_core.specs.Sound.{IsSound}
 use Rattle.volume_maint.specs.Answers.{snapshots_told, IsNew, FoldsPage}
 use Rattle.volume_maint.specs.Places.{IsTurnOf}
+use Rattle.volume_maint.proofs.Owes.{folded_goes}
 use Rattle.volume_maint.proofs.Purging.{IsPurging, can_told, told_can, long_on, folded_sound, one_child, not_onto_new}
 use Rattle.volume_maint.proofs.fold.fold_page.Goals as goal
 
@@ -74,3 +75,8 @@ returns-in_default-2-clause-why c = λ s2 f.
     let s : State = state_of c.args.world.now in
     let none : (child : List ℕ) → CanFold (tree_of (node_at s.nodes c.args.replica)) (node_at s.nodes c.args.replica).on c.args.parent.now child → ⊥ = search rules in
     none_on s c.args.replica c.args.parent.now c.requires.sound f.idle f.read none c.args.page s2 f
+
+pub returns-in-Some-clause-may : goal.returns-in-Some-clause-may
+returns-in-Some-clause-may c =
+    let s : State = state_of c.args.world.now in
+    folded_goes (command_at s.commands 0).stream s (state_of c.fold_on.new.world) (returns-in-Some-clause-sound c) c.args.replica c.args.parent.now c.in-Some.child c.args.page c.fold_on.ensures

@@ -1,4 +1,4 @@
-use Rattle.std.proofs.Common.{◌≡◌, sym, subst, rules}
+use Rattle.std.proofs.Common.{◌≡◌, ◌+◌, sym, subst, rules}
 use Rattle.std.specs.Prelude.{None, Some}
 use Rattle.volume_model.specs.declared.call.Reply.TheVariants as reply
 use Rattle.volume_model.proofs.SpotLemmas.{has_source}
@@ -8,11 +8,13 @@ use Rattle.open_calls.specs.Calls.{open_at, command_of}
 use Rattle.volume_core.specs.State.{State, state_of, modes_in}
 use Rattle.volume_core.specs.Steps.{with_place}
 use Rattle.volume_core.specs.Sound.{IsSound}
+use Rattle.volume_core.specs.Streams.{MayGo}
 use Rattle.volume_core.proofs.Keep.{calm_by}
 use Rattle.volume_maint.specs.Answers.{refused_in, BeginsWhole}
 use Rattle.volume_maint.specs.Steps.{whole_ended}
 use Rattle.volume_maint.proofs.Begins.{begun_sound, free_source, asked_op, still_op}
 use Rattle.volume_maint.proofs.WholeEnds.{refused_whole}
+use Rattle.volume_maint.proofs.Owes.{for_caller, begun_goes, ended_goes}
 use Rattle.volume_maint.proofs.whole.admit_whole.Goals as goal
 
 pub refuse-requires-clause-none : goal.refuse-requires-clause-none
@@ -52,3 +54,24 @@ returns-clause-sound c =
     let begins : BeginsWhole s i op (state_of c.begin.new.world) = c.in_ok-begin.ensures.ok in
     subst IsSound (sym begins.2) (begun_sound s i c.requires.sound at.stands.within at.kind at.waits clear op begins.0 asks (asked_op s i op c.requires.sound at.stands.within at.kind asks)
     (still_op s i op c.requires.sound at.stands.within at.kind at.waits asks) free c.long_source-source.result c.long_source-source.ensures begins.1)
+
+pub returns-in-Some-refusal-clause-may : goal.returns-in-Some-refusal-clause-may
+returns-in-Some-refusal-clause-may c =
+    let s : State = state_of c.args.world.now in
+    let s2 : State = state_of c.refuse.new.world in
+    let i = c.waiting_whole_at-i.result in
+    let op : WholeOp = c.op_at-op.result in
+    let at = c.waiting_whole_at-i.ensures in
+    let asks : (open_at s.calls i).op ≡ Some op = search rules in
+    let is : s2 ≡ whole_ended (with_place s) i op (reply.Refused c.in-Some-refusal.why) = search rules in
+    for_caller s c.args.t i (λ n. MayGo n s s2) at.stands
+    (ended_goes s s2 c.requires.sound (returns-in-Some-refusal-clause-sound c) i (s.book.spare + 1) op (reply.Refused c.in-Some-refusal.why) (asked_op s i op c.requires.sound at.stands.within at.kind asks) is)
+
+pub returns-clause-may : goal.returns-clause-may
+returns-clause-may c =
+    let s : State = state_of c.args.world.now in
+    let s2 : State = state_of c.begin.new.world in
+    let i = c.waiting_whole_at-i.result in
+    let op : WholeOp = c.op_at-op.result in
+    let begins : BeginsWhole s i op s2 = c.in_ok-begin.ensures.ok in
+    for_caller s c.args.t i (λ n. MayGo n s s2) c.waiting_whole_at-i.ensures.stands (begun_goes s s2 c.requires.sound (returns-clause-sound c) i op begins.0 begins.2)

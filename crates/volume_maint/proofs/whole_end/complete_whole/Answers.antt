@@ -3,6 +3,7 @@ use Rattle.std.specs.Prelude.{IfSome}
 use Rattle.whole_calls.specs.declared.whole.Whole.{Whole}
 use Rattle.volume_core.specs.State.{State, state_of}
 use Rattle.volume_maint.specs.Places.{IsWholeOn}
+use Rattle.volume_maint.proofs.Owes.{ends_goes}
 use Rattle.volume_maint.proofs.WholeAsked.{HasNonePending, ends_sound, ends_whole}
 use Rattle.volume_maint.proofs.whole_end.complete_whole.Goals as goal
 
@@ -19,3 +20,6 @@ returns-clause-ok c =
     let at : (w : Whole) × IsWholeOn s c.args.t w c.in-Some.i = c.in-Some.ensures in
     let pending : IfSome s.whole (λ w. HasNonePending s w) = search rules in
     ends_whole s (state_of c.end_at.new.world) c.args.t c.in-Some.i c.requires.sound at pending c.end_at.ensures.done c.end_at.ensures.lost
+
+pub returns-clause-may : goal.returns-clause-may
+returns-clause-may c = ends_goes (state_of c.args.world.now) (state_of c.end_at.new.world) c.args.t c.requires.sound (returns-clause-sound c) (returns-clause-ok c)
