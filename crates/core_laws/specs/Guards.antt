@@ -1,6 +1,5 @@
 -- What a step asks of a World before it is taken.
-use Rattle.std.specs.Prelude.{◌≡◌, ◌≢◌, ℕ, ◌<◌, [], length}
-use Rattle.command_text.specs.declared.command.Command.{Command}
+use Rattle.std.specs.Prelude.{◌≢◌, ℕ, ◌<◌, length}
 use Rattle.volume_model.specs.declared.call.Call.{Call}
 use Rattle.volume_model.specs.declared.mode.Mode.TheVariants.{Err}
 use Rattle.volume_model.specs.Faults.{last_count}
@@ -10,7 +9,6 @@ use Rattle.whole_calls.specs.Maint.{HasNoCommand}
 use Rattle.volume_core.specs.Answers.{IsOnRange, IsNow}
 use Rattle.volume_core.specs.Places.{IsWaitingAt}
 use Rattle.volume_core.specs.State.{State, modes_in}
-use Rattle.commands_at_rest.specs.AtRest.{IsForRest}
 
 -- there is the stream, and it has no call open, and no command that has the maintenance turn or waits for it
 pub record IsFreeStream (s : State) (stream : ℕ) : Type 0 where
@@ -36,10 +34,3 @@ IsWaiting s t = (i : ℕ) × IsWaitingAt s t i
 pub record MayFault (s : State) (stream r count : ℕ) : Type 0 where
   pub up : mode_of (modes_in s) r ≢ Err
   pub rose : last_count stream r s.book.entries < count
-
--- the command may be carried out at rest: no ticket is there, and no command of the maintenance turn
-pub record MayRest (s : State) (stream : ℕ) (c : Command) : Type 0 where
-  pub within : stream < length s.indices
-  pub rest : s.tickets ≡ []
-  pub turns : s.commands ≡ []
-  pub asks : IsForRest c

@@ -14,8 +14,7 @@ use Rattle.volume_core.specs.State.{State, modes_in}
 use Rattle.volume_core.specs.Steps.{without_call, wrote, has_read, acked, faulted}
 use Rattle.core_laws.specs.declared.step.Step.{Step}
 use Rattle.core_laws.specs.declared.step.Step.TheVariants as step
-use Rattle.commands_at_rest.specs.AtRest.{IsDoneAtRest}
-use Rattle.core_laws.specs.Guards.{MayEnrol, MayAnswer, IsWaiting, MayFault, MayRest}
+use Rattle.core_laws.specs.Guards.{MayEnrol, MayAnswer, IsWaiting, MayFault}
 use Rattle.core_laws.specs.MaintTakes.{TakesMaint, IsAgainstMaint}
 
 -- the step could be taken, and makes that of the World
@@ -32,7 +31,6 @@ Takes (step.Ack t r) s s2 =
     (i : ℕ) × IsCallAt s t i × IsTaken (part_at (open_at s.calls i).parts r) × (s2 ≡ acked s i r)
 Takes (step.Fault stream r count) s s2 = MayFault s stream r count × (s2 ≡ faulted s stream r count)
 Takes (step.Complete t) s s2 = Completes s t s2
-Takes (step.AtRest stream c) s s2 = MayRest s stream c × ((place : ℕ) × IsDoneAtRest s stream c place s2)
 Takes (step.Maint x) s s2 = TakesMaint x s s2
 
 -- something stands against the step: its condition or its guard fails
@@ -46,7 +44,6 @@ IsAgainst (step.ApplyRead t r) s = (why : NotThis) × AgainstRead s t r why
 IsAgainst (step.Ack t r) s = (why : NotThis) × AgainstAck s t r why
 IsAgainst (step.Fault stream r count) s = (why : NotThis) × AgainstFault s stream r count why
 IsAgainst (step.Complete t) s = (why : NotThis) × AgainstEnd s t why
-IsAgainst (step.AtRest stream c) s = MayRest s stream c → ⊥
 IsAgainst (step.Maint x) s = IsAgainstMaint x s
 
 -- the step is taken, or something stands against it, and it is skipped

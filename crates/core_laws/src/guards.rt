@@ -4,8 +4,7 @@ ghost use Rattle.std.specs.Prelude.{◌≡◌, ℕ, ◌<◌, length, true, false
 ghost use Rattle.whole_calls.specs.Maint.{HasNoCommand};
 ghost use Rattle.volume_core.specs.Answers.{IsOnRange, IsNow};
 ghost use Rattle.volume_core.specs.State.{state_of};
-ghost use Rattle.commands_at_rest.specs.AtRest.{IsForRest};
-ghost use Rattle.core_laws.specs.Guards.{IsFreeStream, MayEnrol, MayAnswer, IsWaiting, MayRest};
+ghost use Rattle.core_laws.specs.Guards.{IsFreeStream, MayEnrol, MayAnswer, IsWaiting};
 
 use vol_units::LONGEST_CALL;
 use volume_core::{Call, Command, Kind, TicketNumber, World};
@@ -25,32 +24,6 @@ pub(crate) fn may_answer(world: &World, stream: u8, call: &Call) -> bool
     ensures no { result ≡ false → MayAnswer (state_of world.now) stream call.now → ⊥ }
 {
     is_free(world, stream) && is_now(call)
-}
-
-/// Whether the command may be carried out at rest for the stream.
-pub(crate) fn may_rest(world: &World, stream: u8, command: &Command) -> bool
-    ensures yes { result ≡ true → MayRest (state_of world.now) stream command.now }
-    ensures no { result ≡ false → MayRest (state_of world.now) stream command.now → ⊥ }
-{
-    (stream as usize) < world.indices.len()
-        && world.turns.is_empty()
-        && world.commands.is_empty()
-        && is_for_rest(command)
-}
-
-fn is_for_rest(command: &Command) -> bool
-    ensures yes { result ≡ true → IsForRest command.now }
-    ensures no { result ≡ false → IsForRest command.now → ⊥ }
-{
-    match command {
-        Command::Snapshot(name) => {
-            // That it is a user's name, a proof learns here.
-            let _name = name.as_bytes();
-            true
-        }
-        Command::Remove(_) | Command::Revert(_) | Command::Purge => true,
-        Command::Status | Command::Fail(_) | Command::Add(_) => false,
-    }
 }
 
 /// Whether the ticket is one of a call that waits.

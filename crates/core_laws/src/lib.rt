@@ -18,4 +18,8 @@ pub use volume_core::{
 pub use volume_maint::{FoldOrDrop, LayerName, SnapName, WholeOp};
 
 #[cfg(test)]
+mod any_steps;
+#[cfg(test)]
+mod tally;
+#[cfg(test)]
 mod tests;

@@ -1,5 +1,5 @@
 use crate::maint_step::MaintStep;
-use volume_core::{Call, Command, TicketNumber};
+use volume_core::{Call, TicketNumber};
 
 /// A step that may be asked of a World. It names no blocks: those of a write are made where it is taken.
 #[derive(Debug, Drop)]
@@ -22,9 +22,6 @@ pub enum Step {
     Fault { stream: u8, replica: u8, count: u64 },
     /// A call ends.
     Complete(TicketNumber),
-    /// A stream has a command carried out on all replicas, while no ticket is there and no command of the maintenance
-    /// turn.
-    AtRest { stream: u8, command: Command },
     /// A step of the maintenance turn, of a call on the whole volume, or of folding.
     Maint(MaintStep),
 }

@@ -9,12 +9,11 @@ ghost use Rattle.volume_core.specs.Sound.{IsSound};
 ghost use Rattle.volume_core.specs.State.{state_of};
 ghost use Rattle.core_laws.specs.Takes.{Makes};
 
-use crate::guards::{is_waiting, may_answer, may_enrol, may_rest};
+use crate::guards::{is_waiting, may_answer, may_enrol};
 use crate::step::Step;
 use crate::take_maint::take_maint_step;
-use commands_at_rest::command_at_rest;
 use std::alloc::{AllocError, Global};
-use volume_core::{Blocks, Call, Command, TicketNumber, World};
+use volume_core::{Blocks, Call, TicketNumber, World};
 
 /// Takes the step, or skips it.
 pub(crate) fn take_step(world: &mut World, alloc: Global, step: &Step) -> Result<(), AllocError>
@@ -49,7 +48,6 @@ pub(crate) fn take_step(world: &mut World, alloc: Global, step: &Step) -> Result
             let _ = world.complete(*ticket);
             Ok(())
         }
-        Step::AtRest { stream, command } => at_rest(world, alloc, *stream, command),
         Step::Maint(step) => take_maint_step(world, alloc, step),
     }
 }
@@ -171,22 +169,5 @@ fn apply_read(
     };
     let mut into = vec![in alloc; 0; world.calls[place].length as usize]?;
     let _ = world.apply_read(ticket, replica, &mut into);
-    Ok(())
-}
-
-fn at_rest(
-    world: &mut World,
-    alloc: Global,
-    stream: u8,
-    command: &Command,
-) -> Result<(), AllocError>
-    requires { IsSound (state_of world.old) }
-    ensures sound { IsSound (state_of world.new) }
-    ensures ok { OnOk result (Makes (Step.AtRest stream command.now) (state_of world.old) (state_of world.new)) }
-    ensures err { OnErr result (state_of world.new ≡ state_of world.old) }
-{
-    if may_rest(world, stream, command) {
-        command_at_rest(world, alloc, stream, command)?;
-    }
     Ok(())
 }

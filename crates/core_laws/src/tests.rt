@@ -1,242 +1,83 @@
 //! Random lists of steps, compared with one plain disk that answers the journal's calls.
 
-ghost use Rattle.std.specs.Prelude.{◌≤◌};
+ghost use Rattle.volume_core.specs.Sound.{IsSound};
+ghost use Rattle.volume_core.specs.State.{state_of};
 
 use super::*;
+use crate::any_steps::{Most, Numbers, next_steps, steps_on};
+use crate::tally::{KINDS, Shape, Tally};
 use plain_disk::PlainDisk;
 use std::alloc::{AllocError, Global};
 use std::process::Abort;
 use std::test::Fail;
-use volume_core::Kind;
+use volume_core::{Kind, ReplicaNode};
 use volume_model::{Answer, Mark};
 
 const SIZE: usize = 2_097_152;
 
 const BLOCK: usize = 4_096;
 
-/// Numbers as a linear congruence makes them.
-#[derive(Drop)]
-struct Numbers(u32);
-
-impl Numbers {
-    /// The next, below so many.
-    fn below(&mut self, most: u32) -> u32
-        ensures { result ≤ most }
-    {
-        self.0 = self.0.wrapping_mul(1_664_525).wrapping_add(1_013_904_223);
-        if most == 0 { 0 } else { (self.0 >> 8) % most }
-    }
-
-    fn byte_below(&mut self, most: u8) -> u8
-        ensures { result ≤ most }
-    {
-        self.below(u32::from(most)) as u8
-    }
-}
-
-/// A read or a write within the first blocks, or across the end of the volume.
-fn call_on_range(alloc: Global, numbers: &mut Numbers) -> Result<Call, AllocError> {
-    let from: i64 = if numbers.below(20) == 0 { 2_090_000 } else { 0 };
-    let offset = from + i64::from(numbers.below(20_000));
-    let length = numbers.below(9_000);
-    if numbers.below(2) == 0 {
-        return Ok(Call::Read { offset, length });
-    }
-    let byte = numbers.byte_below(255);
-    let bytes = Bytes::from_vec(vec![in alloc; byte; length as usize]?)?;
-    Ok(Call::Write { offset, bytes })
-}
-
-/// A command that asks for rest, over few names.
-fn any_command(numbers: &mut Numbers) -> Result<Command, Fail> {
-    let name = SnapName::read([b"a", b"b", b"c"][numbers.below(3) as usize % 3])?;
-    Ok(match numbers.below(4) {
-        0 => Command::Remove(LayerName::from(name)),
-        1 => Command::Revert(LayerName::from(name)),
-        2 => Command::Purge,
-        _ => Command::Snapshot(name),
-    })
-}
-
-/// A step of any kind: those by which calls get on come most.
-fn any_step(alloc: Global, numbers: &mut Numbers, streams: u8, replicas: u8) -> Result<Step, Fail> {
-    let stream = numbers.byte_below(streams);
-    let replica = numbers.byte_below(replicas);
-    let ticket = TicketNumber::of(u64::from(numbers.below(u32::from(streams))));
-    Ok(match numbers.below(32) {
-        0..=6 => Step::Enrol {
-            stream,
-            call: call_on_range(alloc, numbers)?,
-        },
-        7 => Step::AnswerNow {
-            stream,
-            call: Call::Command(Command::Status),
-        },
-        8 => Step::AnswerNow {
-            stream,
-            call: Call::Ping,
-        },
-        9..=13 => Step::Admit(ticket),
-        14 => Step::Withdraw(ticket),
-        15..=19 => Step::ApplyWrite { ticket, replica },
-        20..=22 => Step::ApplyRead { ticket, replica },
-        23..=27 => Step::Ack { ticket, replica },
-        28 if numbers.below(8) == 0 => Step::Fault {
-            stream,
-            replica,
-            count: u64::from(numbers.below(4)),
-        },
-        29 if numbers.below(8) == 0 => Step::AnswerNow {
-            stream,
-            call: Call::Command(Command::Fail(replica)),
-        },
-        30 => Step::AtRest {
-            stream,
-            command: any_command(numbers)?,
-        },
-        _ => Step::Complete(ticket),
-    })
-}
-
-/// All steps of the call of a ticket, from its start to its end.
-fn all_of(steps: &mut Vec<Step>, ticket: TicketNumber, replicas: u8) -> Result<(), AllocError> {
-    steps.push(Step::Admit(ticket))?;
-    for replica in 0..replicas {
-        steps.push(Step::ApplyWrite { ticket, replica })?;
-        steps.push(Step::ApplyRead { ticket, replica })?;
-        steps.push(Step::Ack { ticket, replica })?;
-    }
-    steps.push(Step::Complete(ticket))?;
-    Ok(())
-}
-
-/// An operation on the whole volume, over few names.
-fn any_op(numbers: &mut Numbers) -> Result<WholeOp, Fail> {
-    let name = SnapName::read([b"a", b"b", b"c"][numbers.below(3) as usize % 3])?;
-    let layer = LayerName::from(name);
-    let other = SnapName::read([b"a", b"b", b"c"][numbers.below(3) as usize % 3])?;
-    Ok(match numbers.below(8) {
-        0..=3 => WholeOp::Snapshot(name),
-        4 => WholeOp::Revert(layer),
-        5 => WholeOp::Purge(FoldOrDrop::Drop(layer)),
-        6 => WholeOp::Purge(FoldOrDrop::Fold {
-            parent: layer,
-            child: LayerName::from(other),
-        }),
-        _ => WholeOp::Remove(layer),
-    })
-}
-
-/// All steps of an operation and of the command that asks for it, of which an acknowledgement may be missing.
-fn all_of_op(
-    steps: &mut Vec<Step>,
-    numbers: &mut Numbers,
-    stream: u8,
-    replicas: u8,
-) -> Result<(), Fail> {
-    let op = any_op(numbers)?;
-    let first = TicketNumber::of(0);
-    let command = op.command();
-    push_maint(steps, MaintStep::Enrol { stream, command })?;
-    push_maint(steps, MaintStep::Admit(first))?;
-    fold_for(steps, &op, replicas)?;
-    push_maint(steps, MaintStep::EnrolWhole { stream, op })?;
-    for number in 0..6 {
-        let ticket = TicketNumber::of(number);
-        push_maint(steps, MaintStep::AdmitWhole(ticket))?;
-        for replica in 0..replicas {
-            push_maint(steps, MaintStep::Part { ticket, replica })?;
-            if numbers.below(40) > 0 {
-                push_maint(steps, MaintStep::AckWhole { ticket, replica })?;
-            }
-        }
-        push_maint(steps, MaintStep::CompleteWhole(ticket))?;
-    }
-    let reply = Reply::Done;
-    push_maint(
-        steps,
-        MaintStep::End {
-            ticket: first,
-            reply,
-        },
-    )?;
-    push_maint(steps, MaintStep::Abandon(first))?;
-    Ok(())
-}
-
-/// What a part of a purge asks to be folded before it.
-fn fold_for(steps: &mut Vec<Step>, op: &WholeOp, replicas: u8) -> Result<(), AllocError> {
-    match op {
-        WholeOp::Purge(part) => fold_part(steps, part, replicas),
-        WholeOp::Snapshot(_) | WholeOp::Remove(_) | WholeOp::Revert(_) => Ok(()),
-    }
-}
-
-/// The volume is one page long.
-fn fold_part(steps: &mut Vec<Step>, part: &FoldOrDrop, replicas: u8) -> Result<(), AllocError> {
-    match part {
-        FoldOrDrop::Fold { parent, child: _ } => fold_on_each(steps, *parent, replicas),
-        FoldOrDrop::Drop(_) => Ok(()),
-    }
-}
-
-fn fold_on_each(steps: &mut Vec<Step>, parent: LayerName, replicas: u8) -> Result<(), AllocError> {
-    let page = 0;
-    for replica in 0..replicas {
-        let step = MaintStep::FoldPage {
-            replica,
-            parent,
-            page,
-        };
-        push_maint(steps, step)?;
-    }
-    Ok(())
-}
-
-fn push_maint(steps: &mut Vec<Step>, step: MaintStep) -> Result<(), AllocError> {
-    steps.push(Step::Maint(step))?;
-    Ok(())
-}
-
-/// A list of steps, most of which find nothing to do.
-fn any_steps(
+/// Asks the steps one after another, and counts those that changed the World.
+fn ask(
+    world: &mut World,
     alloc: Global,
-    numbers: &mut Numbers,
-    streams: u8,
-    replicas: u8,
-) -> Result<Vec<Step>, Fail> {
-    let mut steps = Vec::new(alloc);
-    for _ in 0..150 {
-        match numbers.below(20) {
-            0..=3 => {
-                let ticket = TicketNumber::of(u64::from(numbers.below(u32::from(streams))));
-                all_of(&mut steps, ticket, replicas)?;
-            }
-            4 => {
-                let stream = numbers.byte_below(streams);
-                all_of_op(&mut steps, numbers, stream, replicas)?;
-            }
-            _ => steps.push(any_step(alloc, numbers, streams, replicas)?)?,
-        }
+    steps: &[Step],
+    tally: &mut Tally,
+) -> Result<(), AllocError>
+    requires { IsSound (state_of world.old) }
+    ensures { IsSound (state_of world.new) }
+{
+    for place in 0..steps.len() {
+        let step = &steps[place];
+        let before = Shape::of(world, step);
+        run_steps(world, alloc, &steps[place..place + 1])?;
+        tally.note(step, before != Shape::of(world, step));
     }
-    Ok(steps)
+    Ok(())
 }
 
-/// How many commands of the journal are done, and parts of a purge.
-fn done_whole(world: &World) -> u64 {
-    let mut done: u64 = 0;
-    for place in 0..world.journal.len() {
-        let is_done = match world.journal.entry(place) {
-            Entry::Mark(mark) => matches!(mark, Mark::Purged(_)),
-            Entry::Answer(answer) => {
-                matches!(answer.call, Call::Command(_)) && same(&answer.reply, &Reply::Done)
+/// Whether nothing is open: no ticket is there, and no command of the maintenance turn.
+fn is_at_rest(world: &World) -> bool {
+    world.turns.is_empty() && world.commands.is_empty()
+}
+
+/// How commands that are steps on the whole volume can end, and a part of a purge.
+const ENDS: [&str; 6] = ["snapshot", "remove", "revert", "purge", "part", "refused"];
+
+/// How many entries of each kind there were.
+#[derive(Drop)]
+struct Ended([u64; 6]);
+
+impl Ended {
+    fn count(&mut self, world: &World) {
+        for place in 0..world.journal.len() {
+            let kind = match world.journal.entry(place) {
+                Entry::Mark(Mark::Purged(_)) => Some(4),
+                Entry::Mark(_) => None,
+                Entry::Answer(answer) => ended_as(&answer.call, &answer.reply),
+            };
+            if let Some(kind) = kind {
+                if let Some(number) = self.0.get_mut(kind) {
+                    *number = number.saturating_add(1);
+                }
             }
-        };
-        if is_done {
-            done = done.saturating_add(1);
         }
     }
-    done
+}
+
+fn ended_as(call: &Call, reply: &Reply) -> Option<usize> {
+    let is_done = same(reply, &Reply::Done);
+    match call {
+        Call::Command(command) => match command {
+            Command::Status | Command::Fail(_) | Command::Add(_) => None,
+            _ if !is_done => Some(5),
+            Command::Snapshot(_) => Some(0),
+            Command::Remove(_) => Some(1),
+            Command::Revert(_) => Some(2),
+            Command::Purge => Some(3),
+        },
+        _ => None,
+    }
 }
 
 /// Whether two replies are the same.
@@ -332,25 +173,104 @@ fn agrees(rt: &impl Abort, world: &World, disk: &PlainDisk) {
     }
 }
 
+/// Whether both have as many entries, and replicas that read alike.
+fn are_alike(a: &World, b: &World) -> bool {
+    a.journal.len() == b.journal.len()
+        && a.nodes.len() == b.nodes.len()
+        && a.nodes.iter().zip(&b.nodes).all(|(a, b)| read_alike(a, b))
+}
+
+fn read_alike(a: &ReplicaNode, b: &ReplicaNode) -> bool {
+    if a.block_count() != b.block_count() {
+        return false;
+    }
+    for block in 0..a.block_count() {
+        if !a.same_block(b, block) {
+            return false;
+        }
+    }
+    true
+}
+
+/// Asks a random list of steps, and gives it back.
+fn ask_at_random(
+    world: &mut World,
+    alloc: Global,
+    numbers: &mut Numbers,
+    most: Most,
+    tally: &mut Tally,
+) -> Result<Vec<Step>, Fail>
+    requires { IsSound (state_of world.old) }
+    ensures { IsSound (state_of world.new) }
+{
+    let mut all = Vec::new(alloc);
+    for _draw in 0..150 {
+        let steps = next_steps(alloc, world, numbers, most)?;
+        ask(world, alloc, &steps, tally)?;
+        for step in steps {
+            all.push(step)?;
+        }
+    }
+    Ok(all)
+}
+
+/// Asks again and again for what gets all that is open on.
+fn end_all(
+    world: &mut World,
+    alloc: Global,
+    most: Most,
+    tally: &mut Tally,
+) -> Result<(), AllocError>
+    requires { IsSound (state_of world.old) }
+    ensures { IsSound (state_of world.new) }
+{
+    for _round in 0..60 {
+        let steps = steps_on(alloc, world, most)?;
+        ask(world, alloc, &steps, tally)?;
+    }
+    Ok(())
+}
+
+/// One random list on a blank World, and the same in one piece on another.
+fn try_list(
+    rt: &impl Abort,
+    alloc: Global,
+    seed: u32,
+    tally: &mut Tally,
+    ended: &mut Ended,
+) -> Result<(), Fail> {
+    let size = VolumeSize::new(SIZE as u64)?;
+    let mut numbers = Numbers(seed);
+    let most = Most {
+        replicas: 1 + numbers.byte_below(3),
+        streams: 1 + numbers.byte_below(6),
+    };
+    let mut world = World::blank(alloc, size, most.replicas, most.streams)?;
+    let all = ask_at_random(&mut world, alloc, &mut numbers, most, tally)?;
+    agrees(rt, &world, &replayed(rt, alloc, &world, most.replicas)?);
+    let mut other = World::blank(alloc, size, most.replicas, most.streams)?;
+    run_steps(&mut other, alloc, &all)?;
+    assert!(rt; are_alike(&world, &other), "list {seed} in one piece");
+    end_all(&mut world, alloc, most, tally)?;
+    assert!(rt; is_at_rest(&world), "list {seed} does not end");
+    agrees(rt, &world, &replayed(rt, alloc, &world, most.replicas)?);
+    ended.count(&world);
+    Ok(())
+}
+
 #[test]
 fn random_lists_of_steps_make_legal_histories(rt: HostRuntime) -> Result<(), Fail> {
-    let alloc = rt.alloc();
-    let size = VolumeSize::new(SIZE as u64)?;
-    let (mut answers, mut done) = (0, 0);
-    for seed in 0..200 {
-        let mut numbers = Numbers(seed);
-        let replicas = 1 + numbers.byte_below(3);
-        let streams = 1 + numbers.byte_below(6);
-        let mut world = World::blank(alloc, size, replicas, streams)?;
-        let steps = any_steps(alloc, &mut numbers, streams, replicas)?;
-        run_steps(&mut world, alloc, &steps)?;
-        let disk = replayed(&rt, alloc, &world, replicas)?;
-        agrees(&rt, &world, &disk);
-        answers = world.journal.len().saturating_add(answers);
-        done = done_whole(&world).saturating_add(done);
+    let mut tally = Tally::new();
+    let mut ended = Ended([0; 6]);
+    for seed in 0..300 {
+        try_list(&rt, rt.alloc(), seed, &mut tally, &mut ended)?;
     }
-    assert!(rt; answers > 2_000, "only {answers} entries");
-    assert!(rt; done > 200, "only {done} of the whole volume");
+    for ((kind, asked), changed) in KINDS.iter().zip(&tally.asked).zip(&tally.changed) {
+        assert!(rt; *changed >= 20, "{kind}: {changed} of {asked}");
+    }
+    for (kind, number) in ENDS.iter().zip(&ended.0) {
+        assert!(rt; *number >= 50, "{kind}: {number}");
+    }
     Ok(())
 }
 
