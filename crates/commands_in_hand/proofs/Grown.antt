@@ -1,8 +1,7 @@
 -- How what a stream's worker sees grows.
-use Rattle.std.proofs.Common.{◌≡◌, ◌≢◌, ℕ, ◌<◌, List, [], ◌∷◌, ◌++◌, length, map, Result, Ok, Err, Some, subst, sym, refl, ap, ◌∙◌}
+use Rattle.std.proofs.Common.{◌≡◌, ℕ, ◌<◌, List, ◌++◌, length, Some, subst, sym, ap, ◌∙◌}
 use Rattle.range_turns.specs.declared.ticket.Ticket.{Ticket}
 use Rattle.volume_model.specs.declared.entry.Entry.{Entry}
-use Rattle.volume_model.specs.declared.mode.Mode.{Mode}
 use Rattle.volume_model.specs.Names.{names_in}
 use Rattle.volume_model.specs.OneWorker.{behind_entries}
 use Rattle.volume_model.proofs.ServedLemmas.{behind-append}
@@ -16,7 +15,7 @@ use Rattle.volume_maint.specs.Answers.{spot_of}
 use Rattle.stream_steps.specs.Mine.{OwnCall, Placed, Log, with_entries, with_more, with_running, entries_in}
 use Rattle.world_in_hand.specs.Hand.{own_entries}
 use Rattle.world_in_hand.proofs.OwnLemmas.{own-append}
-use Rattle.commands_in_hand.specs.Hand.{mine_in, IsReady, IsAlone}
+use Rattle.commands_in_hand.specs.Hand.{mine_in, IsReady}
 use Rattle.commands_in_hand.proofs.Shapes.{Has, has_alone}
 
 -- ---- the next step can be taken, of the same volume

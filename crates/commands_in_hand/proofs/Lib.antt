@@ -1,4 +1,5 @@
 pub mod Shapes
 pub mod Grown
+pub mod AtOnce
 pub mod TurnSteps
 pub mod WholeSteps

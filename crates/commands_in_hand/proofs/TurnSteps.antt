@@ -1,5 +1,5 @@
 -- The steps of the maintenance turn, as the one worker that there is sees them.
-use Rattle.std.proofs.Common.{◌≡◌, ◌≢◌, ℕ, zero, suc, ◌+◌, ◌<◌, true, false, List, [], ◌∷◌, ◌++◌, length, length-set, map, set, Result, Ok, Err as Failed, OnOk, OnErr, IfOk, IfErr, Option, Some, None, subst, sym, refl, ap, ◌∙◌, arith, append-nil}
+use Rattle.std.proofs.Common.{◌≡◌, ℕ, ◌+◌, true, List, [], ◌∷◌, ◌++◌, length, length-set, map, Result, Ok, Err as Failed, OnOk, OnErr, IfOk, IfErr, refl, ap, ◌∙◌, arith}
 use Rattle.command_text.specs.declared.command.Command.{Command}
 use Rattle.command_text.specs.declared.command.Command.TheVariants as command
 use Rattle.range_turns.specs.declared.turns.MayStart.{MayStart}
@@ -17,15 +17,14 @@ use Rattle.volume_core.specs.declared.world.NotThis.{NotThis}
 use Rattle.volume_core.specs.declared.world.NotThis.TheVariants as against
 use Rattle.open_calls.specs.declared.open_call.OpenCall.{OpenCall}
 use Rattle.open_calls.specs.Clients.{IsIdle}
-use Rattle.open_calls.specs.Calls.{open_at}
 use Rattle.whole_calls.specs.declared.maint.MaintCall.{MaintCall}
 use Rattle.whole_calls.specs.Maint as core
 use Rattle.whole_calls.specs.Maint.{command_at, HasNoCommand}
 use Rattle.volume_core.specs.State.{State, modes_in, index_at}
-use Rattle.volume_core.specs.Steps.{faulted, answered}
+use Rattle.volume_core.specs.Steps.{faulted}
 use Rattle.volume_core.specs.Sound.{IsSound}
 use Rattle.volume_core.specs.Answers.{IsAnsweredNow}
-use Rattle.volume_core.specs.Streams.{Origin, origin_of, MayGo, IsAnsweredTo, opens, open_of, running, turning, commands_in}
+use Rattle.volume_core.specs.Streams.{origin_of, MayGo, IsAnsweredTo, opens, open_of, running, turning, commands_in}
 use Rattle.volume_maint.specs.Steps.{whole_ticket, maint_enrolled, turn_begun, turn_ended, without_command}
 use Rattle.volume_maint.specs.Answers as world
 use Rattle.volume_maint.specs.Places as place
@@ -35,11 +34,11 @@ use Rattle.stream_steps.specs.Steps.{EnrolsAt, CommandsTo, FaultsTo, IsAtOnce}
 use Rattle.stream_steps.specs.Maint.{IsMaint, HasTurn, AwaitsTurn, TurnsTo, IsYes, AnswersWhole}
 use Rattle.world_in_hand.specs.Hand as hand
 use Rattle.world_in_hand.proofs.OwnLemmas.{own_answer, own_fault}
-use Rattle.world_in_hand.proofs.ControlLemmas.{at_once_mine}
+use Rattle.commands_in_hand.proofs.AtOnce.{at_once_mine}
 use Rattle.world_in_hand.proofs.Turns.{turns_answered}
 use Rattle.commands_in_hand.specs.Hand.{own_turn, own_whole, mine_in, IsReady}
-use Rattle.commands_in_hand.proofs.Shapes.{Has, has_running, has_none, has_turn, HasOneTurn, no_commands}
-use Rattle.commands_in_hand.proofs.Grown.{Kept, kept_same, kept_has, kept_by, only_open, grown}
+use Rattle.commands_in_hand.proofs.Shapes.{Has, has_running, has_turn, HasOneTurn, no_commands}
+use Rattle.commands_in_hand.proofs.Grown.{Kept, kept_same, kept_has, only_open, grown}
 
 -- ---- where nothing is open
 

@@ -1,41 +1,34 @@
 -- The steps on the whole volume, as the one worker that there is sees them.
-use Rattle.std.proofs.Common.{◌≡◌, ◌≢◌, ℕ, zero, suc, ◌+◌, ◌<◌, true, false, List, [], ◌∷◌, ◌++◌, length, length-set, map, set, inl, inr, Result, Ok, Err as Failed, OnOk, OnErr, IfOk, IfErr, IfSome, Option, Some, None, subst, sym, refl, ap, ◌∙◌, arith, append-nil}
+use Rattle.std.proofs.Common.{◌≡◌, ◌≢◌, ℕ, ◌+◌, ◌<◌, true, false, List, [], ◌∷◌, ◌++◌, length, length-set, map, set, inl, inr, Result, Ok, Err as Failed, OnOk, OnErr, IfOk, IfErr, IfSome, Option, Some, None, subst, sym, refl, ap, ◌∙◌, arith, append-nil}
 use Rattle.std.specs.List.{remove}
 use Rattle.sparse_image.specs.Image.{Tables}
 use Rattle.vol_units.specs.Name.{begins_sys}
 use Rattle.command_text.specs.declared.command.Command.{Command}
 use Rattle.command_text.specs.declared.command.Command.TheVariants as command
-use Rattle.range_turns.specs.declared.ticket.Kind.{Kind}
-use Rattle.range_turns.specs.declared.ticket.Kind.TheVariants as kind
 use Rattle.range_turns.specs.declared.ticket.Ticket.{Ticket}
 use Rattle.range_turns.specs.Order.{ticket_at, with_started, StandsAt}
-use Rattle.volume_model.specs.declared.call.Call.{Call}
 use Rattle.volume_model.specs.declared.call.Call.TheVariants as call
 use Rattle.volume_model.specs.declared.call.Reply.{Reply}
 use Rattle.volume_model.specs.declared.call.Reply.TheVariants as reply
-use Rattle.volume_model.specs.declared.call.Refusal.{Refusal}
 use Rattle.volume_model.specs.declared.call.Refusal.TheVariants.{NoReplica}
 use Rattle.volume_model.specs.declared.entry.Answer.{Answer}
 use Rattle.volume_model.specs.declared.entry.Entry.{Entry}
 use Rattle.volume_model.specs.declared.entry.Entry.TheVariants as entry
-use Rattle.volume_model.specs.declared.mark.FoldOrDrop.{FoldOrDrop}
 use Rattle.volume_model.specs.declared.mark.Mark.TheVariants as mark
 use Rattle.volume_model.specs.declared.mode.Mode.{Mode}
 use Rattle.volume_model.specs.declared.mode.Mode.TheVariants.{Rw, Wo, Err}
 use Rattle.volume_model.specs.Modes.{mode_of, source_of, HasSource, HasNoSource}
 use Rattle.volume_model.specs.OneWorker.{refused_at}
-use Rattle.volume_model.specs.Purge.{next_of}
 use Rattle.volume_model.proofs.SpotLemmas.{has_source, no_source}
 use Rattle.volume_model.proofs.StepLemmas.{has_no_source}
-use Rattle.replica_node.specs.Node.{Node}
 use Rattle.replica_node.specs.Fold.{page_folded}
 use Rattle.open_calls.specs.declared.open_call.OpenCall.{OpenCall}
 use Rattle.open_calls.specs.declared.parts.Part.{Part}
-use Rattle.open_calls.specs.declared.parts.Part.TheVariants.{Apart, Owed, Taken, Acked}
+use Rattle.open_calls.specs.declared.parts.Part.TheVariants.{Taken, Acked}
 use Rattle.open_calls.specs.declared.whole_op.WholeOp.{WholeOp}
 use Rattle.open_calls.specs.declared.whole_op.WholeOp.TheVariants as whole
 use Rattle.open_calls.specs.Parts.{part_at, part_for}
-use Rattle.open_calls.specs.Calls.{open_at, node_at, call_asked, whole_asked, command_of, whole_call}
+use Rattle.open_calls.specs.Calls.{open_at, node_at, command_of, whole_call}
 use Rattle.open_calls.proofs.PartLemmas.{part_of}
 use Rattle.whole_calls.specs.declared.maint.MaintCall.{MaintCall}
 use Rattle.whole_calls.specs.declared.whole.Whole.{Whole}
@@ -48,18 +41,18 @@ use Rattle.volume_core.specs.declared.world.NotThis.TheVariants as against
 use Rattle.volume_core.specs.State.{State, modes_in, index_at}
 use Rattle.volume_core.specs.Steps.{with_place, without_call}
 use Rattle.volume_core.specs.Sound.{IsSound}
-use Rattle.volume_core.specs.Streams.{Origin, origin_of}
+use Rattle.volume_core.specs.Streams.{origin_of}
 use Rattle.volume_maint.specs.declared.answers.AdmitWhole.{AdmitWhole}
 use Rattle.volume_maint.specs.declared.answers.AdmitWhole.TheVariants as admit
 use Rattle.volume_maint.specs.declared.answers.NextPart.{NextPart}
 use Rattle.volume_maint.specs.declared.answers.NextPart.TheVariants as next
-use Rattle.volume_maint.specs.Steps.{whole_ticket, whole_enrolled, begun_of, whole_begun, whole_parted, whole_acked, whole_ended, whole_marked, without_whole, turn_over, folded_on}
+use Rattle.volume_maint.specs.Steps.{whole_ticket, whole_enrolled, begun_of, whole_begun, whole_parted, whole_acked, whole_ended, without_whole, turn_over, folded_on}
 use Rattle.volume_maint.specs.Answers as world
 use Rattle.volume_maint.specs.Answers.{spot_of, whole_done, whole_lost, seen_by, MayAsk}
 use Rattle.volume_maint.specs.Places as place
-use Rattle.stream_steps.specs.Mine.{Mine, OwnCall, Log, answer_placed, with_running, with_entries}
+use Rattle.stream_steps.specs.Mine.{OwnCall, answer_placed, with_running, with_entries}
 use Rattle.stream_steps.specs.Steps.{EnrolsAt}
-use Rattle.stream_steps.specs.Maint.{IsMaint, HasTurn, HasWhole, EnrolsWhole, EnrolsUnder, AnswersWhole, StartsWhole, AdmitsWhole, IsNotLater, PartsTo, AcksWhole, AgainstPart, IsWholeReply, EndsWhole, EndsPart, WholeEnds, IsNext}
+use Rattle.stream_steps.specs.Maint.{IsMaint, HasTurn, HasWhole, EnrolsWhole, EnrolsUnder, AnswersWhole, StartsWhole, AdmitsWhole, IsNotLater, PartsTo, AcksWhole, AgainstPart, IsWholeReply, EndsWhole, WholeEnds, IsNext}
 use Rattle.world_in_hand.proofs.OwnLemmas.{own_answer}
 use Rattle.commands_in_hand.specs.Hand.{own_turn, own_whole, parts_in, mine_in, IsReady}
 use Rattle.commands_in_hand.proofs.Shapes.{Has, OwnTurns, has_running, has_call, HasCall, HasOneTurn, shape_of}

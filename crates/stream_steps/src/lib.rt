@@ -3,11 +3,9 @@
 
 mod client;
 mod command;
-mod control;
 
 pub use client::ClientSteps;
 pub use command::CommandSteps;
-pub use control::ControlSteps;
 pub use volume_core::{
     Admit, BlockRange, Blocks, Call, Command, Enrolled, Job, Mode, NotThis, TicketNumber,
 };

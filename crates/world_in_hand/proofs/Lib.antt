@@ -2,5 +2,4 @@ pub mod OwnLemmas
 pub mod StepLemmas
 pub mod Answered
 pub mod AgainstLemmas
-pub mod ControlLemmas
 pub mod Turns

@@ -21,7 +21,7 @@ use Rattle.volume_core.specs.Sound.{IsSound}
 use Rattle.volume_core.specs.Streams.{calls_in, running, open_of, IsOpen, MayGo, Origin}
 use Rattle.volume_core.proofs.CallLemmas.{idle-calls, calls-none, calls-place, calls-one}
 use Rattle.volume_core.proofs.Moves.{IsOwnAt, own_at}
-use Rattle.commands_at_rest.specs.AtRest.{spot_in}
+use Rattle.volume_maint.specs.Answers.{spot_of}
 use Rattle.stream_steps.specs.Mine.{OwnCall, Placed, Log, IsOwn, entries_in, with_entries, with_more, with_running, answer_placed, fault_placed}
 use Rattle.world_in_hand.specs.Hand.{own_call, is_own, own_entries, mine_in, IsReady}
 
@@ -138,14 +138,14 @@ module _ (n : ℕ) (s s2 : State) (may : MayGo n s s2) where
   same_began : opening_of s2 ≡ opening_of s
   same_began = λ i. opening_of (record s { first = same_first i; book = record s.book { opening = same_opening i } })
 
-  same_log : s2.book.entries ≡ s.book.entries → ◌≡◌ {A = Log} (record { spot = spot_in s2; entries = s2.book.entries }) (record { spot = spot_in s; entries = s.book.entries })
+  same_log : s2.book.entries ≡ s.book.entries → ◌≡◌ {A = Log} (record { spot = spot_of s2; entries = s2.book.entries }) (record { spot = spot_of s; entries = s.book.entries })
   same_log e = λ i. record { spot = behind_entries (same_began i) (e i); entries = e i }
 
   -- the run stands where the entries lead from where it stood
   more_log : (es : List Entry) → s2.book.entries ≡ s.book.entries ++ es
-      → ◌≡◌ {A = Log} (record { spot = spot_in s2; entries = s2.book.entries }) (record { spot = behind_entries (spot_in s) es; entries = s.book.entries ++ es })
+      → ◌≡◌ {A = Log} (record { spot = spot_of s2; entries = s2.book.entries }) (record { spot = behind_entries (spot_of s) es; entries = s.book.entries ++ es })
   more_log es e =
-      let there : spot_in s2 ≡ behind_entries (spot_in s) es = (λ i. behind_entries (same_began i) (e i)) ∙ behind-append (opening_of s) s.book.entries es in
+      let there : spot_of s2 ≡ behind_entries (spot_of s) es = (λ i. behind_entries (same_began i) (e i)) ∙ behind-append (opening_of s) s.book.entries es in
       λ i. record { spot = there i; entries = e i }
 
   -- the same entries, and these calls open

@@ -1,6 +1,5 @@
 -- No step that a stream's worker takes changes the commands that have the maintenance turn or wait for it.
-use Rattle.std.proofs.Common.{◌≡◌, ℕ, ◌<◌, Bool, true, false, List, [], length, Result, Ok, Err as Failed, OnOk, OnErr, IfOk, Option, Some, None, refl, ap, ◌∙◌, arith}
-use Rattle.command_text.specs.declared.command.Command.{Command}
+use Rattle.std.proofs.Common.{◌≡◌, ℕ, Bool, true, false, List, [], length, Result, Ok, Err as Failed, OnOk, OnErr, IfOk, Option, Some, None, refl, ap, ◌∙◌, arith}
 use Rattle.volume_model.specs.declared.call.Call.{Call}
 use Rattle.volume_model.specs.declared.mode.Mode.{Mode}
 use Rattle.volume_model.specs.declared.mode.Mode.TheVariants.{Rw, Wo, Err}
@@ -19,7 +18,6 @@ use Rattle.volume_core.specs.Answers.{EnrolsAs, IsAdmit, BeginsBy, IsRoomier, Is
 use Rattle.volume_core.specs.Places.{IsWriteAt, IsReadAt, IsCallAt, IsWaitingAt}
 use Rattle.volume_core.specs.State.{State, modes_in}
 use Rattle.volume_core.specs.Steps.{with_place, without_call, wrote, has_read, acked, faulted}
-use Rattle.commands_at_rest.specs.AtRest.{IsDoneAtRest}
 
 -- where there is no command, none is of the stream
 pub turn_free : (n : ℕ) (s : State) → s.commands ≡ [] → HasNoCommand n s.commands
@@ -47,10 +45,6 @@ after_turns s (Some r) = failed_turns s r (mode_of (modes_in s) r)
 pub turns_answered : {E : Type 0} (n : ℕ) (c : Call) (s s2 : State) (res : Result ℕ E) → IfOk res (λ place. IsAnsweredNow s n c place s2) → OnErr res (s2 ≡ s) → s2.commands ≡ s.commands
 turns_answered n c s s2 (Ok place) is err = ap (λ (x : State). x.commands) is.state ∙ after_turns (with_place s) (failed_by c)
 turns_answered n c s s2 (Failed e) is err = same_turns s s2 err
-
-pub turns_rested : {E : Type 0} (n : ℕ) (c : Command) (s s2 : State) (res : Result ℕ E) → IfOk res (λ place. IsDoneAtRest s n c place s2) → OnErr res (s2 ≡ s) → s2.commands ≡ s.commands
-turns_rested n c s s2 (Ok place) is err = ap (λ (x : State). x.commands) is.state
-turns_rested n c s s2 (Failed e) is err = same_turns s s2 err
 
 -- ---- started and taken back
 

@@ -12,7 +12,7 @@ use Rattle.open_calls.specs.Calls.{call_asked, whole_of}
 use Rattle.volume_core.specs.State.{State}
 use Rattle.volume_core.specs.Sound.{IsSound}
 use Rattle.volume_core.specs.Streams.{running}
-use Rattle.commands_at_rest.specs.AtRest.{spot_in}
+use Rattle.volume_maint.specs.Answers.{spot_of}
 use Rattle.stream_steps.specs.Mine.{Mine, OwnCall, Placed}
 
 -- a ticket and its call, as their stream's worker sees them
@@ -53,7 +53,7 @@ mine_in stream s = record {
   replicas = length s.nodes;
   entries = own_entries stream s.book.opening.modes s.book.entries;
   running = map own_call (running s stream);
-  log = Some (record { spot = spot_in s; entries = s.book.entries });
+  log = Some (record { spot = spot_of s; entries = s.book.entries });
 }
 
 -- no other stream has a call open

@@ -27,25 +27,13 @@ impl WorldInHand {
         WorldInHand { world, stream }
     }
 
-    /// Serves that stream from now on: the one before has no call open.
-    pub fn turn_to(&mut self, stream: u8)
-        requires ready { IsReady self.old.stream (state_of self.old.world) }
-        requires idle { (mine_in self.old.stream (state_of self.old.world)).running ≡ [] }
-        requires stream { stream < length self.old.world.indices.items }
-        ensures ready { IsReady self.new.stream (state_of self.new.world) }
-        ensures idle { (mine_in self.new.stream (state_of self.new.world)).running ≡ [] }
-        ensures world { self.new.world ≡ self.old.world }
-        ensures stream { self.new.stream ≡ stream }
-    {
-        self.stream = stream;
-    }
-
     /// Gives the World back, of which no call is open.
     pub fn into_world(self) -> World
         requires ready { IsReady self.stream (state_of self.world) }
         requires idle { (mine_in self.stream (state_of self.world)).running ≡ [] }
         ensures sound { IsSound (state_of result) }
         ensures rest { result.turns.tickets ≡ [] }
+        ensures turns { result.commands.items ≡ [] }
         ensures world { result ≡ self.world }
     {
         self.world

@@ -2,9 +2,8 @@
 #![tactic(auto)]
 
 mod client;
-mod control;
 mod hand;
 
 pub use hand::WorldInHand;
-pub use stream_steps::{ClientSteps, ControlSteps};
+pub use stream_steps::ClientSteps;
 pub use volume_core::World;

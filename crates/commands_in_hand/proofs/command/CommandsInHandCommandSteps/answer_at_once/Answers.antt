@@ -1,5 +1,4 @@
 use Rattle.volume_core.specs.State.{state_of}
-use Rattle.volume_model.specs.declared.call.Call.TheVariants as call
 use Rattle.commands_in_hand.proofs.Grown.{kept_by}
 use Rattle.commands_in_hand.proofs.Shapes.{has_none}
 use Rattle.commands_in_hand.proofs.TurnSteps.{idle_calls, idle_turns, at_once}

@@ -1,6 +1,6 @@
 use Rattle.volume_core.specs.State.{state_of}
 use Rattle.commands_in_hand.proofs.Grown.{home_same}
-use Rattle.commands_in_hand.proofs.TurnSteps.{ends, ends_kept, mine_err}
+use Rattle.commands_in_hand.proofs.TurnSteps.{ends, ends_kept}
 use Rattle.commands_in_hand.proofs.command.CommandsInHandCommandSteps.end_maint.Goals as goal
 
 pub returns-clause-ok : goal.returns-clause-ok

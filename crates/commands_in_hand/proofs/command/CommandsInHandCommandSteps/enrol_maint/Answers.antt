@@ -1,7 +1,7 @@
 use Rattle.volume_core.specs.State.{state_of}
 use Rattle.commands_in_hand.proofs.Shapes.{has_none}
 use Rattle.commands_in_hand.proofs.Grown.{home_same}
-use Rattle.commands_in_hand.proofs.TurnSteps.{idle_calls, idle_turns, wants_maint, enrols, enrols_kept, mine_err}
+use Rattle.commands_in_hand.proofs.TurnSteps.{idle_calls, idle_turns, wants_maint, enrols, enrols_kept}
 use Rattle.commands_in_hand.proofs.command.CommandsInHandCommandSteps.enrol_maint.Goals as goal
 
 pub enrol_maint-requires-clause-idle : goal.enrol_maint-requires-clause-idle

@@ -1,28 +1,23 @@
--- A command of the stream, as the one worker that there is sees it.
-use Rattle.std.proofs.Common.{◌≡◌, ℕ, List, [], ◌∷◌, ◌++◌, length, Result, Ok, Err as Failed, OnOk, IfOk, Option, Some, None, sym, refl, ap, ◌∙◌, append_assoc}
+-- A command that is answered at once, as the worker of its stream sees it.
+use Rattle.std.proofs.Common.{◌≡◌, ℕ, List, [], ◌∷◌, ◌++◌, length, Result, Ok, Err as Failed, OnOk, IfOk, sym, refl, ap, ◌∙◌, append_assoc}
 use Rattle.command_text.specs.declared.command.Command.{Command}
 use Rattle.command_text.specs.declared.command.Command.TheVariants as command
 use Rattle.volume_model.specs.declared.call.Call.TheVariants as call
-use Rattle.volume_model.specs.declared.call.Refusal.{Refusal}
 use Rattle.volume_model.specs.declared.call.Reply.TheVariants as reply
 use Rattle.volume_model.specs.declared.entry.Answer.{Answer}
 use Rattle.volume_model.specs.declared.entry.Entry.{Entry}
 use Rattle.volume_model.specs.declared.entry.Entry.TheVariants as entry
-use Rattle.volume_model.specs.declared.mark.FoldOrDrop.{FoldOrDrop}
 use Rattle.volume_model.specs.declared.mark.Mark.TheVariants as mark
 use Rattle.volume_model.specs.declared.mode.Mode.{Mode}
 use Rattle.volume_model.specs.declared.mode.Mode.TheVariants.{Rw, Wo, Err}
-use Rattle.volume_model.specs.History.{Spot}
-use Rattle.volume_model.specs.Marks.{marks_of}
 use Rattle.volume_model.specs.Modes.{mode_of, modes_after, modes_after_entry}
-use Rattle.volume_model.specs.OneWorker.{reply_for, marks_unless, entries_at, fail_marks}
+use Rattle.volume_model.specs.OneWorker.{entries_at, fail_marks}
 use Rattle.volume_model.specs.PlainStep.{plain_step}
-use Rattle.volume_model.specs.Purge.{parts_of}
 use Rattle.volume_core.specs.Answers.{IsAnsweredNow, failed_in}
 use Rattle.volume_core.specs.State.{State, modes_in, told_of, index_at}
 use Rattle.volume_core.specs.Steps.{answered, with_place}
 use Rattle.volume_core.specs.Streams.{MayGo, IsAnsweredTo, opens}
-use Rattle.commands_at_rest.specs.AtRest.{IsForRest, IsDoneAtRest, spot_in, refused_in}
+use Rattle.volume_maint.specs.Answers.{spot_of}
 use Rattle.stream_steps.specs.Mine.{Placed, answer_placed}
 use Rattle.stream_steps.specs.Steps.{AreMarks, CommandsTo, IsAtOnce}
 use Rattle.world_in_hand.specs.Hand.{own_entries, mine_in}
@@ -50,7 +45,7 @@ own_behind n modes marks a are by =
 -- ---- a command that was answered behind its marks
 
 pub commands_mine : (n : ℕ) (c : Command) (s s2 : State) (marks : List Entry) (a : Answer) → MayGo n s s2 → s2.book.entries ≡ s.book.entries ++ (marks ++ entry.Answer a ∷ []) → AreMarks marks
-    → a.call ≡ call.Command c → a.stream ≡ n → a.saw ≡ length s.book.entries → opens s2 n ≡ [] → marks ++ entry.Answer a ∷ [] ≡ entries_at (spot_in s) n (length s.book.entries) a.index (call.Command c)
+    → a.call ≡ call.Command c → a.stream ≡ n → a.saw ≡ length s.book.entries → opens s2 n ≡ [] → marks ++ entry.Answer a ∷ [] ≡ entries_at (spot_of s) n (length s.book.entries) a.index (call.Command c)
     → CommandsTo c (mine_in n s) (mine_in n s2)
 commands_mine n c s s2 marks a may e are is by saw idle turn = record {
   marks = marks;
@@ -63,30 +58,6 @@ commands_mine n c s s2 marks a may e are is by saw idle turn = record {
   saw = saw;
   turn = turn;
 }
-
--- ---- at rest
-
-purge_marks : (parts : List FoldOrDrop) → AreMarks (marks_of parts)
-purge_marks [] = tt
-purge_marks (p ∷ ps) = (tt, purge_marks ps)
-
-rest_marks : (spot : Spot) (c : Command) (why : Option Refusal) → IsForRest c → AreMarks (marks_unless why spot (call.Command c))
-rest_marks spot c (Some why) asks = tt
-rest_marks spot (command.Snapshot name) None asks = tt
-rest_marks spot (command.Remove name) None asks = tt
-rest_marks spot (command.Revert name) None asks = tt
-rest_marks spot command.Purge None asks = purge_marks (parts_of spot.state.volume.snapshots)
-rest_marks spot command.Status None asks = absurd asks
-rest_marks spot (command.Fail r) None asks = absurd asks
-rest_marks spot (command.Add r) None asks = absurd asks
-
-pub rests_mine : {E : Type 0} (n : ℕ) (c : Command) (s s2 : State) (res : Result ℕ E) → IsForRest c → MayGo n s s2 → IfOk res (λ place. IsDoneAtRest s n c place s2) → IfOk res (λ place. IsAnsweredTo n (call.Command c) s s2)
-    → OnOk res (CommandsTo c (mine_in n s) (mine_in n s2))
-rests_mine n c s s2 (Ok place) asks may is sees =
-    let answer : Answer = record { call = call.Command c; reply = reply_for (refused_in s c) (spot_in s) (call.Command c); index = index_at s.indices n; saw = length s.book.entries; stream = n } in
-    commands_mine n c s s2 (marks_unless (refused_in s c) (spot_in s) (call.Command c)) answer may (ap (λ (x : State). x.book.entries) is.state)
-    (rest_marks (spot_in s) c (refused_in s c) asks) refl refl refl sees.idle refl
-rests_mine n c s s2 (Failed e) asks may is sees = tt
 
 -- ---- at once
 
