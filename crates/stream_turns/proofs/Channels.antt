@@ -11,7 +11,7 @@ use Rattle.volume_model.specs.declared.entry.Entry.{Entry}
 use Rattle.volume_model.specs.History.{Spot}
 use Rattle.client_worker.specs.Exchanges.{told_in}
 use Rattle.turn_laws.specs.Turns.{IsTurn, TellsOthers}
-use Rattle.stream_turns.specs.Hands.{AreNewLines}
+use Rattle.stream_turns.specs.Turn.{AreNewLines}
 use Rattle.turn_laws.proofs.OneTurn.{noted}
 
 pub no_lines : (worker : ℕ) → AreNewLines worker 0 [] [] []

@@ -1,5 +1,5 @@
 pub mod Replicas
-pub mod Hand
+pub mod Turned
 pub mod Channels
 pub mod ScriptLemmas
 pub mod SoFar

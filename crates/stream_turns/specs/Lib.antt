@@ -1,3 +1,3 @@
 pub mod Volume
-pub mod Hands
+pub mod Turn
 pub mod Serving

@@ -2,7 +2,7 @@
 
 ghost use Rattle.std.specs.Prelude.{ℕ, map, IfOk};
 ghost use Rattle.outer_traits.specs.Lines.{AreLinesOf, RecordsOf, TellsSame};
-ghost use Rattle.stream_turns.specs.Hands.{AreNewLines};
+ghost use Rattle.stream_turns.specs.Turn.{AreNewLines};
 
 use client_worker::Channel;
 use outer_traits::Wiring;

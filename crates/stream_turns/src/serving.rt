@@ -1,5 +1,5 @@
-ghost use Rattle.std.specs.Prelude.{◌≡◌, ◌≤◌, [], length, map, All, IfOk, OnOk};
-ghost use Rattle.stream_turns.specs.Hands.{IsTaken, IsBetween, KeepsOrigin, HaveTurns};
+ghost use Rattle.std.specs.Prelude.{◌≡◌, ◌≤◌, [], length, map, All, IfOk};
+ghost use Rattle.stream_turns.specs.Turn.{IsTaken, IsBetween, KeepsOrigin, HaveTurns};
 ghost use Rattle.stream_turns.specs.Serving.{IsRead, IsServed};
 ghost use Rattle.stream_turns.specs.Volume.{stream_calls, heads_of};
 
@@ -9,7 +9,7 @@ use outer_traits::Wiring;
 use script_text::{LinePlan, Script, Sequence, Stream};
 use std::alloc::{AllocError, Global};
 use std::sync::Wait;
-use world_in_hand::{World, WorldInHand};
+use world_in_hand::World;
 
 /// What the serving of streams has made.
 #[derive(Drop)]
@@ -39,47 +39,53 @@ pub fn serve<R: Wait, W: Wiring>(
         ..
     } = script;
     let world = World::blank(alloc, size, replicas, streams.len() as u8)?;
-    let mut hand = WorldInHand::of(world, 0);
-    let heads = serve_streams(
+    serve_streams(
         rt,
         alloc,
         lines.as_slice(),
         streams.into_vec(),
-        &mut hand,
+        world,
         wiring,
-    )?;
-    Ok(Served {
-        heads,
-        world: hand.into_world(),
-    })
+    )
 }
 
-/// Serves the streams one after another, and gives back the headers of each stream's frames.
+/// Serves the streams one after another.
 fn serve_streams<R: Wait, W: Wiring>(
     rt: &R,
     alloc: Global,
     plans: &[LinePlan],
     streams: Vec<Stream>,
-    hand: &mut WorldInHand,
+    world: World,
     wiring: &mut W,
-) -> Result<Vec<Sequence<Head>>, AllocError>
+) -> Result<Served, AllocError>
     requires few { length streams.items ≤ 16 }
-    requires many { length hand.old.world.indices.items ≡ length streams.items }
+    requires many { length world.indices.items ≡ length streams.items }
     requires taken { All IsTaken streams.items }
-    requires between { IsBetween hand.old }
-    requires begun { hand.old.world.journal.entries ≡ [] }
-    ensures between { OnOk result (IsBetween hand.new) }
-    ensures origin { OnOk result (KeepsOrigin hand.old hand.new) }
-    ensures turns { OnOk result (HaveTurns (map stream_calls streams.items) hand.old hand.new
+    requires between { IsBetween world }
+    requires begun { world.journal.entries ≡ [] }
+    ensures between { IfOk result (λ served. IsBetween served.world) }
+    ensures origin { IfOk result (λ served. KeepsOrigin world served.world) }
+    ensures turns { IfOk result (λ served. HaveTurns (map stream_calls streams.items) world served.world
         (W.counts wiring.new) (W.carried wiring.new)) }
-    ensures heads { IfOk result (λ heads. heads.items ≡ map heads_of streams.items) }
+    ensures heads { IfOk result (λ served. served.heads.items ≡ map heads_of streams.items) }
 {
+    let mut world = world;
     let mut heads = Vec::new(alloc);
     let mut number = 0;
     for stream in streams {
-        hand.turn_to(number);
-        heads.push(serve_stream(rt, alloc, plans, stream, hand, wiring)?)?;
+        world = serve_stream(rt, alloc, plans, &stream, number, world, wiring)?;
+        heads.push(heads_in(alloc, stream))?;
         number += 1;
     }
-    Ok(heads)
+    Ok(Served { heads, world })
+}
+
+/// The headers of a stream's frames. A control stream has none.
+fn heads_in(alloc: Global, stream: Stream) -> Sequence<Head>
+    ensures { result ≡ heads_of stream }
+{
+    match stream {
+        Stream::Frames(frames) => Sequence::of(frames.into_heads()),
+        Stream::Control(_) => Sequence::of(Vec::new(alloc)),
+    }
 }

@@ -1,51 +1,47 @@
 //! One stream's turn.
 
-ghost use Rattle.std.specs.Prelude.{◌≡◌, length, map, OnOk, IfOk, slice_index_or};
+ghost use Rattle.std.specs.Prelude.{◌≡◌, ◌<◌, length, map, OnOk, IfOk, slice_index_or};
 ghost use Rattle.client_worker.specs.Exchanges.{told_in};
-ghost use Rattle.stream_turns.specs.Hands.{IsTaken, IsBetween, HasNoEntry, KeepsOrigin, HasTurn};
-ghost use Rattle.stream_turns.specs.Hands.{AreNewLines};
+ghost use Rattle.stream_turns.specs.Turn.{IsTaken, IsBetween, HasNoEntry, KeepsOrigin, HasTurn, AreNewLines};
 ghost use Rattle.turn_laws.specs.Turns.{TellsOthers};
-ghost use Rattle.stream_turns.specs.Volume.{stream_calls, heads_of};
+ghost use Rattle.stream_turns.specs.Volume.{stream_calls};
 
 use crate::lines::{channels_of, take_back};
 use client_worker::{Channel, run_stream};
-use control_worker::run_control;
-use frame_wire::Head;
+use command_worker::run_commands;
+use commands_in_hand::CommandsInHand;
 use outer_traits::{Line, Wiring};
-use script_text::{LinePlan, Sequence, Stream};
+use script_text::{LinePlan, Stream};
 use std::alloc::{AllocError, Global};
 use std::sync::Wait;
-use world_in_hand::WorldInHand;
+use world_in_hand::{World, WorldInHand};
 
-/// Serves the stream whose turn it is on lines of its own, and gives back the headers of its frames. The lines go back
-/// also where memory runs out.
+/// Serves one stream on lines of its own. The lines go back also where memory runs out.
 pub(crate) fn serve_stream<R: Wait, W: Wiring>(
     rt: &R,
     alloc: Global,
     plans: &[LinePlan],
-    stream: Stream,
-    hand: &mut WorldInHand,
+    stream: &Stream,
+    number: u8,
+    world: World,
     wiring: &mut W,
-) -> Result<Sequence<Head>, AllocError>
-    requires between { IsBetween hand.old }
-    requires taken { IsTaken stream }
-    requires first { HasNoEntry hand.old }
-    ensures between { OnOk result (IsBetween hand.new) }
-    ensures origin { OnOk result (KeepsOrigin hand.old hand.new) }
-    ensures turn { OnOk result (HasTurn (stream_calls stream) hand.old hand.new
-        (W.counts wiring.new hand.old.stream) (W.carried wiring.new hand.old.stream)) }
-    ensures counts { OnOk result
-        (TellsOthers hand.old.stream (W.counts wiring.old) (W.counts wiring.new)) }
-    ensures carried { OnOk result
-        (TellsOthers hand.old.stream (W.carried wiring.old) (W.carried wiring.new)) }
-    ensures heads { IfOk result (λ heads. heads ≡ heads_of stream) }
+) -> Result<World, AllocError>
+    requires there { number < length world.indices.items }
+    requires between { IsBetween world }
+    requires taken { IsTaken stream.now }
+    requires first { HasNoEntry number world }
+    ensures between { IfOk result IsBetween }
+    ensures origin { IfOk result (KeepsOrigin world) }
+    ensures turn { IfOk result (λ after. HasTurn (stream_calls stream.now) number world after
+        (W.counts wiring.new number) (W.carried wiring.new number)) }
+    ensures counts { OnOk result (TellsOthers number (W.counts wiring.old) (W.counts wiring.new)) }
+    ensures carried { OnOk result (TellsOthers number (W.carried wiring.old) (W.carried wiring.new)) }
 {
-    let replicas = hand.world.nodes.len() as u8;
-    let mut channels = channels_of(alloc, plans, hand.stream, replicas, wiring)?;
-    let ran = run(rt, alloc, &stream, hand, channels.as_mut_slice());
+    let replicas = world.nodes.len() as u8;
+    let mut channels = channels_of(alloc, plans, number, replicas, wiring)?;
+    let after = run(rt, alloc, stream, number, world, channels.as_mut_slice());
     take_back(wiring, channels);
-    ran?;
-    Ok(heads_in(alloc, stream))
+    after
 }
 
 /// Serves the stream on these lines.
@@ -53,34 +49,34 @@ fn run<R: Wait, L: Line + Drop>(
     rt: &R,
     alloc: Global,
     stream: &Stream,
-    hand: &mut WorldInHand,
+    number: u8,
+    world: World,
     channels: &mut [Channel<L>],
-) -> Result<(), AllocError>
-    requires between { IsBetween hand.old }
+) -> Result<World, AllocError>
+    requires there { number < length world.indices.items }
+    requires between { IsBetween world }
     requires taken { IsTaken stream.now }
-    requires first { HasNoEntry hand.old }
-    requires new { AreNewLines hand.old.stream (length hand.old.world.nodes.items)
+    requires first { HasNoEntry number world }
+    requires new { AreNewLines number (length world.nodes.items)
         (map (λ c. L.ends c.line) channels.old) (map (λ c. L.count c.line) channels.old)
         (map (λ c. L.carried c.line) channels.old) }
-    ensures between { OnOk result (IsBetween hand.new) }
-    ensures origin { OnOk result (KeepsOrigin hand.old hand.new) }
+    ensures between { IfOk result IsBetween }
+    ensures origin { IfOk result (KeepsOrigin world) }
     ensures ends { map (λ c. L.ends c.line) channels.new ≡ map (λ c. L.ends c.line) channels.old }
-    ensures turn { OnOk result (HasTurn (stream_calls stream.now) hand.old hand.new
+    ensures turn { IfOk result (λ after. HasTurn (stream_calls stream.now) number world after
         (λ r. slice_index_or (map (λ c. L.count c.line) channels.new) r 0)
         (told_in (map (λ c. L.carried c.line) channels.new))) }
 {
     match stream {
-        Stream::Frames(frames) => run_stream(rt, alloc, hand, channels, frames),
-        Stream::Control(commands) => run_control(rt, alloc, hand, commands.as_slice()),
-    }
-}
-
-/// The headers of a stream's frames. A control stream has none.
-fn heads_in(alloc: Global, stream: Stream) -> Sequence<Head>
-    ensures { result ≡ heads_of stream }
-{
-    match stream {
-        Stream::Frames(frames) => Sequence::of(frames.into_heads()),
-        Stream::Control(_) => Sequence::of(Vec::new(alloc)),
+        Stream::Frames(frames) => {
+            let mut hand = WorldInHand::of(world, number);
+            run_stream(rt, alloc, &mut hand, channels, frames)?;
+            Ok(hand.into_world())
+        }
+        Stream::Control(commands) => {
+            let mut hand = CommandsInHand::of(world, number);
+            run_commands(rt, alloc, &mut hand, channels, commands.as_slice())?;
+            Ok(hand.into_world())
+        }
     }
 }

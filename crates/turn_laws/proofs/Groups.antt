@@ -1,8 +1,8 @@
 -- The entries of a stream's calls, call by call: marks, and then the answer. They are the stream's own, and each call is
 -- answered once and in order.
-use Rattle.std.proofs.Common.{◌≡◌, ℕ, suc, ◌+◌, cond, List, [], ◌∷◌, ◌++◌, length, map, Option, sym, refl, ap, subst, ◌∙◌, eq-eqb}
+use Rattle.std.proofs.Common.{◌≡◌, ℕ, suc, ◌+◌, inl, ⊎_elim, cond, List, [], ◌∷◌, ◌++◌, length, map, Option, sym, refl, ap, subst, ◌∙◌, eq-eqb}
 use Rattle.std.specs.List.{All}
-use Rattle.std.proofs.lemmas.List.Elements.{All-head, All-tail}
+use Rattle.std.proofs.lemmas.List.Elements.{All-head, All-tail, All-weaker}
 use Rattle.command_text.specs.declared.command.Command.{Command}
 use Rattle.volume_model.specs.declared.call.Call.{Call}
 use Rattle.volume_model.specs.declared.call.Call.TheVariants as call
@@ -15,9 +15,10 @@ use Rattle.volume_model.specs.History.{answers_from}
 use Rattle.volume_model.proofs.LegalLemmas.{answers_from-append}
 use Rattle.volume_core.specs.Streams.{MayAppend, MayAppendMark}
 use Rattle.stream_steps.specs.Mine.{Log, longer}
-use Rattle.stream_steps.specs.Steps.{IsNoFault, AreMarks}
+use Rattle.stream_steps.specs.Steps.{IsNoFault}
 use Rattle.client_worker.specs.Serving.{IsFaultMark, IsOwnFault, Serves, AreServed}
-use Rattle.control_worker.specs.Serving.{Commands, AreCommanded}
+use Rattle.command_worker.specs.Purges.{MayComeBefore}
+use Rattle.command_worker.specs.Serving.{Commands, AreCommanded}
 
 -- ---- marks before an answer
 
@@ -33,13 +34,6 @@ fault_own w (mark.Added r source name) is = tt
 fault_own w (mark.Promoted r) is = tt
 fault_own w (mark.Aborted r) is = tt
 
-pub faults_before : (w : ℕ) (marks : List Entry) → All (IsOwnFault w) marks → AreBefore w marks
-faults_before w [] all = record { own = tt; none = λ v place. refl }
-faults_before w (entry.Answer a ∷ marks) all = absurd (All-head (IsOwnFault w) (entry.Answer a) marks all)
-faults_before w (entry.Mark m ∷ marks) all =
-    let more = faults_before w marks (All-tail (IsOwnFault w) (entry.Mark m) marks all) in
-    record { own = (fault_own w m (All-head (IsOwnFault w) (entry.Mark m) marks all), more.own); none = λ v place. more.none v (suc place) }
-
 no_fault_own : (w : ℕ) (m : Mark) → IsNoFault m → MayAppendMark w m
 no_fault_own w (mark.Purged part) is = tt
 no_fault_own w (mark.Fault s r n) is = absurd is
@@ -48,12 +42,19 @@ no_fault_own w (mark.Added r source name) is = tt
 no_fault_own w (mark.Promoted r) is = tt
 no_fault_own w (mark.Aborted r) is = tt
 
-pub marks_before : (w : ℕ) (marks : List Entry) → AreMarks marks → AreBefore w marks
-marks_before w [] are = record { own = tt; none = λ v place. refl }
-marks_before w (entry.Answer a ∷ marks) are = absurd are
-marks_before w (entry.Mark m ∷ marks) are =
-    let more = marks_before w marks are.1 in
-    record { own = (no_fault_own w m are.0, more.own); none = λ v place. more.none v (suc place) }
+pub marks_before : (w : ℕ) (marks : List Entry) → All (MayComeBefore w) marks → AreBefore w marks
+marks_before w [] all = record { own = tt; none = λ v place. refl }
+marks_before w (entry.Answer a ∷ marks) all = absurd (All-head (MayComeBefore w) (entry.Answer a) marks all)
+marks_before w (entry.Mark m ∷ marks) all =
+    let more = marks_before w marks (All-tail (MayComeBefore w) (entry.Mark m) marks all) in
+    record {
+      own = (⊎_elim (fault_own w m) (no_fault_own w m) (All-head (MayComeBefore w) (entry.Mark m) marks all), more.own);
+      none = λ v place. more.none v (suc place);
+    }
+
+pub fault_may : (w : ℕ) (e : Entry) → IsOwnFault w e → MayComeBefore w e
+fault_may w (entry.Answer a) is = is
+fault_may w (entry.Mark m) is = inl is
 
 -- ---- the entries of one call, and of calls
 
@@ -70,7 +71,7 @@ AreGroups w [] es = es ≡ []
 AreGroups w (c ∷ cs) es = (first more : List Entry) × (es ≡ first ++ more) × IsGroup w c first × AreGroups w cs more
 
 abbrev pub served_group : (w : ℕ) (log : Option Log) (c : Call) (es : List Entry) → Serves w log c es → IsGroup w c es
-served_group w log c es s = record { marks = s.marks; answer = s.answer; is = s.is; before = faults_before w s.marks s.faults; call = s.call; by = s.by }
+served_group w log c es s = record { marks = s.marks; answer = s.answer; is = s.is; before = marks_before w s.marks (All-weaker (IsOwnFault w) (MayComeBefore w) (fault_may w) s.marks s.faults); call = s.call; by = s.by }
 
 abbrev pub commanded_group : (w : ℕ) (log : Option Log) (c : Command) (es : List Entry) → Commands w log c es → IsGroup w (call.Command c) es
 commanded_group w log c es s = record { marks = s.marks; answer = s.answer; is = s.is; before = marks_before w s.marks s.are; call = s.call; by = s.by }

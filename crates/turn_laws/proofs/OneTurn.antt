@@ -13,23 +13,22 @@ use Rattle.volume_model.specs.declared.call.Reply.TheVariants as reply
 use Rattle.volume_model.specs.declared.entry.Answer.{Answer}
 use Rattle.volume_model.specs.declared.entry.Entry.{Entry}
 use Rattle.volume_model.specs.declared.entry.Entry.TheVariants as entry
-use Rattle.volume_model.specs.declared.mark.Mark.TheVariants as mark
 use Rattle.volume_model.specs.declared.mode.Mode.{Mode}
 use Rattle.volume_model.specs.declared.mode.Mode.TheVariants.{Rw, Err}
 use Rattle.volume_model.specs.Faults.{fault_counts, last_in, last_count, CountsRise}
 use Rattle.volume_model.specs.History.{Spot, LegalAfter, IsLegal, SeenInOrder, answers_from, InOrderFrom}
-use Rattle.volume_model.specs.Modes.{mode_of, modes_after_entry, modes_after}
+use Rattle.volume_model.specs.Modes.{mode_of, modes_after_entry}
 use Rattle.volume_model.proofs.FaultLemmas.{fault_counts-append}
 use Rattle.volume_model.proofs.LegalLemmas.{answers_from-append}
 use Rattle.volume_model.proofs.OneWorkerLemmas.{length-modes_after}
-use Rattle.stream_steps.specs.Mine.{Placed, Log, entries_in, longer}
-use Rattle.stream_steps.specs.Steps.{IsFrameCall, AreMarks}
+use Rattle.stream_steps.specs.Mine.{Placed, entries_in}
+use Rattle.stream_steps.specs.Steps.{IsFrameCall}
 use Rattle.client_worker.specs.Exchanges.{CarriedOf, IsCarried, AreCarried, HasRead, HasWrite}
 use Rattle.client_worker.specs.Serving.{AreServed}
-use Rattle.control_worker.specs.Serving.{AreCommanded}
+use Rattle.command_worker.specs.Serving.{AreCommanded}
 use Rattle.world_in_hand.specs.Hand.{is_own_mark, is_own, own_entries}
 use Rattle.turn_laws.specs.Turns.{AreWell, IsTurn}
-use Rattle.turn_laws.proofs.Own.{own_faults, own-append}
+use Rattle.turn_laws.proofs.Own.{own_faults}
 use Rattle.turn_laws.proofs.Counted.{none_counted}
 use Rattle.turn_laws.proofs.Groups.{served_groups, commanded_groups, groups_own, groups_calls}
 use Rattle.turn_laws.proofs.Turns.{log_at, frames_turn, commands_turn, back_none}
@@ -109,62 +108,6 @@ module _ (replicas w : ℕ) (before told : ℕ → Option (List (List ℕ))) (sa
       let after = modes_after_entry modes e in
       told_more (is_own w e) modes e (own_entries w after es) many (told_carried after es (length-modes_after modes (e ∷ []) ∙ many)) had
 
--- ---- commands ask nothing of lines
-
-no_faults_in : (w : ℕ) (marks : List Entry) (r : ℕ) → AreMarks marks → fault_counts w r marks ≡ []
-no_faults_in w [] r are = refl
-no_faults_in w (entry.Answer a ∷ marks) r are = absurd are
-no_faults_in w (entry.Mark (mark.Purged part) ∷ marks) r are = no_faults_in w marks r are.1
-no_faults_in w (entry.Mark (mark.Fault s q n) ∷ marks) r are = absurd are.0
-no_faults_in w (entry.Mark (mark.Failed q) ∷ marks) r are = no_faults_in w marks r are.1
-no_faults_in w (entry.Mark (mark.Added q source name) ∷ marks) r are = no_faults_in w marks r are.1
-no_faults_in w (entry.Mark (mark.Promoted q) ∷ marks) r are = no_faults_in w marks r are.1
-no_faults_in w (entry.Mark (mark.Aborted q) ∷ marks) r are = no_faults_in w marks r are.1
-
-both_none : {A : Type 0} (xs ys : List A) → xs ≡ [] → ys ≡ [] → xs ++ ys ≡ []
-both_none xs ys e f = cc
-
-no_faults_of : (w : ℕ) (log : Option Log) (cs : List Command) (es : List Entry) (r : ℕ) → AreCommanded w log cs es → fault_counts w r es ≡ []
-no_faults_of w log [] es r done = ap (fault_counts w r) done
-no_faults_of w log (c ∷ cs) es r done =
-    ap (fault_counts w r) done.2 ∙ fault_counts-append w r done.0 done.1
-    ∙ both_none (fault_counts w r done.0) (fault_counts w r done.1)
-    (ap (fault_counts w r) done.3.is ∙ fault_counts-append w r done.3.marks (entry.Answer done.3.answer ∷ []) ∙ ap (λ l. l ++ []) (no_faults_in w done.3.marks r done.3.are))
-    (no_faults_of w (longer log done.0) cs done.1 r done.4)
-
--- an entry that asks nothing of them
-abbrev AsksNoLine : Entry → Type 0
-AsksNoLine (entry.Answer a) = (c : Command) × (a.call ≡ call.Command c)
-AsksNoLine (entry.Mark m) = Unit {0}
-
-marks_ask_none : (marks more : List Entry) → AreMarks marks → All AsksNoLine more → All AsksNoLine (marks ++ more)
-marks_ask_none [] more are all = all
-marks_ask_none (entry.Answer a ∷ marks) more are all = absurd are
-marks_ask_none (entry.Mark m ∷ marks) more are all = All-cons AsksNoLine (entry.Mark m) (marks ++ more) tt (marks_ask_none marks more are.1 all)
-
-commands_ask_none : (w : ℕ) (log : Option Log) (cs : List Command) (es : List Entry) → AreCommanded w log cs es → All AsksNoLine es
-commands_ask_none w log [] es done = subst (All AsksNoLine) (sym done) (All-nil AsksNoLine)
-commands_ask_none w log (c ∷ cs) es done =
-    let rest = commands_ask_none w (longer log done.0) cs done.1 done.4 in
-    let first = done.3 in
-    subst (All AsksNoLine) (sym (done.2 ∙ ap (λ l. l ++ done.1) first.is ∙ append_assoc first.marks (entry.Answer first.answer ∷ []) done.1))
-    (marks_ask_none first.marks (entry.Answer first.answer ∷ done.1) first.are (All-cons AsksNoLine (entry.Answer first.answer) done.1 (c, first.call) rest))
-
-module _ (replicas w : ℕ) (told : ℕ → Option (List (List ℕ))) where
-  carried_none : (modes : List Mode) (e : Entry) → AsksNoLine e → IsCarried replicas told modes e
-  carried_none modes (entry.Answer a) is = subst (λ c. CarriedOf replicas told modes c a.reply) (sym is.1) tt
-  carried_none modes (entry.Mark m) is = tt
-
-  carried_more : (b : Bool) (modes : List Mode) (e : Entry) (ps : List Placed) → AsksNoLine e → AreCarried replicas told ps → AreCarried replicas told (cond b (record { modes = modes; entry = e } ∷ ps) ps)
-  carried_more true modes e ps is more = All-cons (λ (p : Placed). IsCarried replicas told p.modes p.entry) (record { modes = modes; entry = e }) ps (carried_none modes e is) more
-  carried_more false modes e ps is more = more
-
-  carried_all : (modes : List Mode) (es : List Entry) → All AsksNoLine es → AreCarried replicas told (own_entries w modes es)
-  carried_all modes [] all = All-nil (λ (p : Placed). IsCarried replicas told p.modes p.entry)
-  carried_all modes (e ∷ es) all =
-      let after = modes_after_entry modes e in
-      carried_more (is_own w e) modes e (own_entries w after es) (All-head AsksNoLine e es all) (carried_all after es (All-tail AsksNoLine e es all))
-
 -- ---- the stream's part of the journal
 
 module _ (opening : Spot) (replicas w : ℕ) (before added after : List Entry) (is : after ≡ before ++ added) (none : own_entries w opening.modes before ≡ [])
@@ -179,51 +122,43 @@ module _ (opening : Spot) (replicas w : ℕ) (before added after : List Entry) (
       all = ap (answers_from w 0) is ∙ answers_from-append w 0 before added ∙ ap (λ l. l ++ answers_from w (0 + length before) added) (none_answered w 0 opening.modes before none)
           ∙ ap (λ n. answers_from w n added) (omega arith)
 
-  -- ---- of frames
+  module _ (counts : ℕ → ℕ) (told : ℕ → Option (List (List ℕ))) (past : (r : ℕ) → replicas ≤ r → counts r ≡ 0)
+      (counted : (r : ℕ) → last_count w r (entries_in (own_entries w opening.modes after)) ≤ counts r) (carried : AreCarried replicas told (own_entries w opening.modes after)) where
+    shown : (r : ℕ) → last_count w r after ≤ counts r
+    shown r = subst (λ l. last_in 0 l ≤ counts r) (own_faults w r opening.modes after) (counted r)
 
-  pub frames_are : (cs : List Call) (counts : ℕ → ℕ) (told : ℕ → Option (List (List ℕ))) → All IsFrameCall cs → AreServed w (Some (log_at opening before)) cs added
-      → ((r : ℕ) → replicas ≤ r → counts r ≡ 0) → ((r : ℕ) → last_count w r (entries_in (own_entries w opening.modes after)) ≤ counts r)
-      → AreCarried replicas told (own_entries w opening.modes after) → IsTurn opening replicas w cs before after counts told
-  frames_are cs counts told frames served past counted carried = record {
-    added = added;
-    is = is;
-    own = groups_own w cs added (served_groups w (Some (log_at opening before)) cs added served);
-    calls = groups_calls w 0 cs added (served_groups w (Some (log_at opening before)) cs added served);
-    counted = shown;
-    carried = carried;
-    turn = λ well. frames_turn opening w 0 0 cs before added frames served (λ r. back_none (fault_counts w r before) (fault_counts w r added)
-        (sym (fault_counts-append w r before added) ∙ ap (fault_counts w r) (sym is) ∙ none_counted w r after rise (no_count well r))) legal_added order_added;
-  }
-    where
-      shown : (r : ℕ) → last_count w r after ≤ counts r
-      shown r = subst (λ l. last_in 0 l ≤ counts r) (own_faults w r opening.modes after) (counted r)
+    no_count : AreWell replicas counts → (r : ℕ) → last_count w r after ≤ 0
+    no_count well r = elim (cases_lt r replicas) [
+      | inl low ↦ omega (arith, well r low, shown r)
+      | inr high ↦ omega (arith, past r high, shown r)
+    ]
 
-      no_count : AreWell replicas counts → (r : ℕ) → last_count w r after ≤ 0
-      no_count well r = elim (cases_lt r replicas) [
-        | inl low ↦ omega (arith, well r low, shown r)
-        | inr high ↦ omega (arith, past r high, shown r)
-      ]
+    -- where no line failed, the stream has no fault
+    unfaulted : AreWell replicas counts → (r : ℕ) → fault_counts w r added ≡ []
+    unfaulted well r = back_none (fault_counts w r before) (fault_counts w r added)
+        (sym (fault_counts-append w r before added) ∙ ap (fault_counts w r) (sym is) ∙ none_counted w r after rise (no_count well r))
 
-  -- ---- of commands
+    pub frames_are : (cs : List Call) → All IsFrameCall cs → AreServed w (Some (log_at opening before)) cs added → IsTurn opening replicas w cs before after counts told
+    frames_are cs frames served = record {
+      added = added;
+      is = is;
+      own = groups_own w cs added (served_groups w (Some (log_at opening before)) cs added served);
+      calls = groups_calls w 0 cs added (served_groups w (Some (log_at opening before)) cs added served);
+      counted = shown;
+      carried = carried;
+      turn = λ well. frames_turn opening w 0 0 cs before added frames served (unfaulted well) legal_added order_added;
+    }
 
-  pub commands_are : (cs : List Command) (counts : ℕ → ℕ) (told : ℕ → Option (List (List ℕ))) → AreCommanded w (Some (log_at opening before)) cs added
-      → IsTurn opening replicas w (map call.Command cs) before after counts told
-  commands_are cs counts told done = record {
-    added = added;
-    is = is;
-    own = groups_own w (map call.Command cs) added (commanded_groups w (Some (log_at opening before)) cs added done);
-    calls = groups_calls w 0 (map call.Command cs) added (commanded_groups w (Some (log_at opening before)) cs added done);
-    counted = λ r. omega (arith, ap (last_in 0) (none_told r));
-    carried = subst (AreCarried replicas told) (sym behind) (carried_all replicas w told (modes_after opening.modes before) added (commands_ask_none w (Some (log_at opening before)) cs added done));
-    turn = λ well. commands_turn opening w 0 0 cs before added done order_added;
-  }
-    where
-      none_told : (r : ℕ) → fault_counts w r after ≡ []
-      none_told r = ap (fault_counts w r) is ∙ fault_counts-append w r before added
-          ∙ both_none (fault_counts w r before) (fault_counts w r added) (none_faulted w r opening.modes before none) (no_faults_of w (Some (log_at opening before)) cs added r done)
-
-      behind : own_entries w opening.modes after ≡ own_entries w (modes_after opening.modes before) added
-      behind = ap (own_entries w opening.modes) is ∙ own-append w opening.modes before added ∙ ap (λ l. l ++ own_entries w (modes_after opening.modes before) added) none
+    pub commands_are : (cs : List Command) → AreCommanded w (Some (log_at opening before)) cs added → IsTurn opening replicas w (map call.Command cs) before after counts told
+    commands_are cs done = record {
+      added = added;
+      is = is;
+      own = groups_own w (map call.Command cs) added (commanded_groups w (Some (log_at opening before)) cs added done);
+      calls = groups_calls w 0 (map call.Command cs) added (commanded_groups w (Some (log_at opening before)) cs added done);
+      counted = shown;
+      carried = carried;
+      turn = λ well. commands_turn opening w 0 0 cs before added done (unfaulted well) order_added;
+    }
 
 -- ---- the lines are taken back
 

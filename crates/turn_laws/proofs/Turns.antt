@@ -1,5 +1,5 @@
 -- Where none of its lines failed, a stream's entries are those that one worker makes of its calls there.
-use Rattle.std.proofs.Common.{◌≡◌, ℕ, suc, ◌+◌, ◌&&◌, inl, inr, eqb, Bool, true, false, cond, List, [], ◌∷◌, ◌++◌, length, map, sym, refl, ap, subst, ◌∙◌, eq-eqb}
+use Rattle.std.proofs.Common.{◌≡◌, ℕ, suc, ◌+◌, ◌&&◌, inl, inr, ⊎_elim, eqb, Bool, true, false, cond, List, [], ◌∷◌, ◌++◌, length, map, sym, refl, ap, subst, ◌∙◌, eq-eqb}
 use Rattle.std.specs.Prelude.{Option, None, Some}
 use Rattle.std.specs.Option.{option_or}
 use Rattle.std.specs.List.{All}
@@ -32,9 +32,10 @@ use Rattle.volume_model.proofs.OneWorkerLemmas.{same_after}
 use Rattle.volume_model.proofs.ServedLemmas.{behind-append}
 use Rattle.volume_model.proofs.OnlyServed.{with_source}
 use Rattle.stream_steps.specs.Mine.{Log, longer}
-use Rattle.stream_steps.specs.Steps.{IsFrameCall}
+use Rattle.stream_steps.specs.Steps.{IsFrameCall, IsNoFault, AreMarks}
 use Rattle.client_worker.specs.Serving.{IsFaultMark, IsOwnFault, Serves, AreServed}
-use Rattle.control_worker.specs.Serving.{AreCommanded}
+use Rattle.command_worker.specs.Purges.{MayComeBefore}
+use Rattle.command_worker.specs.Serving.{AreCommanded}
 use Rattle.turn_laws.proofs.Groups.{IsGroup, served_group, commanded_group, group_answers}
 
 -- ---- the answer of a frame's call
@@ -153,7 +154,7 @@ served_more opening before first more w index c cs e f = λ i. e i ++ (f ∙ the
         ≡ served_from (after_done spot c) w (behind (length before) (entries_at spot w (length before) index c)) (suc index) cs
     there = λ i. served_from (stands i) w (place i) (suc index) cs
 
--- ---- commands
+-- ---- the order of answers
 
 -- the index of a group's answer, and those behind it
 pub first_index : (w index least place place' : ℕ) (c : Call) (es more : List Entry) → (g : IsGroup w c es) → place + length es ≡ place' → InOrderFrom index least (answers_from w place (es ++ more))
@@ -162,40 +163,21 @@ first_index w index least place place' c es more g at order =
     let all = subst (InOrderFrom index least) (group_answers w place c es more g) order in
     (all.0, subst (λ n. InOrderFrom (suc index) (suc (place + length g.marks)) (answers_from w n more)) at all.3)
 
-pub commands_turn : (opening : Spot) (w index least : ℕ) (cs : List Command) (before es : List Entry) → AreCommanded w (Some (log_at opening before)) cs es
-    → InOrderFrom index least (answers_from w (length before) es) → es ≡ served_behind opening before w index (map call.Command cs)
-commands_turn opening w index least [] before es done order = done
-commands_turn opening w index least (c ∷ cs) before es done order =
-    let first = done.0 in
-    let more = done.1 in
-    let group = commanded_group w (Some (log_at opening before)) c first done.3 in
-    let next = first_index w index least (length before) (length (before ++ first)) (call.Command c) first more group (sym (length-append before first))
-    (subst (λ l. InOrderFrom index least (answers_from w (length before) l)) done.2 order) in
-    let rest = commands_turn opening w (suc index) (suc (length before + length group.marks)) cs (before ++ first) more
-    (subst (λ l. AreCommanded w l cs more) (longer_at opening before first) done.4) next.1 in
-    done.2 ∙ served_more opening before first more w index (call.Command c) (map call.Command cs)
-    (done.3.turn ∙ ap (λ n. entries_at (behind_entries opening before) w (length before) n (call.Command c)) next.0) rest
+-- ---- no faults are shown
 
--- ---- frames
-
--- marks that are faults of the stream's lines are shown by them
-no_fault_marks : (w : ℕ) (marks : List Entry) → All (IsOwnFault w) marks → ((r : ℕ) → fault_counts w r marks ≡ []) → marks ≡ []
-no_fault_marks w [] all none = refl
-no_fault_marks w (entry.Answer a ∷ marks) all none = absurd (All-head (IsOwnFault w) (entry.Answer a) marks all)
-no_fault_marks w (entry.Mark m ∷ marks) all none = absurd (shown m (All-head (IsOwnFault w) (entry.Mark m) marks all) none)
+-- a fault of the stream's lines shows in their counts
+marked : (w : ℕ) (m : Mark) (es : List Entry) → IsFaultMark w m → ((r : ℕ) → fault_counts w r (entry.Mark m ∷ es) ≡ []) → ⊥
+marked w (mark.Purged part) es is none = is
+marked w (mark.Fault s r n) es is none =
+    some_none n (fault_counts w r es)
+    (sym (ap (λ (b : Bool). cond b (n ∷ fault_counts w r es) (fault_counts w r es)) (ap (λ b. b && eqb r r) (eq-eqb s w is) ∙ eq-eqb r r refl)) ∙ none r)
   where
     some_none : (n : ℕ) (ns : List ℕ) → n ∷ ns ≡ [] → ⊥
     some_none n ns e = cc
-
-    shown : (m : Mark) → IsFaultMark w m → ((r : ℕ) → fault_counts w r (entry.Mark m ∷ marks) ≡ []) → ⊥
-    shown (mark.Purged part) is none = is
-    shown (mark.Fault s r n) is none =
-        some_none n (fault_counts w r marks)
-        (sym (ap (λ (b : Bool). cond b (n ∷ fault_counts w r marks) (fault_counts w r marks)) (ap (λ b. b && eqb r r) (eq-eqb s w is) ∙ eq-eqb r r refl)) ∙ none r)
-    shown (mark.Failed r) is none = is
-    shown (mark.Added r source name) is none = is
-    shown (mark.Promoted r) is none = is
-    shown (mark.Aborted r) is none = is
+marked w (mark.Failed r) es is none = is
+marked w (mark.Added r source name) es is none = is
+marked w (mark.Promoted r) es is none = is
+marked w (mark.Aborted r) es is none = is
 
 front_none : {A : Type 0} (xs ys : List A) → xs ++ ys ≡ [] → xs ≡ []
 front_none [] ys e = refl
@@ -205,10 +187,23 @@ pub back_none : {A : Type 0} (xs ys : List A) → xs ++ ys ≡ [] → ys ≡ []
 back_none [] ys e = e
 back_none (x ∷ xs) ys e = absurd cc
 
+-- nothing of a first part, and nothing of the rest
+both_none : (w : ℕ) (xs ys : List Entry) → ((r : ℕ) → fault_counts w r (xs ++ ys) ≡ []) → (r : ℕ) → (fault_counts w r xs ≡ []) × (fault_counts w r ys ≡ [])
+both_none w xs ys none r =
+    let parts : fault_counts w r xs ++ fault_counts w r ys ≡ [] = sym (fault_counts-append w r xs ys) ∙ none r in
+    (front_none (fault_counts w r xs) (fault_counts w r ys) parts, back_none (fault_counts w r xs) (fault_counts w r ys) parts)
+
+-- ---- frames
+
+no_fault_marks : (w : ℕ) (marks : List Entry) → All (IsOwnFault w) marks → ((r : ℕ) → fault_counts w r marks ≡ []) → marks ≡ []
+no_fault_marks w [] all none = refl
+no_fault_marks w (entry.Answer a ∷ marks) all none = absurd (All-head (IsOwnFault w) (entry.Answer a) marks all)
+no_fault_marks w (entry.Mark m ∷ marks) all none = absurd (marked w m marks (All-head (IsOwnFault w) (entry.Mark m) marks all) none)
+
 -- such a call's entries are its answer
 alone : (w : ℕ) (log : Log) (c : Call) (es : List Entry) → (s : Serves w (Some log) c es) → ((r : ℕ) → fault_counts w r es ≡ []) → s.marks ≡ []
-alone w log c es s none = no_fault_marks w s.marks s.faults (λ r. front_none (fault_counts w r s.marks) (fault_counts w r (entry.Answer s.answer ∷ []))
-    (sym (fault_counts-append w r s.marks (entry.Answer s.answer ∷ [])) ∙ ap (fault_counts w r) (sym s.is) ∙ none r))
+alone w log c es s none = no_fault_marks w s.marks s.faults
+    (λ r. (both_none w s.marks (entry.Answer s.answer ∷ []) (λ q. ap (fault_counts w q) (sym s.is) ∙ none q) r).0)
 
 frame_turn : (opening : Spot) (w index : ℕ) (c : Call) (before es more : List Entry) → (s : Serves w (Some (log_at opening before)) c es) → IsFrameCall c → s.marks ≡ [] → s.answer.index ≡ index
     → LegalAfter opening before (es ++ more)
@@ -233,12 +228,47 @@ frames_turn opening w index least (c ∷ cs) before es frames done none legal or
     let group = served_group w (Some (log_at opening before)) c first s in
     let next = first_index w index least (length before) (length (before ++ first)) c first more group (sym (length-append before first))
     (subst (λ l. InOrderFrom index least (answers_from w (length before) l)) done.2 order) in
-    let parts : (r : ℕ) → fault_counts w r first ++ fault_counts w r more ≡ [] =
-    λ r. sym (fault_counts-append w r first more) ∙ ap (fault_counts w r) (sym done.2) ∙ none r in
+    let parts = both_none w first more (λ r. ap (fault_counts w r) (sym done.2) ∙ none r) in
     let here = frame_turn opening w index c before first more s (All-head IsFrameCall c cs frames)
-    (alone w (log_at opening before) c first s (λ r. front_none (fault_counts w r first) (fault_counts w r more) (parts r))) next.0
+    (alone w (log_at opening before) c first s (λ r. (parts r).0)) next.0
     (subst (LegalAfter opening before) done.2 legal) in
     let rest = frames_turn opening w (suc index) (suc (length before + length group.marks)) cs (before ++ first) more (All-tail IsFrameCall c cs frames)
     (subst (λ l. AreServed w l cs more) (longer_at opening before first) done.4)
-    (λ r. back_none (fault_counts w r first) (fault_counts w r more) (parts r)) here.1 next.1 in
+    (λ r. (parts r).1) here.1 next.1 in
     done.2 ∙ served_more opening before first more w index c cs here.0 rest
+
+-- ---- commands
+
+-- no mark of such a command is a fault
+unfaulted : (w : ℕ) (marks : List Entry) → All (MayComeBefore w) marks → ((r : ℕ) → fault_counts w r marks ≡ []) → AreMarks marks
+unfaulted w [] all none = tt
+unfaulted w (entry.Answer a ∷ marks) all none = absurd (All-head (MayComeBefore w) (entry.Answer a) marks all)
+unfaulted w (entry.Mark m ∷ marks) all none = ⊎_elim
+    (λ is. absurd (marked w m marks is none))
+    (λ not. (not, unfaulted w marks (All-tail (MayComeBefore w) (entry.Mark m) marks all) (λ r. unshown m not r ∙ none r)))
+    (All-head (MayComeBefore w) (entry.Mark m) marks all)
+  where
+    unshown : (m : Mark) → IsNoFault m → (r : ℕ) → fault_counts w r marks ≡ fault_counts w r (entry.Mark m ∷ marks)
+    unshown (mark.Purged part) not r = refl
+    unshown (mark.Fault s q n) not r = absurd not
+    unshown (mark.Failed q) not r = refl
+    unshown (mark.Added q source name) not r = refl
+    unshown (mark.Promoted q) not r = refl
+    unshown (mark.Aborted q) not r = refl
+
+pub commands_turn : (opening : Spot) (w index least : ℕ) (cs : List Command) (before es : List Entry) → AreCommanded w (Some (log_at opening before)) cs es
+    → ((r : ℕ) → fault_counts w r es ≡ []) → InOrderFrom index least (answers_from w (length before) es) → es ≡ served_behind opening before w index (map call.Command cs)
+commands_turn opening w index least [] before es done none order = done
+commands_turn opening w index least (c ∷ cs) before es done none order =
+    let first = done.0 in
+    let more = done.1 in
+    let s = done.3 in
+    let group = commanded_group w (Some (log_at opening before)) c first s in
+    let next = first_index w index least (length before) (length (before ++ first)) (call.Command c) first more group (sym (length-append before first))
+    (subst (λ l. InOrderFrom index least (answers_from w (length before) l)) done.2 order) in
+    let parts = both_none w first more (λ r. ap (fault_counts w r) (sym done.2) ∙ none r) in
+    let marks = unfaulted w s.marks s.are (λ r. (both_none w s.marks (entry.Answer s.answer ∷ []) (λ q. ap (fault_counts w q) (sym s.is) ∙ (parts q).0) r).0) in
+    let rest = commands_turn opening w (suc index) (suc (length before + length group.marks)) cs (before ++ first) more
+    (subst (λ l. AreCommanded w l cs more) (longer_at opening before first) done.4) (λ r. (parts r).1) next.1 in
+    done.2 ∙ served_more opening before first more w index (call.Command c) (map call.Command cs)
+    (s.turn marks ∙ ap (λ n. entries_at (behind_entries opening before) w (length before) n (call.Command c)) next.0) rest

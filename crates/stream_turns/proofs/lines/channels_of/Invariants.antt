@@ -1,6 +1,6 @@
 use Rattle.std.proofs.Common.{map}
 use Rattle.outer_traits.specs.Lines.{TellsSame}
-use Rattle.stream_turns.specs.Hands.{AreNewLines}
+use Rattle.stream_turns.specs.Turn.{AreNewLines}
 use Rattle.stream_turns.proofs.lines.channels_of.Given as goal
 
 -- So many lines are there, and the wiring tells the same as before.

@@ -1,15 +1,18 @@
 use Rattle.std.proofs.Common.{ap}
 use Rattle.stream_turns.proofs.Channels.{many_told}
-use Rattle.stream_turns.proofs.Hand.{stream_of_frames, stream_of_commands}
+use Rattle.stream_turns.proofs.Turned.{stream_of_frames, stream_of_commands}
 use Rattle.stream_turns.proofs.stream.run.Goals as goal
 
-pub returns-in-Frames-clause-turn : goal.returns-in-Frames-clause-turn
-returns-in-Frames-clause-turn g c =
-    stream_of_frames c.args.hand.now c.run_stream.new.steps c.requires.between c.run_stream.ensures.ready (ap (λ p. p.0) c.run_stream.ensures.home) (ap (λ p. p.1) c.run_stream.ensures.home)
-    c.run_stream.result c.args.stream.now c.in-Frames.frames _ _ c.in-Frames.is c.requires.first
-    (many_told (λ c. c.line) g.L.Line.ends g.L.Line.count _ _ _ c.run_stream.ensures.count c.requires.new.many) c.run_stream.ensures.shown c.run_stream.ensures.ok
+pub returns-in_ok-run_stream-in-Frames-clause-turn : goal.returns-in_ok-run_stream-in-Frames-clause-turn
+returns-in_ok-run_stream-in-Frames-clause-turn g c =
+    stream_of_frames c.args.number c.args.world c.into_world.result c.args.stream.now _ _ c.requires.first
+    (many_told (λ c. c.line) g.L.Line.ends g.L.Line.count _ _ _ c.run_stream.ensures.count c.requires.new.many) c.into_world.ensures.sound
+    c.of-hand.result c.run_stream.new.steps c.in-Frames.frames c.in-Frames.is c.of-hand.ensures.world c.of-hand.ensures.stream c.into_world.ensures.world
+    (ap (λ p. p.0) c.run_stream.ensures.home) (ap (λ p. p.1) c.run_stream.ensures.home) c.run_stream.ensures.shown c.in_ok-run_stream-in-Frames.ensures.ok
 
-pub returns-in-Control-clause-turn : goal.returns-in-Control-clause-turn
-returns-in-Control-clause-turn g c =
-    stream_of_commands c.args.hand.now c.run_control.new.steps c.requires.between c.run_control.ensures.ready (ap (λ p. p.0) c.run_control.ensures.home) (ap (λ p. p.1) c.run_control.ensures.home)
-    c.run_control.result c.args.stream.now c.in-Control.commands c.as_slice.result.now _ _ c.in-Control.is c.as_slice.ensures c.requires.first c.run_control.ensures.ok
+pub returns-in_ok-run_commands-in-Control-clause-turn : goal.returns-in_ok-run_commands-in-Control-clause-turn
+returns-in_ok-run_commands-in-Control-clause-turn g c =
+    stream_of_commands c.args.number c.args.world c.into_world-in-Control.result c.args.stream.now _ _ c.requires.first
+    (many_told (λ c. c.line) g.L.Line.ends g.L.Line.count _ _ _ c.run_commands.ensures.count c.requires.new.many) c.into_world-in-Control.ensures.sound
+    c.of-hand-in-Control.result c.run_commands.new.steps c.in-Control.commands c.as_slice.result.now c.in-Control.is c.as_slice.ensures c.of-hand-in-Control.ensures.world
+    c.of-hand-in-Control.ensures.stream c.into_world-in-Control.ensures.world (ap (λ p. p.0) c.run_commands.ensures.home) (ap (λ p. p.1) c.run_commands.ensures.home) c.run_commands.ensures.shown c.in_ok-run_commands-in-Control.ensures.ok

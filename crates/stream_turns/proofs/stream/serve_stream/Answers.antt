@@ -1,23 +1,23 @@
 use Rattle.std.proofs.Common.{◌∙◌}
 use Rattle.volume_core.specs.State.{state_of}
 use Rattle.stream_turns.proofs.Channels.{noted_back, others_back}
-use Rattle.stream_turns.proofs.Hand.{modes_many}
+use Rattle.stream_turns.proofs.Turned.{modes_many, each_ok, any_ok}
 use Rattle.stream_turns.proofs.stream.serve_stream.Goals as goal
 
 pub returns-clause-turn : goal.returns-clause-turn
-returns-clause-turn g c =
-    noted_back c.args.hand.now.stream c.len-replicas.result _ c.in_ok-channels.channels.len _ (λ x. g.W.L.Line.ends x.line) (λ x. g.W.L.Line.count x.line) (λ x. g.W.L.Line.carried x.line) c.in_ok-channels.channels.items
-    c.as_mut_slice.result.now c.run-ran.new.channels c.in_ok-channels.ensures.new (c.len-replicas.ensures ∙ c.args.hand.now.world.nodes.ok.0) c.in_ok-channels.channels.ok.0 c.as_mut_slice.ensures.value c.run-ran.auto.channels c.run-ran.ensures.ends
-    _ _ _ _ _ _ _ _ (modes_many (state_of c.args.hand.now.world) c.requires.between.ready.sound) c.in_ok-ran.ensures.turn c.take_back.ensures.counts c.take_back.ensures.carried
+returns-clause-turn g c = each_ok c.run-after.result (λ after turn.
+    noted_back c.args.number c.len-replicas.result _ c.in_ok-channels.channels.len _ (λ x. g.W.L.Line.ends x.line) (λ x. g.W.L.Line.count x.line) (λ x. g.W.L.Line.carried x.line) c.in_ok-channels.channels.items
+    c.as_mut_slice.result.now c.run-after.new.channels c.in_ok-channels.ensures.new (c.len-replicas.ensures ∙ c.args.world.nodes.ok.0) c.in_ok-channels.channels.ok.0 c.as_mut_slice.ensures.value c.run-after.auto.channels c.run-after.ensures.ends
+    _ _ _ _ _ _ _ _ (modes_many (state_of c.args.world) c.requires.between.sound) turn c.take_back.ensures.counts c.take_back.ensures.carried) c.run-after.ensures.turn
 
 pub returns-clause-counts : goal.returns-clause-counts
-returns-clause-counts g c =
-    others_back c.args.hand.now.stream c.len-replicas.result _ c.in_ok-channels.channels.len _ (λ x. g.W.L.Line.ends x.line) (λ x. g.W.L.Line.count x.line) (λ x. g.W.L.Line.carried x.line) c.in_ok-channels.channels.items
-    c.as_mut_slice.result.now c.run-ran.new.channels c.in_ok-channels.ensures.new (c.len-replicas.ensures ∙ c.args.hand.now.world.nodes.ok.0) c.in_ok-channels.channels.ok.0 c.as_mut_slice.ensures.value c.run-ran.auto.channels c.run-ran.ensures.ends
-    (λ x. g.W.L.Line.count x.line) _ _ _ c.channels_of.ensures.counts c.take_back.ensures.counts
+returns-clause-counts g c = any_ok c.run-after.result (
+    others_back c.args.number c.len-replicas.result _ c.in_ok-channels.channels.len _ (λ x. g.W.L.Line.ends x.line) (λ x. g.W.L.Line.count x.line) (λ x. g.W.L.Line.carried x.line) c.in_ok-channels.channels.items
+    c.as_mut_slice.result.now c.run-after.new.channels c.in_ok-channels.ensures.new (c.len-replicas.ensures ∙ c.args.world.nodes.ok.0) c.in_ok-channels.channels.ok.0 c.as_mut_slice.ensures.value c.run-after.auto.channels c.run-after.ensures.ends
+    (λ x. g.W.L.Line.count x.line) _ _ _ c.channels_of.ensures.counts c.take_back.ensures.counts)
 
 pub returns-clause-carried : goal.returns-clause-carried
-returns-clause-carried g c =
-    others_back c.args.hand.now.stream c.len-replicas.result _ c.in_ok-channels.channels.len _ (λ x. g.W.L.Line.ends x.line) (λ x. g.W.L.Line.count x.line) (λ x. g.W.L.Line.carried x.line) c.in_ok-channels.channels.items
-    c.as_mut_slice.result.now c.run-ran.new.channels c.in_ok-channels.ensures.new (c.len-replicas.ensures ∙ c.args.hand.now.world.nodes.ok.0) c.in_ok-channels.channels.ok.0 c.as_mut_slice.ensures.value c.run-ran.auto.channels c.run-ran.ensures.ends
-    (λ x. g.W.L.Line.carried x.line) _ _ _ c.channels_of.ensures.carried c.take_back.ensures.carried
+returns-clause-carried g c = any_ok c.run-after.result (
+    others_back c.args.number c.len-replicas.result _ c.in_ok-channels.channels.len _ (λ x. g.W.L.Line.ends x.line) (λ x. g.W.L.Line.count x.line) (λ x. g.W.L.Line.carried x.line) c.in_ok-channels.channels.items
+    c.as_mut_slice.result.now c.run-after.new.channels c.in_ok-channels.ensures.new (c.len-replicas.ensures ∙ c.args.world.nodes.ok.0) c.in_ok-channels.channels.ok.0 c.as_mut_slice.ensures.value c.run-after.auto.channels c.run-after.ensures.ends
+    (λ x. g.W.L.Line.carried x.line) _ _ _ c.channels_of.ensures.carried c.take_back.ensures.carried)

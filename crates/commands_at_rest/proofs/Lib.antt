@@ -1,5 +1,0 @@
-pub mod Rest
-pub mod Fits
-pub mod Parts
-pub mod Seen
-pub mod Loops
