@@ -1,31 +1,44 @@
 //! Each carry of a script fails once, on three replicas.
 
-use super::draft::{Draft, head, read, words, write};
+use super::draft::{Draft, end_of, head, read, write};
 use super::slow::{Slow, call_of};
 use crate::status::Status;
-use crate::top::longhorn;
-use fault_lines::PlanWiring;
 use frame_wire::Head;
-use outer_memory::{NoFaultSink, NoFaultSource};
 use std::alloc::{AllocError, Global};
+use std::process::Abort;
+use std::sync::Wait;
 use std::test::Fail;
 use volume_model::{Mark, Mode};
 
 /// A carry that fails: on the line to which replica, and which one, counted from 1.
 #[derive(Clone, Copy, Debug)]
-struct Failing {
-    replica: u8,
-    carry: u32,
+pub(crate) struct Failing {
+    pub(crate) replica: u8,
+    pub(crate) carry: u32,
 }
 
-/// Three lines of one worker, of which one fails at a carry.
+/// The lines of the worker of a stream, of which one fails at a carry.
 #[derive(Drop)]
-struct Lines {
+pub(crate) struct Lines {
+    stream: u8,
     carried: Vec<u32>,
     failing: Failing,
 }
 
 impl Lines {
+    pub(crate) fn new(
+        alloc: Global,
+        stream: u8,
+        replicas: usize,
+        failing: Failing,
+    ) -> Result<Lines, AllocError> {
+        Ok(Lines {
+            stream,
+            carried: vec![in alloc; 0; replicas]?,
+            failing,
+        })
+    }
+
     /// Carries a frame to a replica that has not failed, and says whether it came through.
     fn carry(&mut self, slow: &mut Slow, replica: u8) -> Result<bool, AllocError> {
         let Some(count) = self.carried.get_mut(usize::from(replica)) else {
@@ -37,7 +50,7 @@ impl Lines {
             return Ok(true);
         }
         let mark = Mark::Fault {
-            stream: 0,
+            stream: self.stream,
             replica,
             count: 1,
         };
@@ -46,7 +59,7 @@ impl Lines {
     }
 
     /// A request and, behind it, the reply.
-    fn exchange(&mut self, slow: &mut Slow, replica: u8) -> Result<bool, AllocError> {
+    pub(crate) fn exchange(&mut self, slow: &mut Slow, replica: u8) -> Result<bool, AllocError> {
         Ok(self.carry(slow, replica)? && self.carry(slow, replica)?)
     }
 }
@@ -81,52 +94,73 @@ fn frames() -> [Head; 10] {
     ]
 }
 
+/// One frame of the stream, whose data is `a` again and again.
+fn answer(
+    alloc: Global,
+    slow: &mut Slow,
+    lines: &mut Lines,
+    index: u64,
+    asked: &Head,
+) -> Result<(), AllocError> {
+    let saw = slow.place();
+    if asked.kind < 2 && asked.offset < 2_097_152 {
+        carry_all(lines, slow, asked)?;
+    }
+    let call = call_of(alloc, asked, b'a')?;
+    slow.end(alloc, 0, index, saw, call, Some(asked))
+}
+
 /// The report of these frames in one stream, by the slow executor.
 fn slow_report(alloc: Global, asked: &[Head], failing: Failing) -> Result<Vec<u8>, AllocError> {
     let mut slow = Slow::new(alloc, 3)?;
-    let mut lines = Lines {
-        carried: vec![in alloc; 0; 3]?,
-        failing,
-    };
+    let mut lines = Lines::new(alloc, 0, 3, failing)?;
     for (index, asked) in asked.iter().enumerate() {
-        let saw = slow.place();
-        if asked.kind < 2 && asked.offset < 2_097_152 {
-            carry_all(&mut lines, &mut slow, asked)?;
-        }
-        let call = call_of(alloc, asked, b'a')?;
-        slow.end(alloc, 0, index as u64, saw, call, Some(asked))?;
+        answer(alloc, &mut slow, &mut lines, index as u64, asked)?;
     }
     slow.report(alloc)
 }
 
-/// The members of the script's line behind the number of replicas.
-fn members(alloc: Global, failing: Failing) -> Result<String, AllocError> {
-    let mut text = String::from_str(alloc, "3,\"lines\":[{\"worker\":0,\"replica\":")?;
-    text.push_str(failing.replica.to_string(alloc)?.as_str())?;
-    text.push_str(",\"fail\":[")?;
-    text.push_str(failing.carry.to_string(alloc)?.as_str())?;
-    text.push_str("]}]")?;
-    Ok(text)
+/// The members of the script's line from the number of replicas on, where a line of that worker fails.
+pub(crate) fn members(
+    alloc: Global,
+    replicas: u8,
+    worker: u8,
+    failing: Failing,
+) -> Result<String, AllocError> {
+    let Failing { replica, carry } = failing;
+    format!(in alloc;
+        "{replicas},\"lines\":[{{\"worker\":{worker},\"replica\":{replica},\"fail\":[{carry}]}}]"
+    )
+}
+
+/// The script of these frames, on lines of which one fails.
+fn input(alloc: Global, asked: &[Head], failing: Failing) -> Result<Vec<u8>, AllocError> {
+    let mut draft = Draft::on(alloc, members(alloc, 3, 0, failing)?.as_str())?;
+    draft.frames(alloc, asked, b'a', b"")?;
+    draft.input()
+}
+
+/// Compares a run with the slow executor.
+fn runs_as_slowly(
+    rt: &(impl AllocGlobal + Abort + Wait),
+    asked: &[Head],
+    failing: Failing,
+) -> Result<(), AllocError> {
+    let wanted = slow_report(rt.alloc(), asked, failing)?;
+    let input = input(rt.alloc(), asked, failing)?;
+    let (status, sink) = end_of(rt, &["run"], input, 70_000)?;
+    assert_eq!(rt; status, Status::Done);
+    assert!(rt; sink.bytes() == wanted.as_slice(), "{failing:?}");
+    Ok(())
 }
 
 #[test]
 fn a_carry_that_fails_is_a_mark_and_changes_no_answer(rt: HostRuntime) -> Result<(), Fail> {
-    let alloc = rt.alloc();
-    let words = words(alloc, &["run"])?;
     let asked = frames();
     // The first line has two carries for each of eight calls, the others for each of four.
     for (replica, end) in [(0, 18), (1, 10), (2, 10)] {
         for carry in 1..end {
-            let failing = Failing { replica, carry };
-            let mut draft = Draft::on(alloc, members(alloc, failing)?.as_str())?;
-            draft.frames(alloc, &asked, b'a', b"")?;
-            let mut source = NoFaultSource::new(draft.input()?, 70_000);
-            let mut sink = NoFaultSink::new(alloc, 70_000);
-            let mut wiring = PlanWiring::new(alloc);
-            let status = longhorn(&rt, alloc, &words, &mut source, &mut sink, &mut wiring);
-            assert_eq!(rt; status, Status::Done);
-            let wanted = slow_report(alloc, &asked, failing)?;
-            assert!(rt; sink.bytes() == wanted.as_slice(), "{failing:?}");
+            runs_as_slowly(&rt, &asked, Failing { replica, carry })?;
         }
     }
     Ok(())

@@ -1,10 +1,12 @@
 //! Scripts as the tests make them, and runs of the top call on them.
+ghost use Rattle.std.specs.Prelude.{◌<◌, ◌-◌, ◌^◌};
 
 use crate::status::Status;
 use crate::top::longhorn;
 use fault_lines::PlanWiring;
 use frame_wire::{Head, encode_header};
 use outer_memory::{NoFaultSink, NoFaultSource};
+use outer_traits::{Sink, Source};
 use std::alloc::{AllocError, Global};
 use std::process::Abort;
 use std::sync::Wait;
@@ -78,17 +80,27 @@ impl Draft {
         more: &[u8],
     ) -> Result<(), AllocError> {
         let start = self.body.len();
-        for asked in heads {
-            self.body.extend_from_slice(&encode_header(asked))?;
-            self.body
-                .resize(self.body.len() + asked.len as usize, byte)?;
-        }
+        self.put(heads, byte)?;
         self.body.extend_from_slice(more)?;
         let count = self.body.len().saturating_sub(start);
         self.part()?;
+        self.member(count.to_string(alloc)?.as_bytes())
+    }
+
+    /// The headers, each with its data.
+    fn put(&mut self, heads: &[Head], byte: u8) -> Result<(), AllocError> {
+        for asked in heads {
+            self.body.extend_from_slice(&encode_header(asked))?;
+            let end = self.body.len() + asked.len as usize;
+            self.body.resize(end, byte)?;
+        }
+        Ok(())
+    }
+
+    /// The line's member of a stream of frames of so many bytes.
+    fn member(&mut self, count: &[u8]) -> Result<(), AllocError> {
         self.line.extend_from_slice(b"{\"frames\":")?;
-        self.line
-            .extend_from_slice(count.to_string(alloc)?.as_bytes())?;
+        self.line.extend_from_slice(count)?;
         self.line.push(b'}')?;
         Ok(())
     }
@@ -97,15 +109,21 @@ impl Draft {
     pub(crate) fn control(&mut self, texts: &[&str]) -> Result<(), AllocError> {
         self.part()?;
         self.line.extend_from_slice(b"{\"control\":[")?;
-        for (i, text) in texts.iter().enumerate() {
-            if i > 0 {
-                self.line.push(b',')?;
-            }
-            self.line.push(b'"')?;
-            self.line.extend_from_slice(text.as_bytes())?;
-            self.line.push(b'"')?;
+        for text in texts {
+            self.command(text.as_bytes())?;
         }
         self.line.extend_from_slice(b"]}")
+    }
+
+    /// A comma, where a command stands before, and the command.
+    fn command(&mut self, text: &[u8]) -> Result<(), AllocError> {
+        if self.line.ends_with(b"\"") {
+            self.line.push(b',')?;
+        }
+        self.line.push(b'"')?;
+        self.line.extend_from_slice(text)?;
+        self.line.push(b'"')?;
+        Ok(())
     }
 
     pub(crate) fn input(self) -> Result<Vec<u8>, AllocError> {
@@ -136,6 +154,58 @@ pub(crate) fn words(alloc: Global, all: &[&str]) -> Result<Vec<String>, AllocErr
     Ok(words)
 }
 
+/// How the words end over a source and a sink.
+pub(crate) fn ends<S: Source, K: Sink>(
+    rt: &(impl AllocGlobal + Wait),
+    all: &[&str],
+    source: &mut S,
+    sink: &mut K,
+) -> Result<Status, AllocError>
+    requires source_count { S.faults source.old < 2 ^ 64 - 1 }
+    requires sink_count { K.faults sink.old < 2 ^ 64 - 1 }
+{
+    let words = words(rt.alloc(), all)?;
+    let mut wiring = PlanWiring::new(rt.alloc());
+    Ok(longhorn(rt, rt.alloc(), &words, source, sink, &mut wiring))
+}
+
+/// How the words end over an input that comes in pieces of so many bytes at most, and the sink then.
+pub(crate) fn end_of(
+    rt: &(impl AllocGlobal + Wait),
+    all: &[&str],
+    input: Vec<u8>,
+    piece: usize,
+) -> Result<(Status, NoFaultSink), AllocError>
+    requires some { 0 < piece }
+{
+    let mut source = NoFaultSource::new(input, piece);
+    let mut sink = NoFaultSink::new(rt.alloc(), piece);
+    let status = ends(rt, all, &mut source, &mut sink)?;
+    Ok((status, sink))
+}
+
+/// The lines as one text.
+fn joined(alloc: Global, lines: &[&str]) -> Result<Vec<u8>, AllocError> {
+    let mut text = Vec::new(alloc);
+    for line in lines {
+        text.extend_from_slice(line.as_bytes())?;
+    }
+    Ok(text)
+}
+
+/// Compares a status, and what it prints as.
+fn is_told(
+    rt: &(impl AllocGlobal + Abort),
+    ended: Status,
+    status: Status,
+    note: &str,
+) -> Result<(), AllocError> {
+    assert_eq!(rt; ended, status);
+    let text = status.to_string(rt.alloc())?;
+    assert_eq!(rt; text.as_str(), note);
+    Ok(())
+}
+
 /// Runs the words over an input, and compares the status, its note, and what the sink holds.
 pub(crate) fn runs(
     rt: &(impl AllocGlobal + Abort + Wait),
@@ -145,21 +215,10 @@ pub(crate) fn runs(
     note: &str,
     lines: &[&str],
 ) -> Result<(), AllocError> {
-    let alloc = rt.alloc();
-    let words = words(alloc, all)?;
-    let mut source = NoFaultSource::new(input, 70_000);
-    let mut sink = NoFaultSink::new(alloc, 70_000);
-    let mut output = Vec::new(alloc);
-    for line in lines {
-        output.extend_from_slice(line.as_bytes())?;
-    }
-    let mut wiring = PlanWiring::new(alloc);
-    let ended = longhorn(rt, alloc, &words, &mut source, &mut sink, &mut wiring);
-    assert_eq!(rt; ended, status);
+    let output = joined(rt.alloc(), lines)?;
+    let (ended, sink) = end_of(rt, all, input, 70_000)?;
     assert_eq!(rt; sink.bytes(), output.as_slice());
-    let text = status.to_string(alloc)?;
-    assert_eq!(rt; text.as_str(), note);
-    Ok(())
+    is_told(rt, ended, status, note)
 }
 
 pub(crate) fn is_done(

@@ -1,38 +1,40 @@
 //! Runs in which the source or the sink fails.
 
-use super::draft::{read, script, words};
+use super::draft::{ends, read, script};
 use crate::status::Status;
-use crate::top::longhorn;
-use fault_lines::PlanWiring;
 use outer_memory::{FaultPlan, LimitedSink, MemorySink, MemorySource, NoFaultSource};
+use std::alloc::{AllocError, Global};
+use std::process::Abort;
 use std::test::Fail;
+
+/// A script of one read.
+fn input(alloc: Global) -> Result<Vec<u8>, AllocError> {
+    script(alloc, &[read(1, 0, 4096)], 0, b"")
+}
+
+/// Compares a status and its code.
+fn is_told(rt: &impl Abort, ended: Status, status: Status, code: u8) {
+    assert_eq!(rt; ended, status);
+    assert_eq!(rt; ended.code(), code);
+}
 
 #[test]
 fn a_sink_that_fails_holds_a_prefix(rt: HostRuntime) -> Result<(), Fail> {
-    let alloc = rt.alloc();
-    let words = words(alloc, &["run"])?;
-    let mut source = NoFaultSource::new(script(alloc, &[read(1, 0, 4096)], 0, b"")?, 4096);
-    let mut sink = LimitedSink::new(alloc, 10);
-    let mut wiring = PlanWiring::new(alloc);
-    let status = longhorn(&rt, alloc, &words, &mut source, &mut sink, &mut wiring);
-    assert_eq!(rt; status, Status::WriteFault);
-    assert_eq!(rt; status.code(), 5);
+    let mut source = NoFaultSource::new(input(rt.alloc())?, 4096);
+    let mut sink = LimitedSink::new(rt.alloc(), 10);
+    let ended = ends(&rt, &["run"], &mut source, &mut sink)?;
+    is_told(&rt, ended, Status::WriteFault, 5);
     assert_eq!(rt; sink.bytes(), b"0 0 0 0 re".as_slice());
     Ok(())
 }
 
 #[test]
 fn a_source_that_fails_leaves_the_sink(rt: HostRuntime) -> Result<(), Fail> {
-    let alloc = rt.alloc();
-    let words = words(alloc, &["run"])?;
-    let second = FaultPlan::new([2].to_vec(alloc)?);
-    let input = script(alloc, &[read(1, 0, 4096)], 0, b"")?;
-    let mut source = MemorySource::new(input, 10, second);
-    let mut sink = MemorySink::new(alloc, 10, FaultPlan::none(alloc));
-    let mut wiring = PlanWiring::new(alloc);
-    let status = longhorn(&rt, alloc, &words, &mut source, &mut sink, &mut wiring);
-    assert_eq!(rt; status, Status::ReadFault);
-    assert_eq!(rt; status.code(), 4);
+    let second = FaultPlan::new([2].to_vec(rt.alloc())?);
+    let mut source = MemorySource::new(input(rt.alloc())?, 10, second);
+    let mut sink = MemorySink::new(rt.alloc(), 10, FaultPlan::none(rt.alloc()));
+    let ended = ends(&rt, &["run"], &mut source, &mut sink)?;
+    is_told(&rt, ended, Status::ReadFault, 4);
     assert_eq!(rt; sink.bytes(), b"".as_slice());
     Ok(())
 }

@@ -4,8 +4,11 @@ use super::draft::{
     Draft, HEAD_OF_ZEROS, ZEROS, answers, head, is_done, read, runs, script, write,
 };
 use crate::status::Status;
-use frame_wire::encode_header;
+use frame_wire::{Head, encode_header};
 use script_text::{Member, What};
+use std::alloc::{AllocError, Global};
+use std::process::Abort;
+use std::sync::Wait;
 use std::test::Fail;
 
 #[test]
@@ -84,32 +87,53 @@ fn answers_as_the_worked_rows_say(rt: HostRuntime) -> Result<(), Fail> {
     Ok(())
 }
 
+/// Compares the refusal of an input.
+fn is_refused(
+    rt: &(impl AllocGlobal + Abort + Wait),
+    input: Vec<u8>,
+    place: u64,
+    what: What,
+    note: &str,
+) -> Result<(), AllocError> {
+    let status = Status::Script { place, what };
+    runs(rt, &["run", "--workers=one"], input, status, note, &[])
+}
+
+/// A ping and a Close.
+const ENDED: [Head; 2] = [
+    Head {
+        seq: 1,
+        kind: 6,
+        offset: 0,
+        size: 0,
+        len: 0,
+    },
+    Head {
+        seq: 2,
+        kind: 5,
+        offset: 0,
+        size: 0,
+        len: 0,
+    },
+];
+
 #[test]
 fn refuses_as_the_worked_rows_say(rt: HostRuntime) -> Result<(), Fail> {
     let alloc = rt.alloc();
-    let one = ["run", "--workers=one"];
-    let header = encode_header(&read(1, 0, 4096));
-    let long = encode_header(&write(1, 0, 1_048_577));
-    let ended = [head(6, 1, 0, 0, 0), head(5, 2, 0, 0, 0)];
-    let rows = [
-        (script(alloc, &[], 0, &header[..25])?, 69, "script 69 frame"),
-        (script(alloc, &[], 0, &long)?, 69, "script 69 frame"),
-        (script(alloc, &ended, 0, b"x")?, 121, "script 121 frame"),
-    ];
-    for (input, place, note) in rows {
-        let status = Status::Script {
-            place,
-            what: What::Frame,
-        };
-        runs(&rt, &one, input, status, note, &[])?;
-    }
-    let no_line = Status::Script {
-        place: 0,
-        what: What::Line,
-    };
-    runs(&rt, &one, Vec::new(alloc), no_line, "script 0 line", &[])?;
+    let part = script(alloc, &[], 0, &encode_header(&read(1, 0, 4096))[..25])?;
+    is_refused(&rt, part, 69, What::Frame, "script 69 frame")?;
+    let long = script(alloc, &[], 0, &encode_header(&write(1, 0, 1_048_577)))?;
+    is_refused(&rt, long, 69, What::Frame, "script 69 frame")?;
+    let more = script(alloc, &ENDED, 0, b"x")?;
+    is_refused(&rt, more, 121, What::Frame, "script 121 frame")?;
+    is_refused(&rt, Vec::new(alloc), 0, What::Line, "script 0 line")?;
+    Ok(())
+}
+
+#[test]
+fn words_that_ask_for_no_run_are_refused(rt: HostRuntime) -> Result<(), Fail> {
     let two = ["run", "--workers", "two"];
-    let input = script(alloc, &ended, 0, b"")?;
+    let input = script(rt.alloc(), &ENDED, 0, b"")?;
     runs(&rt, &two, input, Status::Usage, "usage", &[])?;
     Ok(())
 }
@@ -136,6 +160,11 @@ fn commands_are_answered_as_the_worked_rows_say(rt: HostRuntime) -> Result<(), F
         "head r0 69bc26647981c5985e96d27105bad947555b0e119827f3a5a01abd09b025e08c\n",
     ];
     runs(&rt, &["run"], draft.input()?, Status::Done, "", &lines)?;
+    Ok(())
+}
+
+#[test]
+fn a_name_is_used_once(rt: HostRuntime) -> Result<(), Fail> {
     answers(
         &rt,
         &[
@@ -158,75 +187,100 @@ fn commands_are_answered_as_the_worked_rows_say(rt: HostRuntime) -> Result<(), F
     Ok(())
 }
 
-#[test]
-fn a_chain_has_two_hundred_and_fifty_layers(rt: HostRuntime) -> Result<(), Fail> {
-    let alloc = rt.alloc();
+/// The command that takes the snapshot of this number.
+fn command(alloc: Global, number: u32) -> Result<String, AllocError> {
+    format!(in alloc; "snapshot n{number}")
+}
+
+/// The line of that command.
+fn line(alloc: Global, number: u32) -> Result<String, AllocError> {
+    let answer = if number < 249 {
+        "ok"
+    } else {
+        "error chain full"
+    };
+    format!(in alloc; "{number} {number} 0 {number} snapshot n{number} {answer}\n")
+}
+
+/// The snapshot's name in a chain's line.
+fn in_chain(alloc: Global, number: u32) -> Result<String, AllocError> {
+    format!(in alloc; " n{number}")
+}
+
+/// One command more than the chain takes, and then `status`.
+fn commands(alloc: Global) -> Result<Vec<String>, AllocError> {
     let mut texts = Vec::new(alloc);
-    let mut lines = Vec::new(alloc);
-    let mut chain = Vec::new(alloc);
-    for k in 0..250 {
-        let number = k.to_string(alloc)?;
-        texts.push(format!(in alloc; "snapshot n{number}")?)?;
-        let answer = if k < 249 { "ok" } else { "error chain full" };
-        lines.push(format!(in alloc;
-            "{number} {number} 0 {number} snapshot n{number} {answer}\n"
-        )?)?;
+    for number in 0..250 {
+        texts.push(command(alloc, number)?)?;
     }
     texts.push(String::from_str(alloc, "status")?)?;
-    lines.push(String::from_str(alloc, "250 250 0 250 status ok layers 250 modes RW\n")?)?;
-    lines.push(String::from_str(alloc, "mode r0 RW\nchain r0 head")?)?;
-    for k in 0..249u32 {
-        let number = 248u32.saturating_sub(k);
-        chain.push(format!(in alloc; " n{number}")?)?;
+    Ok(texts)
+}
+
+/// What is printed then, in parts.
+fn full_chain(alloc: Global) -> Result<Vec<String>, AllocError> {
+    let mut parts = Vec::new(alloc);
+    for number in 0..250 {
+        parts.push(line(alloc, number)?)?;
     }
-    let mut wanted = Vec::new(alloc);
-    for line in lines.iter().chain(chain.iter()) {
-        wanted.push(line.as_str())?;
+    let status = "250 250 0 250 status ok layers 250 modes RW\nmode r0 RW\nchain r0 head";
+    parts.push(String::from_str(alloc, status)?)?;
+    for above in 0..249u32 {
+        parts.push(in_chain(alloc, 248u32.saturating_sub(above))?)?;
     }
+    Ok(parts)
+}
+
+fn as_texts<'a>(alloc: Global, parts: &'a [String]) -> Result<Vec<&'a str>, AllocError> {
+    let mut texts = Vec::new(alloc);
+    for part in parts {
+        texts.push(part.as_str())?;
+    }
+    Ok(texts)
+}
+
+#[test]
+fn a_chain_has_two_hundred_and_fifty_layers(rt: HostRuntime) -> Result<(), Fail> {
+    let (commands, parts) = (commands(rt.alloc())?, full_chain(rt.alloc())?);
+    let asked = as_texts(rt.alloc(), &commands)?;
+    let mut wanted = as_texts(rt.alloc(), &parts)?;
     wanted.push("\n")?;
     wanted.push(HEAD_OF_ZEROS)?;
-    let mut all = Vec::new(alloc);
-    for text in &texts {
-        all.push(text.as_str())?;
-    }
-    answers(&rt, &all, &wanted)?;
+    answers(&rt, &asked, &wanted)?;
     Ok(())
+}
+
+const NO_COMMANDS: [&str; 16] = [
+    "",
+    "status ",
+    " status",
+    "purge ",
+    "purge a",
+    "snapshot",
+    "snapshot ",
+    "snapshot  a",
+    "snapshot a b",
+    "snapshot sys-1",
+    "snapshot a/b",
+    "remove",
+    "remove sys-01",
+    "remove sys-12345678901",
+    "revert sys-",
+    "Revert a",
+];
+
+/// Compares the refusal of a stream of `status` and the text.
+fn is_bad_member(rt: &(impl AllocGlobal + Abort + Wait), text: &str) -> Result<(), AllocError> {
+    let mut draft = Draft::new(rt.alloc())?;
+    draft.control(&["status", text])?;
+    let what = What::Member(Member::Streams);
+    is_refused(rt, draft.input()?, 0, what, "script 0 member streams")
 }
 
 #[test]
 fn a_text_that_is_no_command_is_a_bad_member(rt: HostRuntime) -> Result<(), Fail> {
-    let status = Status::Script {
-        place: 0,
-        what: What::Member(Member::Streams),
-    };
-    for text in [
-        "",
-        "status ",
-        " status",
-        "purge ",
-        "purge a",
-        "snapshot",
-        "snapshot ",
-        "snapshot  a",
-        "snapshot a b",
-        "snapshot sys-1",
-        "snapshot a/b",
-        "remove",
-        "remove sys-01",
-        "remove sys-12345678901",
-        "revert sys-",
-        "Revert a",
-    ] {
-        let mut draft = Draft::new(rt.alloc())?;
-        draft.control(&["status", text])?;
-        runs(
-            &rt,
-            &["run"],
-            draft.input()?,
-            status,
-            "script 0 member streams",
-            &[],
-        )?;
+    for text in NO_COMMANDS.iter() {
+        is_bad_member(&rt, text)?;
     }
     Ok(())
 }

@@ -1,15 +1,14 @@
 //! A slow executor of generated scripts, which the top call is compared with.
 
-use super::draft::{Draft, head, read, words, write};
+use super::draft::{Draft, end_of, head, read, write};
 use crate::status::Status;
-use crate::top::longhorn;
-use fault_lines::PlanWiring;
 use frame_wire::Head;
 use journal_book::{Answer, Bytes, Call, Command, Entry, FoldOrDrop, Mark, Reply};
-use outer_memory::{NoFaultSink, NoFaultSource};
 use plain_disk::PlainDisk;
 use run_report::{Digest, print_chain, print_entry, print_head, print_mode, print_reply};
 use std::alloc::{AllocError, Global};
+use std::process::Abort;
+use std::sync::Wait;
 use std::test::Fail;
 use vol_units::LayerName;
 use volume_model::Mode;
@@ -130,8 +129,7 @@ impl Slow {
         if self.mode(replica) == Mode::Err {
             return Ok(());
         }
-        print_entry(self.place, &Entry::Mark(mark), &mut self.lines)?;
-        self.place = self.place.saturating_add(1);
+        self.print(&Entry::Mark(mark))?;
         if let Some(mode) = self.modes.get_mut(usize::from(replica)) {
             *mode = Mode::Err;
         }
@@ -182,17 +180,28 @@ impl Slow {
         if let (Call::Command(command), Reply::Done) = (&call, &reply) {
             self.follow(*command)?;
         }
-        let answer = Answer {
-            call,
-            reply,
-            index,
-            saw,
-            stream,
-        };
+        self.print_answer(
+            Answer {
+                call,
+                reply,
+                index,
+                saw,
+                stream,
+            },
+            asked,
+        )
+    }
+
+    fn print_answer(&mut self, answer: Answer, asked: Option<&Head>) -> Result<(), AllocError> {
         if let Some(asked) = asked {
             print_reply(asked, &answer, &mut self.replies)?;
         }
-        print_entry(self.place, &Entry::Answer(answer), &mut self.lines)?;
+        self.print(&Entry::Answer(answer))
+    }
+
+    /// Prints an entry, which is the next.
+    fn print(&mut self, entry: &Entry) -> Result<(), AllocError> {
+        print_entry(self.place, entry, &mut self.lines)?;
         self.place = self.place.saturating_add(1);
         Ok(())
     }
@@ -229,16 +238,20 @@ impl Slow {
     fn purge(&mut self, alloc: Global) -> Result<(), AllocError> {
         // One goes each time, so that is often enough.
         for _ in 0..self.taken.len() {
-            let Some((name, way)) = self.first_to_go() else {
-                return Ok(());
-            };
-            let mark = Mark::Purged(way);
-            self.take_out(name);
-            self.disk.follow(alloc, &mark)?;
-            print_entry(self.place, &Entry::Mark(mark), &mut self.lines)?;
-            self.place = self.place.saturating_add(1);
+            self.purge_next(alloc)?;
         }
         Ok(())
+    }
+
+    /// Takes out the first that can go, if any can, and prints its mark.
+    pub(crate) fn purge_next(&mut self, alloc: Global) -> Result<(), AllocError> {
+        let Some((name, way)) = self.first_to_go() else {
+            return Ok(());
+        };
+        let mark = Mark::Purged(way);
+        self.take_out(name);
+        self.disk.follow(alloc, &mark)?;
+        self.print(&Entry::Mark(mark))
     }
 
     /// The first by name of the snapshots that can go, and how it goes.
@@ -317,27 +330,39 @@ impl Slow {
 
     /// What is printed of it all.
     pub(crate) fn report(mut self, alloc: Global) -> Result<Vec<u8>, AllocError> {
-        let mut digest = Digest::new();
-        digest.add(self.disk.bytes());
-        let digest = digest.text();
-        let chain = self.chain(alloc)?;
         self.lines.extend_from_slice(&self.replies)?;
         for r in 0..8 {
             if usize::from(r) < self.modes.len() {
                 print_mode(r, self.mode(r), &mut self.lines)?;
             }
         }
+        self.print_chains(alloc)?;
+        self.print_heads()?;
+        Ok(self.lines)
+    }
+
+    /// A line for each replica that is read and written: its chain.
+    fn print_chains(&mut self, alloc: Global) -> Result<(), AllocError> {
+        let chain = self.chain(alloc)?;
         for r in 0..8 {
             if self.mode(r) == Mode::Rw {
                 print_chain(Some(r), &chain, &mut self.lines)?;
             }
         }
+        Ok(())
+    }
+
+    /// A line for each replica that is read and written: the digest of its bytes.
+    fn print_heads(&mut self) -> Result<(), AllocError> {
+        let mut digest = Digest::new();
+        digest.add(self.disk.bytes());
+        let digest = digest.text();
         for r in 0..8 {
             if self.mode(r) == Mode::Rw {
                 print_head(r, &digest, &mut self.lines)?;
             }
         }
-        Ok(self.lines)
+        Ok(())
     }
 }
 
@@ -351,50 +376,108 @@ fn stands_in(printed: &[u8], text: &[u8]) -> bool {
     false
 }
 
-#[test]
-fn prints_what_a_slow_executor_prints(rt: HostRuntime) -> Result<(), Fail> {
-    let alloc = rt.alloc();
-    let words = words(alloc, &["run", "--workers", "each"])?;
-    let mut seed = 1;
-    let mut printed = Vec::new(alloc);
-    for streams in [1u8, 2, 5, 16, 16, 16, 16, 16] {
-        let mut draft = Draft::on(alloc, "3")?;
-        let mut slow = Slow::new(alloc, 3)?;
+/// A script that is drafted at random, with what the slow executor makes of it.
+#[derive(Drop)]
+struct Both {
+    seed: u32,
+    draft: Draft,
+    slow: Slow,
+}
+
+impl Both {
+    /// Scripts of no stream yet, on three replicas.
+    fn new(alloc: Global, seed: u32) -> Result<Both, AllocError> {
+        Ok(Both {
+            seed,
+            draft: Draft::on(alloc, "3")?,
+            slow: Slow::new(alloc, 3)?,
+        })
+    }
+
+    fn next(&mut self) -> u32 {
+        self.seed = next(self.seed);
+        self.seed
+    }
+
+    /// One command of a stream.
+    fn command(&mut self, alloc: Global, stream: u8, index: u64) -> Result<&'static str, Fail> {
+        let text = TEXTS[(self.next() >> 27) as usize];
+        let Ok(command) = Command::read(text.as_bytes()) else {
+            return Err(Fail::new("no command"));
+        };
+        let call = Call::Command(command);
+        self.slow.answer(alloc, stream, index, call, None)?;
+        Ok(text)
+    }
+
+    /// A stream of commands.
+    fn control(&mut self, alloc: Global, stream: u8) -> Result<(), Fail> {
+        let mut texts = Vec::new(alloc);
+        for index in 0..24 {
+            texts.push(self.command(alloc, stream, index)?)?;
+        }
+        self.draft.control(&texts)?;
+        Ok(())
+    }
+
+    /// One frame of a stream.
+    fn frame(&mut self, alloc: Global, stream: u8, seq: u32) -> Result<Head, AllocError> {
+        let asked = made_of(seq, self.next());
+        let call = call_of(alloc, &asked, stream)?;
+        let index = u64::from(seq);
+        self.slow.answer(alloc, stream, index, call, Some(&asked))?;
+        Ok(asked)
+    }
+
+    /// A stream of frames.
+    fn frames(&mut self, alloc: Global, stream: u8) -> Result<(), AllocError> {
+        let mut heads = Vec::new(alloc);
+        for seq in 0..12 {
+            heads.push(self.frame(alloc, stream, seq)?)?;
+        }
+        self.draft.frames(alloc, &heads, stream, b"")
+    }
+
+    /// So many streams.
+    fn fill(&mut self, alloc: Global, streams: u8) -> Result<(), Fail> {
         for stream in 0..streams {
-            seed = next(seed);
-            if seed >> 31 == 0 {
-                let mut texts = Vec::new(alloc);
-                for index in 0..24 {
-                    seed = next(seed);
-                    let text = TEXTS[(seed >> 27) as usize];
-                    let Ok(command) = Command::read(text.as_bytes()) else {
-                        return Err(Fail::new("no command"));
-                    };
-                    texts.push(text)?;
-                    slow.answer(alloc, stream, index, Call::Command(command), None)?;
-                }
-                draft.control(&texts)?;
+            if self.next() >> 31 == 0 {
+                self.control(alloc, stream)?;
             } else {
-                let mut heads = Vec::new(alloc);
-                for seq in 0..12 {
-                    seed = next(seed);
-                    let asked = made_of(seq, seed);
-                    let call = call_of(alloc, &asked, stream)?;
-                    heads.push(asked)?;
-                    slow.answer(alloc, stream, u64::from(seq), call, Some(&asked))?;
-                }
-                draft.frames(alloc, &heads, stream, b"")?;
+                self.frames(alloc, stream)?;
             }
         }
-        let mut source = NoFaultSource::new(draft.input()?, 5000);
-        let mut sink = NoFaultSink::new(alloc, 5000);
-        let mut wiring = PlanWiring::new(alloc);
-        let status = longhorn(&rt, alloc, &words, &mut source, &mut sink, &mut wiring);
-        assert_eq!(rt; status, Status::Done);
-        let wanted = slow.report(alloc)?;
-        assert_eq!(rt; sink.bytes(), wanted.as_slice());
-        printed.extend_from_slice(&wanted)?;
+        Ok(())
     }
+
+    /// Compares a run with the slow executor, and gives what both print.
+    fn report(self, rt: &(impl AllocGlobal + Abort + Wait)) -> Result<Vec<u8>, AllocError> {
+        let Both { draft, slow, .. } = self;
+        let words = ["run", "--workers", "each"];
+        let (status, sink) = end_of(rt, &words, draft.input()?, 5000)?;
+        assert_eq!(rt; status, Status::Done);
+        let wanted = slow.report(rt.alloc())?;
+        assert_eq!(rt; sink.bytes(), wanted.as_slice());
+        Ok(wanted)
+    }
+}
+
+/// What is printed of scripts of these numbers of streams, one after another.
+fn all_printed(rt: &(impl AllocGlobal + Abort + Wait), numbers: &[u8]) -> Result<Vec<u8>, Fail> {
+    let mut seed = 1;
+    let mut printed = Vec::new(rt.alloc());
+    for streams in numbers {
+        let mut both = Both::new(rt.alloc(), seed)?;
+        both.fill(rt.alloc(), *streams)?;
+        seed = both.seed;
+        printed.extend_from_slice(&both.report(rt)?)?;
+    }
+    Ok(printed)
+}
+
+#[test]
+fn prints_what_a_slow_executor_prints(rt: HostRuntime) -> Result<(), Fail> {
+    let printed = all_printed(&rt, &[1, 2, 5, 16, 16, 16, 16, 16])?;
     assert!(rt; stands_in(&printed, b" mark folded "), "nothing was folded");
     assert!(rt;
         stands_in(&printed, b" mark dropped "),
