@@ -26,6 +26,8 @@ mod script;
 #[cfg(test)]
 mod snapshots;
 #[cfg(test)]
+mod told;
+#[cfg(test)]
 mod units;
 #[cfg(test)]
 mod words;

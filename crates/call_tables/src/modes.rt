@@ -1,3 +1,4 @@
+use crate::told::same;
 use mode_table::{Mark, Mode, ModeTable};
 use std::test::Fail;
 use volume_model::LayerName;
@@ -32,13 +33,16 @@ fn the_source_is_the_lowest_that_is_read_and_written(rt: HostRuntime) -> Result<
         (Mark::Aborted(2), [Mode::Err, Mode::Err, Mode::Err], None),
         (Mark::Promoted(3), [Mode::Err, Mode::Err, Mode::Err], None),
     ];
-    for (mark, modes, source) in rows {
-        table.follow(&mark);
-        assert_eq!(rt;
-            (table.as_slice(), table.source()),
-            (modes.as_slice(), source)
-        );
+    for (row, (mark, modes, source)) in rows.iter().enumerate() {
+        table.follow(mark);
+        let told = (table.as_slice(), table.source());
+        same(&rt, row, &told, &(modes.as_slice(), *source));
     }
-    assert_eq!(rt; (table.replica_count(), table.mode(3)), (3, Mode::Err));
+    same(
+        &rt,
+        9,
+        &(table.replica_count(), table.mode(3)),
+        &(3, Mode::Err),
+    );
     Ok(())
 }

@@ -1,9 +1,19 @@
+use crate::told::same;
 use program_words::{Words, WordsError, Workers, read_words};
+use std::alloc::{AllocError, Global};
 use std::test::Fail;
+
+/// The words of a line.
+fn split(alloc: Global, line: &str) -> Result<Vec<String>, AllocError> {
+    let mut words = Vec::new(alloc);
+    for word in line.split_whitespace() {
+        words.push(String::from_str(alloc, word)?)?;
+    }
+    Ok(words)
+}
 
 #[test]
 fn words_are_read(rt: HostRuntime) -> Result<(), Fail> {
-    let alloc = rt.alloc();
     let one = Ok(Words::Run {
         workers: Workers::One,
     });
@@ -26,12 +36,9 @@ fn words_are_read(rt: HostRuntime) -> Result<(), Fail> {
         ("help", usage),
         ("run --help", usage),
     ];
-    for (line, asked) in rows {
-        let mut words = Vec::new(alloc);
-        for word in line.split_whitespace() {
-            words.push(String::from_str(alloc, word)?)?;
-        }
-        assert_eq!(rt; read_words(alloc, &words), asked, "at {line}");
+    for (row, (line, wanted)) in rows.iter().enumerate() {
+        let words = split(rt.alloc(), line)?;
+        same(&rt, row, &read_words(rt.alloc(), &words), wanted);
     }
     Ok(())
 }
