@@ -1,0 +1,62 @@
+-- What a World tells a desk.
+use Rattle.std.specs.Prelude.{◌≡◌, ℕ, false, List, ◌++◌, length, map, Option, Some, None}
+use Rattle.volume_model.specs.declared.entry.Entry.{Entry}
+use Rattle.volume_model.specs.declared.entry.Entry.TheVariants as entry
+use Rattle.volume_model.specs.declared.mark.Mark.{Mark}
+use Rattle.volume_model.specs.declared.mark.Mark.TheVariants as mark
+use Rattle.range_turns.specs.declared.ticket.Ticket.{Ticket}
+use Rattle.open_calls.specs.declared.open_call.OpenCall.{OpenCall}
+use Rattle.whole_calls.specs.declared.maint.MaintCall.{MaintCall}
+use Rattle.volume_core.specs.State.{State, state_of}
+use Rattle.volume_core.specs.Sound.{IsSound}
+use Rattle.volume_core.specs.Streams.{running, turning, Origin, origin_of}
+use Rattle.desk_lock.specs.Account.{Account, Each, is_stream}
+use Rattle.world_desk.specs.declared.kept.WorldOnDesk.{WorldOnDesk}
+
+-- of which stream an entry is: that whose call it answers, or whose line's fault it tells; other marks are of none
+abbrev pub stream_of_mark : Mark → Option ℕ
+stream_of_mark (mark.Fault stream r count) = Some stream
+stream_of_mark m = None
+
+abbrev pub stream_of : Entry → Option ℕ
+stream_of (entry.Answer a) = Some a.stream
+stream_of (entry.Mark m) = stream_of_mark m
+
+-- what a stream has open: a command that has the maintenance turn or waits for it, and a call, each with its ticket
+pub data Running : Type 0 where
+  Turn : Ticket → MaintCall → Running
+  Call : Ticket → OpenCall → Running
+
+abbrev pub turn_of : Ticket × MaintCall → Running
+turn_of p = Turn p.0 p.1
+
+abbrev pub call_of : Ticket × OpenCall → Running
+call_of p = Call p.0 p.1
+
+-- all of it, its commands of the turn first
+abbrev pub running_of : State → ℕ → List Running
+running_of s stream = map turn_of (turning s stream) ++ map call_of (running s stream)
+
+-- the World on a desk, as lists
+abbrev pub laid : WorldOnDesk → State
+laid w = state_of w.world
+
+-- its journal, its streams with what each has open, and how the volume began
+abbrev pub world_account : Account WorldOnDesk Entry Running Origin
+world_account = record {
+  journal = λ w. (laid w).book.entries;
+  stream_of = stream_of;
+  streams = λ w. length (laid w).indices;
+  running = λ w stream. running_of (laid w) stream;
+  origin = λ w. origin_of (laid w);
+  sound = λ w. IsSound (laid w);
+}
+
+-- Of a stream that takes no step, the World s is t later: with the same origin, entries more of which none is its own,
+-- and with all that it has open as it was.
+pub record IsLater (stream : ℕ) (s t : State) : Type 0 where
+  pub origin : origin_of t ≡ origin_of s
+  pub added : (es : List Entry) × (t.book.entries ≡ s.book.entries ++ es)
+      × Each (λ e. is_stream stream (stream_of e) ≡ false) es
+  pub calls : running t stream ≡ running s stream
+  pub turns : turning t stream ≡ turning s stream
