@@ -1,0 +1,2 @@
+pub mod Unlogged
+pub mod AtTurn
