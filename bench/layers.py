@@ -3,8 +3,9 @@
 
 Times a built longhorn on scripts, each with and without the calls that are measured: a read of one byte whose block is in the
 lowest of 1, 16 and 249 layers, and its ratio to one layer; and a revert, which makes a new head, on a volume of 1 GiB and on
-one of 2 MiB. By turns, in time of the processor, as medians with the least and the greatest. And the memory of one snapshot of
-247, on both volumes, where GNU time is there.
+one of 2 MiB; and a snapshot on two replicas of 1 GiB, and a removal, which carries as much. By turns, in time of the processor,
+as medians with the least and the greatest. And the memory of one snapshot of 247, on both volumes, and of a purge that folds
+them, where GNU time is there.
 """
 import json
 import os
@@ -33,10 +34,10 @@ def frame(seq, kind, offset, size, data=b''):
     return struct.pack('<HIIqII', 0x1b01, seq, kind, offset, size, len(data)) + data
 
 
-def script(size, streams):
+def script(size, streams, replicas):
     """A script of these streams: a list of commands, or the bytes of frames."""
     heads = [{'frames': len(stream)} if isinstance(stream, bytes) else {'control': stream} for stream in streams]
-    head = json.dumps({'volume': 'v', 'size': size, 'replicas': 1, 'streams': heads}, separators=(',', ':'))
+    head = json.dumps({'volume': 'v', 'size': size, 'replicas': replicas, 'streams': heads}, separators=(',', ':'))
     return head.encode() + b'\n' + b''.join(stream for stream in streams if isinstance(stream, bytes))
 
 
@@ -44,10 +45,18 @@ def snapshots(count):
     return ['snapshot n%d' % number for number in range(count)]
 
 
+def filled(size):
+    """The frames that fill so much of a volume."""
+    return b''.join(frame(number, 1, number * MIB, MIB, b'a' * MIB) for number in range(size // MIB))
+
+
 def layered(layers):
     """The streams that fill a volume and put so many layers less one on top of what was written."""
-    writes = b''.join(frame(number, 1, number * MIB, MIB, b'a' * MIB) for number in range(SIZE // MIB))
-    return [writes, snapshots(layers - 1)]
+    return [filled(SIZE), snapshots(layers - 1)]
+
+
+def removals(count):
+    return ['remove n%d' % number for number in range(count)]
 
 
 def reads():
@@ -82,10 +91,10 @@ class Bench:
                                  stdout=subprocess.DEVNULL, stderr=subprocess.PIPE, text=True, check=True)
         return int(run.stderr.split()[-1])
 
-    def added(self, measure, size, streams, more, count):
-        """What each of the calls that stand in a script besides adds to a run of it, at each turn."""
-        without = self.kept('without', script(size, streams))
-        besides = self.kept('with', script(size, streams + [more]))
+    def added(self, measure, size, streams, more, count, replicas=1, last=()):
+        """What each of the calls that stand in a script besides adds to a run of it, before its last streams, at each turn."""
+        without = self.kept('without', script(size, [*streams, *last], replicas))
+        besides = self.kept('with', script(size, [*streams, more, *last], replicas))
         return [(measure(besides) - measure(without)) / count for _ in range(self.repeats)]
 
 
@@ -105,6 +114,16 @@ def main():
             one = one or statistics.median(taken)
             print('a read from the lowest of %d: %s nanoseconds, against one layer: %s'
                   % (layers, spread([time * 1e9 for time in taken]), spread([time / one for time in taken])))
+        failed = [['fail r0', 'fail r1']]
+        layers = [snapshots(SNAPSHOTS)]
+        for what, written in (('nothing', []), ('64 MiB', [filled(64 * MIB)])):
+            taken = bench.added(bench.timed, 512 * PAGE, written, layers[0], SNAPSHOTS, 2, failed)
+            carried = bench.added(bench.timed, 512 * PAGE, written + layers, removals(SNAPSHOTS), SNAPSHOTS, 2, failed)
+            print('a snapshot on two replicas of 1 GiB, %s written: %s microseconds, a removal: %s'
+                  % (what, spread([time * 1e6 for time in taken]), spread([time * 1e6 for time in carried])))
+        if GNU_TIME is not None:
+            taken = bench.added(bench.peak, 512 * PAGE, written + layers + [removals(SNAPSHOTS)], ['purge'], 1, 2, failed)
+            print('a purge of %d layers: %s KiB' % (SNAPSHOTS, spread(taken)))
         first = [['snapshot s']]
         for size, volume in VOLUMES:
             taken = bench.added(bench.timed, size, first, ['revert s'] * REVERTS, REVERTS)
