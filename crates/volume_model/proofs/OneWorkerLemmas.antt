@@ -1,10 +1,10 @@
 -- The journal of streams that one worker answers, one stream after another, is a legal history.
-use Rattle.std.proofs.Common.{◌≡◌, ◌≢◌, ℕ, zero, suc, ◌+◌, ◌<◌, ◌≤◌, ◌^◌, ⊎_elim, eqb, Bool, true, false, cond, List, [], ◌∷◌, ◌++◌, length, map, refl, sym, ap, subst, ◌∙◌, arith, set}
+use Rattle.std.proofs.Common.{◌≡◌, ◌≢◌, ℕ, zero, suc, ◌+◌, ◌<◌, ◌≤◌, ◌^◌, eqb, Bool, true, false, cond, List, [], ◌∷◌, ◌++◌, length, map, refl, sym, ap, subst, ◌∙◌, arith, set}
 use Rattle.std.specs.Prelude.{Option, None, Some}
 use Rattle.std.specs.Option.{option_or}
-use Rattle.std.proofs.lemmas.Bool.{cases_lt, eq-eqb, ne_eqb, true≢false}
+use Rattle.std.proofs.lemmas.Bool.{eq-eqb, ne_eqb, true≢false}
 use Rattle.std.proofs.lemmas.Bool.Decides.{nat_tests}
-use Rattle.std.proofs.lemmas.List.{append-nil, append_assoc, length-append, length-set, get_or-set_same, get_or_past}
+use Rattle.std.proofs.lemmas.List.{append-nil, append_assoc, length-append, length-set}
 use Rattle.vol_units.specs.Name.{begins_sys, sys_name}
 use Rattle.command_text.specs.declared.command.Command.TheVariants as command
 use Rattle.volume_model.specs.declared.call.Call.{Call}
@@ -38,6 +38,9 @@ use Rattle.volume_model.proofs.FaultLemmas.{fault_counts-append}
 use Rattle.volume_model.proofs.LegalLemmas.{LegalAfter-append, answers_from-append}
 use Rattle.volume_model.proofs.PushLemmas.{modes_after-push}
 use Rattle.volume_model.proofs.RebuildLemmas.{rebuild_from-append, rebuild_of-push}
+use Rattle.volume_model.proofs.ModeLemmas.{failed_is}
+use Rattle.volume_model.proofs.FallLemmas.{behind_falls_none}
+use Rattle.volume_model.proofs.NoAborted.{none_aborted}
 use Rattle.volume_model.proofs.OwnNames.{own_entry, own_sys, entry_raises}
 use Rattle.volume_model.proofs.SpotLemmas.{source_is, has_source, answer_by, answered_there}
 
@@ -192,12 +195,6 @@ purge_goes opening before spot stream place index s here source =
     }
 
 -- ---- a replica that is told to fail
-
-failed_is : (modes : List Mode) (r : ℕ) → mode_of (set modes r Err) r ≡ Err
-failed_is modes r = ⊎_elim
-    (λ l. get_or-set_same modes r Err Err l)
-    (λ l. get_or_past (set modes r Err) r Err (omega (arith, l, length-set modes r Err)))
-    (cases_lt r (length modes))
 
 fail_goes : (opening : Spot) (before : List Entry) (spot : Spot) (stream place index r : ℕ) → Here opening before spot → mode_of spot.modes r ≢ Err
     → Goes opening before spot (entry.Mark (mark.Failed r) ∷ answer_for None spot stream place index (call.Command (command.Fail r)) ∷ [])
@@ -645,6 +642,7 @@ served_is_history opening counted streams proper free fits =
     let ran = ran_streams opening [] opening 0 0 streams (record { state = refl; modes = refl; idle = λ q. refl; free = free; many = refl }) fits proper in
     record {
       legal = ran.legal;
+      fell = behind_falls_none [] (served opening streams) (none_aborted opening 0 0 streams);
       order = λ stream. AnswersOf-in_order stream (stream_of streams stream) _ (its stream);
       each_once = λ stream. AnswersOf-calls stream (stream_of streams stream) _ (its stream);
       faults = λ stream replica. subst (RisesTo (counted stream replica) 0) (sym (ran.faults stream replica)) tt;

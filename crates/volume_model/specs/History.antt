@@ -21,7 +21,7 @@ use Rattle.volume_model.specs.Modes.{modes_after, mode_of, HasSource, HasNoSourc
 use Rattle.volume_model.specs.Faults.{FaultsShown}
 use Rattle.volume_model.specs.declared.mark.Rebuild.{Rebuild}
 use Rattle.volume_model.specs.declared.mark.Rebuild.TheVariants as rebuild
-use Rattle.volume_model.specs.Rebuilds.{added_by, rebuild_of, EndsWith, MayFall, MayBegin, MayPromote, MayAbort}
+use Rattle.volume_model.specs.Rebuilds.{added_by, rebuild_of, EndsWith, MayFall, MayBegin, MayPromote, MayAbort, AreBehindFalls}
 
 -- where a run stands: the plain state, and the mode of each replica
 pub record Spot : Type 0 where
@@ -131,8 +131,10 @@ abbrev pub SeenInOrder : List Entry → Type 0
 SeenInOrder journal = (stream : ℕ) → InOrderFrom 0 0 (answers_of stream journal)
 
 -- The journal is one legal history of these streams' calls, each once and in order, over lines that counted these faults.
+-- What aborted a rebuild was a fall.
 pub record IsHistory (opening : Spot) (counted : ℕ → ℕ → ℕ) (calls : ℕ → List Call) (journal : List Entry) : Type 0 where
   pub legal : IsLegal opening journal
+  pub fell : AreBehindFalls journal
   pub order : SeenInOrder journal
   pub each_once : (stream : ℕ) → calls_of stream journal ≡ calls stream
   pub faults : FaultsShown counted journal

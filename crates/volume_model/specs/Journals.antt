@@ -30,6 +30,10 @@ told_to_fail saw index r more =
 abbrev pub rebuilding : List Entry → List Entry
 rebuilding more = told_to_fail 0 0 1 (entry.Mark (mark.Added 1 0 (sys_name 0)) ∷ more)
 
+-- the rebuild of replica 1 is aborted, and its add is answered so
+abbrev pub given_up : List Entry
+given_up = entry.Mark (mark.Aborted 1) ∷ said 2 1 1 (call.Command (command.Add 1)) (reply.Aborted 3) ∷ []
+
 -- A replica fails and is rebuilt while a client writes. Then the other one fails, and the first is read.
 abbrev pub rebuilt_beside_a_write : List Entry
 rebuilt_beside_a_write = rebuilding (

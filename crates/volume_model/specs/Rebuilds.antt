@@ -90,18 +90,39 @@ Fells (mark.Fault w q count) r = q ≡ r
 Fells (mark.Failed q) r = q ≡ r
 Fells m r = ⊥
 
--- it is aborted right behind the mark in which its source or the replica itself went to ERR
+-- what is aborted is open
 pub record MayAbort (before : List Entry) (r : ℕ) : Type 0 where
+  pub source : ℕ
+  pub begun : rebuild_of r before ≡ rebuild.Open source
+
+-- where the source or the target of an open rebuild falls, the rebuild is aborted at once
+pub record MayFall (modes : List Mode) (before after : List Entry) (r : ℕ) : Type 0 where
+  pub up : mode_of modes r ≢ Err
+  pub ends : (q s : ℕ) → rebuild_of q before ≡ rebuild.Open s → (r ≡ q) ⊎ (r ≡ s) → NextIsMark after (mark.Aborted q)
+
+-- ---- that no rebuild was given up: what aborted it was a fall
+
+-- the open rebuild of r is aborted right behind the mark in which its source or r itself went to ERR
+pub record IsBehindFall (before : List Entry) (r : ℕ) : Type 0 where
   pub source : ℕ
   pub begun : rebuild_of r before ≡ rebuild.Open source
   pub fell : Mark
   pub last : EndsWith before fell
   pub which : Fells fell r ⊎ Fells fell source
 
--- where the source or the target of an open rebuild falls, the rebuild is aborted at once
-pub record MayFall (modes : List Mode) (before after : List Entry) (r : ℕ) : Type 0 where
-  pub up : mode_of modes r ≢ Err
-  pub ends : (q s : ℕ) → rebuild_of q before ≡ rebuild.Open s → (r ≡ q) ⊎ (r ≡ s) → NextIsMark after (mark.Aborted q)
+-- an aborted mark stands so behind the entries before it; no other entry asks anything
+abbrev pub StandsBehindFall : List Entry → Entry → Type 0
+StandsBehindFall before (entry.Mark (mark.Aborted r)) = IsBehindFall before r
+StandsBehindFall before e = Unit {0}
+
+-- so does each aborted mark of the entries, behind those before
+abbrev pub BehindFalls : List Entry → List Entry → Type 0
+BehindFalls before [] = Unit {0}
+BehindFalls before (e ∷ es) = StandsBehindFall before e × BehindFalls (before ++ e ∷ []) es
+
+-- so does each aborted mark of the journal
+abbrev pub AreBehindFalls : List Entry → Type 0
+AreBehindFalls journal = BehindFalls [] journal
 
 -- ---- what a state that knows of its open rebuild keeps
 

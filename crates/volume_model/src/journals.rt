@@ -1,4 +1,4 @@
-//! Worked journals with faults and rebuilds: one that is legal, and some that are not.
+//! Worked journals with faults and rebuilds: some that are legal, and some that are not.
 
 ghost use Rattle.std.specs.Prelude.{◌≡◌, ◌∷◌, [], pos};
 ghost use Rattle.vol_units.specs.Name.{sys_name};
@@ -10,8 +10,9 @@ ghost use Rattle.volume_model.specs.declared.entry.Entry.TheVariants as entry;
 ghost use Rattle.volume_model.specs.declared.mark.Mark.TheVariants as mark;
 ghost use Rattle.volume_model.specs.declared.mode.Mode.TheVariants.{Rw, Wo, Err};
 ghost use Rattle.volume_model.specs.Faults.{FaultsShown};
+ghost use Rattle.volume_model.specs.Rebuilds.{AreBehindFalls};
 ghost use Rattle.volume_model.specs.History.{IsLegal};
-ghost use Rattle.volume_model.specs.Journals.{on_replicas, said, told_to_fail, rebuilding, rebuilt_beside_a_write};
+ghost use Rattle.volume_model.specs.Journals.{on_replicas, said, told_to_fail, rebuilding, given_up, rebuilt_beside_a_write};
 
 /// A replica fails and is rebuilt while a client writes, and is read once the other one has failed.
 pub fn a_rebuild_beside_a_write_is_legal()
@@ -27,6 +28,15 @@ pub fn an_add_ends_with_its_rebuild()
     ensures another_place { IsLegal (on_replicas (Rw ∷ Rw ∷ []))
         (rebuilding (entry.Mark (mark.Fault 1 1 1) ∷ entry.Mark (mark.Aborted 1)
         ∷ said 2 1 1 (call.Command (command.Add 1)) (reply.Aborted 3) ∷ [])) → ⊥ }
+{}
+
+/// A rebuild that is open may be given up. Its aborted mark is legal, but not behind the fall of its source or its target.
+pub fn a_rebuild_may_be_given_up()
+    ensures legal { IsLegal (on_replicas (Rw ∷ Rw ∷ [])) (rebuilding given_up) }
+    ensures no_fall { AreBehindFalls (rebuilding given_up) → ⊥ }
+    ensures another_falls { AreBehindFalls (rebuilding (entry.Mark (mark.Fault 1 2 1) ∷ given_up)) → ⊥ }
+    ensures source_falls { AreBehindFalls (rebuilding (entry.Mark (mark.Fault 1 0 1) ∷ given_up)) }
+    ensures not_open { IsLegal (on_replicas (Rw ∷ Err ∷ [])) given_up → ⊥ }
 {}
 
 /// Where a rebuild may not begin, and what may not be promoted.
