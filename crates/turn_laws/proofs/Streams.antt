@@ -7,6 +7,7 @@ use Rattle.volume_model.specs.declared.entry.Answer.{Answer}
 use Rattle.volume_model.specs.declared.entry.Entry.{Entry}
 use Rattle.volume_model.specs.declared.entry.Entry.TheVariants as entry
 use Rattle.volume_model.specs.Faults.{last_in, last_count, CountsRise}
+use Rattle.volume_model.specs.Rebuilds.{AreBehindFalls}
 use Rattle.volume_model.specs.History.{Spot, IsLegal, SeenInOrder, answers_from, calls_of, IsHistory}
 use Rattle.volume_model.specs.Modes.{modes_after}
 use Rattle.volume_model.specs.OneWorker.{behind_entries, behind, served_from, after_streams, served_streams, served, stream_of}
@@ -132,9 +133,10 @@ module _ (opening : Spot) (replicas : ℕ) (css : List (List Call)) (cs : List C
 -- ---- all of them
 
 pub is_history : (opening : Spot) (replicas : ℕ) (css : List (List Call)) (entries : List Entry) (counts : ℕ → ℕ → ℕ) (carried : ℕ → ℕ → Option (List (List ℕ)))
-    → AreTurns opening replicas css entries counts carried → IsLegal opening entries → SeenInOrder entries → CountsRise entries → IsHistory opening counts (stream_of css) entries
-is_history opening replicas css entries counts carried turns legal order rise = record {
+    → AreTurns opening replicas css entries counts carried → IsLegal opening entries → AreBehindFalls entries → SeenInOrder entries → CountsRise entries → IsHistory opening counts (stream_of css) entries
+is_history opening replicas css entries counts carried turns legal fell order rise = record {
   legal = legal;
+  fell = fell;
   order = order;
   each_once = turns.calls;
   faults = faults_shown counts entries rise turns.counted;

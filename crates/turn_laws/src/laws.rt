@@ -4,6 +4,7 @@ ghost use Rattle.std.specs.Prelude.{ℕ, List, [], ◌∷◌, ◌++◌, length, 
 ghost use Rattle.volume_model.specs.declared.call.Call.{Call};
 ghost use Rattle.volume_model.specs.declared.entry.Entry.{Entry};
 ghost use Rattle.volume_model.specs.Faults.{CountsRise};
+ghost use Rattle.volume_model.specs.Rebuilds.{AreBehindFalls};
 ghost use Rattle.volume_model.specs.History.{Spot, IsLegal, SeenInOrder, IsHistory};
 ghost use Rattle.volume_model.specs.OneWorker.{stream_of};
 ghost use Rattle.client_worker.specs.Exchanges.{ExchangesShown};
@@ -25,13 +26,13 @@ pub fn a_turn_follows_turns()
         → AreTurns opening replicas (streams ++ asked ∷ []) after counts2 told2 }
 {}
 
-/// The journal of turns that is legal, in order and of faults that rise is one legal history of the streams' calls, over
-/// lines that counted these faults.
+/// The journal of turns that is legal, in order, of faults that rise and with no rebuild given up is one legal history of
+/// the streams' calls, over lines that counted these faults.
 pub fn turns_are_a_history()
     ensures { (opening : Spot) (replicas : ℕ) (streams : List (List Call)) (entries : List Entry)
         (counts : ℕ → ℕ → ℕ) (told : ℕ → ℕ → Option (List (List ℕ)))
         → AreTurns opening replicas streams entries counts told
-        → IsLegal opening entries → SeenInOrder entries → CountsRise entries
+        → IsLegal opening entries → AreBehindFalls entries → SeenInOrder entries → CountsRise entries
         → IsHistory opening counts (stream_of streams) entries }
 {}
 
