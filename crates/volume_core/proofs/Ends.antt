@@ -1,8 +1,8 @@
--- Each step that answers a call or marks a fault keeps the invariant.
+-- Each step that answers a call keeps the invariant.
 use Rattle.std.proofs.Common.{◌≡◌, ◌≢◌, ℕ, ◌+◌, ◌<◌, ◌≤◌, true, cond, List, [], ◌∷◌, ◌++◌, length, set, length-set, refl, sym, ap, subst, ◌∙◌, pos, arith}
 use Rattle.std.specs.Prelude.{None, Some}
 use Rattle.std.specs.List.{count_by, remove}
-use Rattle.std.proofs.lemmas.List.Sums.{sum_by-set, sum_by-remove}
+use Rattle.std.proofs.lemmas.List.Sums.{sum_by-remove}
 use Rattle.command_text.specs.declared.command.Command.TheVariants as command
 use Rattle.volume_model.specs.declared.call.Call.{Call}
 use Rattle.volume_model.specs.declared.call.Call.TheVariants as call
@@ -12,20 +12,15 @@ use Rattle.volume_model.specs.declared.call.Reply.TheVariants as reply
 use Rattle.volume_model.specs.declared.entry.Answer.{Answer}
 use Rattle.volume_model.specs.declared.entry.Entry.{Entry}
 use Rattle.volume_model.specs.declared.entry.Entry.TheVariants as entry
-use Rattle.volume_model.specs.declared.mark.Mark.TheVariants as mark
 use Rattle.volume_model.specs.declared.mode.Mode.{Mode}
-use Rattle.volume_model.specs.declared.mode.Mode.TheVariants.{Rw, Wo, Err}
-use Rattle.volume_model.specs.Faults.{last_count}
 use Rattle.volume_model.specs.History.{IsAnswered}
-use Rattle.volume_model.specs.Modes.{modes_after, mode_of, is_change, HasNoSource}
+use Rattle.volume_model.specs.Modes.{modes_after, is_change, HasNoSource}
 use Rattle.volume_model.specs.PlainState.{PlainState, Volume, written}
 use Rattle.volume_model.specs.PlainStep.{refusal_of, step_unless, after_call}
-use Rattle.volume_model.specs.Rebuilds.{added_by, MayFall, IsOpenOnly}
+use Rattle.volume_model.specs.Rebuilds.{added_by}
 use Rattle.volume_model.specs.Replay.{after_entry}
-use Rattle.volume_model.proofs.FaultLemmas.{rise-fault}
 use Rattle.volume_model.proofs.OwnNames.{IsOwn}
-use Rattle.volume_model.proofs.PushLemmas.{modes_after-push, IsLegal-push}
-use Rattle.volume_model.proofs.RebuildLemmas.{open_fault}
+use Rattle.volume_model.proofs.PushLemmas.{modes_after-push}
 use Rattle.volume_model.proofs.StepLemmas.{replay-push}
 use Rattle.range_turns.specs.declared.ticket.Kind.{Kind}
 use Rattle.range_turns.specs.declared.ticket.Kind.TheVariants as kind
@@ -38,16 +33,15 @@ use Rattle.open_calls.specs.Parts.{part_at, IsTaken}
 use Rattle.open_calls.specs.Calls.{open_at, call_asked}
 use Rattle.open_calls.specs.Clients.{AreClients, IsWriting, IsReading, IsIdle, behind_last}
 use Rattle.open_calls.proofs.FreeLemmas.{not_both, write_no_read, write_no_whole, read_no_whole}
-use Rattle.open_calls.proofs.Gone.{left_clients, written_clients, failed_clients, seen_clients}
-use Rattle.open_calls.proofs.PartLemmas.{up_in}
-use Rattle.open_calls.proofs.SeenLemmas.{seen_mark, seen_answer, idle_once_gone, behind_within}
+use Rattle.open_calls.proofs.Gone.{left_clients, written_clients, seen_clients}
+use Rattle.open_calls.proofs.SeenLemmas.{seen_answer, idle_once_gone, behind_within}
 use Rattle.volume_core.specs.State.{State, opening_of, told_of, modes_in, index_at}
-use Rattle.volume_core.specs.Steps.{with_place, answered, faulted, ended}
-use Rattle.volume_core.specs.Sound.{IsSoundOn, IsCalm, is_up}
+use Rattle.volume_core.specs.Steps.{with_place, answered, ended}
+use Rattle.volume_core.specs.Sound.{IsSoundOn, IsCalm, is_up, owed_end}
 use Rattle.volume_core.specs.Answers.{EndsWrite, IsOnRange}
 use Rattle.volume_core.proofs.Answered.{no_command, no_add, asks_one, write_free, read_free, refused_plainly, done_plainly, none_answered}
 use Rattle.volume_core.proofs.Rows.{counts, place_sound}
-use Rattle.volume_core.proofs.Told.{answer_told, mark_ordered}
+use Rattle.volume_core.proofs.Told.{answer_told}
 
 -- the same clients of what is the same
 pub same_clients : (v : Volume) (size n m : ℕ) (es : List Entry) (ms ks : List Mode) (tickets : List Ticket) (calls : List OpenCall) (nodes : List Node) → n ≡ m → ms ≡ ks
@@ -66,7 +60,7 @@ module _ (s : State) (stream saw : ℕ) (c : Call) (r : Reply) where
   pub answered_on : (v0 v : Volume) (ns0 ns : List Node) (tickets : List Ticket) (calls : List OpenCall) → IsSoundOn v0 ns0 s → IsIdle stream calls → stream < length s.indices → behind_last stream s.book.entries ≤ saw
       → saw ≤ length s.book.entries → added_by c ≡ None → IsOwn (told_of s) (entry.Answer its_answer) → IsAnswered (told_of s) (modes_in s) its_answer
       → AreClients v s.size (length s.indices) s.book.entries (modes_in s) tickets calls ns
-      → count_by (λ t. t.started) tickets + length s.commands + count_by is_up (modes_in s) + 1 ≤ s.book.spare
+      → count_by (λ t. t.started) tickets + length s.commands + count_by is_up (modes_in s) + owed_end s.rebuild + 1 ≤ s.book.spare
       → IsSoundOn v ns (answered (record s { tickets = tickets; calls = calls }) stream saw c r)
   answered_on v0 v ns0 ns tickets calls ok idle within past seen none is_own may clients room =
       let o = opening_of s in
@@ -75,7 +69,7 @@ module _ (s : State) (stream saw : ℕ) (c : Call) (r : Reply) where
       let modes : modes_in s ≡ modes_after o.modes longer = sym (modes_after-push o.modes s.book.entries e) in
       record {
         opened = ok.opened;
-        told = answer_told o s.book.entries s.indices None its_answer ok.told is_own none may within refl past seen;
+        told = answer_told o s.book.entries s.indices s.rebuild s.ended its_answer ok.told is_own none may within refl past seen;
         clients = same_clients v s.size (length s.indices) (length (set s.indices stream (index_at s.indices stream + 1))) longer (modes_in s) (modes_after o.modes longer) tickets calls ns
             (sym (length-set s.indices stream (index_at s.indices stream + 1))) modes
             (seen_clients v s.size (length s.indices) s.book.entries longer (modes_in s) tickets calls ns (seen_answer s.book.entries calls clients.seen its_answer idle) clients);
@@ -87,7 +81,7 @@ module _ (s : State) (stream saw : ℕ) (c : Call) (r : Reply) where
       → added_by c ≡ None → IsOwn (told_of s) (entry.Answer its_answer) → IsAnswered (told_of s) (modes_in s) its_answer
       → (after_entry (told_of s) (entry.Answer its_answer)).volume ≡ v
       → AreClients v s.size (length s.indices) s.book.entries (modes_in s) tickets calls s.nodes
-      → count_by (λ t. t.started) tickets + length s.commands + count_by is_up (modes_in s) + 1 ≤ s.book.spare
+      → count_by (λ t. t.started) tickets + length s.commands + count_by is_up (modes_in s) + owed_end s.rebuild + 1 ≤ s.book.spare
       → IsCalm (answered (record s { tickets = tickets; calls = calls }) stream saw c r)
   answered_sound tickets calls v ok idle within past seen none is_own may after clients room =
       subst (λ (w : Volume). IsSoundOn w s.nodes (answered (record s { tickets = tickets; calls = calls }) stream saw c r))
@@ -131,14 +125,14 @@ module _ (s : State) (i : ℕ) (ok : IsCalm s) (h : i < length s.tickets) where
 
   pub ended_sound : (r : Reply) (v : Volume) → k ≢ kind.Whole → IsAnswered (told_of s) (modes_in s) (its r) → (after_entry (told_of s) (entry.Answer (its r))).volume ≡ v
       → AreClients v s.size (length s.indices) s.book.entries (modes_in s) (remove s.tickets i) (remove s.calls i) s.nodes
-      → count_by (λ t. t.started) (remove s.tickets i) + length s.commands + count_by is_up (modes_in s) + 1 ≤ s.book.spare → IsCalm (ended s i r)
+      → count_by (λ t. t.started) (remove s.tickets i) + length s.commands + count_by is_up (modes_in s) + owed_end s.rebuild + 1 ≤ s.book.spare → IsCalm (ended s i r)
   ended_sound r v range may after clients room =
       answered_sound s c.stream c.saw (call_asked k c) r (remove s.tickets i) (remove s.calls i) v ok
       (idle_once_gone s.book.entries s.calls ok.clients.seen i call_in) (ok.clients.fits i h).stream (ok.clients.seen.past i call_in) (ok.clients.seen.saw i call_in)
       (no_add k c range) (λ name e. absurd (no_command k c (command.Snapshot name) range e)) may after clients room
 
   -- the place that a started call has in the journal
-  pub started_room : (ticket_at s.tickets i).started ≡ true → count_by (λ t. t.started) (remove s.tickets i) + length s.commands + count_by is_up (modes_in s) + 1 ≤ s.book.spare
+  pub started_room : (ticket_at s.tickets i).started ≡ true → count_by (λ t. t.started) (remove s.tickets i) + length s.commands + count_by is_up (modes_in s) + owed_end s.rebuild + 1 ≤ s.book.spare
   started_room e = omega (arith, ok.spare, sum_by-remove (λ (t : Ticket). cond t.started 1 0) s.tickets i no_ticket h, counts (ticket_at s.tickets i).started e)
 
   -- nothing stands against a call on a range
@@ -148,7 +142,7 @@ module _ (s : State) (i : ℕ) (ok : IsCalm s) (h : i < length s.tickets) where
   on_range kind.Whole e n = absurd (n refl)
 
   -- no replica is left for it
-  pub none_sound : k ≢ kind.Whole → HasNoSource (modes_in s) → count_by (λ t. t.started) (remove s.tickets i) + length s.commands + count_by is_up (modes_in s) + 1 ≤ s.book.spare → IsCalm (ended s i (reply.Refused NoReplica))
+  pub none_sound : k ≢ kind.Whole → HasNoSource (modes_in s) → count_by (λ t. t.started) (remove s.tickets i) + length s.commands + count_by is_up (modes_in s) + owed_end s.rebuild + 1 ≤ s.book.spare → IsCalm (ended s i (reply.Refused NoReplica))
   none_sound range none room =
       ended_sound (reply.Refused NoReplica) (told_of s).volume range
       (none_answered (modes_in s) (told_of s) (its (reply.Refused NoReplica)) (on_range k refl range) (asks_one k c range) (λ x e. no_command k c x range e) refl none) refl
@@ -190,40 +184,3 @@ module _ (s : State) (i : ℕ) (ok : IsCalm s) (h : i < length s.tickets) where
 pub refused_start_sound : (s : State) (i : ℕ) → IsCalm s → i < length s.tickets → (ticket_at s.tickets i).kind ≢ kind.Whole → HasNoSource (modes_in s) → IsCalm (ended (with_place s) i (reply.Refused NoReplica))
 refused_start_sound s i ok h range none =
     none_sound (with_place s) i (place_sound (told_of s).volume s.nodes s ok) h range none (omega (arith, ok.spare, sum_by-remove (λ (t : Ticket). cond t.started 1 0) s.tickets i no_ticket h))
-
--- ---- a replica fails
-
--- it may, where no rebuild is open
-pub may_fall : (modes : List Mode) (before after : List Entry) (r : ℕ) → mode_of modes r ≢ Err → IsOpenOnly before None → MayFall modes before after r
-may_fall modes before after r up none = record { up = up; ends = λ q t is who. absurd (none q t is) }
-
-abbrev as_up : Mode → ℕ
-as_up m = cond (is_up m) 1 0
-
-pub failed_room : (modes : List Mode) (r : ℕ) → mode_of modes r ≢ Err → count_by is_up (set modes r Err) + 1 ≡ count_by is_up modes
-failed_room modes r up = omega (arith, sum_by-set as_up modes r Err Err (up_in modes r up), one (mode_of modes r) up)
-  where
-    one : (m : Mode) → m ≢ Err → as_up m ≡ 1
-    one Rw n = refl
-    one Wo n = refl
-    one Err n = absurd (n refl)
-
-pub faulted_sound : (v : Volume) (ns : List Node) (s : State) (stream r count : ℕ) → IsSoundOn v ns s → mode_of (modes_in s) r ≢ Err → last_count stream r s.book.entries < count → IsSoundOn v ns (faulted s stream r count)
-faulted_sound v ns s stream r count ok up above =
-    let o = opening_of s in
-    let m = mark.Fault stream r count in
-    let e = entry.Mark m in
-    let longer = s.book.entries ++ e ∷ [] in
-    let modes : set (modes_in s) r Err ≡ modes_after o.modes longer = sym (modes_after-push o.modes s.book.entries e) in
-    record {
-      opened = ok.opened;
-      told = record {
-        legal = IsLegal-push o s.book.entries e ok.told.legal (may_fall (modes_in s) s.book.entries [] r up ok.told.ordered.rebuild);
-        ordered = mark_ordered o s.book.entries s.indices None None m ok.told.ordered tt (rise-fault s.book.entries stream r count above ok.told.ordered.rise) (open_fault s.book.entries stream r count None ok.told.ordered.rebuild);
-      };
-      clients = same_clients v s.size (length s.indices) (length s.indices) longer (set (modes_in s) r Err) (modes_after o.modes longer) s.tickets s.calls ns
-          refl modes
-          (seen_clients v s.size (length s.indices) s.book.entries longer (set (modes_in s) r Err) s.tickets s.calls ns (seen_mark s.book.entries s.calls ok.clients.seen m)
-          (failed_clients v s.size (length s.indices) r s.book.entries (modes_in s) s.tickets s.calls ns up ok.clients));
-      spare = omega (arith, ok.spare, failed_room (modes_in s) r up, ap (count_by is_up) modes);
-    }

@@ -1,9 +1,14 @@
 pub mod Told
+pub mod FarLemmas
+pub mod RebuildKept
 pub mod Opens
 pub mod Answered
 pub mod Rows
 pub mod Ends
-pub mod Keep
+pub mod Falls
 pub mod Now
+pub mod Keep
+pub mod FallsKept
 pub mod CallLemmas
+pub mod Appends
 pub mod Moves

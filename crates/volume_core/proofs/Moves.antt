@@ -1,17 +1,9 @@
 -- What each step leaves to other streams, and what its own sees.
-use Rattle.std.proofs.Common.{◌≡◌, ℕ, ◌+◌, ◌<◌, ⊎_elim, true, false, List, [], ◌∷◌, ◌++◌, length, length-set, map, set, subst, sym, refl, ap, ◌∙◌, arith, append-nil, append_assoc}
-use Rattle.std.specs.Prelude.{Option, None, Some}
+use Rattle.std.proofs.Common.{◌≡◌, ℕ, ◌+◌, ◌<◌, ⊎_elim, true, false, List, [], ◌∷◌, length, length-set, map, set, subst, sym, refl, ap, ◌∙◌, arith, append-nil}
 use lib.Seq.{set-get_or}
 use Rattle.vol_units.specs.declared.range.BlockRange.{BlockRange}
 use Rattle.volume_model.specs.declared.call.Call.{Call}
 use Rattle.volume_model.specs.declared.call.Reply.{Reply}
-use Rattle.volume_model.specs.declared.entry.Answer.{Answer}
-use Rattle.volume_model.specs.declared.entry.Entry.{Entry}
-use Rattle.volume_model.specs.declared.entry.Entry.TheVariants as entry
-use Rattle.volume_model.specs.declared.mark.Mark.TheVariants as mark
-use Rattle.volume_model.specs.declared.mode.Mode.{Mode}
-use Rattle.volume_model.specs.declared.mode.Mode.TheVariants.{Rw, Wo, Err}
-use Rattle.volume_model.specs.Modes.{mode_of}
 use Rattle.range_turns.specs.declared.ticket.Kind.{Kind}
 use Rattle.range_turns.specs.declared.ticket.Kind.TheVariants as kind
 use Rattle.range_turns.specs.declared.ticket.Ticket.{Ticket}
@@ -21,17 +13,17 @@ use Rattle.open_calls.specs.declared.open_call.OpenCall.{OpenCall}
 use Rattle.open_calls.specs.Calls.{open_at, call_asked, whole_of, begun, with_part_at, read_from}
 use Rattle.open_calls.specs.declared.parts.Part.{Part}
 use Rattle.open_calls.specs.Clients.{IsIdle}
-use Rattle.volume_core.specs.State.{State, modes_in, index_at}
-use Rattle.volume_core.specs.Steps.{with_place, answered, ended, without_call, started, faulted, answer_entry}
+use Rattle.volume_core.specs.State.{State, modes_in, index_at, gave_up_at}
+use Rattle.volume_core.specs.Steps.{with_place, ended, without_call, started, answer_entry}
 use Rattle.volume_core.specs.Sound.{IsSound}
-use Rattle.volume_core.specs.Answers.{IsRoomier, IsBehind, IsAnsweredNow, Completes, BeginsBy, failed_by, failed_in, after_fail}
-use Rattle.volume_core.specs.Streams.{calls_in, running, commands_in, turning, Open, open_of, opens, IsOpen, MayAppend, MayGo, Stays, Begun, IsAnsweredTo, IsTakenBack, ForOwner, origin_of}
+use Rattle.volume_core.specs.Answers.{IsRoomier, IsBehind, Completes, BeginsBy}
+use Rattle.volume_core.specs.Streams.{running, turning, Open, open_of, opens, IsOpen, MayGo, Stays, Begun, IsAnsweredTo, IsTakenBack, ForOwner, origin_of}
 use Rattle.volume_core.proofs.CallLemmas.{calls-set_other, calls-set_own, calls-push_other, calls-push_own, calls-remove_other, calls-remove_own, calls-one, calls-place, calls-idle}
 
 -- ---- nothing but places
 
 pub may_same : (n : ℕ) (s : State) → IsSound s → MayGo n s s
-may_same n s ok = record { sound = ok; origin = refl; added = ([], sym (append-nil s.book.entries), tt); others = λ m h. refl; turns = λ m h. refl }
+may_same n s ok = record { sound = ok; origin = refl; added = ([], sym (append-nil s.book.entries), tt); others = λ m h. refl; turns = λ m h. refl; gave_up = λ m h. refl }
 
 pub may_roomier : (n : ℕ) (s s2 : State) → IsSound s2 → IsRoomier s s2 → MayGo n s s2
 may_roomier n s s2 ok r = record {
@@ -40,6 +32,7 @@ may_roomier n s s2 ok r = record {
   added = ([], ap (λ (x : State). x.book.entries) r.state ∙ sym (append-nil s.book.entries), tt);
   others = λ m h. ap (λ (x : State). running x m) r.state;
   turns = λ m h. ap (λ (x : State). turning x m) r.state;
+  gave_up = λ m h. ap (λ (x : State). gave_up_at x.gave_up m) r.state;
 }
 
 pub stays_same : (n : ℕ) (s : State) → Stays n s s
@@ -97,6 +90,7 @@ module _ (n : ℕ) (c : Call) (s : State) (i : ℕ) (ok : IsSound s) (h : i < le
     others = λ m other. ap (λ (x : State). running x m) is
         ∙ calls-set_other m s.tickets s.calls i t y (λ e. other (sym e ∙ own.stream)) (λ e. other (sym e ∙ same ∙ own.stream));
     turns = λ m other. ap (λ (x : State). turning x m) is;
+    gave_up = λ m other. ap (λ (x : State). gave_up_at x.gave_up m) is;
   }
 
   -- what the stream then has open
@@ -137,6 +131,7 @@ module _ (n : ℕ) (c : Call) (s : State) (i : ℕ) (ok : IsSound s) (h : i < le
     added = ([], ap (λ (x : State). x.book.entries) is ∙ sym (append-nil s.book.entries), tt);
     others = λ m other. ap (λ (x : State). running x m) is ∙ calls-remove_other m s.tickets s.calls i ok.on.clients.paired (λ e. other (sym e ∙ own.stream));
     turns = λ m other. ap (λ (x : State). turning x m) is;
+    gave_up = λ m other. ap (λ (x : State). gave_up_at x.gave_up m) is;
   }
 
   none_left : running (without_call s i) n ≡ []
@@ -155,6 +150,7 @@ module _ (n : ℕ) (c : Call) (s : State) (i : ℕ) (ok : IsSound s) (h : i < le
     added = (answer_entry (without_call s i) (open_at s.calls i).stream (open_at s.calls i).saw (call_asked (ticket_at s.tickets i).kind (open_at s.calls i)) r ∷ [], ap (λ (x : State). x.book.entries) is, (own.stream, tt));
     others = λ m other. ap (λ (x : State). running x m) is ∙ calls-remove_other m s.tickets s.calls i ok.on.clients.paired (λ e. other (sym e ∙ own.stream));
     turns = λ m other. ap (λ (x : State). turning x m) is;
+    gave_up = λ m other. ap (λ (x : State). gave_up_at x.gave_up m) is;
   }
 
   pub answered_ended : (s2 : State) (spare : ℕ) (r : Reply) → s2 ≡ ended (record s { book = record s.book { spare = spare } }) i r → IsAnsweredTo n c s s2
@@ -222,85 +218,7 @@ module _ (s s2 : State) (t i : ℕ) (ok : IsSound s) (ok2 : IsSound s2) (stands 
       one_open : (a b : ℕ) (x y : Call) (r : BlockRange) (w : List ℕ) → a ≡ b → x ≡ y → as_open a r x w ∷ [] ≡ as_open b r y w ∷ []
       one_open a b x y r w p q = cc
 
--- ---- what is appended without a call
-
--- a World with more entries, and the same calls
-pub record Appends (n : ℕ) (s s1 : State) : Type 0 where
-  pub marks : List Entry
-  pub entries : s1.book.entries ≡ s.book.entries ++ marks
-  pub may : MayAppend n marks
-  pub origin : origin_of s1 ≡ origin_of s
-  pub tickets : s1.tickets ≡ s.tickets
-  pub calls : s1.calls ≡ s.calls
-  pub maint : s1.maint ≡ s.maint
-  pub commands : s1.commands ≡ s.commands
-
-failed_appends : (n : ℕ) (m : Mode) (s : State) (r : ℕ) → Appends n s (failed_in m s r)
-failed_appends n Err s r = record { marks = []; entries = sym (append-nil s.book.entries); may = tt; origin = refl; tickets = refl; calls = refl; maint = refl; commands = refl }
-failed_appends n Rw s r = record { marks = entry.Mark (mark.Failed r) ∷ []; entries = refl; may = (tt, tt); origin = refl; tickets = refl; calls = refl; maint = refl; commands = refl }
-failed_appends n Wo s r = record { marks = entry.Mark (mark.Failed r) ∷ []; entries = refl; may = (tt, tt); origin = refl; tickets = refl; calls = refl; maint = refl; commands = refl }
-
-fail_appends : (n : ℕ) (s : State) (r : Option ℕ) → Appends n s (after_fail s r)
-fail_appends n s None = record { marks = []; entries = sym (append-nil s.book.entries); may = tt; origin = refl; tickets = refl; calls = refl; maint = refl; commands = refl }
-fail_appends n s (Some r) = failed_appends n (mode_of (modes_in s) r) s r
-
-may_append : (n : ℕ) (xs : List Entry) (a : Answer) → MayAppend n xs → a.stream ≡ n → MayAppend n (xs ++ entry.Answer a ∷ [])
-may_append n [] a may by = (by, tt)
-may_append n (entry.Answer b ∷ xs) a may by = (may.0, may_append n xs a may.1 by)
-may_append n (entry.Mark m ∷ xs) a may by = (may.0, may_append n xs a may.1 by)
-
--- a call of a stream that has none open is answered behind them
-module _ (n : ℕ) (s s1 s2 : State) (saw : ℕ) (c : Call) (r : Reply) (more : Appends n s s1) (is : s2 ≡ answered s1 n saw c r) where
-  entries_now : s2.book.entries ≡ s.book.entries ++ (more.marks ++ answer_entry s1 n saw c r ∷ [])
-  entries_now = ap (λ (x : State). x.book.entries) is ∙ ap (λ l. l ++ answer_entry s1 n saw c r ∷ []) more.entries ∙ append_assoc s.book.entries more.marks (answer_entry s1 n saw c r ∷ [])
-
-  runs_now : (m : ℕ) → running s2 m ≡ running s m
-  runs_now m = ap (λ (x : State). running x m) is ∙ ap (λ ts. calls_in m ts s1.calls) more.tickets ∙ ap (calls_in m s.tickets) more.calls
-
-  pub answered_may : IsSound s2 → MayGo n s s2
-  answered_may ok2 = record {
-    sound = ok2;
-    origin = ap origin_of is ∙ ap (λ k. record { first = s1.first; opening = s1.book.opening; size = s1.size; streams = k; replicas = length s1.nodes }) (length-set s1.indices n (index_at s1.indices n + 1)) ∙ more.origin;
-    added = (more.marks ++ answer_entry s1 n saw c r ∷ [], entries_now, may_append n more.marks (record { call = c; reply = r; index = index_at s1.indices n; saw = saw; stream = n }) more.may refl);
-    others = λ m other. runs_now m;
-    turns = λ m other. ap (λ (x : State). turning x m) is ∙ ap (λ ts. commands_in m ts s1.commands) more.maint ∙ ap (commands_in m s.maint) more.commands;
-  }
-
-  pub answered_sees : IsIdle n s.calls → IsAnsweredTo n c s s2
-  answered_sees idle = record {
-    marks = more.marks;
-    answer = record { call = c; reply = r; index = index_at s1.indices n; saw = saw; stream = n };
-    call = refl;
-    by = refl;
-    entries = entries_now;
-    idle = ap (map open_of) (runs_now n ∙ calls-idle n s.tickets s.calls idle);
-  }
-
-pub now_may : (n : ℕ) (s s2 : State) (c : Call) (place : ℕ) → IsAnsweredNow s n c place s2 → IsSound s2 → MayGo n s s2
-now_may n s s2 c place a ok2 = answered_may n s (after_fail (with_place s) (failed_by c)) s2 (length s.book.entries) c _ (placed (fail_appends n (with_place s) (failed_by c))) a.state ok2
-  where
-    placed : {s1 : State} → Appends n (with_place s) s1 → Appends n s s1
-    placed a = record { marks = a.marks; entries = a.entries; may = a.may; origin = a.origin; tickets = a.tickets; calls = a.calls; maint = a.maint; commands = a.commands }
-
-pub now_sees : (n : ℕ) (s s2 : State) (c : Call) (place : ℕ) → IsAnsweredNow s n c place s2 → IsIdle n s.calls → IsAnsweredTo n c s s2
-now_sees n s s2 c place a idle = answered_sees n s (after_fail (with_place s) (failed_by c)) s2 (length s.book.entries) c _ (placed (fail_appends n (with_place s) (failed_by c))) a.state idle
-  where
-    placed : {s1 : State} → Appends n (with_place s) s1 → Appends n s s1
-    placed a = record { marks = a.marks; entries = a.entries; may = a.may; origin = a.origin; tickets = a.tickets; calls = a.calls; maint = a.maint; commands = a.commands }
-
-pub fault_may : (n : ℕ) (s s2 : State) (r count : ℕ) → s2 ≡ faulted s n r count → IsSound s2 → MayGo n s s2
-fault_may n s s2 r count is ok2 = record {
-  sound = ok2;
-  origin = ap origin_of is;
-  added = (entry.Mark (mark.Fault n r count) ∷ [], ap (λ (x : State). x.book.entries) is, (refl, tt));
-  others = λ m other. ap (λ (x : State). running x m) is;
-  turns = λ m other. ap (λ (x : State). turning x m) is;
-}
-
 -- ---- an enrolment
-
-pub nothing_more : (n : ℕ) (s : State) → Appends n s (with_place s)
-nothing_more n s = record { marks = []; entries = sym (append-nil s.book.entries); may = tt; origin = refl; tickets = refl; calls = refl; maint = refl; commands = refl }
 
 pub behind_may : (n t : ℕ) (c : Call) (s s2 : State) → IsBehind s n c t s2 → IsSound s → IsSound s2 → MayGo n s s2
 behind_may n t c s s2 b ok ok2 = record {
@@ -310,6 +228,7 @@ behind_may n t c s s2 b ok ok2 = record {
   others = λ m other. ap (λ (x : State). running x m) b.state
       ∙ calls-push_other m s.tickets s.calls (record { number = t; range = b.range; kind = b.kind; started = false }) b.new ok.on.clients.paired (λ e. other (sym e ∙ b.by));
   turns = λ m other. ap (λ (x : State). turning x m) b.state;
+  gave_up = λ m other. ap (λ (x : State). gave_up_at x.gave_up m) b.state;
 }
 
 pub behind_sees : (n t : ℕ) (c : Call) (s s2 : State) → IsBehind s n c t s2 → IsIdle n s.calls → IsSound s → Begun n t c s s2

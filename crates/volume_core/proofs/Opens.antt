@@ -1,5 +1,5 @@
 -- A World that has just been opened meets the invariant, and blank replicas may be opened.
-use Rattle.std.proofs.Common.{◌≡◌, ◌≢◌, ℕ, zero, ◌<◌, ◌≤◌, List, [], length, replicate, get_or, refl, sym, ap, subst, ◌∙◌, ⊎_elim, arith}
+use Rattle.std.proofs.Common.{◌≡◌, ◌≢◌, ℕ, zero, ◌<◌, ◌≤◌, false, List, [], length, replicate, get_or, refl, sym, ap, subst, ◌∙◌, ⊎_elim, arith}
 use Rattle.std.proofs.lemmas.List.{length-replicate, get_or-replicate, get_or_past}
 use Rattle.std.proofs.lemmas.Bool.{cases_lt}
 use Rattle.std.proofs.lemmas.List.Sums.{count_by-le-length}
@@ -8,7 +8,6 @@ use Rattle.volume_model.specs.declared.mode.Mode.{Mode}
 use Rattle.volume_model.specs.declared.mode.Mode.TheVariants.{Rw, Wo, Err}
 use Rattle.volume_model.specs.Modes.{mode_of}
 use Rattle.volume_model.specs.PlainState.{Volume}
-use Rattle.volume_model.proofs.JournalLemmas.{unasked≢open}
 use Rattle.journal_book.specs.declared.opening.Opening.{Opening}
 use Rattle.range_turns.specs.Order.{AreInOrder}
 use Rattle.replica_node.specs.Node.{Node, blank}
@@ -45,7 +44,7 @@ opened_sound size streams opening nodes s may is =
             index = λ stream l. none_answered streams stream l;
             few = λ stream l. omega (arith, none_answered streams stream l);
             own = begin.own;
-            rebuild = λ q t e. unasked≢open t e;
+            rebuild = λ q. refl;
           };
         };
         clients = record {
@@ -81,7 +80,10 @@ opened_sound size streams opening nodes s may is =
         fits = λ i l. absurd (omega arith);
       };
       disk = begin.long;
-      settled = may.rebuilt;
+      rebuild = record { roles = may.rebuilt; claim = tt };
+      adds = record { of_begun = tt; of_ended = tt; one = tt };
+      fell = λ none. tt;
+      streams = length-replicate streams false ∙ sym (length-replicate streams zero);
     })
   where
     no_order : AreInOrder []

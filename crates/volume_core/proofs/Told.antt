@@ -11,17 +11,19 @@ use Rattle.volume_model.specs.Faults.{CountsRise}
 use Rattle.volume_model.specs.History.{Spot, IsAnswered, IsEnded, InOrderFrom, answers_of}
 use Rattle.volume_model.specs.Modes.{modes_after}
 use Rattle.volume_model.specs.Names.{AreOwnFree}
-use Rattle.volume_model.specs.Rebuilds.{added_by, IsOpenOnly}
+use Rattle.volume_model.specs.Rebuilds.{added_by, rebuild_of, rebuild_after_add}
 use Rattle.volume_model.specs.Replay.{replay}
 use Rattle.volume_model.proofs.FaultLemmas.{rise-answer}
 use Rattle.volume_model.proofs.OwnNames.{IsOwn, own_entry}
 use Rattle.volume_model.proofs.PushLemmas.{IsLegal-push}
-use Rattle.volume_model.proofs.RebuildLemmas.{open_answer}
+use Rattle.volume_model.proofs.RebuildLemmas.{rebuild_of-push}
 use Rattle.volume_model.proofs.StepLemmas.{replay-push}
 use Rattle.open_calls.specs.Clients.{place_behind, behind_last}
 use Rattle.open_calls.proofs.SeenLemmas.{own_more, other_more, mark_more}
 use Rattle.volume_core.specs.State.{index_at}
-use Rattle.volume_core.specs.Sound.{IsOrdered, IsTold}
+use Rattle.open_rebuild.specs.declared.rebuilding.Rebuilding.{Rebuilding}
+use Rattle.volume_core.specs.declared.world.EndedRebuild.{EndedRebuild}
+use Rattle.volume_core.specs.Sound.{IsOrdered, IsTold, how_far}
 
 -- answers in order, and more of them behind these
 order-append : (index least : ℕ) (xs ys : List (ℕ × Answer)) → InOrderFrom index least xs → InOrderFrom (index + length xs) (place_behind least xs) ys → InOrderFrom index least (xs ++ ys)
@@ -36,10 +38,10 @@ own_free : (o : Spot) (es : List Entry) (e : Entry) → IsOwn (replay o.state es
 own_free o es e is free = subst AreOwnFree (sym (replay-push o.state es e)) (own_entry (replay o.state es) e is free)
 
 -- an answer of the next index, which saw the stream's last and no more than there is
-pub answer_ordered : (o : Spot) (es : List Entry) (indices : List ℕ) (b : Option (ℕ × ℕ)) (a : Answer) → IsOrdered o es indices b → IsOwn (replay o.state es) (entry.Answer a) → added_by a.call ≡ None
+pub answer_ordered : (o : Spot) (es : List Entry) (indices : List ℕ) (b : Option Rebuilding) (g : Option EndedRebuild) (a : Answer) → IsOrdered o es indices b g → IsOwn (replay o.state es) (entry.Answer a) → added_by a.call ≡ None
     → a.stream < length indices → a.index ≡ index_at indices a.stream → behind_last a.stream es ≤ a.saw → a.saw ≤ length es
-    → IsOrdered o (es ++ entry.Answer a ∷ []) (set indices a.stream (index_at indices a.stream + 1)) b
-answer_ordered o es indices b a ok is_own none within is past saw = record {
+    → IsOrdered o (es ++ entry.Answer a ∷ []) (set indices a.stream (index_at indices a.stream + 1)) b g
+answer_ordered o es indices b g a ok is_own none within is past saw = record {
   rise = rise-answer es a ok.rise;
   order = λ stream. ⊎_elim
       (λ e. subst (λ s. InOrderFrom 0 0 (answers_of s (es ++ entry.Answer a ∷ []))) e (subst (InOrderFrom 0 0) (sym (own_more es a))
@@ -59,13 +61,13 @@ answer_ordered o es indices b a ok is_own none within is past saw = record {
       (λ n. omega (arith, get_or-set_other indices a.stream stream (index_at indices a.stream + 1) 0 (λ e. n (sym e)), ok.few stream (omega (arith, length-set indices a.stream (index_at indices a.stream + 1))), length-append es (entry.Answer a ∷ [])))
       (cases_eq a.stream stream);
   own = own_free o es (entry.Answer a) is_own ok.own;
-  rebuild = open_answer es a b none ok.rebuild;
+  rebuild = λ q. rebuild_of-push q es (entry.Answer a) ∙ ap (rebuild_after_add q (rebuild_of q es)) none ∙ ok.rebuild q;
 }
 
 -- a mark
-pub mark_ordered : (o : Spot) (es : List Entry) (indices : List ℕ) (b b2 : Option (ℕ × ℕ)) (m : Mark) → IsOrdered o es indices b → IsOwn (replay o.state es) (entry.Mark m)
-    → CountsRise (es ++ entry.Mark m ∷ []) → IsOpenOnly (es ++ entry.Mark m ∷ []) b2 → IsOrdered o (es ++ entry.Mark m ∷ []) indices b2
-mark_ordered o es indices b b2 m ok is_own rise rebuild = record {
+pub mark_ordered : (o : Spot) (es : List Entry) (indices : List ℕ) (b b2 : Option Rebuilding) (g g2 : Option EndedRebuild) (m : Mark) → IsOrdered o es indices b g → IsOwn (replay o.state es) (entry.Mark m)
+    → CountsRise (es ++ entry.Mark m ∷ []) → ((q : ℕ) → rebuild_of q (es ++ entry.Mark m ∷ []) ≡ how_far b2 g2 q) → IsOrdered o (es ++ entry.Mark m ∷ []) indices b2 g2
+mark_ordered o es indices b b2 g g2 m ok is_own rise rebuild = record {
   rise = rise;
   order = λ stream. subst (InOrderFrom 0 0) (sym (mark_more es m stream)) (ok.order stream);
   index = λ stream l. ok.index stream l ∙ sym (ap length (mark_more es m stream));
@@ -75,10 +77,10 @@ mark_ordered o es indices b b2 m ok is_own rise rebuild = record {
 }
 
 -- the answer of a call that is no add
-pub answer_told : (o : Spot) (es : List Entry) (indices : List ℕ) (b : Option (ℕ × ℕ)) (a : Answer) → IsTold o es indices b → IsOwn (replay o.state es) (entry.Answer a) → added_by a.call ≡ None
+pub answer_told : (o : Spot) (es : List Entry) (indices : List ℕ) (b : Option Rebuilding) (g : Option EndedRebuild) (a : Answer) → IsTold o es indices b g → IsOwn (replay o.state es) (entry.Answer a) → added_by a.call ≡ None
     → IsAnswered (replay o.state es) (modes_after o.modes es) a → a.stream < length indices → a.index ≡ index_at indices a.stream → behind_last a.stream es ≤ a.saw → a.saw ≤ length es
-    → IsTold o (es ++ entry.Answer a ∷ []) (set indices a.stream (index_at indices a.stream + 1)) b
-answer_told o es indices b a ok is_own none may within is past saw = record {
+    → IsTold o (es ++ entry.Answer a ∷ []) (set indices a.stream (index_at indices a.stream + 1)) b g
+answer_told o es indices b g a ok is_own none may within is past saw = record {
   legal = IsLegal-push o es (entry.Answer a) ok.legal (subst (λ x. IsEnded x es (replay o.state es) (modes_after o.modes es) a) (sym none) may);
-  ordered = answer_ordered o es indices b a ok.ordered is_own none within is past saw;
+  ordered = answer_ordered o es indices b g a ok.ordered is_own none within is past saw;
 }

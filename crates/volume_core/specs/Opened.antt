@@ -1,5 +1,5 @@
 -- A World that has just been opened.
-use Rattle.std.specs.Prelude.{◌≡◌, ◌≢◌, ℕ, ◌≤◌, List, [], length, replicate, None}
+use Rattle.std.specs.Prelude.{◌≡◌, ◌≢◌, ℕ, ◌≤◌, false, List, [], length, replicate, None}
 use Rattle.volume_model.specs.declared.mode.Mode.TheVariants.{Rw, Wo}
 use Rattle.volume_model.specs.Modes.{mode_of, HasSource, IsSource}
 use Rattle.volume_model.specs.Names.{TellOf, AreNamed, AreOwnFree, names_in}
@@ -35,7 +35,7 @@ pub record MayOpen (size : ℕ) (opening : Opening) (nodes : List Node) : Type 0
   pub agree : (r q : ℕ) → mode_of opening.modes r ≡ Rw → mode_of opening.modes q ≡ Rw
       → volume_of_node (node_at nodes r) ≡ volume_of_node (node_at nodes q)
 
--- no call, and a place for each replica to fail
+-- no call, no rebuild, and a place for each replica to fail
 pub record IsOpenedOn (size : ℕ) (opening : Opening) (nodes : List Node) (streams : ℕ) (s : State) : Type 0 where
   pub source : ℕ
   pub first : IsSource opening.modes source
@@ -48,6 +48,9 @@ pub record IsOpenedOn (size : ℕ) (opening : Opening) (nodes : List Node) (stre
     whole = None;
     maint = [];
     commands = [];
+    rebuild = None;
+    ended = None;
+    gave_up = replicate streams false;
     indices = replicate streams 0;
     book = record { opening = opening; entries = []; spare = length nodes };
   }

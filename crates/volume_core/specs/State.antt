@@ -1,5 +1,5 @@
 -- A World as lists.
-use Rattle.std.specs.Prelude.{ℕ, List, slice_index_or, Option}
+use Rattle.std.specs.Prelude.{ℕ, Bool, false, List, slice_index_or, Option}
 use Rattle.volume_model.specs.declared.mode.Mode.{Mode}
 use Rattle.volume_model.specs.PlainState.{PlainState}
 use Rattle.volume_model.specs.Names.{names_in}
@@ -12,11 +12,14 @@ use Rattle.replica_state.specs.Volume.{volume_of_node}
 use Rattle.open_calls.specs.declared.open_call.OpenCall.{OpenCall}
 use Rattle.whole_calls.specs.declared.maint.MaintCall.{MaintCall}
 use Rattle.whole_calls.specs.declared.whole.Whole.{Whole}
+use Rattle.open_rebuild.specs.declared.rebuilding.Rebuilding.{Rebuilding}
+use Rattle.volume_core.specs.declared.world.EndedRebuild.{EndedRebuild}
 use Rattle.volume_core.specs.declared.world.World.{World}
 
 -- The size, the replica that showed how the volume began, the replicas as they are, the tickets that have not ended and
 -- the call of each, the one on the whole volume that has started, the tickets of the maintenance turn and the command of
--- each, how many calls of each stream were answered, and the journal.
+-- each, the rebuild that is open, the one of the command in turn that was aborted, which streams gave a rebuild up for
+-- want of memory, how many calls of each stream were answered, and the journal.
 pub record State : Type 0 where
   pub size : ℕ
   pub first : Node
@@ -26,6 +29,9 @@ pub record State : Type 0 where
   pub whole : Option Whole
   pub maint : List Ticket
   pub commands : List MaintCall
+  pub rebuild : Option Rebuilding
+  pub ended : Option EndedRebuild
+  pub gave_up : List Bool
   pub indices : List ℕ
   pub book : Book
 
@@ -39,6 +45,9 @@ state_of w = record {
   whole = w.whole;
   maint = w.maint.tickets;
   commands = w.commands.items;
+  rebuild = w.rebuild;
+  ended = w.ended;
+  gave_up = w.gave_up.items;
   indices = w.indices.items;
   book = w.journal;
 }
@@ -61,3 +70,7 @@ modes_in s = modes_of s.book
 -- how many calls of the stream were answered
 abbrev pub index_at : List ℕ → ℕ → ℕ
 index_at indices stream = slice_index_or indices stream 0
+
+-- whether the stream gave a rebuild up
+abbrev pub gave_up_at : List Bool → ℕ → Bool
+gave_up_at gave_up stream = slice_index_or gave_up stream false

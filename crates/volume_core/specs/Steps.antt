@@ -1,9 +1,10 @@
 -- What each step makes of a World.
-use Rattle.std.specs.Prelude.{ℕ, ◌+◌, ◌-◌, List, [], ◌∷◌, ◌++◌, slice_set, remove}
+use Rattle.std.specs.Prelude.{ℕ, ◌+◌, ◌-◌, ◌==◌, Bool, false, ◌||◌, List, [], ◌∷◌, ◌++◌, length, slice_set, remove, Option, None, Some, if◌then◌else◌}
 use Rattle.volume_model.specs.declared.call.Call.{Call}
 use Rattle.volume_model.specs.declared.call.Reply.{Reply}
 use Rattle.volume_model.specs.declared.entry.Entry.{Entry}
 use Rattle.volume_model.specs.declared.entry.Entry.TheVariants as entry
+use Rattle.volume_model.specs.declared.mark.Mark.{Mark}
 use Rattle.volume_model.specs.declared.mark.Mark.TheVariants as mark
 use Rattle.journal_book.specs.Book.{Book}
 use Rattle.range_turns.specs.declared.ticket.Ticket.{Ticket}
@@ -13,6 +14,7 @@ use Rattle.replica_node.specs.Room.{put_at}
 use Rattle.open_calls.specs.declared.open_call.OpenCall.{OpenCall}
 use Rattle.open_calls.specs.declared.parts.Part.TheVariants.{Taken, Acked}
 use Rattle.open_calls.specs.Calls.{open_at, node_at, call_asked, whole_of, with_part_at, read_from, begun}
+use Rattle.open_rebuild.specs.declared.rebuilding.Rebuilding.{Rebuilding}
 use Rattle.volume_core.specs.State.{State, modes_in, index_at}
 
 -- ---- the journal
@@ -42,13 +44,45 @@ answered s stream saw c r = record s {
   book = with_entry s.book (answer_entry s stream saw c r);
 }
 
+-- a mark
+abbrev pub marked : State → Mark → State
+marked s m = record s { book = with_entry s.book (entry.Mark m) }
+
+-- ---- a replica fails
+
+-- the replica is the source or the target of the rebuild that is open
+abbrev pub has_part : Option Rebuilding → ℕ → Bool
+has_part None r = false
+has_part (Some b) r = r == b.target || r == b.source
+
+-- so many marks stand where a replica fails: its own, and that of the rebuild in which it has a part
+abbrev pub marks_of_fall : Option Rebuilding → ℕ → ℕ
+marks_of_fall begun r = if has_part begun r then 2 else 1
+
+-- the rebuild of that replica is aborted, in the mark that stands next
+abbrev pub aborted : State → ℕ → State
+aborted s target = record s {
+  rebuild = None;
+  ended = Some (record { target = target; place = length s.book.entries });
+  book = with_entry s.book (entry.Mark (mark.Aborted target));
+}
+
+-- the rebuild that is open is aborted where the replica has a part in it
+abbrev pub aborted_with : Option Rebuilding → State → ℕ → State
+aborted_with None s r = s
+aborted_with (Some b) s r = if has_part (Some b) r then aborted s b.target else s
+
+-- what the fall of a replica makes of the World, behind its mark
+abbrev pub behind_fall : State → ℕ → State
+behind_fall s r = aborted_with s.rebuild s r
+
 -- the line of a stream to the replica failed, so the replica did
 abbrev pub faulted : State → ℕ → ℕ → ℕ → State
-faulted s stream r count = record s { book = with_entry s.book (entry.Mark (mark.Fault stream r count)) }
+faulted s stream r count = behind_fall (marked s (mark.Fault stream r count)) r
 
 -- the replica was told to fail
 abbrev pub failed : State → ℕ → State
-failed s r = record s { book = with_entry s.book (entry.Mark (mark.Failed r)) }
+failed s r = behind_fall (marked s (mark.Failed r)) r
 
 -- ---- the call at a place
 

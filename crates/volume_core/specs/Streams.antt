@@ -1,5 +1,5 @@
 -- What a step for one stream leaves to the others, and what its own stream sees of it.
-use Rattle.std.specs.Prelude.{◌≡◌, ◌≢◌, ℕ, ◌==◌, List, [], ◌∷◌, ◌++◌, length, map, if◌then◌else◌}
+use Rattle.std.specs.Prelude.{◌≡◌, ◌≢◌, ◌⊎◌, ℕ, ◌==◌, List, [], ◌∷◌, ◌++◌, length, map, if◌then◌else◌}
 use Rattle.vol_units.specs.declared.range.BlockRange.{BlockRange}
 use Rattle.volume_model.specs.declared.call.Call.{Call}
 use Rattle.volume_model.specs.declared.entry.Answer.{Answer}
@@ -17,7 +17,7 @@ use Rattle.volume_core.specs.declared.admit.Admit.{Admit}
 use Rattle.volume_core.specs.declared.admit.Admit.TheVariants as admit
 use Rattle.volume_core.specs.declared.enrol.Enrolled.{Enrolled}
 use Rattle.volume_core.specs.declared.enrol.Enrolled.TheVariants as enrol
-use Rattle.volume_core.specs.State.{State}
+use Rattle.volume_core.specs.State.{State, gave_up_at}
 use Rattle.volume_core.specs.Sound.{IsSound}
 
 -- ---- the open calls of a stream
@@ -97,6 +97,7 @@ pub record MayGo (stream : ℕ) (s s2 : State) : Type 0 where
   pub added : (es : List Entry) × (s2.book.entries ≡ s.book.entries ++ es) × MayAppend stream es
   pub others : (other : ℕ) → other ≢ stream → running s2 other ≡ running s other
   pub turns : (other : ℕ) → other ≢ stream → turning s2 other ≡ turning s other
+  pub gave_up : (other : ℕ) → other ≢ stream → gave_up_at s2.gave_up other ≡ gave_up_at s.gave_up other
 
 -- ---- what its own stream sees
 
@@ -124,9 +125,15 @@ pub record IsTakenBack (stream : ℕ) (s s2 : State) : Type 0 where
   pub entries : s2.book.entries ≡ s.book.entries
   pub idle : opens s2 stream ≡ []
 
--- a line of its own has shown a fault
+-- behind a fall stands at most the end of one rebuild
+abbrev pub IsBehindMark : List Entry → Type 0
+IsBehindMark ends = (ends ≡ []) ⊎ ((q : ℕ) × (ends ≡ entry.Mark (mark.Aborted q) ∷ []))
+
+-- a line of its own has shown a fault, behind which a rebuild may have ended
 pub record HasFault (stream r count : ℕ) (s s2 : State) : Type 0 where
-  pub entries : s2.book.entries ≡ s.book.entries ++ entry.Mark (mark.Fault stream r count) ∷ []
+  pub ends : List Entry
+  pub most : IsBehindMark ends
+  pub entries : s2.book.entries ≡ s.book.entries ++ entry.Mark (mark.Fault stream r count) ∷ ends
   pub same : opens s2 stream ≡ opens s stream
 
 -- ---- and of each answer

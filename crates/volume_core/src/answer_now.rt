@@ -1,11 +1,11 @@
 //! A call is answered at once.
 
-ghost use Rattle.std.specs.Prelude.{◌≡◌, ◌<◌, length, IfOk, OnErr};
+ghost use Rattle.std.specs.Prelude.{◌≡◌, ◌<◌, ◌≤◌, length, IfOk, OnErr, IfSome};
 ghost use Rattle.volume_model.specs.PlainStep.{plain_step};
 ghost use Rattle.open_calls.specs.Clients.{IsIdle};
 ghost use Rattle.whole_calls.specs.Maint.{HasNoCommand};
 ghost use Rattle.volume_core.specs.State.{state_of, modes_in, told_of};
-ghost use Rattle.volume_core.specs.Steps.{failed};
+ghost use Rattle.volume_core.specs.Steps.{marks_of_fall};
 ghost use Rattle.volume_core.specs.Sound.{IsSound};
 ghost use Rattle.volume_core.specs.Streams.{MayGo, Stays, IsAnsweredTo};
 ghost use Rattle.volume_core.specs.Answers.{IsNow, IsAnsweredNow, failed_by, after_fail};
@@ -59,15 +59,18 @@ impl World {
         }
     }
 
-    /// Lets a replica fail that the call names, unless it had. It takes no memory.
+    /// Lets a replica fail that the call names, unless it had, and aborts the rebuild of which it is the source or the
+    /// target. It takes no memory.
     fn follow_fail(&mut self, call: &Call)
-        requires { 0 < self.old.journal.spare }
+        requires { IfSome (failed_by call.now)
+            (λ r. marks_of_fall self.old.rebuild r ≤ self.old.journal.spare) }
         ensures { state_of self.new ≡ after_fail (state_of self.old) (failed_by call.now) }
     {
         if let Call::Command(Command::Fail(replica)) = call {
             if self.journal.mode(*replica) != Mode::Err {
                 self.journal
                     .push_reserved(Entry::Mark(Mark::Failed(*replica)));
+                self.abort_behind(*replica);
             }
         }
     }

@@ -5,6 +5,7 @@ ghost use Rattle.vol_units.specs.Bytes.{bytes_at};
 ghost use Rattle.vol_units.specs.declared.size.TheConstants.{BLOCK_BYTES};
 ghost use Rattle.volume_model.specs.Modes.{mode_of};
 ghost use Rattle.range_turns.specs.Order.{ticket_at};
+ghost use Rattle.replica_node.specs.Held.{IsChained};
 ghost use Rattle.replica_node.specs.Room.{HasRoom, head_blocks};
 ghost use Rattle.open_calls.specs.Parts.{IsTaken, part_at};
 ghost use Rattle.open_calls.specs.Calls.{open_at, node_at};
@@ -64,11 +65,15 @@ impl World {
         requires fits { (ticket_at self.old.turns.tickets i).range.end * BLOCK_BYTES
             ≤ length (node_at self.old.nodes.items replica).disk }
         ensures state { state_of self.new ≡ wrote (state_of self.old) i replica }
+        ensures chained { (count : ℕ) × IsChained (node_at self.old.nodes.items replica) count }
         ensures count { length blocks.new ≡ length blocks.old }
     {
         let range = self.turns.ticket(i).range;
         self.calls[i].parts.set(replica, Part::Taken);
-        self.nodes[replica as usize].write_blocks(range, blocks);
+        let node = &mut self.nodes[replica as usize];
+        // That the replica's own blocks make its readings, a proof learns here.
+        let _count = node.block_count();
+        node.write_blocks(range, blocks);
     }
 
     /// A replica gives the bytes of a started read, which are kept, and copied into a buffer of as many. It takes no

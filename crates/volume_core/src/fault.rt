@@ -1,20 +1,20 @@
 //! A line fails, and so its replica.
 
-ghost use Rattle.std.specs.Prelude.{◌≡◌, ◌≢◌, ◌<◌, length, OnOk, IfErr, OnErr};
+ghost use Rattle.std.specs.Prelude.{◌≡◌, ◌≢◌, ◌+◌, ◌<◌, ◌≤◌, length, OnOk, IfErr, OnErr};
 ghost use Rattle.volume_model.specs.Faults.{last_count};
 ghost use Rattle.volume_model.specs.Modes.{mode_of};
 ghost use Rattle.volume_core.specs.State.{state_of, modes_in};
-ghost use Rattle.volume_core.specs.Steps.{faulted};
+ghost use Rattle.volume_core.specs.Steps.{faulted, behind_fall, marks_of_fall};
 ghost use Rattle.volume_core.specs.Sound.{IsSound};
 ghost use Rattle.volume_core.specs.Streams.{MayGo, Stays, HasFault};
 ghost use Rattle.volume_core.specs.Against.{AgainstFault};
 
-use crate::world::{NotThis, World};
+use crate::world::{EndedRebuild, NotThis, World};
 use journal_book::{Entry, Mark, Mode};
 
 impl World {
-    /// The line of a stream to a replica has failed, so the replica does: the line's count of faults. It takes no
-    /// memory.
+    /// The line of a stream to a replica has failed, so the replica does: the line's count of faults. Where it is the
+    /// source or the target of the rebuild that is open, the rebuild is aborted. It takes no memory.
     pub fn fault(&mut self, stream: u8, replica: u8, count: u64) -> Result<(), NotThis>
         requires sound { IsSound (state_of self.old) }
         ensures sound { IsSound (state_of self.new) }
@@ -40,7 +40,7 @@ impl World {
     }
 
     fn mark_fault(&mut self, stream: u8, replica: u8, count: u64)
-        requires { 0 < self.old.journal.spare }
+        requires { marks_of_fall self.old.rebuild replica ≤ self.old.journal.spare }
         ensures { state_of self.new ≡ faulted (state_of self.old) stream replica count }
     {
         self.journal.push_reserved(Entry::Mark(Mark::Fault {
@@ -48,5 +48,26 @@ impl World {
             replica,
             count,
         }));
+        self.abort_behind(replica);
+    }
+
+    /// Behind the mark in which a replica went to ERR: the rebuild that is open is aborted where the replica is its
+    /// source or its target. It takes no memory.
+    pub(crate) fn abort_behind(&mut self, replica: u8)
+        requires { marks_of_fall self.old.rebuild replica ≤ self.old.journal.spare + 1 }
+        ensures { state_of self.new ≡ behind_fall (state_of self.old) replica }
+    {
+        let Some(rebuild) = &self.rebuild else {
+            return;
+        };
+        let target = rebuild.target;
+        if replica != target && replica != rebuild.source {
+            return;
+        }
+        let place = self.journal.len();
+        self.rebuild = None;
+        self.ended = Some(EndedRebuild { target, place });
+        self.journal
+            .push_reserved(Entry::Mark(Mark::Aborted(target)));
     }
 }

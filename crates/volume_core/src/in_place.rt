@@ -4,6 +4,7 @@ ghost use Rattle.std.specs.Prelude.{◌≡◌, ◌≢◌, ℕ, ◌+◌, ◌*◌,
 ghost use Rattle.vol_units.specs.declared.size.TheConstants.{BLOCK_BYTES};
 ghost use Rattle.volume_model.specs.Modes.{mode_of};
 ghost use Rattle.range_turns.specs.Order.{ticket_at, from_of, until_of};
+ghost use Rattle.replica_node.specs.Held.{IsChained};
 ghost use Rattle.open_calls.specs.Calls.{open_at, node_at, whole_of};
 ghost use Rattle.volume_core.specs.State.{state_of, modes_in};
 ghost use Rattle.volume_core.specs.Sound.{IsSound};
@@ -49,8 +50,11 @@ impl World {
             ≡ until_of (ticket_at self.old.turns.tickets i) }
         requires fits { (ticket_at self.old.turns.tickets i).range.end * BLOCK_BYTES
             ≤ length (node_at self.old.nodes.items replica).disk }
-        ensures { TakesInPlace (state_of self.old) i replica result (state_of self.new) }
+        ensures takes { TakesInPlace (state_of self.old) i replica result (state_of self.new) }
+        ensures chained { (count : ℕ) × IsChained (node_at self.old.nodes.items replica) count }
     {
+        // That the replica's own blocks make its readings, a proof learns here.
+        let _count = self.nodes[replica as usize].block_count();
         let range = self.turns.ticket(i).range;
         if range.end - range.first != 1 {
             return false;

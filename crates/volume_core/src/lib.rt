@@ -22,6 +22,7 @@ pub use journal_book::{
     Bytes, Call, Command, Entry, Journal, Mode, ModeTable, Opening, Refusal, Reply, TakenNames,
 };
 pub use open_calls::{Buffer, OpenCall, Part, Parts};
+pub use open_rebuild::Rebuilding;
 pub use range_turns::{BlockRange, Kind, TicketNumber, Turns};
 pub use replica_node::{Blocks, ReplicaNode, VolumeSize};
-pub use world::{NotThis, World};
+pub use world::{EndedRebuild, NotThis, World};

@@ -67,6 +67,7 @@ fn opened(
     let source = opening.modes.source().unwrap();
     let first = FirstNode::of(&nodes[source as usize]);
     let indices = vec![in alloc; 0; streams as usize]?;
+    let gave_up = vec![in alloc; false; streams as usize]?;
     let mut journal = Journal::new(alloc, opening);
     journal.reserve(nodes.len() as u64)?;
     Ok(World {
@@ -78,6 +79,9 @@ fn opened(
         whole: None,
         maint: Turns::new(alloc),
         commands: Vec::new(alloc),
+        rebuild: None,
+        ended: None,
+        gave_up,
         indices,
         journal,
     })

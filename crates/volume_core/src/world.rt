@@ -6,6 +6,7 @@ ghost use Rattle.volume_core.specs.Steps.{with_place, answered};
 use crate::first::FirstNode;
 use journal_book::{Answer, Call, Entry, Journal, Mode, Reply};
 use open_calls::OpenCall;
+use open_rebuild::Rebuilding;
 use range_turns::Turns;
 use replica_node::{ReplicaNode, VolumeSize};
 use std::alloc::AllocError;
@@ -26,9 +27,22 @@ pub struct World {
     pub maint: Turns,
     /// The command of each of these, in the same order.
     pub commands: Vec<MaintCall>,
+    /// The rebuild that is open.
+    pub rebuild: Option<Rebuilding>,
+    /// The rebuild of the command that has the turn, where it was aborted.
+    pub ended: Option<EndedRebuild>,
+    /// For each stream, whether it gave a rebuild up for want of memory.
+    pub gave_up: Vec<bool>,
     /// How many calls of each stream were answered.
     pub indices: Vec<u64>,
     pub journal: Journal,
+}
+
+/// A rebuild that was aborted: of which replica, and where its mark stands in the journal.
+#[derive(Clone, Copy, Debug, PartialEq, Eq)]
+pub struct EndedRebuild {
+    pub target: u8,
+    pub place: u64,
 }
 
 /// What stood against a step: it changed nothing.

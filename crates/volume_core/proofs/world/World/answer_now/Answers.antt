@@ -1,12 +1,15 @@
-use Rattle.std.proofs.Common.{◌≡◌, length, sym, subst, rules}
+use Rattle.std.proofs.Common.{◌≡◌, ◌<◌, length, sym, subst, rules}
 use Rattle.volume_model.specs.PlainStep.{plain_step}
 use Rattle.volume_core.specs.Answers.{failed_by, after_fail}
 use Rattle.volume_core.specs.State.{State, state_of, told_of, modes_in}
 use Rattle.volume_core.specs.Steps.{with_place, answered}
 use Rattle.volume_core.specs.Sound.{IsSound}
-use Rattle.volume_core.proofs.Keep.{now_sound}
+use Rattle.whole_calls.specs.Due.{due, forms}
+use Rattle.volume_core.proofs.Falls.{place_left}
+use Rattle.volume_core.proofs.FallsKept.{now_sound}
 use Rattle.volume_core.specs.Answers.{IsAnsweredNow}
-use Rattle.volume_core.proofs.Moves.{may_same, now_may, now_sees}
+use Rattle.volume_core.proofs.Appends.{now_may, now_sees}
+use Rattle.volume_core.proofs.Moves.{may_same}
 use Rattle.volume_core.proofs.world.World.answer_now.Goals as goal
 
 pub returns-clause-sound : goal.returns-clause-sound
@@ -28,3 +31,9 @@ returns-clause-sees c =
 
 pub returns-in_err-reply-clause-may : goal.returns-in_err-reply-clause-may
 returns-in_err-reply-clause-may c = may_same c.args.stream (state_of c.args.self.now) c.requires.sound
+
+pub push_answer-requires-clause-spare : goal.push_answer-requires-clause-spare
+push_answer-requires-clause-spare c =
+    let s : State = state_of c.args.self.now in
+    let e : state_of c.follow_fail.new.self ≡ after_fail (with_place s) (failed_by c.args.call.now) = search rules in
+    subst (λ (x : State). 0 < x.book.spare) (sym e) (place_left (due s.whole (told_of s).volume) (forms s.whole s.nodes) s c.requires.sound.on (failed_by c.args.call.now))

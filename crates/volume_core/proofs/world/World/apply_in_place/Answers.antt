@@ -2,6 +2,7 @@ use Rattle.std.proofs.Common.{◌≢◌, ℕ, Bool, true, false, length-set, ref
 use Rattle.volume_model.specs.declared.mode.Mode.TheVariants.{Err}
 use Rattle.volume_model.specs.Modes.{mode_of}
 use Rattle.range_turns.specs.Order.{ticket_at}
+use Rattle.replica_node.specs.Held.{IsChained}
 use Rattle.replica_node.specs.Node.{Node}
 use Rattle.replica_node.specs.Room.{put_at}
 use Rattle.open_calls.specs.declared.parts.Part.TheVariants.{Taken}
@@ -19,9 +20,9 @@ use Rattle.volume_core.proofs.world.World.apply_in_place.Goals as goal
 
 -- the replica took the write, or nothing changed
 module _ (s s2 : State) (t i r : ℕ) (ok : IsSound s) (at : IsWriteAt s t i) where
-  taken_sound : (done : Bool) → mode_of (modes_in s) r ≢ Err → TakesInPlace s i r done s2 → IsSound s2
-  taken_sound true up took = subst IsSound (sym took.1) (wrote_kept s i ok at.stands.within at.writes.started (write_no_whole _ at.writes.writes) r at.writes up)
-  taken_sound false up took = subst IsSound (sym took.1) ok
+  taken_sound : (done : Bool) (count : ℕ) → mode_of (modes_in s) r ≢ Err → IsChained (node_at s.nodes r) count → TakesInPlace s i r done s2 → IsSound s2
+  taken_sound true count up chained took = subst IsSound (sym took.1) (wrote_kept s i ok at.stands.within at.writes.started (write_no_whole _ at.writes.writes) r count at.writes up chained)
+  taken_sound false count up chained took = subst IsSound (sym took.1) ok
 
   taken_may : (done : Bool) → IsSound s2 → TakesInPlace s i r done s2 → ForOwner t s (λ n c. MayGo n s s2)
   taken_may true ok2 took =
@@ -38,14 +39,14 @@ pub returns-clause-sound : goal.returns-clause-sound
 returns-clause-sound c =
     let up : mode_of (modes_in (state_of c.args.self.now)) c.args.replica ≢ Err = search rules in
     taken_sound (state_of c.args.self.now) (state_of c.write_over.new.self) c.args.t c.in-Some.i c.args.replica c.requires.sound c.in-Some.ensures.place
-    c.write_over.result up c.write_over.ensures
+    c.write_over.result c.write_over.ensures.chained.0 up c.write_over.ensures.chained.1 c.write_over.ensures.takes
 
 pub returns-clause-may : goal.returns-clause-may
 returns-clause-may c =
     taken_may (state_of c.args.self.now) (state_of c.write_over.new.self) c.args.t c.in-Some.i c.args.replica c.requires.sound c.in-Some.ensures.place
-    c.write_over.result (returns-clause-sound c) c.write_over.ensures
+    c.write_over.result (returns-clause-sound c) c.write_over.ensures.takes
 
 pub returns-clause-stays : goal.returns-clause-stays
 returns-clause-stays c =
     taken_stays (state_of c.args.self.now) (state_of c.write_over.new.self) c.args.t c.in-Some.i c.args.replica c.requires.sound c.in-Some.ensures.place
-    c.write_over.result (returns-clause-sound c) c.write_over.ensures
+    c.write_over.result (returns-clause-sound c) c.write_over.ensures.takes

@@ -20,7 +20,7 @@ pub returns-clause-sound : goal.returns-clause-sound
 returns-clause-sound c =
     let up : mode_of (modes_in (state_of c.args.self.now)) c.args.replica ≢ Err = search rules in
     subst IsSound (sym c.write_on.ensures.state)
-    (wrote_kept (state_of c.args.self.now) c.in-Some.i c.requires.sound c.in-Some.ensures.place.stands.within c.in-Some.ensures.place.writes.started (write_no_whole _ c.in-Some.ensures.place.writes.writes) c.args.replica c.in-Some.ensures.place.writes up)
+    (wrote_kept (state_of c.args.self.now) c.in-Some.i c.requires.sound c.in-Some.ensures.place.stands.within c.in-Some.ensures.place.writes.started (write_no_whole _ c.in-Some.ensures.place.writes.writes) c.args.replica c.write_on.ensures.chained.0 c.in-Some.ensures.place.writes up c.write_on.ensures.chained.1)
 
 pub returns-clause-may : goal.returns-clause-may
 returns-clause-may c =

@@ -4,7 +4,6 @@ use Rattle.open_calls.specs.declared.open_call.OpenCall.{OpenCall}
 use Rattle.open_calls.specs.declared.parts.Part.TheVariants.{Acked}
 use Rattle.open_calls.specs.Parts.{part_at}
 use Rattle.open_calls.specs.Calls.{open_at}
-use Rattle.open_calls.proofs.FreeLemmas.{read_no_whole}
 use Rattle.volume_core.specs.State.{state_of}
 use Rattle.volume_core.specs.Sound.{IsSound}
 use Rattle.volume_core.proofs.Keep.{read_kept, none_kept}
@@ -23,4 +22,4 @@ returns-in-None-clause-sound c =
     let s = state_of c.args.self.now in
     let at = c.requires.is.1 in
     subst IsSound (sym c.end_at.ensures.state)
-    (none_kept s c.args.i c.requires.sound at.stands.within at.reads.started (read_no_whole _ at.reads.reads) c.in-None.ensures.found)
+    (none_kept s c.args.i c.requires.sound at.stands.within at.reads c.in-None.ensures.found)

@@ -5,7 +5,7 @@ use Rattle.volume_core.specs.State.{State, state_of}
 use Rattle.volume_core.specs.Steps.{with_place, answered}
 use Rattle.volume_core.specs.Sound.{IsSound}
 use Rattle.volume_core.proofs.Keep.{refused_kept}
-use Rattle.volume_core.proofs.Moves.{nothing_more, answered_may, answered_sees}
+use Rattle.volume_core.proofs.Appends.{nothing_more, answered_may, answered_sees}
 use Rattle.volume_core.proofs.world.World.refuse_range.Goals as goal
 
 pub returns-clause-sound : goal.returns-clause-sound
