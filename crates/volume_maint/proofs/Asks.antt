@@ -10,6 +10,7 @@ use Rattle.whole_calls.specs.Due.{due, forms}
 use Rattle.whole_calls.specs.Maint.{HasTurn, CanStill, FitsMaint, command_at}
 use Rattle.whole_calls.proofs.Kept.{whole_enrolled}
 use Rattle.whole_calls.proofs.Turns.{turn_asks, snapshot_asks, maint_enrolled, whole_fits}
+use Rattle.open_rebuild.proofs.RangeSteps.{call_enrolled}
 use Rattle.volume_core.specs.State.{State, told_of, modes_in}
 use Rattle.volume_core.specs.Sound.{IsSound}
 use Rattle.volume_core.proofs.Rows as rows
@@ -52,5 +53,8 @@ asked_sound s number stream op ok size fresh within idle may can =
       whole = whole_enrolled (told_of s) (modes_in s) s.tickets s.calls s.nodes s.whole t c ok.whole ok.on.clients.paired refl fresh;
       maint = maint_enrolled (snapshots_told s) (length s.indices) s.book.entries (modes_in s) s.tickets s.calls s.nodes s.maint s.commands t c ok.on.clients.paired (asked_fits s number stream (seen_by s op) op may can) ok.maint;
       disk = ok.disk;
-      settled = ok.settled;
+      rebuild = call_enrolled s.size (modes_in s) s.tickets s.calls s.whole s.nodes s.rebuild t c ok.on.clients.paired refl ok.rebuild;
+      adds = ok.adds;
+      fell = ok.fell;
+      streams = ok.streams;
     }

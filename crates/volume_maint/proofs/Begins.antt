@@ -1,6 +1,6 @@
 -- An operation starts.
-use Rattle.std.proofs.Common.{◌≡◌, ℕ, ◌+◌, ◌<◌, Bool, true, false, not, cond, List, [], ◌∷◌, length, map, refl, sym, ap, subst, ◌∙◌, arith}
-use Rattle.std.specs.Prelude.{Option, None, Some, All}
+use Rattle.std.proofs.Common.{◌≡◌, ◌≢◌, ℕ, zero, suc, ◌+◌, ◌<◌, Bool, true, false, not, cond, List, [], ◌∷◌, length, get_or, map, refl, sym, ap, subst, ◌∙◌, arith}
+use Rattle.std.specs.Prelude.{Option, None, Some, All, Contains}
 use Rattle.std.specs.Option.{option_or}
 use Rattle.std.specs.Str.{bytes_eq}
 use Rattle.std.specs.List.{count_by}
@@ -15,27 +15,35 @@ use Rattle.volume_model.specs.declared.call.Refusal.TheVariants.{NameUsed, Chain
 use Rattle.volume_model.specs.declared.mode.Mode.TheVariants.{Rw}
 use Rattle.volume_model.specs.Modes.{mode_of, source_of}
 use Rattle.volume_model.specs.OneWorker.{want_of_replica}
-use Rattle.volume_model.specs.PlainState.{Volume, is_used, copy_of}
+use Rattle.volume_model.specs.PlainState.{PlainState, Volume, is_used, copy_of}
+use Rattle.volume_model.specs.Names.{AreNamed, has_name}
 use Rattle.volume_model.specs.PlainStep.{refusal_of}
-use Rattle.volume_model.specs.Snapshots.{is_live, layer_count}
+use Rattle.volume_model.specs.Snapshots.{Snapshot, is_live, layer_count}
 use Rattle.range_turns.specs.declared.ticket.Kind.TheVariants as kind
 use Rattle.range_turns.specs.declared.ticket.Ticket.{Ticket}
 use Rattle.range_turns.specs.Order.{ticket_at, no_ticket, with_started, IsClear}
 use Rattle.coalesce.specs.Folding.{snapshot_of}
-use Rattle.replica_node.specs.Node.{Kept}
+use Rattle.replica_node.specs.Node.{Kept, layer_names}
+use Rattle.replica_node.specs.Fold.{tree_of}
+use Rattle.replica_state.proofs.VolumeLemmas.{free_of}
 use Rattle.replica_state.specs.Volume.{volume_of_node, copies_in}
 use Rattle.open_calls.specs.declared.whole_op.WholeOp.{WholeOp}
 use Rattle.open_calls.specs.declared.whole_op.WholeOp.TheVariants as whole
 use Rattle.open_calls.specs.Calls.{open_at, node_at, command_of}
 use Rattle.whole_calls.specs.Whole.{MayBeDone, AreSpared}
-use Rattle.whole_calls.specs.Maint.{IsAskedBy, CanStill}
+use Rattle.open_calls.proofs.FreeLemmas.{not_both}
+use Rattle.whole_calls.specs.Maint.{command_at, IsAskedBy, CanStill}
 use Rattle.whole_calls.proofs.Starts.{is_volume, still_clear, begun_whole, begun_is, folded_still, maint_started}
 use Rattle.volume_core.specs.State.{State, told_of, modes_in}
 use Rattle.volume_core.specs.Sound.{IsSound, IsCalm}
-use Rattle.volume_core.proofs.Keep.{calm_by, calm_of}
+use Rattle.open_rebuild.specs.declared.rebuilding.Rebuilding.{Rebuilding}
+use Rattle.open_rebuild.specs.Claim.{IsBeside, IsRebuilding}
+use Rattle.open_rebuild.proofs.WholeSteps.{whole_started}
+use Rattle.volume_core.proofs.Keep.{calm_by, calm_of, rebuild_of_none}
 use Rattle.volume_core.proofs.Rows.{counts_not}
 use Rattle.volume_maint.specs.Answers.{refused_in, snapshots_told, IsLongSource}
 use Rattle.volume_maint.specs.Steps as steps
+use Rattle.volume_maint.proofs.Adds.{no_rebuild, turn_no_add, none_yet, settled}
 use Rattle.volume_maint.proofs.WholeSound.{told_named}
 
 -- ---- what stands against nothing can be done
@@ -81,6 +89,23 @@ copy_long (k ∷ ks) name n live long = by (bytes_eq name k.meta.name) k.meta.ma
         ap (λ b. length (copy_of (cond b (copies_in ks) (record { name = k.meta.name; disk = k.disk } ∷ copies_in ks)) name)) f
         ∙ ap (λ b. length (cond b k.disk (copy_of (copies_in ks) name))) e ∙ more l
 
+-- a name that was not used is of no snapshot
+not_used_there : {p : PlainState} → AreNamed p → (name : List ℕ) → is_used p.used name ≡ false → has_name p.volume.snapshots.tree name ≡ false
+not_used_there {p} named name unused = by (has_name p.volume.snapshots.tree name) refl
+  where
+    by : (b : Bool) → has_name p.volume.snapshots.tree name ≡ b → b ≡ false
+    by true e = absurd (not_both (is_used p.used name) unused (named.taken name e))
+    by false e = refl
+
+-- a name that no layer has is not among theirs
+not_among : (ks : List Kept) (name : List ℕ) → All (λ (k : Kept). k.meta.name ≢ name) ks → Contains (layer_names ks) name → ⊥
+not_among ks name free c = at ks free c.0 c.1 c.2
+  where
+    at : (ks : List Kept) → All (λ (k : Kept). k.meta.name ≢ name) ks → (j : ℕ) → j < length (layer_names ks) → get_or (layer_names ks) j name ≡ name → ⊥
+    at [] free j l e = absurd (omega arith)
+    at (k ∷ ks) free zero l e = All-head (λ (x : Kept). x.meta.name ≢ name) k ks free e
+    at (k ∷ ks) free (suc j) l e = at ks (All-tail (λ (x : Kept). x.meta.name ≢ name) k ks free) j (omega arith) e
+
 module _ (s : State) (i : ℕ) (ok : IsSound s) (h : i < length s.tickets) (is : (ticket_at s.tickets i).kind ≡ kind.Whole) (waits : (ticket_at s.tickets i).started ≡ false) (clear : IsClear s.tickets i) where
   none : s.whole ≡ None
   none = calm_by s i ok h clear (λ w. waits)
@@ -110,6 +135,32 @@ module _ (s : State) (i : ℕ) (ok : IsSound s) (h : i < length s.tickets) (is :
   started_room : count_by (λ t. t.started) (with_started s.tickets i) ≡ count_by (λ t. t.started) s.tickets + 1
   started_room = omega (arith, sum_by-set (λ (x : Ticket). cond x.started 1 0) s.tickets i (record (ticket_at s.tickets i) { started = true }) no_ticket h, counts_not (ticket_at s.tickets i).started waits)
 
+  -- a name that was not used is of no layer of the source of a rebuild
+  new_name : (b : Rebuilding) → s.rebuild ≡ Some b → (name : List ℕ) → is_used (told_of s).used name ≡ false → Contains b.frozen name → ⊥
+  new_name b begun name unused there =
+      let k : IsRebuilding s.size (modes_in s) s.tickets s.calls None s.nodes (Some b) =
+      subst (λ (x : Option Rebuilding). IsRebuilding s.size (modes_in s) s.tickets s.calls None s.nodes x) begun (rebuild_of_none s ok none) in
+      let under = k.claim.under_way in
+      let source = node_at s.nodes b.source in
+      let same = ap (λ (v : Volume). v.snapshots.tree) (its_volume b.source k.roles.source) in
+      let fresh : has_name (tree_of source) name ≡ false = ap (λ (t : List Snapshot). has_name t name) same ∙ not_used_there (told_named s ok) name unused in
+      not_among source.layers name (free_of source name fresh) (under.frozen name there)
+
+  -- nor is a rebuild open of another command
+  alone : (op : WholeOp) → ((r : ℕ) → (command_at s.commands 0).command ≢ command.Add r) → IsBeside s.rebuild op
+  alone op other = subst (λ (x : Option Rebuilding). IsBeside x op) (sym (no_rebuild s.maint s.commands s.rebuild s.ended ok.adds other).0) tt
+
+  -- so that the operation may start
+  may_begin : (op : WholeOp) → IsAskedBy s.maint s.commands (open_at s.calls i).stream op → MayBeDone op (told_of s) → IsBeside s.rebuild op
+  may_begin (whole.Snapshot name) asked may = by s.rebuild refl
+    where
+      by : (o : Option Rebuilding) → s.rebuild ≡ o → IsBeside o (whole.Snapshot name)
+      by None e = tt
+      by (Some b) e = new_name b e name may.1
+  may_begin (whole.Remove name) asked may = alone (whole.Remove name) (turn_no_add s.maint s.commands (open_at s.calls i).stream (whole.Remove name) asked)
+  may_begin (whole.Revert name) asked may = alone (whole.Revert name) (turn_no_add s.maint s.commands (open_at s.calls i).stream (whole.Revert name) asked)
+  may_begin (whole.Purge f) asked may = alone (whole.Purge f) (turn_no_add s.maint s.commands (open_at s.calls i).stream (whole.Purge f) asked)
+
   pub begun_sound : (op : WholeOp) (spares : List (Option Tables)) → (open_at s.calls i).op ≡ Some op → IsAskedBy s.maint s.commands (open_at s.calls i).stream op → CanStill (snapshots_told s) (modes_in s) s.nodes op
       → refused_in s (command_of op) ≡ None → (r : ℕ) → IsLongSource s r → AreSpared op (modes_in s) s.nodes spares → IsSound (steps.whole_begun s i op spares)
   begun_sound op spares asks asked can free r at spared =
@@ -117,21 +168,25 @@ module _ (s : State) (i : ℕ) (ok : IsSound s) (h : i < length s.tickets) (is :
       let may = can_do op asked can free r at in
       let named = told_named s ok in
       let w = steps.begun_of s i op spares in
+      let all_up = settled (modes_in s) s.rebuild (none_yet (length s.indices) s.book.entries s.maint s.commands s.rebuild s.ended ok.maint.queued ok.adds) ok.rebuild.roles in
       record {
         on = record {
           opened = ok.on.opened;
           told = record { legal = ok.on.told.legal; ordered = ok.on.told.ordered };
-          clients = begun_whole op p s.size (length s.indices) s.book.entries (modes_in s) s.tickets s.calls s.nodes i calm.clients may ok.settled h is waits clear named;
+          clients = begun_whole op p s.size (length s.indices) s.book.entries (modes_in s) s.tickets s.calls s.nodes i calm.clients may all_up h is waits clear named;
           spare = omega (arith, ok.on.spare, started_room);
         };
-        whole = begun_is op p s.size (length s.indices) s.book.entries (modes_in s) s.tickets s.calls s.nodes i calm.clients may ok.settled h is waits clear w refl refl refl spared asks
+        whole = begun_is op p s.size (length s.indices) s.book.entries (modes_in s) s.tickets s.calls s.nodes i calm.clients may all_up h is waits clear w refl refl refl spared asks
             (λ q e. folded_still op (snapshots_told s) (modes_in s) s.nodes q can e);
         maint = record {
           queued = ok.maint.queued;
           fits = maint_started (snapshots_told s) (modes_in s) s.nodes s.maint s.commands s.tickets s.calls i h ok.maint.fits;
         };
         disk = ok.disk;
-        settled = ok.settled;
+        rebuild = whole_started s.size (modes_in s) s.tickets s.calls s.nodes s.rebuild w i calm.clients.order h is waits clear calm.clients.agree.as_many refl (may_begin op asked may) (rebuild_of_none s ok none);
+        adds = ok.adds;
+        fell = ok.fell;
+        streams = ok.streams;
       }
 
 -- ---- what the ticket's operation is asked by, and that it still can be done

@@ -1,3 +1,4 @@
+pub mod Adds
 pub mod Asks
 pub mod Begins
 pub mod Owes

@@ -1,5 +1,5 @@
 -- What the steps on the whole volume and of folding owe to the other streams.
-use Rattle.std.proofs.Common.{◌≡◌, ◌≢◌, ℕ, ◌+◌, true, List, [], ◌∷◌, ◌++◌, length, length-set, refl, sym, ap, subst, ◌∙◌, append-nil}
+use Rattle.std.proofs.Common.{◌≡◌, ◌≢◌, ℕ, ◌+◌, Bool, true, List, [], ◌∷◌, ◌++◌, length, length-set, refl, sym, ap, subst, ◌∙◌, append-nil}
 use Rattle.std.specs.Prelude.{Option, None, Some}
 use Rattle.std.proofs.lemmas.List.{set-get_or}
 use Rattle.volume_model.specs.declared.call.Call.TheVariants as call
@@ -23,7 +23,7 @@ use Rattle.whole_calls.specs.declared.whole.Whole.{Whole}
 use Rattle.whole_calls.specs.Due.{part_on}
 use Rattle.whole_calls.specs.Maint.{IsAskedBy}
 use Rattle.whole_calls.specs.Whole.{parted, part_acked}
-use Rattle.volume_core.specs.State.{State, modes_in, index_at}
+use Rattle.volume_core.specs.State.{State, modes_in, index_at, gave_up_at}
 use Rattle.volume_core.specs.Steps.{without_call, answer_entry}
 use Rattle.volume_core.specs.Sound.{IsSound}
 use Rattle.volume_core.specs.Streams.{calls_in, running, turning, MayGo, origin_of}
@@ -50,6 +50,7 @@ module _ (n : ℕ) (s s2 : State) (ok2 : IsSound s2) where
     added = ([], ap (λ (x : State). x.book.entries) is ∙ sym (append-nil s.book.entries), tt);
     others = λ m other. ap (λ (x : State). running x m) is;
     turns = λ m other. ap (λ (x : State). turning x m) is;
+    gave_up = λ m other. ap (λ (x : State). gave_up_at x.gave_up m) is;
   }
 
   pub parted_goes : (w : Whole) (r : ℕ) → s2 ≡ whole_parted s w r → MayGo n s s2
@@ -71,6 +72,7 @@ module _ (s s2 : State) (ok : IsSound s) (ok2 : IsSound s2) where
     added = ([], ap (λ (x : State). x.book.entries) is ∙ sym (append-nil s.book.entries), tt);
     others = λ m other. ap (λ (x : State). running x m) is ∙ calls-push_other m s.tickets s.calls (whole_ticket number) (whole_call stream saw op) ok.on.clients.paired (λ e. other (sym e));
     turns = λ m other. ap (λ (x : State). turning x m) is;
+    gave_up = λ m other. ap (λ (x : State). gave_up_at x.gave_up m) is;
   }
 
   module _ (i : ℕ) where
@@ -90,6 +92,7 @@ module _ (s s2 : State) (ok : IsSound s) (ok2 : IsSound s2) where
       added = ([], ap (λ (x : State). x.book.entries) is ∙ sym (append-nil s.book.entries), tt);
       others = λ m other. ap (λ (x : State). running x m) is ∙ start_others m other;
       turns = λ m other. ap (λ (x : State). turning x m) is;
+      gave_up = λ m other. ap (λ (x : State). gave_up_at x.gave_up m) is;
     }
 
     -- it is taken back, or goes with nothing to mark
@@ -100,6 +103,7 @@ module _ (s s2 : State) (ok : IsSound s) (ok2 : IsSound s2) where
       added = ([], ap (λ (x : State). x.book.entries) is ∙ sym (append-nil s.book.entries), tt);
       others = λ m other. ap (λ (x : State). running x m) is ∙ without_others m other;
       turns = λ m other. ap (λ (x : State). turning x m) is;
+      gave_up = λ m other. ap (λ (x : State). gave_up_at x.gave_up m) is;
     }
 
     pub marked_goes : (f : FoldOrDrop) → s2 ≡ whole_marked s i f → MayGo (open_at s.calls i).stream s s2
@@ -109,6 +113,7 @@ module _ (s s2 : State) (ok : IsSound s) (ok2 : IsSound s2) where
       added = (entry.Mark (mark.Purged f) ∷ [], ap (λ (x : State). x.book.entries) is, (tt, tt));
       others = λ m other. ap (λ (x : State). running x m) is ∙ without_others m other;
       turns = λ m other. ap (λ (x : State). turning x m) is;
+      gave_up = λ m other. ap (λ (x : State). gave_up_at x.gave_up m) is;
     }
 
 -- ---- with the turn
@@ -125,6 +130,12 @@ over_origin (whole.Snapshot name) s = refl
 over_origin (whole.Remove name) s = refl
 over_origin (whole.Revert name) s = refl
 over_origin (whole.Purge f) s = refl
+
+over_gave_up : (op : WholeOp) (s : State) → (turn_over op s).gave_up ≡ s.gave_up
+over_gave_up (whole.Snapshot name) s = refl
+over_gave_up (whole.Remove name) s = refl
+over_gave_up (whole.Revert name) s = refl
+over_gave_up (whole.Purge f) s = refl
 
 -- and the commands of the streams that did not ask it
 over_turning : (op : WholeOp) (s : State) (n m : ℕ) → length s.commands ≡ length s.maint → IsAskedBy s.maint s.commands n op → m ≢ n → turning (turn_over op s) m ≡ turning s m
@@ -152,6 +163,7 @@ module _ (s s2 : State) (ok : IsSound s) (ok2 : IsSound s2) (i : ℕ) where
         added = (a ∷ [], ap (λ (y : State). y.book.entries) is ∙ ap (λ (b : Book). b.entries ++ a ∷ []) (over_book op less), (refl, tt));
         others = λ m other. ap (λ (y : State). running y m) is ∙ over_running op less m ∙ without_others s s2 ok ok2 i m other;
         turns = λ m other. ap (λ (y : State). turning y m) is ∙ over_turning op less c.stream m ok.maint.queued.paired asked other;
+        gave_up = λ m other. ap (λ (y : State). gave_up_at y.gave_up m) is ∙ ap (λ (g : List Bool). gave_up_at g m) (over_gave_up op less);
       }
 
   -- as a replica is read

@@ -4,6 +4,7 @@ use Rattle.std.specs.Prelude.{◌⊎◌, Option, None, Some}
 use Rattle.std.proofs.lemmas.Bool.{false≢true}
 use Rattle.std.proofs.lemmas.Slice.Eq.{bytes_eq-Decides}
 use Rattle.vol_units.specs.Chain.{is_named}
+use Rattle.command_text.specs.declared.command.Command.TheVariants as command
 use Rattle.volume_model.specs.declared.mark.FoldOrDrop.{FoldOrDrop}
 use Rattle.volume_model.specs.declared.mark.FoldOrDrop.TheVariants as part
 use Rattle.volume_model.specs.declared.mode.Mode.TheVariants.{Rw, Err}
@@ -31,6 +32,7 @@ use Rattle.whole_calls.proofs.Forms.{formed_at, length-forms}
 use Rattle.whole_calls.proofs.Ends.{snapped_can}
 use Rattle.whole_calls.proofs.Ops.{not_there}
 use Rattle.whole_calls.proofs.PartSteps.{child_there}
+use Rattle.volume_maint.proofs.Adds.{no_rebuild, purge_no_add, free_claim}
 use Rattle.volume_core.specs.State.{State, told_of, modes_in}
 use Rattle.volume_core.specs.Sound.{IsSound}
 use Rattle.volume_maint.specs.Answers.{snapshots_told, IsOntoNew}
@@ -192,8 +194,8 @@ module _ (s : State) (r : ℕ) (ok : IsSound s) (purging : IsPurging s) (read : 
   fold_on p c can = folds_on (told_of s) s.size (length s.indices) s.book.entries (modes_in s) s.tickets s.calls s.nodes s.whole r p c (told_named s ok) can ok.whole beside ok.on.clients up
 
   -- a page is folded
-  pub folded_sound : (p c : List ℕ) (page : ℕ) → CanFold (snapshots_told s).tree (snapshots_told s).on p c → IsSound (folded_on s r p c page)
-  folded_sound p c page can =
+  pub folded_sound : (p c : List ℕ) (page : ℕ) → (command_at s.commands 0).command ≡ command.Purge → CanFold (snapshots_told s).tree (snapshots_told s).on p c → IsSound (folded_on s r p c page)
+  folded_sound p c page purges can =
       let within : r < length s.nodes = omega (arith, up_in (modes_in s) r up, ok.on.clients.agree.as_many, length-forms s.whole s.nodes) in
       record {
         on = record {
@@ -208,7 +210,11 @@ module _ (s : State) (r : ℕ) (ok : IsSound s) (purging : IsPurging s) (read : 
           fits = idle_maint (snapshots_told s) (snapshots_told s) (modes_in s) (modes_in s) s.nodes (folded_on s r p c page).nodes s.maint s.commands s.tickets s.calls ok.on.clients.paired idle ok.maint.fits;
         };
         disk = ok.disk;
-        settled = ok.settled;
+        rebuild = free_claim s.size (modes_in s) s.tickets s.tickets s.calls s.calls s.whole s.whole s.nodes (folded_on s r p c page).nodes s.rebuild
+            (no_rebuild s.maint s.commands s.rebuild s.ended ok.adds (purge_no_add (command_at s.commands 0).command purges)).0 ok.rebuild;
+        adds = ok.adds;
+        fell = ok.fell;
+        streams = ok.streams;
       }
 
 -- a layer can go in one way

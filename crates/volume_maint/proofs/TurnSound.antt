@@ -1,5 +1,5 @@
 -- A command is enrolled for the maintenance turn, has it, is taken back, ends: each step keeps the invariant.
-use Rattle.std.proofs.Common.{◌≡◌, ℕ, ◌+◌, ◌<◌, List, length, length-set, refl, sym, ap, subst, ◌∙◌, arith}
+use Rattle.std.proofs.Common.{◌≡◌, ℕ, ◌+◌, ◌<◌, true, List, [], ◌∷◌, ◌++◌, length, length-set, get_or-set_same, refl, sym, ap, subst, ◌∙◌, arith}
 use Rattle.std.specs.Prelude.{None}
 use Rattle.std.specs.List.{remove}
 use Rattle.std.proofs.lemmas.List.{length_push}
@@ -22,7 +22,8 @@ use Rattle.volume_model.specs.Snapshots.{Snapshots}
 use Rattle.volume_model.proofs.OwnNames.{IsOwn}
 use Rattle.volume_model.proofs.PushLemmas.{modes_after-push}
 use Rattle.volume_model.proofs.StepLemmas.{replay-push}
-use Rattle.range_turns.specs.Order.{IsFresh}
+use Rattle.range_turns.specs.declared.ticket.Ticket.{Ticket}
+use Rattle.range_turns.specs.Order.{ticket_at, no_ticket, with_started, IsFresh}
 use Rattle.replica_node.specs.Node.{Node}
 use Rattle.open_calls.specs.Clients.{IsIdle}
 use Rattle.whole_calls.specs.declared.maint.MaintCall.{MaintCall}
@@ -32,7 +33,10 @@ use Rattle.whole_calls.specs.Maint.{HasNoCommand, IsMaint, AreMaint, command_at}
 use Rattle.whole_calls.proofs.Turns as turns
 use Rattle.whole_calls.proofs.Answered.{command_answered}
 use Rattle.volume_core.specs.State.{State, opening_of, told_of, modes_in, index_at}
-use Rattle.volume_core.specs.Sound.{IsSound, IsSoundOn, AreSettled}
+use Rattle.volume_core.specs.Sound.{IsSound, IsSoundOn, AreAdds}
+use Rattle.open_rebuild.specs.Claim.{IsRebuilding}
+use Rattle.volume_model.proofs.FallLemmas.{behind_falls_answer}
+use Rattle.volume_maint.proofs.Adds.{adds_still, add_pushed, add_started, add_left, no_rebuild, none_adds, want_no_add}
 use Rattle.volume_core.proofs.Ends.{its_answer, answered_on}
 use Rattle.volume_maint.specs.Steps.{whole_ticket, maint_enrolled, turn_begun, turn_ended, without_command}
 use Rattle.volume_maint.specs.Places.{AwaitsTurn, IsFreeTurn}
@@ -54,7 +58,10 @@ enrolled_kept s number c ok within idle none wants saw fresh = record {
   maint = turns.turn_enrolled (told_of s).volume.snapshots (length s.indices) s.book.entries (modes_in s) s.tickets s.calls s.nodes s.maint s.commands (whole_ticket number) c
       ok.on.clients.paired refl refl fresh wants within saw none idle ok.maint;
   disk = ok.disk;
-  settled = ok.settled;
+  rebuild = ok.rebuild;
+  adds = adds_still s.maint (s.maint ++ whole_ticket number ∷ []) s.commands (s.commands ++ c ∷ []) (add_pushed s.maint s.commands (whole_ticket number) c ok.maint.queued.paired) s.rebuild s.ended ok.adds;
+  fell = ok.fell;
+  streams = ok.streams;
 }
 
 -- ---- the first has the turn
@@ -65,7 +72,11 @@ begun_kept s ok some = record {
   whole = ok.whole;
   maint = turns.turn_started (told_of s).volume.snapshots (length s.indices) s.book.entries (modes_in s) s.tickets s.calls s.nodes s.maint s.commands some ok.maint;
   disk = ok.disk;
-  settled = ok.settled;
+  rebuild = ok.rebuild;
+  adds = adds_still s.maint (with_started s.maint 0) s.commands s.commands
+      (add_started s.maint s.commands (ap (λ (x : Ticket). x.started) (get_or-set_same s.maint 0 (record (ticket_at s.maint 0) { started = true }) no_ticket some))) s.rebuild s.ended ok.adds;
+  fell = ok.fell;
+  streams = ok.streams;
 }
 
 -- ---- a command goes
@@ -77,13 +88,17 @@ on_less : (v : Volume) (ns : List Node) (s : State) (k : ℕ) → IsSoundOn v ns
 on_less v ns s k ok h = record { opened = ok.opened; told = ok.told; clients = ok.clients; spare = omega (arith, ok.spare, length-remove s.commands k h) }
 
 less_kept : (s : State) (k : ℕ) → IsSound s → k < length s.maint
-    → AreMaint (told_of s).volume.snapshots (length s.indices) s.book.entries (modes_in s) s.tickets s.calls s.nodes (remove s.maint k) (remove s.commands k) → IsSound (without_command s k)
-less_kept s k ok h maint = record {
+    → AreMaint (told_of s).volume.snapshots (length s.indices) s.book.entries (modes_in s) s.tickets s.calls s.nodes (remove s.maint k) (remove s.commands k)
+    → AreAdds (remove s.maint k) (remove s.commands k) s.rebuild s.ended → IsSound (without_command s k)
+less_kept s k ok h maint adds = record {
   on = on_less (due s.whole (told_of s).volume) (forms s.whole s.nodes) s k ok.on (command_in s k ok h);
   whole = ok.whole;
   maint = maint;
   disk = ok.disk;
-  settled = ok.settled;
+  rebuild = ok.rebuild;
+  adds = adds;
+  fell = ok.fell;
+  streams = ok.streams;
 }
 
 -- one that waits
@@ -91,12 +106,18 @@ pub withdrawn_kept : (s : State) (t k : ℕ) → IsSound s → AwaitsTurn s t k 
 withdrawn_kept s t k ok at =
     less_kept s k ok at.stands.within
     (turns.turn_withdrawn (told_of s).volume.snapshots (length s.indices) s.book.entries (modes_in s) s.tickets s.calls s.nodes s.maint s.commands k at.stands.within at.waits ok.maint)
+    (adds_still s.maint (remove s.maint k) s.commands (remove s.commands k) (add_left s.maint s.commands k ok.maint.queued.paired at.stands.within at.waits) s.rebuild s.ended ok.adds)
+
+-- no rebuild is open or was aborted of the one that has the turn
+none_open : (s : State) → IsSound s → 0 < length s.commands → (s.rebuild ≡ None) × (s.ended ≡ None)
+none_open s ok some = no_rebuild s.maint s.commands s.rebuild s.ended ok.adds (want_no_add (command_at s.commands 0).command (ok.maint.queued.want 0 some))
 
 -- the one that has the turn, and nothing enrolled
 pub abandoned_kept : (s : State) (t : ℕ) → IsSound s → IsFreeTurn s t → IsSound (without_command s 0)
 abandoned_kept s t ok at =
     less_kept s 0 ok at.stands.within
     (turns.turn_ended (told_of s).volume.snapshots (length s.indices) s.book.entries (modes_in s) s.tickets s.calls s.nodes s.maint s.commands ok.on.clients.paired at.stands.within at.idle ok.maint)
+    (none_adds (remove s.maint 0) (remove s.commands 0) s.rebuild s.ended (none_open s ok (command_in s 0 ok at.stands.within)))
 
 -- ---- it ends with its answer
 
@@ -136,7 +157,10 @@ module _ (s : State) (t : ℕ) (r : Reply) (ok : IsSound s) (at : IsFreeTurn s t
             (sym (length-set s.indices its.stream (index_at s.indices its.stream + 1))) modes
             (command_answered (told_of s).volume.snapshots (length s.indices) s.book.entries (modes_in s) s.tickets s.calls s.nodes s.maint s.commands ok.maint answer ok.on.clients.paired at.stands.within at.idle refl);
         disk = ap (λ (p : PlainState). length p.volume.disk) (sym told) ∙ ok.disk;
-        settled = subst AreSettled modes ok.settled;
+        rebuild = subst (λ (x : List Mode). IsRebuilding s.size x s.tickets s.calls s.whole s.nodes s.rebuild) modes ok.rebuild;
+        adds = none_adds next.maint next.commands s.rebuild s.ended (none_open s ok here);
+        fell = λ none. behind_falls_answer s.book.entries answer (ok.fell none);
+        streams = ok.streams ∙ sym (length-set s.indices its.stream (index_at s.indices its.stream + 1));
       }
     where
       maint_no_add : (c : Command) → IsMaint c → added_by (call.Command c) ≡ None

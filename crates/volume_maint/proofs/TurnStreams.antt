@@ -7,7 +7,7 @@ use Rattle.range_turns.specs.declared.ticket.Ticket.{Ticket}
 use Rattle.range_turns.specs.Order.{ticket_at, StandsAt}
 use Rattle.whole_calls.specs.declared.maint.MaintCall.{MaintCall}
 use Rattle.whole_calls.specs.Maint.{command_at}
-use Rattle.volume_core.specs.State.{State, index_at}
+use Rattle.volume_core.specs.State.{State, index_at, gave_up_at}
 use Rattle.volume_core.specs.Steps.{answer_entry}
 use Rattle.volume_core.specs.Sound.{IsSound}
 use Rattle.volume_core.specs.Streams.{running, commands_in, turning, MayGo, origin_of}
@@ -59,6 +59,7 @@ module _ (s s2 : State) (ok : IsSound s) (ok2 : IsSound s2) where
     added = ([], ap (λ (x : State). x.book.entries) is ∙ sym (append-nil s.book.entries), tt);
     others = λ n other. ap (λ (x : State). running x n) is;
     turns = λ n other. ap (λ (x : State). turning x n) is ∙ commands-push_other n s.maint s.commands (whole_ticket number) c ok.maint.queued.paired (λ e. other (sym e));
+    gave_up = λ n other. ap (λ (x : State). gave_up_at x.gave_up n) is;
   }
 
   pub begun_goes : s2 ≡ turn_begun s → MayGo (command_at s.commands 0).stream s s2
@@ -68,6 +69,7 @@ module _ (s s2 : State) (ok : IsSound s) (ok2 : IsSound s2) where
     added = ([], ap (λ (x : State). x.book.entries) is ∙ sym (append-nil s.book.entries), tt);
     others = λ n other. ap (λ (x : State). running x n) is;
     turns = λ n other. ap (λ (x : State). turning x n) is ∙ commands-start_other n s.maint s.commands 0 (record (ticket_at s.maint 0) { started = true }) (λ e. other (sym e));
+    gave_up = λ n other. ap (λ (x : State). gave_up_at x.gave_up n) is;
   }
 
   pub less_goes : (k : ℕ) → s2 ≡ without_command s k → MayGo (command_at s.commands k).stream s s2
@@ -77,6 +79,7 @@ module _ (s s2 : State) (ok : IsSound s) (ok2 : IsSound s2) where
     added = ([], ap (λ (x : State). x.book.entries) is ∙ sym (append-nil s.book.entries), tt);
     others = λ n other. ap (λ (x : State). running x n) is;
     turns = λ n other. ap (λ (x : State). turning x n) is ∙ commands-remove_other n s.maint s.commands k ok.maint.queued.paired (λ e. other (sym e));
+    gave_up = λ n other. ap (λ (x : State). gave_up_at x.gave_up n) is;
   }
 
   pub ended_goes : (r : Reply) → s2 ≡ turn_ended s r → MayGo (command_at s.commands 0).stream s s2
@@ -89,6 +92,7 @@ module _ (s s2 : State) (ok : IsSound s) (ok2 : IsSound s2) where
         added = (answer_entry (without_command s 0) c.stream c.saw (call.Command c.command) r ∷ [], ap (λ (x : State). x.book.entries) is, (refl, tt));
         others = λ n other. ap (λ (x : State). running x n) is;
         turns = λ n other. ap (λ (x : State). turning x n) is ∙ commands-remove_other n s.maint s.commands 0 ok.maint.queued.paired (λ e. other (sym e));
+        gave_up = λ n other. ap (λ (x : State). gave_up_at x.gave_up n) is;
       }
 
 -- ---- for the stream whose command has that ticket

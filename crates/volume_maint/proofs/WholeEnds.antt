@@ -27,7 +27,8 @@ use Rattle.volume_model.specs.Snapshots.{Snapshots, layer_count}
 use Rattle.volume_model.proofs.FaultLemmas.{rise-purged}
 use Rattle.volume_model.proofs.OwnNames.{IsOwn}
 use Rattle.volume_model.proofs.PushLemmas.{modes_after-push, IsLegal-push}
-use Rattle.volume_model.proofs.RebuildLemmas.{open_purged}
+use Rattle.volume_model.proofs.FallLemmas.{behind_falls_answer, behind_falls_purged}
+use Rattle.volume_model.proofs.RebuildLemmas.{rebuild_of-purged}
 use Rattle.volume_model.proofs.SpotLemmas.{answered_there}
 use Rattle.volume_model.proofs.StepLemmas.{replay-push}
 use Rattle.range_turns.specs.declared.ticket.Kind.TheVariants as kind
@@ -45,21 +46,25 @@ use Rattle.whole_calls.specs.declared.maint.MaintCall.{MaintCall}
 use Rattle.whole_calls.specs.Due.{due, due_of, forms, formed}
 use Rattle.whole_calls.specs.Whole.{IsWhole, IsStarted, MayBeDone}
 use Rattle.whole_calls.specs.Maint.{IsAskedBy, FitsMaint, AreMaint}
-use Rattle.whole_calls.proofs.Answered.{snapshot_answered, turn_answered, marked_maint, unmarked_maint}
+use Rattle.whole_calls.proofs.Answered.{turn_of, snapshot_answered, turn_answered, marked_maint, unmarked_maint}
 use Rattle.whole_calls.proofs.Ends.{ended_still, done_clients, lost_clients, due_maint, lost_maint}
 use Rattle.whole_calls.proofs.Kept.{whole_left}
 use Rattle.whole_calls.proofs.PartSteps.{IsOfTurn, asked_there}
 use Rattle.volume_core.specs.State.{State, opening_of, told_of, modes_in, index_at}
 use Rattle.volume_core.specs.Steps.{with_place, answered}
-use Rattle.volume_core.specs.Sound.{IsSound, IsSoundOn, AreSettled, is_up}
+use Rattle.volume_core.specs.Sound.{IsSound, IsSoundOn, AreAdds, is_up, owed_end}
 use Rattle.volume_core.proofs.Ends.{same_clients, answered_on}
-use Rattle.volume_core.proofs.Keep.{place_kept, calm_by, calm_of, of_calm}
+use Rattle.volume_core.proofs.Keep.{place_kept, calm_by, calm_of, of_calm, rebuild_of_none}
+use Rattle.open_rebuild.specs.Claim.{IsRebuilding}
+use Rattle.open_rebuild.proofs.RangeSteps.{call_gone}
+use Rattle.open_rebuild.proofs.WholeSteps as rebuilds
 use Rattle.volume_core.proofs.Rows.{counts}
 use Rattle.volume_core.proofs.Told.{mark_ordered}
 use Rattle.volume_maint.specs.Steps.{without_whole, whole_ended, whole_marked}
 use Rattle.volume_maint.specs.Places.{IsWholeOn}
 use Rattle.volume_maint.specs.Answers.{spot_of, refused_in, whole_done, whole_lost, AreDone}
-use Rattle.volume_maint.proofs.WholeSound.{told_named, is_started, on_due, place_is}
+use Rattle.volume_maint.proofs.Adds.{no_rebuild, none_adds, turn_no_add, none_read, settled, free_claim}
+use Rattle.volume_maint.proofs.WholeSound.{told_named, is_started, on_due, its_rebuild, place_is}
 
 -- ---- the answer
 
@@ -170,7 +175,8 @@ pub record CanEnd (s : State) (i : ℕ) (op : WholeOp) (v : Volume) (r : Reply) 
   pub none : (j : ℕ) → j < length (remove s.tickets i) → (ticket_at (remove s.tickets i) j).kind ≡ kind.Whole → (ticket_at (remove s.tickets i) j).started ≡ false
   pub clients : AreClients v s.size (length s.indices) s.book.entries (modes_in s) (remove s.tickets i) (remove s.calls i) s.nodes
   pub left : (j : ℕ) → j < length (remove s.tickets i) → FitsMaint v.snapshots (modes_in s) s.nodes s.maint s.commands (ticket_at (remove s.tickets i) j) (open_at (remove s.calls i) j)
-  pub room : count_by (λ t. t.started) (remove s.tickets i) + length s.commands + count_by is_up (modes_in s) + 1 ≤ s.book.spare
+  pub room : count_by (λ t. t.started) (remove s.tickets i) + length s.commands + count_by is_up (modes_in s) + owed_end s.rebuild + 1 ≤ s.book.spare
+  pub rebuild : IsRebuilding s.size (modes_in s) (remove s.tickets i) (remove s.calls i) None s.nodes s.rebuild
   pub may : IsAnswered (told_of s) (modes_in s) (answer_at s i op r)
   pub after : (after_entry (told_of s) (entry.Answer (answer_at s i op r))).volume ≡ v
 
@@ -192,10 +198,10 @@ module _ (s : State) (ok : IsSound s) (i : ℕ) (op : WholeOp) (h : i < length s
     end_with maint commands = answered (record s { tickets = remove s.tickets i; calls = remove s.calls i; whole = None; maint = maint; commands = commands }) (open_at s.calls i).stream (open_at s.calls i).saw (call.Command (command_of op)) r
 
     -- with these commands left
-    with_left : (maint : List Ticket) (commands : List MaintCall) → length commands ≤ length s.commands → IsOwn (told_of s) (entry.Answer its)
+    with_left : (maint : List Ticket) (commands : List MaintCall) → length commands ≤ length s.commands → IsOwn (told_of s) (entry.Answer its) → AreAdds maint commands s.rebuild s.ended
         → AreMaint v.snapshots (length s.indices) (s.book.entries ++ entry.Answer its ∷ []) (modes_in s) (remove s.tickets i) (remove s.calls i) s.nodes maint commands
         → IsSound (end_with maint commands)
-    with_left maint commands fewer is_own queue =
+    with_left maint commands fewer is_own adds queue =
         let s1 : State = record s { whole = None; maint = maint; commands = commands } in
         let s2 : State = end_with maint commands in
         let v0 = due s.whole (told_of s).volume in
@@ -216,18 +222,21 @@ module _ (s : State) (ok : IsSound s) (i : ℕ) (op : WholeOp) (h : i < length s
         (subst (λ (x : Snapshots). AreMaint x (length s2.indices) s2.book.entries (modes_in s2) s2.tickets s2.calls s2.nodes s2.maint s2.commands) (ap (λ (x : Volume). x.snapshots) told)
         (subst (λ (x : List Mode). AreMaint v.snapshots (length s2.indices) s2.book.entries x s2.tickets s2.calls s2.nodes s2.maint s2.commands) modes
         (subst (λ (x : ℕ). AreMaint v.snapshots x s2.book.entries (modes_in s) s2.tickets s2.calls s2.nodes s2.maint s2.commands) (sym (length-set s.indices (open_at s.calls i).stream (index_at s.indices (open_at s.calls i).stream + 1))) queue)))
-        (subst AreSettled modes ok.settled)
+        (subst (λ (x : List Mode). IsRebuilding s.size x (remove s.tickets i) (remove s.calls i) None s.nodes s.rebuild) modes can.rebuild) adds (λ n. behind_falls_answer s.book.entries its (ok.fell n))
+        (ok.streams ∙ sym (length-set s.indices (open_at s.calls i).stream (index_at s.indices (open_at s.calls i).stream + 1)))
 
     -- an operation of the command that has the turn, which ends with it
     turn_ends : IsOfTurn op → IsOwn (told_of s) (entry.Answer its) → IsSound (end_with (remove s.maint 0) (remove s.commands 0))
     turn_ends of is_own =
         with_left (remove s.maint 0) (remove s.commands 0) (fewer_left s.commands) is_own
+        (none_adds (remove s.maint 0) (remove s.commands 0) s.rebuild s.ended
+        (no_rebuild s.maint s.commands s.rebuild s.ended ok.adds (turn_no_add s.maint s.commands (open_at s.calls i).stream op (turn_of s.maint s.commands (open_at s.calls i).stream op of asked_by))))
         (turn_answered (told_of s).volume.snapshots v.snapshots (length s.indices) s.book.entries (modes_in s) s.tickets s.calls s.nodes s.maint s.commands i op ok.on.clients.seen ok.on.clients.paired h is asks ok.maint can.left its of refl)
 
     -- a snapshot
     snapshot_ends : (name : List ℕ) → op ≡ whole.Snapshot name → IsOwn (told_of s) (entry.Answer its) → IsSound (end_with s.maint s.commands)
     snapshot_ends name e is_own =
-        with_left s.maint s.commands (omega arith) is_own
+        with_left s.maint s.commands (omega arith) is_own ok.adds
         (snapshot_answered (told_of s).volume.snapshots v.snapshots (length s.indices) s.book.entries (modes_in s) s.tickets s.calls s.nodes s.maint s.commands i op ok.on.clients.seen ok.on.clients.paired h is asks ok.maint can.left name its e refl)
 
 -- with the answer of its command
@@ -269,6 +278,7 @@ refused_whole s i op why ok h is waits clear asks refused =
       clients = left_clients (told_of s).volume s.size (length s.indices) s.book.entries (modes_in s) s.tickets s.calls s.nodes i calm.clients h (λ r e t. no_write (sym is ∙ t.writes));
       left = lost_maint (told_of s).volume.snapshots (modes_in s) s.tickets s.calls s.nodes i s.maint s.commands ok.on.clients.paired h ok.maint.fits;
       room = omega (arith, ok.on.spare, sum_by-remove (λ (t : Ticket). cond t.started 1 0) s.tickets i no_ticket h);
+      rebuild = call_gone s.size (modes_in s) s.tickets s.calls None s.nodes s.rebuild i ok.on.clients.paired h (λ t. no_write (sym is ∙ t.writes)) (rebuild_of_none s ok none);
       may = refused_answered s op (open_at s.calls i).stream (open_at s.calls i).saw (index_at s.indices (open_at s.calls i).stream) why refused;
       after = refl;
     })
@@ -291,14 +301,25 @@ module _ (s : State) (w : Whole) (ok : IsSound s) (has : s.whole ≡ Some w) whe
   gone_none : (j : ℕ) → j < length (remove s.tickets at) → (ticket_at (remove s.tickets at) j).kind ≡ kind.Whole → (ticket_at (remove s.tickets at) j).started ≡ false
   gone_none j l k = ended_still p s.size (length s.indices) s.book.entries (modes_in s) s.tickets s.calls s.nodes w its_start here j l
 
-  gone_room : count_by (λ t. t.started) (remove s.tickets at) + length s.commands + count_by is_up (modes_in s) + 1 ≤ s.book.spare
+  gone_room : count_by (λ t. t.started) (remove s.tickets at) + length s.commands + count_by is_up (modes_in s) + owed_end s.rebuild + 1 ≤ s.book.spare
   gone_room = omega (arith, ok.on.spare, sum_by-remove (λ (t : Ticket). cond t.started 1 0) s.tickets at no_ticket its_start.stands.within, counts (ticket_at s.tickets at).started its_start.started)
 
   gone_lost : HasNoSource (modes_in s) → AreClients p.volume s.size (length s.indices) s.book.entries (modes_in s) (remove s.tickets at) (remove s.calls at) s.nodes
-  gone_lost none = lost_clients p s.size (length s.indices) s.book.entries (modes_in s) s.tickets s.calls s.nodes w its_start here ok.settled none
+  gone_lost none = lost_clients p s.size (length s.indices) s.book.entries (modes_in s) s.tickets s.calls s.nodes w its_start here (settled (modes_in s) s.rebuild (none_read (modes_in s) s.rebuild ok.rebuild.roles none) ok.rebuild.roles) none
 
   gone_done : AreDone s w → AreClients (due_of w.op p.volume) s.size (length s.indices) s.book.entries (modes_in s) (remove s.tickets at) (remove s.calls at) s.nodes
   gone_done done = done_clients p s.size (length s.indices) s.book.entries (modes_in s) s.tickets s.calls s.nodes w its_start here done
+
+  -- a rebuild goes on where the call is done, and none was open where no replica is read
+  rebuild_done : AreDone s w → IsRebuilding s.size (modes_in s) (remove s.tickets at) (remove s.calls at) None s.nodes s.rebuild
+  rebuild_done done =
+      rebuilds.whole_ended s.size (modes_in s) s.tickets s.calls s.nodes w at ok.on.clients.order its_start.stands.within its_start.kind its_start.started (gone_done done).agree.as_many its_start.owes done s.rebuild
+      (its_rebuild s w ok has)
+
+  rebuild_lost : HasNoSource (modes_in s) → IsRebuilding s.size (modes_in s) (remove s.tickets at) (remove s.calls at) None s.nodes s.rebuild
+  rebuild_lost none =
+      free_claim s.size (modes_in s) s.tickets (remove s.tickets at) s.calls (remove s.calls at) s.whole None s.nodes s.nodes s.rebuild
+      (none_read (modes_in s) s.rebuild ok.rebuild.roles none) ok.rebuild
 
   left_lost : (j : ℕ) → j < length (remove s.tickets at) → FitsMaint p.volume.snapshots (modes_in s) s.nodes s.maint s.commands (ticket_at (remove s.tickets at) j) (open_at (remove s.calls at) j)
   left_lost = lost_maint p.volume.snapshots (modes_in s) s.tickets s.calls s.nodes at s.maint s.commands ok.on.clients.paired its_start.stands.within ok.maint.fits
@@ -315,6 +336,7 @@ module _ (s : State) (w : Whole) (ok : IsSound s) (has : s.whole ≡ Some w) whe
         clients = gone_done done;
         left = left_done;
         room = gone_room;
+        rebuild = rebuild_done done;
         may = done_answered w.op (modes_in s) p (answer_at s at w.op reply.Done) its_start.may source not refl refl;
         after = after_done w.op p (index_at s.indices (open_at s.calls at).stream) (open_at s.calls at).saw (open_at s.calls at).stream not;
       })
@@ -328,6 +350,7 @@ module _ (s : State) (w : Whole) (ok : IsSound s) (has : s.whole ≡ Some w) whe
         clients = gone_lost none;
         left = left_lost;
         room = gone_room;
+        rebuild = rebuild_lost none;
         may = lost_answered w.op (modes_in s) p (answer_at s at w.op (reply.Refused NoReplica)) its_start.may none refl refl;
         after = refl;
       })
@@ -352,7 +375,8 @@ module _ (s : State) (w : Whole) (ok : IsSound s) (has : s.whole ≡ Some w) whe
         opened = ok.on.opened;
         told = record {
           legal = IsLegal-push o es e ok.on.told.legal (may, source);
-          ordered = mark_ordered o es s.indices None None (mark.Purged f) ok.on.told.ordered tt (rise-purged es f ok.on.told.ordered.rise) (open_purged es f None ok.on.told.ordered.rebuild);
+          ordered = mark_ordered o es s.indices s.rebuild s.rebuild s.ended s.ended (mark.Purged f) ok.on.told.ordered tt (rise-purged es f ok.on.told.ordered.rise)
+              (λ q. rebuild_of-purged q es f ∙ ok.on.told.ordered.rebuild q);
         };
         clients = same_clients v s.size (length s.indices) (length s.indices) longer (modes_in s) (modes_after o.modes longer) s2.tickets s2.calls s.nodes refl modes
             (seen_clients v s.size (length s.indices) es longer (modes_in s) s2.tickets s2.calls s.nodes (seen_mark es s2.calls clients.seen (mark.Purged f)) clients);
@@ -362,7 +386,7 @@ module _ (s : State) (w : Whole) (ok : IsSound s) (has : s.whole ≡ Some w) whe
       (subst (λ (x : Snapshots). AreMaint x (length s2.indices) s2.book.entries (modes_in s2) s2.tickets s2.calls s2.nodes s2.maint s2.commands) (ap (λ (x : Volume). x.snapshots) told)
       (subst (λ (x : List Mode). AreMaint v.snapshots (length s2.indices) s2.book.entries x s2.tickets s2.calls s2.nodes s2.maint s2.commands) modes
       (marked_maint p.volume.snapshots v.snapshots (length s.indices) es (modes_in s) s.tickets s.calls s.nodes s.maint s.commands at w.op ok.on.clients.seen ok.on.clients.paired its_start.stands.within its_start.kind its_start.op ok.maint left (mark.Purged f))))
-      (subst AreSettled modes ok.settled)
+      (subst (λ (x : List Mode). IsRebuilding s.size x s2.tickets s2.calls None s2.nodes s2.rebuild) modes (rebuild_done done)) ok.adds (λ n. behind_falls_purged es f (ok.fell n)) ok.streams
 
   -- or without one
   gone_ends : HasNoSource (modes_in s) → IsSound (without_whole s at)
@@ -371,7 +395,7 @@ module _ (s : State) (w : Whole) (ok : IsSound s) (has : s.whole ≡ Some w) whe
       (record { opened = ok.on.opened; told = ok.on.told; clients = gone_lost none; spare = omega (arith, gone_room) })
       gone_none
       (unmarked_maint p.volume.snapshots p.volume.snapshots (length s.indices) s.book.entries (modes_in s) s.tickets s.calls s.nodes s.maint s.commands at w.op ok.on.clients.seen ok.on.clients.paired its_start.stands.within its_start.kind its_start.op ok.maint left_lost)
-      ok.settled
+      (rebuild_lost none) ok.adds ok.fell ok.streams
 
   done_by : (op : WholeOp) → w.op ≡ op → AreDone s w → HasSource (modes_in s) → IsSound (whole_done s at op)
   done_by (whole.Snapshot name) e done source = subst (λ (x : WholeOp). IsSound (whole_ended s at x reply.Done)) e (done_ends done source (λ k. subst IsPart e k))

@@ -17,6 +17,8 @@ use Rattle.whole_calls.specs.Due.{due, due_of, forms, formed}
 use Rattle.whole_calls.specs.Whole.{IsWhole, IsStarted, IsFit, IsSpared, spare_at}
 use Rattle.whole_calls.proofs.Ops.{fits, spared}
 use Rattle.whole_calls.proofs.PartSteps.{part_taken, part_told, parted_clients, told_clients, part_maint, owed_in}
+use Rattle.open_rebuild.specs.Claim.{IsRebuilding}
+use Rattle.open_rebuild.proofs.WholeSteps as rebuilds
 use Rattle.volume_core.specs.State.{State, opening_of, told_of, modes_in}
 use Rattle.volume_core.specs.Sound.{IsSound, IsSoundOn}
 use Rattle.volume_maint.specs.Steps.{whole_parted, whole_acked}
@@ -44,6 +46,9 @@ module _ (s : State) (w : Whole) (ok : IsSound s) (is : s.whole ≡ Some w) wher
 
   pub on_due : IsSoundOn (due_of w.op (told_of s).volume) (formed w.op w.parts s.nodes) s
   on_due = subst (λ (x : Option Whole). IsSoundOn (due x (told_of s).volume) (forms x s.nodes) s) is ok.on
+
+  pub its_rebuild : IsRebuilding s.size (modes_in s) s.tickets s.calls (Some w) s.nodes s.rebuild
+  its_rebuild = subst (λ (x : Option Whole). IsRebuilding s.size (modes_in s) s.tickets s.calls x s.nodes s.rebuild) is ok.rebuild
 
   -- it stands there and nowhere else
   pub place_is : (t i : ℕ) → IsWholeOn s t w i → i ≡ is_started.place
@@ -83,7 +88,10 @@ module _ (s : State) (w : Whole) (ok : IsSound s) (is : s.whole ≡ Some w) wher
         fits = part_maint s.book.entries (told_of s) (modes_in s) s.tickets s.calls s.nodes w r s.maint s.commands (told_named s ok) on_due.clients.seen on_due.clients.paired is_started owed ok.maint.fits;
       };
       disk = ok.disk;
-      settled = ok.settled;
+      rebuild = rebuilds.whole_parted s.size (modes_in s) s.tickets s.calls s.nodes s.rebuild w r owed part_there its_rebuild;
+      adds = ok.adds;
+      fell = ok.fell;
+      streams = ok.streams;
     }
 
   -- ---- a replica acknowledges its part
@@ -99,7 +107,10 @@ module _ (s : State) (w : Whole) (ok : IsSound s) (is : s.whole ≡ Some w) wher
     whole = part_told (told_of s) (modes_in s) s.tickets s.calls s.nodes w r is_started taken;
     maint = record { queued = ok.maint.queued; fits = ok.maint.fits };
     disk = ok.disk;
-    settled = ok.settled;
+    rebuild = rebuilds.whole_told s.size (modes_in s) s.tickets s.calls s.nodes s.rebuild w r taken its_rebuild;
+    adds = ok.adds;
+    fell = ok.fell;
+    streams = ok.streams;
   }
 
 -- ---- as the steps ask it

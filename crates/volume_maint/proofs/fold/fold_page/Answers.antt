@@ -47,7 +47,7 @@ returns-in-Some-clause-sound c =
     let turn : IsTurnOf s command.Purge × IsIdle (command_at s.commands 0).stream s.calls = search rules in
     let off : IsNew s c.in-Some.child → ⊥ = search rules in
     let can = can_fold s c.args.replica c.args.parent.now c.requires.sound turn.1 read c.in-Some.child c.in-Some.ensures off in
-    subst IsSound (sym c.fold_on.ensures) (folded_sound s c.args.replica c.requires.sound (record { stream = (command_at s.commands 0).stream; own = refl; idle = turn.1 }) read c.args.parent.now c.in-Some.child c.args.page can)
+    subst IsSound (sym c.fold_on.ensures) (folded_sound s c.args.replica c.requires.sound (record { stream = (command_at s.commands 0).stream; own = refl; idle = turn.1 }) read c.args.parent.now c.in-Some.child c.args.page turn.0.command can)
 
 pub returns-in-Some-clause-ok : goal.returns-in-Some-clause-ok
 returns-in-Some-clause-ok c =

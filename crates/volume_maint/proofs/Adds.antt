@@ -1,0 +1,131 @@
+-- The command of a rebuild in the maintenance turn, and what is so while no rebuild is open.
+use Rattle.std.proofs.Common.{◌≡◌, ◌≢◌, ℕ, ◌<◌, ⊎_elim, true, false, List, [], ◌∷◌, ◌++◌, length, refl, sym, ap, subst, ◌∙◌, arith}
+use Rattle.std.specs.Prelude.{Option, None, Some}
+use Rattle.std.specs.List.{remove}
+use Rattle.std.proofs.lemmas.Bool.{cases_eq}
+use Rattle.std.proofs.lemmas.List.{get_or_append_left, length_push}
+use Rattle.std.proofs.lemmas.List.Edits.{length-remove, get_or-remove_below}
+use Rattle.volume_model.specs.declared.entry.Entry.{Entry}
+use Rattle.command_text.specs.declared.command.Command.{Command}
+use Rattle.command_text.specs.declared.command.Command.TheVariants as command
+use Rattle.volume_model.specs.declared.mode.Mode.{Mode}
+use Rattle.volume_model.specs.declared.mode.Mode.TheVariants.{Wo}
+use Rattle.volume_model.specs.Modes.{mode_of, HasNoSource}
+use Rattle.range_turns.specs.declared.ticket.Ticket.{Ticket}
+use Rattle.range_turns.specs.Order.{ticket_at, no_ticket, with_started}
+use Rattle.replica_node.specs.Node.{Node}
+use Rattle.open_calls.specs.declared.open_call.OpenCall.{OpenCall}
+use Rattle.open_calls.specs.declared.whole_op.WholeOp.{WholeOp}
+use Rattle.open_calls.specs.declared.whole_op.WholeOp.TheVariants as whole
+use Rattle.open_calls.specs.Calls.{command_of}
+use Rattle.open_calls.proofs.FreeLemmas.{not_both}
+use Rattle.whole_calls.specs.declared.maint.MaintCall.{MaintCall}
+use Rattle.whole_calls.specs.declared.whole.Whole.{Whole}
+use Rattle.whole_calls.specs.Maint.{command_at, no_command, IsMaint, HasTurn, AreQueued}
+use Rattle.open_rebuild.specs.declared.rebuilding.Rebuilding.{Rebuilding}
+use Rattle.open_rebuild.specs.Claim.{AreRoles, IsClaim, IsRebuilding}
+use Rattle.volume_core.specs.declared.world.EndedRebuild.{EndedRebuild}
+use Rattle.volume_core.specs.Sound.{HasAdd, AreAdds}
+
+-- ---- who has the turn has it still
+
+module _ (maint maint2 : List Ticket) (commands commands2 : List MaintCall) (still : (r : ℕ) → HasAdd maint commands r → HasAdd maint2 commands2 r) where
+  pub adds_still : (b : Option Rebuilding) (g : Option EndedRebuild) → AreAdds maint commands b g → AreAdds maint2 commands2 b g
+  adds_still None None adds = record { of_begun = tt; of_ended = tt; one = tt }
+  adds_still (Some b) None adds = record { of_begun = still b.target adds.of_begun; of_ended = tt; one = adds.one }
+  adds_still None (Some g) adds = record { of_begun = tt; of_ended = still g.target adds.of_ended; one = tt }
+  adds_still (Some b) (Some g) adds = record { of_begun = still b.target adds.of_begun; of_ended = still g.target adds.of_ended; one = adds.one }
+
+-- as a command is enrolled
+pub add_pushed : (maint : List Ticket) (commands : List MaintCall) (t : Ticket) (c : MaintCall) → length commands ≡ length maint → (r : ℕ) → HasAdd maint commands r → HasAdd (maint ++ t ∷ []) (commands ++ c ∷ []) r
+add_pushed maint commands t c paired r add =
+    let has = add.turn in
+    let first = get_or_append_left commands (c ∷ []) no_command 0 has.some in
+    record {
+      stream = add.stream;
+      turn = record {
+        some = omega (arith, has.some, length_push commands c);
+        started = ap (λ (x : Ticket). x.started) (get_or_append_left maint (t ∷ []) no_ticket 0 (omega (arith, has.some, paired))) ∙ has.started;
+        own = ap (λ (x : MaintCall). x.stream) first ∙ has.own;
+        command = ap (λ (x : MaintCall). x.command) first ∙ has.command;
+      };
+    }
+
+-- as the first has the turn
+pub add_started : (maint : List Ticket) (commands : List MaintCall) → (ticket_at (with_started maint 0) 0).started ≡ true → (r : ℕ) → HasAdd maint commands r → HasAdd (with_started maint 0) commands r
+add_started maint commands on r add = let has = add.turn in record { stream = add.stream; turn = record { some = has.some; started = on; own = has.own; command = has.command } }
+
+-- as one is taken back that waits
+pub add_left : (maint : List Ticket) (commands : List MaintCall) (k : ℕ) → length commands ≡ length maint → k < length maint → (ticket_at maint k).started ≡ false
+    → (r : ℕ) → HasAdd maint commands r → HasAdd (remove maint k) (remove commands k) r
+add_left maint commands k paired h waits r add =
+    let has = add.turn in
+    ⊎_elim
+    (λ zero. absurd (not_both (ticket_at maint k).started waits (ap (λ n. (ticket_at maint n).started) zero ∙ has.started)))
+    (λ later.
+    let low : 0 < k = omega (arith, later) in
+    let within : k < length commands = omega (arith, h, paired) in
+    let same = get_or-remove_below commands k no_command 0 low within in
+    record {
+      stream = add.stream;
+      turn = record {
+        some = omega (arith, low, within, length-remove commands k within);
+        started = ap (λ (x : Ticket). x.started) (get_or-remove_below maint k no_ticket 0 low h) ∙ has.started;
+        own = ap (λ (x : MaintCall). x.stream) same ∙ has.own;
+        command = ap (λ (x : MaintCall). x.command) same ∙ has.command;
+      };
+    })
+    (cases_eq k 0)
+
+-- ---- no rebuild is open
+
+-- nor was one aborted, where the command that has the turn is no add
+pub no_rebuild : (maint : List Ticket) (commands : List MaintCall) (b : Option Rebuilding) (g : Option EndedRebuild) → AreAdds maint commands b g → ((r : ℕ) → (command_at commands 0).command ≢ command.Add r)
+    → (b ≡ None) × (g ≡ None)
+no_rebuild maint commands None None adds other = (refl, refl)
+no_rebuild maint commands (Some b) g adds other = absurd (other b.target adds.of_begun.turn.command)
+no_rebuild maint commands None (Some g) adds other = absurd (other g.target adds.of_ended.turn.command)
+
+-- and then whichever commands there are
+pub none_adds : (maint : List Ticket) (commands : List MaintCall) (b : Option Rebuilding) (g : Option EndedRebuild) → (b ≡ None) × (g ≡ None) → AreAdds maint commands b g
+none_adds maint commands b g none =
+    subst (λ (x : Option EndedRebuild). AreAdds maint commands b x) (sym none.1)
+    (subst (λ (x : Option Rebuilding). AreAdds maint commands x None) (sym none.0) (record { of_begun = tt; of_ended = tt; one = tt }))
+
+-- the commands that enrol something for the whole volume are no adds
+other_command : (op : WholeOp) (c : Command) (r : ℕ) → c ≡ command_of op → c ≢ command.Add r
+other_command (whole.Snapshot name) c r e f = cc
+other_command (whole.Remove name) c r e f = cc
+other_command (whole.Revert name) c r e f = cc
+other_command (whole.Purge p) c r e f = cc
+
+pub turn_no_add : (maint : List Ticket) (commands : List MaintCall) (stream : ℕ) (op : WholeOp) → HasTurn maint commands stream (command_of op) → (r : ℕ) → (command_at commands 0).command ≢ command.Add r
+turn_no_add maint commands stream op has r = other_command op (command_at commands 0).command r has.command
+
+pub purge_no_add : (c : Command) → c ≡ command.Purge → (r : ℕ) → c ≢ command.Add r
+purge_no_add c e r f = cc
+
+-- no command that may be enrolled is an add yet
+pub want_no_add : (c : Command) → IsMaint c → (r : ℕ) → c ≢ command.Add r
+want_no_add c wants r e = subst IsMaint e wants
+
+pub none_yet : (streams : ℕ) (es : List Entry) (maint : List Ticket) (commands : List MaintCall) (b : Option Rebuilding) (g : Option EndedRebuild)
+    → AreQueued streams es maint commands → AreAdds maint commands b g → b ≡ None
+none_yet streams es maint commands None g queued adds = refl
+none_yet streams es maint commands (Some b) g queued adds =
+    let has = adds.of_begun.turn in
+    absurd (want_no_add (command_at commands 0).command (queued.want 0 has.some) b.target has.command)
+
+-- nor is one open where no replica is read
+pub none_read : (modes : List Mode) (b : Option Rebuilding) → AreRoles modes b → HasNoSource modes → b ≡ None
+none_read modes None roles none = refl
+none_read modes (Some b) roles none = absurd (none b.source roles.source)
+
+-- then no replica is written and not read
+pub settled : (modes : List Mode) (b : Option Rebuilding) → b ≡ None → AreRoles modes b → (r : ℕ) → mode_of modes r ≢ Wo
+settled modes b none roles = subst (AreRoles modes) none roles
+
+-- and calls and replicas are free
+pub free_claim : (size : ℕ) (modes : List Mode) (ts us : List Ticket) (cs ds : List OpenCall) (w x : Option Whole) (ns ms : List Node) (b : Option Rebuilding) → b ≡ None
+    → IsRebuilding size modes ts cs w ns b → IsRebuilding size modes us ds x ms b
+free_claim size modes ts us cs ds w x ns ms b none k = record { roles = k.roles; claim = subst (IsClaim size us ds x ms) (sym none) tt }
