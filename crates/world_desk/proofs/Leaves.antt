@@ -1,18 +1,15 @@
--- What a World's steps for one stream owe to the others is what a desk asks of whoever leaves it.
-use Rattle.std.proofs.Common.{◌≡◌, ◌≢◌, ℕ, List, [], ◌∷◌, ◌++◌, map, Option, Some, append-nil, sym, refl, ap, ◌∙◌}
+-- What a World's steps for one stream owe to the others gives all that a desk asks of whoever leaves it.
+use Rattle.std.proofs.Common.{◌≢◌, ℕ, List, [], ◌∷◌, ◌++◌, map, Some, append-nil, sym, refl, ap}
 use Rattle.volume_model.specs.declared.entry.Entry.{Entry}
 use Rattle.volume_model.specs.declared.entry.Entry.TheVariants as entry
 use Rattle.volume_model.specs.declared.mark.Mark.{Mark}
 use Rattle.volume_model.specs.declared.mark.Mark.TheVariants as mark
-use Rattle.range_turns.specs.declared.ticket.Ticket.{Ticket}
-use Rattle.open_calls.specs.declared.open_call.OpenCall.{OpenCall}
-use Rattle.whole_calls.specs.declared.maint.MaintCall.{MaintCall}
 use Rattle.volume_core.specs.State.{State}
 use Rattle.volume_core.specs.Sound.{IsSound}
-use Rattle.volume_core.specs.Streams.{running, turning, MayAppend, MayAppendMark, MayGo}
+use Rattle.volume_core.specs.Streams.{MayAppend, MayAppendMark, MayGo}
 use Rattle.desk_lock.specs.Account.{MayAdd, Each, MayLeave}
 use Rattle.world_desk.specs.declared.kept.WorldOnDesk.{WorldOnDesk}
-use Rattle.world_desk.specs.Laid.{laid, stream_of, stream_of_mark, turn_of, call_of, running_of, world_account}
+use Rattle.world_desk.specs.Laid.{laid, stream_of, stream_of_mark, turn_of, call_of, world_account}
 
 may_add_mark : (n : ℕ) (m : Mark) → MayAppendMark n m → MayAdd (Some n) (stream_of_mark m)
 may_add_mark n (mark.Fault s r count) h = ap Some (sym h)
@@ -40,4 +37,11 @@ may_leave n x y may = record {
 
 -- nothing is done
 pub may_stay : (n : ℕ) (s : State) → IsSound s → MayGo n s s
-may_stay n s ok = record { sound = ok; origin = refl; added = ([], sym (append-nil s.book.entries), tt); others = λ m h. refl; turns = λ m h. refl }
+may_stay n s ok = record {
+  sound = ok;
+  origin = refl;
+  added = ([], sym (append-nil s.book.entries), tt);
+  others = λ m h. refl;
+  turns = λ m h. refl;
+  gave_up = λ m h. refl;
+}
