@@ -1,5 +1,5 @@
 -- The same by what each step answers.
-use Rattle.std.proofs.Common.{◌≡◌, ◌≢◌, ℕ, zero, suc, ◌+◌, ◌*◌, ◌<◌, ◌≤◌, Bool, true, false, List, [], ◌∷◌, ◌++◌, length, map, set, Result, Ok, Err as Failed, OnOk, IfOk, Option, Some, None, ⊎_elim, subst, sym, refl, ap, ◌∙◌, arith, length-append}
+use Rattle.std.proofs.Common.{◌≡◌, ◌≢◌, ℕ, ◌+◌, ◌*◌, ◌<◌, ◌≤◌, Bool, true, false, List, [], ◌∷◌, ◌++◌, length, map, Result, Ok, Err as Failed, OnOk, IfOk, Option, Some, None, ⊎_elim, subst, sym, refl, ap, ◌∙◌, arith, length-append}
 use Rattle.std.specs.Option.{MatchOption, IsSome}
 use Rattle.std.proofs.lemmas.List.{get_or-set_same, get_or_default}
 use Rattle.std.proofs.lemmas.Bool.{cases_eq, cases_lt, lt-ltb}
@@ -17,12 +17,10 @@ use Rattle.volume_model.specs.declared.call.Refusal.{Refusal}
 use Rattle.volume_model.specs.declared.call.Refusal.TheVariants.{OutOfRange, NoReplica}
 use Rattle.volume_model.specs.declared.entry.Answer.{Answer}
 use Rattle.volume_model.specs.declared.entry.Entry.TheVariants as entry
-use Rattle.volume_model.specs.declared.mark.Mark.TheVariants as mark
 use Rattle.volume_model.specs.declared.mode.Mode.{Mode}
 use Rattle.volume_model.specs.declared.mode.Mode.TheVariants.{Rw, Err}
 use Rattle.volume_model.specs.Modes.{mode_of, HasSource, IsSource}
 use Rattle.volume_model.specs.PlainState.{PlainState}
-use Rattle.volume_model.proofs.StepLemmas.{modes_after-append}
 use Rattle.replica_node.specs.Node.{Node}
 use Rattle.open_calls.specs.declared.open_call.OpenCall.{OpenCall}
 use Rattle.open_calls.specs.declared.parts.Part.TheVariants.{Acked}
@@ -50,7 +48,7 @@ use Rattle.stream_steps.specs.Mine.{OwnCall, IsOwn, answer_placed}
 use Rattle.stream_steps.specs.Steps.{IsFrameCall, AnswersNow, IsUncarried, EnrolsTo, AdmitsTo, IsNotAfter, StartsCall, IsStarted, IsJobFor, TakesTo, AcksTo, FaultsTo, HasNotStarted, IsOnBlocks, AreBlocksOfCall}
 use Rattle.world_in_hand.specs.Hand.{own_call, mine_in, IsReady}
 use Rattle.world_in_hand.proofs.OwnLemmas.{own_answer, IsAt, own_stands, only_open, grown, mine_same, idle_from, open_from, own_place}
-use Rattle.world_in_hand.proofs.StepLemmas.{ack_mine, write_mine, read_mine, ended_mine, fault_mine, none_open, refused_backed, same_asked}
+use Rattle.world_in_hand.proofs.StepLemmas.{ack_mine, write_mine, read_mine, ended_mine, fault_mine, shows_fault, none_open, refused_backed, same_asked}
 
 -- ---- on one replica
 
@@ -248,20 +246,12 @@ pub admit_owners : {E : Type 0} (n t : ℕ) (s s2 : State) (res : Result Admit E
 admit_owners n t s s2 (Ok x) sees = λ o own. sees n o.call (open_from n t o s own)
 admit_owners n t s s2 (Failed e) sees = tt
 
-pub faults_mine : {E : Type 0} (n r count : ℕ) (s s2 : State) (res : Result (Unit {0}) E) → MayGo n s s2 → OnOk res (s2 ≡ faulted s n r count) → OnOk res (FaultsTo r count (mine_in n s) (mine_in n s2))
-faults_mine n r count s s2 (Ok u) may e = fault_mine n r count s s2 may e
-faults_mine n r count s s2 (Failed e) may is = tt
-
-failed_mode : (modes : List Mode) (r : ℕ) → mode_of (set modes r Err) r ≡ Err
-failed_mode [] r = refl
-failed_mode (m ∷ ms) zero = refl
-failed_mode (m ∷ ms) (suc r) = failed_mode ms r
+pub faults_mine : {E : Type 0} (n r count : ℕ) (s s2 : State) (res : Result (Unit {0}) E) → s.rebuild ≡ None → MayGo n s s2 → OnOk res (s2 ≡ faulted s n r count) → OnOk res (FaultsTo r count (mine_in n s) (mine_in n s2))
+faults_mine n r count s s2 (Ok u) none may e = fault_mine n r count s s2 may none e
+faults_mine n r count s s2 (Failed e) none may is = tt
 
 pub fault_fails : {E : Type 0} (n r count : ℕ) (s s2 : State) (res : Result (Unit {0}) E) → OnOk res (s2 ≡ faulted s n r count) → OnOk res (mode_of (modes_in s2) r ≡ Err)
-fault_fails n r count s s2 (Ok u) e =
-    ap (λ (x : State). mode_of (modes_in x) r) e
-    ∙ ap (λ (ms : List Mode). mode_of ms r) (modes_after-append s.book.opening.modes s.book.entries (entry.Mark (mark.Fault n r count) ∷ []))
-    ∙ failed_mode (modes_in s) r
+fault_fails n r count s s2 (Ok u) e = (shows_fault n r count s s2 e).modes
 fault_fails n r count s s2 (Failed e) is = tt
 
 -- ---- what steps ask

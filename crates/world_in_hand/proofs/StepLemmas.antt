@@ -1,5 +1,5 @@
 -- Each step of a World, as the one worker that there is sees it.
-use Rattle.std.proofs.Common.{◌≡◌, ◌≢◌, ℕ, zero, suc, ◌<◌, false, List, [], ◌∷◌, length, map, set, Result, Ok, Err, OnOk, IfOk, ◌⊎◌, inl, inr, ⊎_elim, subst, sym, refl, ap, ◌∙◌, arith}
+use Rattle.std.proofs.Common.{◌++◌, append_assoc, None, Some, ◌≡◌, ◌≢◌, ℕ, zero, suc, ◌<◌, false, List, [], ◌∷◌, length, map, set, Result, Ok, Err as Failed, OnOk, IfOk, ◌⊎◌, inl, inr, ⊎_elim, subst, sym, refl, ap, ◌∙◌, arith}
 use Rattle.std.proofs.lemmas.List.{set-get_or, get_or-set_same}
 use Rattle.range_turns.specs.declared.ticket.Kind.{Kind}
 use Rattle.range_turns.specs.declared.ticket.Kind.TheVariants as kind
@@ -13,8 +13,13 @@ use Rattle.volume_model.specs.declared.entry.Answer.{Answer}
 use Rattle.volume_model.specs.declared.entry.Entry.TheVariants as entry
 use Rattle.volume_model.specs.declared.mark.Mark.TheVariants as mark
 use Rattle.volume_model.specs.declared.mode.Mode.{Mode}
-use Rattle.volume_model.specs.declared.mode.Mode.TheVariants.{Rw}
-use Rattle.volume_model.specs.Modes.{mode_of}
+use Rattle.volume_model.specs.declared.mode.Mode.TheVariants.{Rw, Err}
+use Rattle.volume_model.specs.Modes.{mode_of, modes_after}
+use Rattle.volume_model.proofs.StepLemmas.{modes_after-append}
+use Rattle.volume_model.specs.declared.entry.Entry.{Entry}
+use Rattle.volume_model.specs.declared.mark.Mark.{Mark}
+use Rattle.open_rebuild.specs.declared.rebuilding.Rebuilding.{Rebuilding}
+use Rattle.volume_core.proofs.FarLemmas.{GoesOn, Aborts, behind}
 use Rattle.replica_node.specs.Node.{Node}
 use Rattle.open_calls.specs.declared.open_call.OpenCall.{OpenCall}
 use Rattle.open_calls.specs.declared.parts.Part.{Part}
@@ -25,17 +30,17 @@ use Rattle.open_calls.specs.Clients.{IsReading}
 use Rattle.open_calls.proofs.FreeLemmas.{write_no_whole, read_no_whole}
 use Rattle.open_calls.proofs.PartLemmas.{up_in, rw_up, taken_in}
 use Rattle.volume_core.specs.State.{State, modes_in, index_at}
-use Rattle.volume_core.specs.Steps.{acked, wrote, has_read, ended, faulted}
+use Rattle.volume_core.specs.Steps.{marked, aborted, acked, wrote, has_read, ended, faulted}
 use Rattle.volume_core.specs.Sound.{IsSound, IsCalm}
 use Rattle.volume_core.specs.Places.{IsWriteAt}
 use Rattle.volume_core.specs.Answers.{EndsWrite, EndsRead, IsWriteReply, Completes}
 use Rattle.volume_core.specs.Streams.{running, opens, open_of, calls_in, MayGo, IsAnsweredTo}
 use Rattle.volume_core.proofs.CallLemmas.{calls-set_own}
 use Rattle.volume_core.proofs.Keep.{calm_at}
-use Rattle.stream_steps.specs.Mine.{OwnCall, IsOwn, with_running, answer_placed, fault_placed}
+use Rattle.stream_steps.specs.Mine.{OwnCall, IsOwn, with_entries, with_running, answer_placed, fault_placed}
 use Rattle.stream_steps.specs.Steps.{Answers, FaultsTo, TakesTo, AcksTo}
-use Rattle.world_in_hand.specs.Hand.{own_call, mine_in}
-use Rattle.world_in_hand.proofs.OwnLemmas.{own_answer, own_fault, IsAt, own_stands, only_open, grown}
+use Rattle.world_in_hand.specs.Hand.{own_call, own_entries, mine_in}
+use Rattle.world_in_hand.proofs.OwnLemmas.{own_answer, own_fault, IsAt, own_stands, only_open, grown, grown_by}
 
 -- ---- a call is changed
 
@@ -195,13 +200,78 @@ completes_mine n t s s2 (Ok place) ok done may sees = λ o own. ⊎_elim
     (λ r. (ended_mine n t o s s2 done.0 s.book.spare done.1 ok own r.0.stands (may o own) (sees o own) done.2
     (read_backed s done.0 o ok r.0.stands.within (own_stands n t o s done.0 ok own r.0.stands).is done.1 r.0.reads r.1)).0)
     done.3
-completes_mine n t s s2 (Err e) ok done may sees = tt
+completes_mine n t s s2 (Failed e) ok done may sees = tt
 
-pub fault_mine : (n r count : ℕ) (s s2 : State) → MayGo n s s2 → s2 ≡ faulted s n r count → FaultsTo r count (mine_in n s) (mine_in n s2)
-fault_mine n r count s s2 may e = record {
-  modes = modes_in s;
-  is = grown n s s2 may (fault_placed (modes_in s) n r count ∷ []) (map own_call (running s n)) (entry.Mark (mark.Fault n r count) ∷ []) (ap (λ (x : State). x.book.entries) e) (own_fault n r count (modes_in s)) refl (ap (λ (x : State). map own_call (running x n)) e);
-}
+-- a fault of its line, behind which the rebuild may have ended that was open
+pub record ShowsFault (n r count : ℕ) (s s2 : State) : Type 0 where
+  pub ends : List Entry
+  pub entries : s2.book.entries ≡ s.book.entries ++ entry.Mark (mark.Fault n r count) ∷ ends
+  pub alone : s.rebuild ≡ None → ends ≡ []
+  pub own : own_entries n (modes_in s) (entry.Mark (mark.Fault n r count) ∷ ends) ≡ fault_placed (modes_in s) n r count ∷ []
+  pub running : running s2 n ≡ running s n
+  pub modes : mode_of (modes_in s2) r ≡ Err
+
+failed_mode : (modes : List Mode) (r : ℕ) → mode_of (set modes r Err) r ≡ Err
+failed_mode [] r = refl
+failed_mode (m ∷ ms) zero = refl
+failed_mode (m ∷ ms) (suc r) = failed_mode ms r
+
+-- and stays so as another fails
+still_failed : (modes : List Mode) (q r : ℕ) → mode_of modes r ≡ Err → mode_of (set modes q Err) r ≡ Err
+still_failed [] q r e = refl
+still_failed (m ∷ ms) zero zero e = refl
+still_failed (m ∷ ms) zero (suc r) e = e
+still_failed (m ∷ ms) (suc q) zero e = e
+still_failed (m ∷ ms) (suc q) (suc r) e = still_failed ms q r e
+
+module _ (n r count : ℕ) (s : State) where
+  abbrev its_mark : Mark
+  its_mark = mark.Fault n r count
+
+  goes_on : ShowsFault n r count s (marked s its_mark)
+  goes_on = record {
+    ends = [];
+    entries = refl;
+    alone = λ e. refl;
+    own = own_fault n r count (modes_in s);
+    running = refl;
+    modes = ap (λ (ms : List Mode). mode_of ms r) (modes_after-append s.book.opening.modes s.book.entries (entry.Mark its_mark ∷ [])) ∙ failed_mode (modes_in s) r;
+  }
+
+  aborts : (b : Rebuilding) → s.rebuild ≡ Some b → ShowsFault n r count s (aborted (marked s its_mark) b.target)
+  aborts b begun = record {
+    ends = entry.Mark (mark.Aborted b.target) ∷ [];
+    entries = append_assoc s.book.entries (entry.Mark its_mark ∷ []) (entry.Mark (mark.Aborted b.target) ∷ []);
+    alone = λ none. absurd (some_begun (sym begun ∙ none));
+    own = own_fault n r count (modes_in s);
+    running = refl;
+    modes = ap (λ (ms : List Mode). mode_of ms r) (modes_after-append s.book.opening.modes (s.book.entries ++ entry.Mark its_mark ∷ []) (entry.Mark (mark.Aborted b.target) ∷ []))
+        ∙ still_failed (modes_after s.book.opening.modes (s.book.entries ++ entry.Mark its_mark ∷ [])) b.target r goes_on.modes;
+  }
+    where
+      some_begun : Some b ≡ None → ⊥
+      some_begun e = cc
+
+  pub shows_fault : (s2 : State) → s2 ≡ faulted s n r count → ShowsFault n r count s s2
+  shows_fault s2 e = subst (ShowsFault n r count s) (sym e) (⊎_elim
+      (λ (x : GoesOn (marked s its_mark) r (faulted s n r count)). subst (ShowsFault n r count s) (sym x.state) goes_on)
+      (λ (x : Aborts (marked s its_mark) r (faulted s n r count)). subst (ShowsFault n r count s) (sym x.state) (aborts x.b x.begun))
+      (behind (marked s its_mark) r))
+
+-- how the fault shows: the whole journal has the end of the rebuild too
+pub fault_grown : (n r count : ℕ) (s s2 : State) → MayGo n s s2 → (f : ShowsFault n r count s s2)
+    → mine_in n s2 ≡ with_entries (mine_in n s) (fault_placed (modes_in s) n r count ∷ []) (entry.Mark (mark.Fault n r count) ∷ f.ends) (map own_call (running s n))
+fault_grown n r count s s2 may f = grown_by n s s2 may (fault_placed (modes_in s) n r count ∷ []) (map own_call (running s n)) (entry.Mark (mark.Fault n r count) ∷ f.ends) f.entries f.own (ap (map own_call) f.running)
+
+-- where none is open, it has the fault alone
+pub fault_mine : (n r count : ℕ) (s s2 : State) → MayGo n s s2 → s.rebuild ≡ None → s2 ≡ faulted s n r count → FaultsTo r count (mine_in n s) (mine_in n s2)
+fault_mine n r count s s2 may none e =
+    let shows = shows_fault n r count s s2 e in
+    record {
+      modes = modes_in s;
+      is = fault_grown n r count s s2 may shows
+          ∙ ap (λ (l : List Entry). with_entries (mine_in n s) (fault_placed (modes_in s) n r count ∷ []) (entry.Mark (mark.Fault n r count) ∷ l) (map own_call (running s n))) (shows.alone none);
+    }
 
 -- it is taken back
 pub gone_mine : (n : ℕ) (s s2 : State) → MayGo n s s2 → s2.book.entries ≡ s.book.entries → opens s2 n ≡ [] → mine_in n s2 ≡ with_running (mine_in n s) []

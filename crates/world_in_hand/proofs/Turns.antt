@@ -1,6 +1,7 @@
 -- No step that a stream's worker takes changes the commands that have the maintenance turn or wait for it.
 use Rattle.std.proofs.Common.{◌≡◌, ℕ, Bool, true, false, List, [], length, Result, Ok, Err as Failed, OnOk, OnErr, IfOk, Option, Some, None, refl, ap, ◌∙◌, arith}
 use Rattle.volume_model.specs.declared.call.Call.{Call}
+use Rattle.volume_model.specs.declared.mark.Mark.TheVariants as mark
 use Rattle.volume_model.specs.declared.mode.Mode.{Mode}
 use Rattle.volume_model.specs.declared.mode.Mode.TheVariants.{Rw, Wo, Err}
 use Rattle.volume_model.specs.Modes.{mode_of}
@@ -18,10 +19,24 @@ use Rattle.volume_core.specs.Answers.{EnrolsAs, IsAdmit, BeginsBy, IsRoomier, Is
 use Rattle.volume_core.specs.Places.{IsWriteAt, IsReadAt, IsCallAt, IsWaitingAt}
 use Rattle.volume_core.specs.State.{State, modes_in}
 use Rattle.volume_core.specs.Steps.{with_place, without_call, wrote, has_read, acked, faulted}
+use Rattle.volume_core.specs.Sound.{IsSound, AreAdds}
+use Rattle.volume_core.proofs.Appends.{fall_appends}
+use Rattle.open_rebuild.specs.declared.rebuilding.Rebuilding.{Rebuilding}
+use Rattle.volume_core.specs.declared.world.EndedRebuild.{EndedRebuild}
+use Rattle.whole_calls.specs.declared.maint.MaintCall.{MaintCall}
+use Rattle.range_turns.specs.declared.ticket.Ticket.{Ticket}
 
 -- where there is no command, none is of the stream
 pub turn_free : (n : ℕ) (s : State) → s.commands ≡ [] → HasNoCommand n s.commands
 turn_free n s none = λ k h. absurd (omega (arith, h, ap length none))
+
+-- then no rebuild is open either
+none_begun : (maint : List Ticket) (commands : List MaintCall) (b : Option Rebuilding) (g : Option EndedRebuild) → AreAdds maint commands b g → commands ≡ [] → b ≡ None
+none_begun maint commands None g adds none = refl
+none_begun maint commands (Some b) g adds none = absurd (omega (arith, adds.of_begun.turn.some, ap length none))
+
+pub no_rebuild : (s : State) → IsSound s → s.commands ≡ [] → s.rebuild ≡ None
+no_rebuild s ok none = none_begun s.maint s.commands s.rebuild s.ended ok.adds none
 
 same_turns : (s s2 : State) → s2 ≡ s → s2.commands ≡ s.commands
 same_turns s s2 e = ap (λ (x : State). x.commands) e
@@ -34,8 +49,8 @@ turns_enrolled n c s s2 (Ok (enrol.OutOfRange place)) is err = ap (λ (x : State
 turns_enrolled n c s s2 (Failed e) is err = same_turns s s2 err
 
 failed_turns : (s : State) (r : ℕ) (m : Mode) → (failed_in m s r).commands ≡ s.commands
-failed_turns s r Rw = refl
-failed_turns s r Wo = refl
+failed_turns s r Rw = (fall_appends 0 s (mark.Failed r) r tt).commands
+failed_turns s r Wo = (fall_appends 0 s (mark.Failed r) r tt).commands
 failed_turns s r Err = refl
 
 after_turns : (s : State) (f : Option ℕ) → (after_fail s f).commands ≡ s.commands
@@ -85,7 +100,7 @@ turns_acked t r s s2 (Ok u) is err = ap (λ (x : State). x.commands) is.3
 turns_acked t r s s2 (Failed e) is err = same_turns s s2 err
 
 pub turns_faulted : {E : Type 0} (n r count : ℕ) (s s2 : State) (res : Result (Unit {0}) E) → OnOk res (s2 ≡ faulted s n r count) → OnErr res (s2 ≡ s) → s2.commands ≡ s.commands
-turns_faulted n r count s s2 (Ok u) is err = ap (λ (x : State). x.commands) is
+turns_faulted n r count s s2 (Ok u) is err = ap (λ (x : State). x.commands) is ∙ (fall_appends n s (mark.Fault n r count) r refl).commands
 turns_faulted n r count s s2 (Failed e) is err = same_turns s s2 err
 
 pub turns_completed : {E : Type 0} (t : ℕ) (s s2 : State) (res : Result ℕ E) → OnOk res (Completes s t s2) → OnErr res (s2 ≡ s) → s2.commands ≡ s.commands
