@@ -1,14 +1,11 @@
 -- One turn of a stream's seat: what its holder finds, and what the seat knows when it has left.
-use Rattle.std.proofs.Common.{◌≡◌, ℕ, ◌<◌, Bool, true, false, cond, eqb, List, [], ◌∷◌, ◌++◌, length, map, Option, Some, None, Result, Ok, OnErr, IfOk, IfSome, subst, sym, refl, ap, ◌∙◌, append-nil, arith, eq-eqb, ne_eqb, ⊎_elim}
+use Rattle.std.proofs.Common.{◌≡◌, ℕ, ◌<◌, Bool, true, false, cond, eqb, List, [], ◌∷◌, ◌++◌, length, map, Option, Some, None, Result, Ok, OnErr, IfSome, subst, sym, refl, ap, ◌∙◌, append-nil, arith, eq-eqb, ne_eqb}
 use Rattle.std.proofs.Common.{Err as Failed}
-use Rattle.std.proofs.lemmas.Bool.{cases_eq}
 use Rattle.volume_model.specs.declared.entry.Entry.{Entry}
 use Rattle.volume_model.specs.declared.entry.Entry.TheVariants as entry
-use Rattle.volume_model.specs.declared.mark.Mark.{Mark}
 use Rattle.volume_model.specs.declared.mark.Mark.TheVariants as mark
 use Rattle.volume_model.specs.declared.mode.Mode.{Mode}
 use Rattle.volume_model.specs.Modes.{modes_after, modes_after_entry}
-use Rattle.journal_book.specs.declared.opening.Opening.{Opening}
 use Rattle.whole_calls.proofs.Forms.{length-forms}
 use Rattle.whole_calls.specs.Maint.{HasNoCommand}
 use Rattle.open_calls.specs.Clients.{IsIdle}
@@ -19,7 +16,7 @@ use Rattle.volume_core.specs.State.{State, modes_in}
 use Rattle.volume_core.specs.Sound.{IsSound}
 use Rattle.volume_core.specs.Streams.{Origin, MayGo, ForOwner, running, turning}
 use Rattle.volume_core.specs.Answers.{IsRoomier}
-use Rattle.desk_lock.specs.Account.{Account, Each, IsSilent, MayLeave, is_stream}
+use Rattle.desk_lock.specs.Account.{Each, IsSilent, MayLeave, is_stream}
 use Rattle.desk_lock.specs.declared.views.Known.{Known}
 use Rattle.desk_lock.specs.declared.seats.Desk.{Desk}
 use Rattle.desk_lock.specs.declared.seats.Seat.{Seat}
@@ -30,7 +27,7 @@ use Rattle.world_desk.specs.declared.kept.WorldOnDesk.{WorldOnDesk}
 use Rattle.world_desk.specs.Laid.{stream_of, turn_of, call_of, running_of, laid, world_account, IsLater}
 use Rattle.world_desk.proofs.Leaves.{may_leave}
 use Rattle.world_desk.proofs.Found.{found_later, none_own, has_no_command, still_none}
-use Rattle.stream_steps.specs.Mine.{Mine, OwnCall, Placed, IsOwn}
+use Rattle.stream_steps.specs.Mine.{Mine, OwnCall, IsOwn}
 use Rattle.world_in_hand.specs.Hand.{own_call, is_own, own_entries, mine_in}
 use Rattle.world_in_hand.proofs.OwnLemmas.{own-append, idle_from, open_from, only_open, same_streams}
 use Rattle.client_desk.specs.AtDesk.{without_log, mine_at, IsAtWork}

@@ -1,5 +1,5 @@
 -- A step that is so where the whole journal is known is so where it is not.
-use Rattle.std.proofs.Common.{◌≡◌, ℕ, List, [], ◌∷◌, Result, Ok, OnOk, OnErr, IfOk, IfErr, true, false, ap}
+use Rattle.std.proofs.Common.{◌≡◌, ℕ, List, Result, Ok, OnOk, IfOk, IfErr, ap}
 use Rattle.std.proofs.Common.{Err as Failed}
 use Rattle.volume_model.specs.declared.call.Call.{Call}
 use Rattle.volume_model.specs.declared.mode.Mode.{Mode}
@@ -11,8 +11,12 @@ use Rattle.volume_core.specs.declared.world.NotThis.{NotThis}
 use Rattle.volume_core.specs.declared.world.NotThis.TheVariants as against
 use Rattle.stream_steps.specs.Mine.{Mine, OwnCall, IsOwn}
 use Rattle.stream_steps.specs.Against.{RefusesFault}
-use Rattle.stream_steps.specs.Steps.{AnswersNow, Answers, Refuses, EnrolsTo, EnrolsAt, StartsCall, AdmitsTo, TakesTo, AcksTo, FaultsTo}
-use Rattle.client_desk.specs.AtDesk.{without_log}
+use Rattle.stream_steps.specs.Steps.{AnswersNow, Answers, EnrolsTo, AdmitsTo, TakesTo, AcksTo, FaultsTo}
+use Rattle.volume_core.specs.State.{State, modes_in}
+use Rattle.volume_core.specs.Steps.{faulted}
+use Rattle.volume_core.specs.Streams.{MayGo}
+use Rattle.world_in_hand.proofs.StepLemmas.{shows_fault, fault_grown}
+use Rattle.client_desk.specs.AtDesk.{without_log, mine_at}
 
 pub own_shown : (t : ℕ) (o : OwnCall) (m : Mine) → IsOwn t o (without_log m) → IsOwn t o m
 own_shown t o m h = record { is = h.is; number = h.number }
@@ -33,9 +37,6 @@ module _ (m m2 : Mine) where
   hide_admits o (admit.Go job) a = record { own = a.own; is = ap without_log a.is; same = a.same; of = a.of; job = a.job; none = a.none; source = tt }
   hide_admits o (admit.After other) a = ap without_log a
   hide_admits o (admit.NoReplica place) a = record { ends = hide_answers o a.ends; uncarried = a.uncarried }
-
-  pub hide_faults : (r count : ℕ) → FaultsTo r count m m2 → FaultsTo r count (without_log m) (without_log m2)
-  hide_faults r count f = record { modes = f.modes; is = ap without_log f.is }
 
 -- ---- of what was answered
 
@@ -68,14 +69,15 @@ module _ {E : Type 0} (m m2 : Mine) where
   hidden_acks t r (Ok u) h = λ o own. ap without_log (h o (own_shown t o m own))
   hidden_acks t r (Failed e) h = tt
 
-  pub hidden_faults : (r count : ℕ) (res : Result (Unit {0}) E) → OnOk res (FaultsTo r count m m2) → OnOk res (FaultsTo r count (without_log m) (without_log m2))
-  hidden_faults r count (Ok u) h = hide_faults m m2 r count h
-  hidden_faults r count (Failed e) h = tt
-
   pub hidden_ends : (t : ℕ) (res : Result ℕ E) → OnOk res ((o : OwnCall) → IsOwn t o m → Answers o m m2)
       → OnOk res ((o : OwnCall) → IsOwn t o (without_log m) → Answers o (without_log m) (without_log m2))
   hidden_ends t (Ok place) h = λ o own. hide_answers m m2 o (h o (own_shown t o m own))
   hidden_ends t (Failed e) h = tt
+
+-- a fault shows as its own mark alone: an end of the rebuild behind it is no entry of the stream
+pub faults_shown : {E : Type 0} (n r count : ℕ) (s s2 : State) (res : Result (Unit {0}) E) → MayGo n s s2 → OnOk res (s2 ≡ faulted s n r count) → OnOk res (FaultsTo r count (mine_at n s) (mine_at n s2))
+faults_shown n r count s s2 (Ok u) may e = record { modes = modes_in s; is = ap without_log (fault_grown n r count s s2 may (shows_fault n r count s s2 e)) }
+faults_shown n r count s s2 (Failed e) may is = tt
 
 -- ---- of what stood against it
 

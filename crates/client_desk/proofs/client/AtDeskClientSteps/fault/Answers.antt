@@ -7,12 +7,12 @@ use Rattle.stream_steps.specs.Mine.{Mine}
 use Rattle.stream_steps.specs.Against.{RefusesFault}
 use Rattle.stream_steps.specs.Steps.{FaultsTo}
 use Rattle.world_in_hand.specs.Hand.{mine_in}
-use Rattle.world_in_hand.proofs.Answered.{faults_mine, fault_fails}
+use Rattle.world_in_hand.proofs.Answered.{fault_fails}
 use Rattle.world_in_hand.proofs.AgainstLemmas.{faults_why}
 use Rattle.world_in_hand.proofs.Turns.{turns_faulted}
 use Rattle.client_desk.specs.AtDesk.{mine_at}
 use Rattle.client_desk.proofs.AtTurn.{may_go, at_work, over, unchanged}
-use Rattle.client_desk.proofs.Unlogged.{hidden_faults, hidden_refuses}
+use Rattle.client_desk.proofs.Unlogged.{faults_shown, hidden_refuses}
 use Rattle.client_desk.proofs.client.AtDeskClientSteps.fault.Goals as goal
 
 pub leave-requires-clause-may : goal.leave-requires-clause-may
@@ -25,7 +25,7 @@ pub returns-clause-ok : goal.returns-clause-ok
 returns-clause-ok g c =
     over c.args.self.now.desk.now c.args.self.now.seat c.args.self.now.stream c.enter-guard.result.state c.requires.ready c.enter-guard.ensures.state c.enter-guard.result.seat.now (record { world = c.fault-answer.new.self }) c.enter-guard.ensures.turn.0 c.fault-answer.ensures.may c.leave.new.self.0 c.leave.ensures
     (λ (m : Mine) (z : State). OnOk c.fault-answer.result (FaultsTo c.args.replica c.args.count m (mine_at c.args.self.now.stream z)))
-    (hidden_faults (mine_in c.args.self.now.stream (laid c.enter-guard.result.state)) (mine_in c.args.self.now.stream (state_of c.fault-answer.new.self)) c.args.replica c.args.count c.fault-answer.result (faults_mine c.args.self.now.stream c.args.replica c.args.count (laid c.enter-guard.result.state) (state_of c.fault-answer.new.self) c.fault-answer.result c.fault-answer.ensures.may c.fault-answer.ensures.ok))
+    (faults_shown c.args.self.now.stream c.args.replica c.args.count (laid c.enter-guard.result.state) (state_of c.fault-answer.new.self) c.fault-answer.result c.fault-answer.ensures.may c.fault-answer.ensures.ok)
 
 pub returns-clause-failed : goal.returns-clause-failed
 returns-clause-failed g c =
