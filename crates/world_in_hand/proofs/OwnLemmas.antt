@@ -17,13 +17,14 @@ use Rattle.open_calls.specs.declared.open_call.OpenCall.{OpenCall}
 use Rattle.open_calls.specs.Calls.{open_at}
 use Rattle.open_calls.specs.Clients.{IsIdle}
 use Rattle.volume_core.specs.State.{State, opening_of, modes_in}
-use Rattle.volume_core.specs.Sound.{IsSound}
+use Rattle.volume_core.specs.Sound.{IsSound, NoneGaveUp}
 use Rattle.volume_core.specs.Streams.{calls_in, running, open_of, IsOpen, MayGo, Origin}
 use Rattle.volume_core.proofs.CallLemmas.{idle-calls, calls-none, calls-place, calls-one}
 use Rattle.volume_core.proofs.Moves.{IsOwnAt, own_at}
 use Rattle.volume_maint.specs.Answers.{spot_of}
 use Rattle.stream_steps.specs.Mine.{OwnCall, Placed, Log, IsOwn, entries_in, with_entries, with_more, with_running, answer_placed, fault_placed}
 use Rattle.world_in_hand.specs.Hand.{own_call, is_own, own_entries, mine_in, IsReady}
+use Rattle.world_in_hand.proofs.Turns.{Rest, rest_of}
 
 -- ---- own entries
 
@@ -165,13 +166,14 @@ module _ (n : ℕ) (s s2 : State) (may : MayGo n s s2) where
       → mine_in n s2 ≡ with_more (mine_in n s) ps os
   grown ps os es e own back r = grown_by ps os es e own r ∙ ap (λ (l : List Entry). with_entries (mine_in n s) ps l os) (sym back)
 
-  -- the next step can be taken, where the commands are the same
-  pub ready_on : s2.commands ≡ s.commands → IsReady n s → IsReady n s2
+  -- the next step can be taken, where the commands are the same, and the streams that gave a rebuild up
+  pub ready_on : rest_of s2 ≡ rest_of s → IsReady n s → IsReady n s2
   ready_on same r = record {
     sound = may.sound;
     there = subst (λ k. n < k) (sym same_streams) r.there;
     alone = λ other h. may.others other h ∙ r.alone other h;
-    turns = same ∙ r.turns;
+    turns = ap (λ (x : Rest). x.commands) same ∙ r.turns;
+    gave_up = subst NoneGaveUp (sym (ap (λ (x : Rest). x.gave_up) same)) r.gave_up;
   }
 
 -- a state that is the same
@@ -202,5 +204,5 @@ rests n s ready idle = at_rest s ready.sound (λ m _. ⊎_elim
 pub none_of : (m : ℕ) (s : State) → s.tickets ≡ [] → running s m ≡ []
 none_of m s none = ap (λ ts. calls_in m ts s.calls) none
 
-pub ready_at : (m : ℕ) (s : State) → IsSound s → m < length s.indices → s.tickets ≡ [] → s.commands ≡ [] → IsReady m s
-ready_at m s ok there none turns = record { sound = ok; there = there; alone = λ other _. none_of other s none; turns = turns }
+pub ready_at : (m : ℕ) (s : State) → IsSound s → m < length s.indices → s.tickets ≡ [] → s.commands ≡ [] → NoneGaveUp s.gave_up → IsReady m s
+ready_at m s ok there none turns gave_up = record { sound = ok; there = there; alone = λ other _. none_of other s none; turns = turns; gave_up = gave_up }

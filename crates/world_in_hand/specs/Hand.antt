@@ -10,7 +10,7 @@ use Rattle.volume_model.specs.Modes.{modes_after_entry}
 use Rattle.open_calls.specs.declared.open_call.OpenCall.{OpenCall}
 use Rattle.open_calls.specs.Calls.{call_asked, whole_of}
 use Rattle.volume_core.specs.State.{State}
-use Rattle.volume_core.specs.Sound.{IsSound}
+use Rattle.volume_core.specs.Sound.{IsSound, NoneGaveUp}
 use Rattle.volume_core.specs.Streams.{running}
 use Rattle.volume_maint.specs.Answers.{spot_of}
 use Rattle.stream_steps.specs.Mine.{Mine, OwnCall, Placed}
@@ -60,10 +60,11 @@ mine_in stream s = record {
 abbrev pub IsAlone : ℕ → State → Type 0
 IsAlone stream s = (other : ℕ) → other ≢ stream → running s other ≡ []
 
--- A step of the stream can be taken: the World is sound, the stream is one of its streams, no other has a call open,
--- and no command has the maintenance turn or waits for it.
+-- A step of the stream can be taken: the World is sound, the stream is one of its streams, no other has a call open, no
+-- command has the maintenance turn or waits for it, and no stream gave a rebuild up.
 pub record IsReady (stream : ℕ) (s : State) : Type 0 where
   pub sound : IsSound s
   pub there : stream < length s.indices
   pub alone : IsAlone stream s
   pub turns : s.commands ≡ []
+  pub gave_up : NoneGaveUp s.gave_up
