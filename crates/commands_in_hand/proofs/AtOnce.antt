@@ -1,5 +1,5 @@
 -- A command that is answered at once, as the worker of its stream sees it.
-use Rattle.std.proofs.Common.{◌≡◌, ℕ, List, [], ◌∷◌, ◌++◌, length, Result, Ok, Err as Failed, OnOk, IfOk, sym, refl, ap, ◌∙◌, append_assoc}
+use Rattle.std.proofs.Common.{◌≡◌, ℕ, List, [], ◌∷◌, ◌++◌, length, Result, Ok, Err as Failed, OnOk, IfOk, sym, refl, ap, ◌∙◌, None}
 use Rattle.command_text.specs.declared.command.Command.{Command}
 use Rattle.command_text.specs.declared.command.Command.TheVariants as command
 use Rattle.volume_model.specs.declared.call.Call.TheVariants as call
@@ -23,6 +23,7 @@ use Rattle.stream_steps.specs.Steps.{AreMarks, CommandsTo, IsAtOnce}
 use Rattle.world_in_hand.specs.Hand.{own_entries, mine_in}
 use Rattle.world_in_hand.proofs.OwnLemmas.{own-append, own_answer, grown_by}
 use Rattle.world_in_hand.proofs.StepLemmas.{none_open}
+use Rattle.commands_in_hand.proofs.Settled.{fail_entries}
 
 -- ---- marks are not own
 
@@ -61,11 +62,12 @@ commands_mine n c s s2 marks a may e are is by saw idle turn = record {
 
 -- ---- at once
 
-fails_mine : (n r : ℕ) (s s2 : State) (m : Mode) → mode_of (modes_in s) r ≡ m → MayGo n s s2 → opens s2 n ≡ [] → s2 ≡ answered (failed_in m (with_place s) r) n (length s.book.entries) (call.Command (command.Fail r)) reply.Done
+fails_mine : (n r : ℕ) (s s2 : State) (m : Mode) → mode_of (modes_in s) r ≡ m → s.rebuild ≡ None → MayGo n s s2 → opens s2 n ≡ [] → s2 ≡ answered (failed_in m (with_place s) r) n (length s.book.entries) (call.Command (command.Fail r)) reply.Done
     → CommandsTo (command.Fail r) (mine_in n s) (mine_in n s2)
-fails_mine n r s s2 m is may idle e =
+fails_mine n r s s2 m is none may idle e =
     let answer : Answer = record { call = call.Command (command.Fail r); reply = reply.Done; index = index_at s.indices n; saw = length s.book.entries; stream = n } in
-    commands_mine n (command.Fail r) s s2 (fail_marks r m) answer may (ap (λ (x : State). x.book.entries) e ∙ added m) (are m) refl refl refl idle
+    commands_mine n (command.Fail r) s s2 (fail_marks r m) answer may
+    (ap (λ (x : State). x.book.entries) e ∙ fail_entries m (with_place s) n r (length s.book.entries) (call.Command (command.Fail r)) reply.Done none) (are m) refl refl refl idle
     (ap (λ (x : Mode). fail_marks r x ++ entry.Answer answer ∷ []) (sym is))
   where
     are : (m : Mode) → AreMarks (fail_marks r m)
@@ -73,21 +75,15 @@ fails_mine n r s s2 m is may idle e =
     are Wo = (tt, tt)
     are Err = tt
 
-    added : (m : Mode) → (answered (failed_in m (with_place s) r) n (length s.book.entries) (call.Command (command.Fail r)) reply.Done).book.entries
-        ≡ s.book.entries ++ (fail_marks r m ++ entry.Answer (record { call = call.Command (command.Fail r); reply = reply.Done; index = index_at s.indices n; saw = length s.book.entries; stream = n }) ∷ [])
-    added Rw = append_assoc s.book.entries (entry.Mark (mark.Failed r) ∷ []) (entry.Answer (record { call = call.Command (command.Fail r); reply = reply.Done; index = index_at s.indices n; saw = length s.book.entries; stream = n }) ∷ [])
-    added Wo = append_assoc s.book.entries (entry.Mark (mark.Failed r) ∷ []) (entry.Answer (record { call = call.Command (command.Fail r); reply = reply.Done; index = index_at s.indices n; saw = length s.book.entries; stream = n }) ∷ [])
-    added Err = refl
-
-pub at_once_mine : {E : Type 0} (n : ℕ) (c : Command) (s s2 : State) (res : Result ℕ E) → IsAtOnce c → MayGo n s s2 → IfOk res (λ place. IsAnsweredNow s n (call.Command c) place s2) → IfOk res (λ place. IsAnsweredTo n (call.Command c) s s2)
+pub at_once_mine : {E : Type 0} (n : ℕ) (c : Command) (s s2 : State) (res : Result ℕ E) → s.rebuild ≡ None → IsAtOnce c → MayGo n s s2 → IfOk res (λ place. IsAnsweredNow s n (call.Command c) place s2) → IfOk res (λ place. IsAnsweredTo n (call.Command c) s s2)
     → OnOk res (CommandsTo c (mine_in n s) (mine_in n s2))
-at_once_mine n (command.Fail r) s s2 (Ok place) once may is sees = fails_mine n r s s2 (mode_of (modes_in s) r) refl may sees.idle is.state
-at_once_mine n command.Status s s2 (Ok place) once may is sees =
+at_once_mine n (command.Fail r) s s2 (Ok place) settled once may is sees = fails_mine n r s s2 (mode_of (modes_in s) r) refl settled may sees.idle is.state
+at_once_mine n command.Status s s2 (Ok place) settled once may is sees =
     let answer : Answer = record { call = call.Command command.Status; reply = (plain_step (modes_in s) (told_of s) (call.Command command.Status)).1; index = index_at s.indices n; saw = length s.book.entries; stream = n } in
     commands_mine n command.Status s s2 [] answer may (ap (λ (x : State). x.book.entries) is.state) tt refl refl refl sees.idle refl
-at_once_mine n (command.Snapshot name) s s2 (Ok place) once may is sees = absurd once
-at_once_mine n (command.Remove name) s s2 (Ok place) once may is sees = absurd once
-at_once_mine n (command.Revert name) s s2 (Ok place) once may is sees = absurd once
-at_once_mine n command.Purge s s2 (Ok place) once may is sees = absurd once
-at_once_mine n (command.Add r) s s2 (Ok place) once may is sees = absurd once
-at_once_mine n c s s2 (Failed e) once may is sees = tt
+at_once_mine n (command.Snapshot name) s s2 (Ok place) settled once may is sees = absurd once
+at_once_mine n (command.Remove name) s s2 (Ok place) settled once may is sees = absurd once
+at_once_mine n (command.Revert name) s s2 (Ok place) settled once may is sees = absurd once
+at_once_mine n command.Purge s s2 (Ok place) settled once may is sees = absurd once
+at_once_mine n (command.Add r) s s2 (Ok place) settled once may is sees = absurd once
+at_once_mine n c s s2 (Failed e) settled once may is sees = tt

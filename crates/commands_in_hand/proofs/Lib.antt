@@ -1,5 +1,6 @@
 pub mod Shapes
 pub mod Grown
+pub mod Settled
 pub mod AtOnce
 pub mod TurnSteps
 pub mod WholeSteps

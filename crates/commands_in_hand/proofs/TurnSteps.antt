@@ -1,5 +1,5 @@
 -- The steps of the maintenance turn, as the one worker that there is sees them.
-use Rattle.std.proofs.Common.{◌≡◌, ℕ, ◌+◌, true, List, [], ◌∷◌, ◌++◌, length, length-set, map, Result, Ok, Err as Failed, OnOk, OnErr, IfOk, IfErr, refl, ap, ◌∙◌, arith}
+use Rattle.std.proofs.Common.{◌≡◌, ℕ, ◌+◌, true, List, [], ◌∷◌, ◌++◌, length, length-set, map, None, Result, Ok, Err as Failed, OnOk, OnErr, IfOk, IfErr, refl, ap, ◌∙◌, arith}
 use Rattle.command_text.specs.declared.command.Command.{Command}
 use Rattle.command_text.specs.declared.command.Command.TheVariants as command
 use Rattle.range_turns.specs.declared.turns.MayStart.{MayStart}
@@ -34,11 +34,12 @@ use Rattle.stream_steps.specs.Steps.{EnrolsAt, CommandsTo, FaultsTo, IsAtOnce}
 use Rattle.stream_steps.specs.Maint.{IsMaint, HasTurn, AwaitsTurn, TurnsTo, IsYes, AnswersWhole}
 use Rattle.world_in_hand.specs.Hand as hand
 use Rattle.world_in_hand.proofs.OwnLemmas.{own_answer, own_fault}
+use Rattle.commands_in_hand.proofs.Settled.{fault_alone}
 use Rattle.commands_in_hand.proofs.AtOnce.{at_once_mine}
-use Rattle.world_in_hand.proofs.Turns.{turns_answered}
+use Rattle.world_in_hand.proofs.Turns.{turns_answered, Rest}
 use Rattle.commands_in_hand.specs.Hand.{own_turn, own_whole, mine_in, IsReady}
 use Rattle.commands_in_hand.proofs.Shapes.{Has, has_running, has_turn, HasOneTurn, no_commands}
-use Rattle.commands_in_hand.proofs.Grown.{Kept, kept_same, kept_has, only_open, grown}
+use Rattle.commands_in_hand.proofs.Grown.{Kept, rebuilds_of, kept_same, kept_has, only_open, grown}
 
 -- ---- where nothing is open
 
@@ -85,9 +86,9 @@ command_seen n c s s2 x idle = record {
   turn = x.turn;
 }
 
-pub at_once : {E : Type 0} (n : ℕ) (c : Command) (s s2 : State) (res : Result ℕ E) → Has n s [] [] → IsAtOnce c → MayGo n s s2 → IfOk res (λ at. IsAnsweredNow s n (call.Command c) at s2) → IfOk res (λ at. IsAnsweredTo n (call.Command c) s s2)
+pub at_once : {E : Type 0} (n : ℕ) (c : Command) (s s2 : State) (res : Result ℕ E) → Has n s [] [] → s.rebuild ≡ None → IsAtOnce c → MayGo n s s2 → IfOk res (λ at. IsAnsweredNow s n (call.Command c) at s2) → IfOk res (λ at. IsAnsweredTo n (call.Command c) s s2)
     → OnErr res (s2 ≡ s) → OnOk res (CommandsTo c (mine_in n s) (mine_in n s2))
-at_once n c s s2 res h once goes is sees err = by res (at_once_mine n c s s2 res once goes is sees) sees (turns_answered n (call.Command c) s s2 res is err ∙ h.commands)
+at_once n c s s2 res h settled once goes is sees err = by res (at_once_mine n c s s2 res settled once goes is sees) sees (ap (λ (x : Rest). x.commands) (turns_answered n (call.Command c) s s2 res is err) ∙ h.commands)
   where
     by : {E : Type 0} (res : Result ℕ E) → OnOk res (CommandsTo c (hand.mine_in n s) (hand.mine_in n s2)) → IfOk res (λ at. IsAnsweredTo n (call.Command c) s s2) → s2.commands ≡ [] → OnOk res (CommandsTo c (mine_in n s) (mine_in n s2))
     by (Ok at) x sees none = command_seen n c s s2 x (idle_then n s2 sees.idle none)
@@ -95,13 +96,15 @@ at_once n c s s2 res h once goes is sees err = by res (at_once_mine n c s s2 res
 
 -- ---- a line fails
 
-pub faults : {E : Type 0} (n r count : ℕ) (s s2 : State) (res : Result (Unit {0}) E) → MayGo n s s2 → OnOk res (s2 ≡ faulted s n r count) → OnOk res (FaultsTo r count (mine_in n s) (mine_in n s2))
-faults n r count s s2 (Ok u) goes e = record {
-  modes = modes_in s;
-  is = grown n s s2 goes.origin (fault_placed (modes_in s) n r count ∷ []) (mine_in n s).running (entry.Mark (mark.Fault n r count) ∷ []) (ap (λ (x : State). x.book.entries) e) (own_fault n r count (modes_in s)) refl
-      (ap (λ (x : State). (mine_in n x).running) e);
-}
-faults n r count s s2 (Failed x) goes e = tt
+pub faults : {E : Type 0} (n r count : ℕ) (s s2 : State) (res : Result (Unit {0}) E) → s.rebuild ≡ None → MayGo n s s2 → OnOk res (s2 ≡ faulted s n r count) → OnOk res (FaultsTo r count (mine_in n s) (mine_in n s2))
+faults n r count s s2 (Ok u) settled goes e =
+    let is = e ∙ fault_alone s n r count settled in
+    record {
+      modes = modes_in s;
+      is = grown n s s2 goes.origin (fault_placed (modes_in s) n r count ∷ []) (mine_in n s).running (entry.Mark (mark.Fault n r count) ∷ []) (ap (λ (x : State). x.book.entries) is) (own_fault n r count (modes_in s)) refl
+          (ap (λ (x : State). (mine_in n x).running) is);
+    }
+faults n r count s s2 (Failed x) settled goes e = tt
 
 refuses_same : (modes : List Mode) (n r count : ℕ) (s : State) (why : NotThis) → RefusesFault modes (hand.mine_in n s) r count why → RefusesFault modes (mine_in n s) r count why
 refuses_same modes n r count s against.Ticket a = a
@@ -135,7 +138,7 @@ module _ (n : ℕ) (s s2 : State) (r : IsReady n s) (ok : IsSound s2) where
     enrolled_origin = ap origin_of e
 
     enrolled_kept : Kept n s s2
-    enrolled_kept = kept_has n s s2 r ok enrolled_origin ((whole_ticket number, d) ∷ []) [] enrolled_has
+    enrolled_kept = kept_has n s s2 r ok enrolled_origin (ap rebuilds_of e) ((whole_ticket number, d) ∷ []) [] enrolled_has
 
     enrolled_mine : EnrolsAt number (call.Command c) (mine_in n s) (mine_in n s2)
     enrolled_mine = record {
@@ -160,7 +163,7 @@ module _ (n : ℕ) (s s2 : State) (r : IsReady n s) (ok : IsSound s2) where
     }
 
     begun_kept : Kept n s s2
-    begun_kept = kept_has n s s2 r ok (ap origin_of e) ((record p.0 { started = true }, p.1) ∷ []) [] begun_has
+    begun_kept = kept_has n s s2 r ok (ap origin_of e) (ap rebuilds_of e) ((record p.0 { started = true }, p.1) ∷ []) [] begun_has
 
     begun_mine : (o : OwnCall) → own_turn p ≡ o → mine_in n s2 ≡ with_running (mine_in n s) (record o { started = true } ∷ [])
     begun_mine o is =
@@ -180,7 +183,7 @@ module _ (n : ℕ) (s s2 : State) (r : IsReady n s) (ok : IsSound s2) where
     }
 
     pub gone_kept : Kept n s s2
-    gone_kept = kept_has n s s2 r ok (ap origin_of e) [] [] gone_has
+    gone_kept = kept_has n s s2 r ok (ap origin_of e) (ap rebuilds_of e) [] [] gone_has
 
     pub gone_mine : mine_in n s2 ≡ with_running (mine_in n s) []
     gone_mine = only_open n s s2 (ap origin_of e) [] (ap (λ (x : State). x.book.entries) e) (has_running n s2 [] [] gone_has)
@@ -208,7 +211,7 @@ module _ (n : ℕ) (s s2 : State) (r : IsReady n s) (ok : IsSound s2) where
         ∙ ap (λ k. record { first = s.first; opening = s.book.opening; size = s.size; streams = k; replicas = length s.nodes }) (length-set s.indices c.stream (index_at s.indices c.stream + 1))
 
     ended_kept : Kept n s s2
-    ended_kept = kept_has n s s2 r ok ended_origin [] [] ended_has
+    ended_kept = kept_has n s s2 r ok ended_origin (ap rebuilds_of e) [] [] ended_has
 
     abbrev ended_answer : Answer
     ended_answer = record { call = call.Command c.command; reply = y; index = index_at s.indices c.stream; saw = c.saw; stream = c.stream }

@@ -57,7 +57,7 @@ use Rattle.world_in_hand.proofs.OwnLemmas.{own_answer}
 use Rattle.commands_in_hand.specs.Hand.{own_turn, own_whole, parts_in, mine_in, IsReady}
 use Rattle.commands_in_hand.proofs.Shapes.{Has, OwnTurns, has_running, has_call, HasCall, HasOneTurn, shape_of}
 use Rattle.world_in_hand.specs.Hand.{own_entries}
-use Rattle.commands_in_hand.proofs.Grown.{Kept, kept_same, kept_has, only_open, grown, grown_by}
+use Rattle.commands_in_hand.proofs.Grown.{Kept, rebuilds_of, kept_same, kept_has, only_open, grown, grown_by}
 use Rattle.commands_in_hand.proofs.TurnSteps.{idle_turns, turn_one}
 
 -- ---- where the operation stands
@@ -155,7 +155,7 @@ module _ (n : ℕ) (s : State) (t : ℕ) (op : WholeOp) (turn : List OwnCall) (o
       }
 
       left_kept : Kept n s s2
-      left_kept = kept_has n s s2 r ok (ap origin_of e) x.ms [] left_has
+      left_kept = kept_has n s s2 r ok (ap origin_of e) (ap rebuilds_of e) x.ms [] left_has
 
       left_mine : mine_in n s2 ≡ with_running (mine_in n s) turn
       left_mine = only_open n s s2 (ap origin_of e) turn (ap (λ (z : State). z.book.entries) e) (running_left s2 left_has)
@@ -176,7 +176,7 @@ module _ (n : ℕ) (s : State) (t : ℕ) (op : WholeOp) (turn : List OwnCall) (o
       }
 
       begun_kept : Kept n s s2
-      begun_kept = kept_has n s s2 r ok (ap origin_of e) x.ms (q2 ∷ []) begun_has
+      begun_kept = kept_has n s s2 r ok (ap origin_of e) (ap rebuilds_of e) x.ms (q2 ∷ []) begun_has
 
       begun_own : own_whole s2.whole q2 ≡ record o { started = true; parts = map part_for (modes_in s) }
       begun_own =
@@ -200,9 +200,9 @@ module _ (n : ℕ) (s : State) (t : ℕ) (op : WholeOp) (turn : List OwnCall) (o
       }
 
     -- a replica's part
-    module _ (w v : Whole) (ps : List Part) (is : s.whole ≡ Some w) (of : v.parts ≡ ps) (origin : origin_of s2 ≡ origin_of s) (kept : s2.whole ≡ Some v) (entries : s2.book.entries ≡ s.book.entries) (h : Has n s2 x.ms (x.q ∷ [])) where
+    module _ (w v : Whole) (ps : List Part) (is : s.whole ≡ Some w) (of : v.parts ≡ ps) (origin : origin_of s2 ≡ origin_of s) (rebuilds : rebuilds_of s2 ≡ rebuilds_of s) (kept : s2.whole ≡ Some v) (entries : s2.book.entries ≡ s.book.entries) (h : Has n s2 x.ms (x.q ∷ [])) where
       part_kept : Kept n s s2
-      part_kept = kept_has n s s2 r ok origin x.ms (x.q ∷ []) h
+      part_kept = kept_has n s s2 r ok origin rebuilds x.ms (x.q ∷ []) h
 
       part_mine : mine_in n s2 ≡ with_running (mine_in n s) (turn ++ record o { parts = ps } ∷ [])
       part_mine = only_open n s s2 origin (turn ++ record o { parts = ps } ∷ []) entries
@@ -231,12 +231,13 @@ record SameButTurn (z z2 : State) : Type 0 where
   calls : z2.calls ≡ z.calls
   entries : z2.book.entries ≡ z.book.entries
   origin : origin_of z2 ≡ origin_of z
+  rebuilds : rebuilds_of z2 ≡ rebuilds_of z
 
 over_same : (p : WholeOp) (z : State) → SameButTurn z (turn_over p z)
-over_same (whole.Snapshot name) z = record { tickets = refl; calls = refl; entries = refl; origin = refl }
-over_same (whole.Remove name) z = record { tickets = refl; calls = refl; entries = refl; origin = refl }
-over_same (whole.Revert name) z = record { tickets = refl; calls = refl; entries = refl; origin = refl }
-over_same (whole.Purge f) z = record { tickets = refl; calls = refl; entries = refl; origin = refl }
+over_same (whole.Snapshot name) z = record { tickets = refl; calls = refl; entries = refl; origin = refl; rebuilds = refl }
+over_same (whole.Remove name) z = record { tickets = refl; calls = refl; entries = refl; origin = refl; rebuilds = refl }
+over_same (whole.Revert name) z = record { tickets = refl; calls = refl; entries = refl; origin = refl; rebuilds = refl }
+over_same (whole.Purge f) z = record { tickets = refl; calls = refl; entries = refl; origin = refl; rebuilds = refl }
 
 module _ (n : ℕ) (s s2 : State) (t : ℕ) (op : WholeOp) (turn : List OwnCall) (o : OwnCall) (x : HasCall n s t op turn o) (r : IsReady n s) (ok : IsSound s2) (i : ℕ) (within : i < length s.tickets) where
   -- it ends with an answer
@@ -276,7 +277,7 @@ module _ (n : ℕ) (s s2 : State) (t : ℕ) (op : WholeOp) (turn : List OwnCall)
         ∙ same.origin
 
     ended_kept : Kept n s s2
-    ended_kept = kept_has n s s2 r ok ended_origin [] [] ended_has
+    ended_kept = kept_has n s s2 r ok ended_origin (ap rebuilds_of e ∙ same.rebuilds) [] [] ended_has
 
     ended_mine : o.call ≡ call.Command (command_of op) → AnswersWhole o y (mine_in n s) (mine_in n s2)
     ended_mine asked =
@@ -295,7 +296,7 @@ module _ (n : ℕ) (s s2 : State) (t : ℕ) (op : WholeOp) (turn : List OwnCall)
 
   -- a part of a purge ends, with its mark or without
   module _ (marks : List Entry) (own : own_entries n (modes_in s) marks ≡ []) (maint : s2.maint ≡ s.maint) (commands : s2.commands ≡ s.commands) (tickets : s2.tickets ≡ remove s.tickets i) (calls : s2.calls ≡ remove s.calls i)
-      (origin : origin_of s2 ≡ origin_of s) (entries : s2.book.entries ≡ s.book.entries ++ marks) where
+      (origin : origin_of s2 ≡ origin_of s) (rebuilds : rebuilds_of s2 ≡ rebuilds_of s) (entries : s2.book.entries ≡ s.book.entries ++ marks) where
     marked_has : Has n s2 x.ms []
     marked_has = record {
       maint = maint ∙ x.has.maint;
@@ -307,7 +308,7 @@ module _ (n : ℕ) (s s2 : State) (t : ℕ) (op : WholeOp) (turn : List OwnCall)
     }
 
     marked_kept : Kept n s s2
-    marked_kept = kept_has n s s2 r ok origin x.ms [] marked_has
+    marked_kept = kept_has n s s2 r ok origin rebuilds x.ms [] marked_has
 
     marked_mine : mine_in n s2 ≡ with_entries (mine_in n s) [] marks turn
     marked_mine = grown_by n s s2 origin [] turn marks entries own (running_left n s t op turn o x s2 marked_has)
@@ -329,7 +330,7 @@ module _ (n : ℕ) (s s2 : State) (r : IsReady n s) (ok : IsSound s2) (ms : List
   }
 
   enrolled_kept : Kept n s s2
-  enrolled_kept = kept_has n s s2 r ok (ap origin_of e) ms (q ∷ []) enrolled_has
+  enrolled_kept = kept_has n s s2 r ok (ap origin_of e) (ap rebuilds_of e) ms (q ∷ []) enrolled_has
 
   enrolled_mine : EnrolsWhole number op (map own_turn ms) (mine_in n s) (mine_in n s2)
   enrolled_mine = record {
@@ -514,22 +515,22 @@ module _ (n t : ℕ) (s s2 : State) (r : IsReady n s) (ok : IsSound s2) where
     takes_has w e = same_has n s t op turn o here s2 (ap (λ (z : State). z.maint) e) (ap (λ (z : State). z.commands) e) (ap (λ (z : State). z.tickets) e) (ap (λ (z : State). z.calls) e)
 
     takes_one : world.TakesPart s t q s2 → PartsTo turn o q (mine_in n s) (mine_in n s2)
-    takes_one y = part_mine n s t op turn o here s2 r ok y.w (parted y.w q) (set o.parts q Taken) y.at.is (ap (λ ps. set ps q Taken) (parts_are n s t op turn o here y.w y.at.is)) (parted_origin y.w q y.state)
+    takes_one y = part_mine n s t op turn o here s2 r ok y.w (parted y.w q) (set o.parts q Taken) y.at.is (ap (λ ps. set ps q Taken) (parts_are n s t op turn o here y.w y.at.is)) (parted_origin y.w q y.state) (ap rebuilds_of y.state)
         (ap (λ (z : State). z.whole) y.state) (ap (λ (z : State). z.book.entries) y.state) (takes_has y.w y.state)
 
     takes_on : world.TakesPart s t q s2 → Kept n s s2
-    takes_on y = part_kept n s t op turn o here s2 r ok y.w (parted y.w q) (set o.parts q Taken) y.at.is (ap (λ ps. set ps q Taken) (parts_are n s t op turn o here y.w y.at.is)) (parted_origin y.w q y.state)
+    takes_on y = part_kept n s t op turn o here s2 r ok y.w (parted y.w q) (set o.parts q Taken) y.at.is (ap (λ ps. set ps q Taken) (parts_are n s t op turn o here y.w y.at.is)) (parted_origin y.w q y.state) (ap rebuilds_of y.state)
         (ap (λ (z : State). z.whole) y.state) (ap (λ (z : State). z.book.entries) y.state) (takes_has y.w y.state)
 
     acks_has : (w : Whole) → s2 ≡ whole_acked s w q → Has n s2 here.ms (here.q ∷ [])
     acks_has w e = same_has n s t op turn o here s2 (ap (λ (z : State). z.maint) e) (ap (λ (z : State). z.commands) e) (ap (λ (z : State). z.tickets) e) (ap (λ (z : State). z.calls) e)
 
     acks_one : world.AcksPart s t q s2 → AcksWhole turn o q (mine_in n s) (mine_in n s2)
-    acks_one y = part_mine n s t op turn o here s2 r ok y.w (part_acked y.w q) (set o.parts q Acked) y.at.is (ap (λ ps. set ps q Acked) (parts_are n s t op turn o here y.w y.at.is)) (ap origin_of y.state)
+    acks_one y = part_mine n s t op turn o here s2 r ok y.w (part_acked y.w q) (set o.parts q Acked) y.at.is (ap (λ ps. set ps q Acked) (parts_are n s t op turn o here y.w y.at.is)) (ap origin_of y.state) (ap rebuilds_of y.state)
         (ap (λ (z : State). z.whole) y.state) (ap (λ (z : State). z.book.entries) y.state) (acks_has y.w y.state)
 
     acks_on : world.AcksPart s t q s2 → Kept n s s2
-    acks_on y = part_kept n s t op turn o here s2 r ok y.w (part_acked y.w q) (set o.parts q Acked) y.at.is (ap (λ ps. set ps q Acked) (parts_are n s t op turn o here y.w y.at.is)) (ap origin_of y.state)
+    acks_on y = part_kept n s t op turn o here s2 r ok y.w (part_acked y.w q) (set o.parts q Acked) y.at.is (ap (λ ps. set ps q Acked) (parts_are n s t op turn o here y.w y.at.is)) (ap origin_of y.state) (ap rebuilds_of y.state)
         (ap (λ (z : State). z.whole) y.state) (ap (λ (z : State). z.book.entries) y.state) (acks_has y.w y.state)
 
     begun_whole : (ticket_at s.tickets 0).started ≡ true → (w : Whole) × (s.whole ≡ Some w)
@@ -598,10 +599,10 @@ module _ (n t : ℕ) (s s2 : State) (r : IsReady n s) (ok : IsSound s2) where
         let tickets = ap (λ (z : State). z.tickets) e in
         let calls = ap (λ (z : State). z.calls) e in
         let entries = ap (λ (z : State). z.book.entries) e in (
-          marked_kept n s s2 t (whole.Purge f) turn o x r ok i within marks refl maint commands tickets calls (ap origin_of e) entries,
+          marked_kept n s s2 t (whole.Purge f) turn o x r ok i within marks refl maint commands tickets calls (ap origin_of e) (ap rebuilds_of e) entries,
           record {
             marks = marks;
-            is = marked_mine n s s2 t (whole.Purge f) turn o x r ok i within marks refl maint commands tickets calls (ap origin_of e) entries;
+            is = marked_mine n s s2 t (whole.Purge f) turn o x r ok i within marks refl maint commands tickets calls (ap origin_of e) (ap rebuilds_of e) entries;
             are = inl refl;
             done = λ _. refl;
             none = λ none. absurd (has_no_source (modes_in s) source none);
@@ -618,10 +619,10 @@ module _ (n t : ℕ) (s s2 : State) (r : IsReady n s) (ok : IsSound s2) where
         let tickets = ap (λ (z : State). z.tickets) e in
         let calls = ap (λ (z : State). z.calls) e in
         let entries = ap (λ (z : State). z.book.entries) e ∙ sym (append-nil s.book.entries) in (
-          marked_kept n s s2 t (whole.Purge f) turn o x r ok i within [] refl maint commands tickets calls (ap origin_of e) entries,
+          marked_kept n s s2 t (whole.Purge f) turn o x r ok i within [] refl maint commands tickets calls (ap origin_of e) (ap rebuilds_of e) entries,
           record {
             marks = [];
-            is = marked_mine n s s2 t (whole.Purge f) turn o x r ok i within [] refl maint commands tickets calls (ap origin_of e) entries;
+            is = marked_mine n s s2 t (whole.Purge f) turn o x r ok i within [] refl maint commands tickets calls (ap origin_of e) (ap rebuilds_of e) entries;
             are = inr refl;
             done = λ source. absurd (has_no_source (modes_in s) source none);
             none = λ _. refl;
@@ -665,7 +666,7 @@ module _ (n : ℕ) (s s2 : State) (r : IsReady n s) (ok : IsSound s2) (q page : 
   folded_kept : (c : List ℕ) → s2 ≡ folded_on s q p c page → Kept n s s2
   folded_kept c e =
       let h = shape_of n s r in
-      kept_has n s s2 r ok (folded_origin c e) h.ms h.cs (record {
+      kept_has n s s2 r ok (folded_origin c e) (ap rebuilds_of e) h.ms h.cs (record {
         maint = ap (λ (z : State). z.maint) e ∙ h.has.maint;
         commands = ap (λ (z : State). z.commands) e ∙ h.has.commands;
         tickets = ap (λ (z : State). z.tickets) e ∙ h.has.tickets;

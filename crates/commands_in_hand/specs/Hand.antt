@@ -9,7 +9,7 @@ use Rattle.open_calls.specs.declared.parts.Part.{Part}
 use Rattle.whole_calls.specs.declared.maint.MaintCall.{MaintCall}
 use Rattle.whole_calls.specs.declared.whole.Whole.{Whole}
 use Rattle.volume_core.specs.State.{State}
-use Rattle.volume_core.specs.Sound.{IsSound}
+use Rattle.volume_core.specs.Sound.{IsSound, NoneGaveUp}
 use Rattle.volume_core.specs.Streams.{running, turning}
 use Rattle.volume_maint.specs.Answers.{spot_of}
 use Rattle.stream_steps.specs.Mine.{Mine, OwnCall}
@@ -55,8 +55,11 @@ pub record IsAlone (stream : ℕ) (s : State) : Type 0 where
   pub calls : (other : ℕ) → other ≢ stream → running s other ≡ []
   pub turns : (other : ℕ) → other ≢ stream → turning s other ≡ []
 
--- a step of the stream can be taken: the World is sound, the stream is one of its streams, and it is alone
+-- A step of the stream can be taken: the World is sound, the stream is one of its streams, and it is alone. No rebuild
+-- is open, since no command here is an add, and no stream gave one up.
 pub record IsReady (stream : ℕ) (s : State) : Type 0 where
   pub sound : IsSound s
   pub there : stream < length s.indices
   pub alone : IsAlone stream s
+  pub settled : s.rebuild ≡ None
+  pub gave_up : NoneGaveUp s.gave_up

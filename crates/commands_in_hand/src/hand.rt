@@ -1,6 +1,6 @@
 ghost use Rattle.std.specs.Prelude.{◌≡◌, ◌<◌, [], length};
 ghost use Rattle.volume_core.specs.State.{state_of};
-ghost use Rattle.volume_core.specs.Sound.{IsSound};
+ghost use Rattle.volume_core.specs.Sound.{IsSound, NoneGaveUp};
 ghost use Rattle.commands_in_hand.specs.Hand.{IsReady, mine_in};
 
 use volume_core::World;
@@ -13,12 +13,14 @@ pub struct CommandsInHand {
 }
 
 impl CommandsInHand {
-    /// A World of which no call is open, and no command has the maintenance turn or waits for it.
+    /// A World of which no call is open, no command has the maintenance turn or waits for it, and no stream gave a
+    /// rebuild up.
     pub fn of(world: World, stream: u8) -> CommandsInHand
         requires sound { IsSound (state_of world) }
         requires stream { stream < length world.indices.items }
         requires rest { world.turns.tickets ≡ [] }
         requires turns { world.commands.items ≡ [] }
+        requires gave_up { NoneGaveUp world.gave_up.items }
         ensures ready { IsReady result.stream (state_of result.world) }
         ensures idle { (mine_in result.stream (state_of result.world)).running ≡ [] }
         ensures world { result.world ≡ world }
@@ -34,6 +36,7 @@ impl CommandsInHand {
         ensures sound { IsSound (state_of result) }
         ensures rest { result.turns.tickets ≡ [] }
         ensures turns { result.commands.items ≡ [] }
+        ensures gave_up { NoneGaveUp result.gave_up.items }
         ensures world { result ≡ self.world }
     {
         self.world
