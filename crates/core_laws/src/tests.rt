@@ -1,5 +1,6 @@
 //! Random lists of steps, compared with one plain disk that answers the journal's calls.
 
+ghost use Rattle.std.specs.Prelude.{◌<◌, ◌≤◌};
 ghost use Rattle.volume_core.specs.Sound.{IsSound};
 ghost use Rattle.volume_core.specs.State.{state_of};
 
@@ -108,18 +109,40 @@ fn replayed(
     let mut disk = PlainDisk::zeros(alloc, SIZE)?;
     let mut modes = vec![in alloc; Mode::Rw; replicas as usize]?;
     for place in 0..world.journal.len() {
-        match world.journal.entry(place) {
-            Entry::Mark(Mark::Fault { replica, .. }) | Entry::Mark(Mark::Failed(replica)) => {
-                if let Some(mode) = modes.get_mut(*replica as usize) {
-                    *mode = Mode::Err;
-                }
-            }
-            Entry::Mark(Mark::Purged(part)) => disk.follow(alloc, &Mark::Purged(*part))?,
-            Entry::Mark(_) => assert!(rt; false, "a mark of another kind at {place}"),
-            Entry::Answer(answer) => follow(rt, alloc, &mut disk, &modes, answer)?,
-        }
+        replay(rt, alloc, &mut disk, &mut modes, world.journal.entry(place))?;
     }
     Ok(disk)
+}
+
+fn replay(
+    rt: &impl Abort,
+    alloc: Global,
+    disk: &mut PlainDisk,
+    modes: &mut [Mode],
+    entry: &Entry,
+) -> Result<(), AllocError> {
+    match entry {
+        Entry::Answer(answer) => follow(rt, alloc, disk, modes, answer),
+        Entry::Mark(Mark::Purged(part)) => disk.follow(alloc, &Mark::Purged(*part)),
+        Entry::Mark(mark) => {
+            fall(rt, modes, mark);
+            Ok(())
+        }
+    }
+}
+
+/// What a mark that is no part of a purge leaves: it is of a replica that fell.
+fn fall(rt: &impl Abort, modes: &mut [Mode], mark: &Mark) {
+    match mark {
+        Mark::Fault { replica, .. } | Mark::Failed(replica) => {
+            if let Some(mode) = modes.get_mut(*replica as usize) {
+                *mode = Mode::Err;
+            }
+        }
+        Mark::Purged(_) | Mark::Added { .. } | Mark::Promoted(_) | Mark::Aborted(_) => {
+            assert!(rt; false, "a mark of another kind");
+        }
+    }
 }
 
 fn follow(
@@ -231,7 +254,68 @@ fn end_all(
     Ok(())
 }
 
-/// One random list on a blank World, and the same in one piece on another.
+/// The replicas read as the disk that answers the journal's calls.
+fn compare(rt: &impl Abort, alloc: Global, world: &World, most: Most) -> Result<(), AllocError> {
+    let disk = replayed(rt, alloc, world, most.replicas)?;
+    agrees(rt, world, &disk);
+    Ok(())
+}
+
+/// Whether the steps in one piece make the same of another World.
+fn is_alike_in_one_piece(
+    alloc: Global,
+    world: &World,
+    all: &[Step],
+    most: Most,
+) -> Result<bool, Fail>
+    requires some { 0 < most.replicas }
+    requires few { most.replicas ≤ 8 }
+{
+    let size = VolumeSize::new(SIZE as u64)?;
+    let mut other = World::blank(alloc, size, most.replicas, most.streams)?;
+    run_steps(&mut other, alloc, all)?;
+    Ok(are_alike(world, &other))
+}
+
+/// Asks a random list, and says whether it makes the same in one piece.
+fn ask_twice(
+    rt: &impl Abort,
+    alloc: Global,
+    world: &mut World,
+    numbers: &mut Numbers,
+    most: Most,
+    tally: &mut Tally,
+) -> Result<bool, Fail>
+    requires some { 0 < most.replicas }
+    requires few { most.replicas ≤ 8 }
+    requires sound { IsSound (state_of world.old) }
+    ensures { IsSound (state_of world.new) }
+{
+    let all = ask_at_random(world, alloc, numbers, most, tally)?;
+    compare(rt, alloc, world, most)?;
+    is_alike_in_one_piece(alloc, world, &all, most)
+}
+
+/// Ends all that is open, compares, and says whether nothing is left.
+fn end_and_compare(
+    rt: &impl Abort,
+    alloc: Global,
+    world: &mut World,
+    most: Most,
+    tally: &mut Tally,
+) -> Result<bool, AllocError>
+    requires { IsSound (state_of world.old) }
+{
+    end_all(world, alloc, most, tally)?;
+    compare(rt, alloc, world, most)?;
+    Ok(is_at_rest(world))
+}
+
+fn holds(rt: &impl Abort, fact: bool, seed: u32, what: &str) {
+    assert!(rt; fact, "list {seed} {what}");
+}
+
+/// One random list on a blank World, and the same in one piece on another. Then all that is open ends.
 fn try_list(
     rt: &impl Abort,
     alloc: Global,
@@ -246,14 +330,10 @@ fn try_list(
         streams: 1 + numbers.byte_below(6),
     };
     let mut world = World::blank(alloc, size, most.replicas, most.streams)?;
-    let all = ask_at_random(&mut world, alloc, &mut numbers, most, tally)?;
-    agrees(rt, &world, &replayed(rt, alloc, &world, most.replicas)?);
-    let mut other = World::blank(alloc, size, most.replicas, most.streams)?;
-    run_steps(&mut other, alloc, &all)?;
-    assert!(rt; are_alike(&world, &other), "list {seed} in one piece");
-    end_all(&mut world, alloc, most, tally)?;
-    assert!(rt; is_at_rest(&world), "list {seed} does not end");
-    agrees(rt, &world, &replayed(rt, alloc, &world, most.replicas)?);
+    let is_alike = ask_twice(rt, alloc, &mut world, &mut numbers, most, tally)?;
+    holds(rt, is_alike, seed, "in one piece");
+    let is_ended = end_and_compare(rt, alloc, &mut world, most, tally)?;
+    holds(rt, is_ended, seed, "ends");
     ended.count(&world);
     Ok(())
 }
