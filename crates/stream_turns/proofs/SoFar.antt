@@ -1,5 +1,5 @@
 -- How far the serving of streams has come, and what it has made once none is left.
-use Rattle.std.proofs.Common.{◌≡◌, ◌≢◌, ℕ, ◌+◌, ◌<◌, inl, inr, List, [], ◌∷◌, ◌++◌, length, map, replicate, Option, Result, Ok, Err as Failed, IfOk, sym, refl, ap, subst, ◌∙◌, arith, append_assoc, append-nil}
+use Rattle.std.proofs.Common.{◌≡◌, ◌≢◌, ℕ, zero, suc, false, ◌+◌, ◌<◌, ◌≤◌, inl, inr, List, [], ◌∷◌, ◌++◌, length, map, replicate, Option, Result, Ok, Err as Failed, IfOk, sym, refl, ap, subst, ◌∙◌, arith, append_assoc, append-nil}
 use Rattle.std.proofs.lemmas.Bool.{cases_lt}
 use Rattle.std.proofs.lemmas.List.{length-append, length-map, map-append, length-replicate, get_or-replicate, get_or_past}
 use Rattle.volume_model.specs.declared.call.Call.{Call}
@@ -14,7 +14,8 @@ use Rattle.replica_node.specs.Node.{Node, blank}
 use Rattle.replica_state.specs.Volume.{volume_of_node}
 use Rattle.volume_core.specs.declared.world.World.{World}
 use Rattle.volume_core.specs.Opened.{IsOpenedOn, blank_opening}
-use Rattle.volume_core.specs.State.{State, state_of, opening_of}
+use Rattle.volume_core.specs.State.{State, state_of, opening_of, gave_up_at}
+use Rattle.volume_core.specs.Sound.{IsSound, NoneGaveUp}
 use Rattle.volume_core.specs.Streams.{Origin}
 use Rattle.client_worker.specs.Exchanges.{ExchangesShown}
 use Rattle.script_text.specs.declared.script.Script.{Script}
@@ -110,6 +111,11 @@ one_kept of all rest x y kept more pushed is so_far =
 
 -- ---- a World that has just been opened, on blank replicas
 
+all_false : (n i : ℕ) → gave_up_at (replicate n false) i ≡ false
+all_false zero i = refl
+all_false (suc n) zero = refl
+all_false (suc n) (suc i) = all_false n i
+
 module _ (size replicas streams : ℕ) (s : State) (begun : IsOpenedOn size (blank_opening replicas) (replicate replicas (blank size)) streams s) where
   err_read : Err ≢ Rw
   err_read e = cc
@@ -128,6 +134,22 @@ module _ (size replicas streams : ℕ) (s : State) (begun : IsOpenedOn size (bla
   pub begins_many : length s.nodes ≡ replicas
   begins_many = ap (λ (x : State). length x.nodes) begun.state ∙ length-replicate replicas (blank size)
 
+  pub begins_none : NoneGaveUp s.gave_up
+  begins_none = λ stream. ap (λ (x : State). gave_up_at x.gave_up stream) begun.state ∙ all_false streams stream
+
+-- so nothing is open of it
+pub begins_between : (script : Script) (w : World) (n : ℕ) → IsSound (state_of w) → IsOpenedOn script.size (blank_opening script.replicas) (replicate script.replicas (blank script.size)) n (state_of w)
+    → script.replicas ≤ 8 → IsBetween w
+begins_between script w n sound begun few =
+    let many : length w.nodes.items ≡ script.replicas = begins_many script.size script.replicas n (state_of w) begun in
+    record {
+      sound = sound;
+      rest = ap (λ (x : State). x.tickets) begun.state;
+      turns = ap (λ (x : State). x.commands) begun.state;
+      gave_up = begins_none script.size script.replicas n (state_of w) begun;
+      few = omega (arith, many, few);
+    }
+
 -- ---- all of it
 
 pub served_is : (script : Script) (w : World) (s : Served) (streams : List Stream) (counts : ℕ → ℕ → ℕ) (told : ℕ → ℕ → Option (List (List ℕ))) (n : ℕ)
@@ -141,7 +163,7 @@ served_is script w s streams counts told n begun between origin turns same heads
   history = subst (λ (o : Spot). IsHistory o counts (stream_of (calls_in script)) s.world.journal.entries) start
       (subst (λ css. IsHistory (opening_of (state_of w)) counts (stream_of css) s.world.journal.entries) (ap (map stream_calls) same)
       (is_history (opening_of (state_of w)) (length w.nodes.items) (map stream_calls streams) s.world.journal.entries counts told turns legal
-      between.sound.on.told.ordered.order between.sound.on.told.ordered.rise));
+      (between.sound.fell between.gave_up) between.sound.on.told.ordered.order between.sound.on.told.ordered.rise));
   turns = λ well. turns.turns (λ v low r here. well v r (omega (arith, low, length-map streams stream_calls, ap length same)) (omega (arith, here, many)))
       ∙ (λ i. served (start i) (map stream_calls (same i)));
   carried = subst (λ ms. ExchangesShown script.replicas told ms s.world.journal.entries) (ap (λ (o : Spot). o.modes) start)

@@ -6,7 +6,7 @@ use Rattle.script_text.specs.declared.script.Stream.{Stream}
 use Rattle.script_text.specs.declared.script.Stream.TheVariants as stream
 use Rattle.volume_model.specs.declared.call.Call.{Call}
 use Rattle.volume_core.specs.declared.world.World.{World}
-use Rattle.volume_core.specs.Sound.{IsSound}
+use Rattle.volume_core.specs.Sound.{IsSound, NoneGaveUp}
 use Rattle.volume_core.specs.State.{state_of, opening_of}
 use Rattle.volume_core.specs.Streams.{origin_of}
 use Rattle.client_worker.specs.Asks.{IsAsked}
@@ -19,11 +19,13 @@ abbrev pub IsTaken : Stream → Type 0
 IsTaken (stream.Frames frames) = All IsAsked frames
 IsTaken (stream.Control commands) = All IsForCommands commands
 
--- no call is open, no command has the maintenance turn or waits for it, and there are few replicas
+-- No call is open, no command has the maintenance turn or waits for it, no stream gave a rebuild up, and there are few
+-- replicas.
 pub record IsBetween (w : World) : Type 0 where
   pub sound : IsSound (state_of w)
   pub rest : w.turns.tickets ≡ []
   pub turns : w.commands.items ≡ []
+  pub gave_up : NoneGaveUp w.gave_up.items
   pub few : length w.nodes.items ≤ 8
 
 -- the stream has no entry yet

@@ -1,9 +1,9 @@
 use Rattle.std.proofs.Common.{◌≤◌, length, sym, subst, List, All, arith}
 use Rattle.script_text.specs.declared.script.Stream.{Stream}
-use Rattle.script_text.proofs.GoodLemmas.{few_streams}
+use Rattle.script_text.proofs.GoodLemmas.{few_streams, few_replicas}
 use Rattle.stream_turns.specs.Turn.{IsTaken}
 use Rattle.stream_turns.proofs.ScriptLemmas.{all_taken}
-use Rattle.stream_turns.proofs.SoFar.{each_served}
+use Rattle.stream_turns.proofs.SoFar.{each_served, begins_between}
 use Rattle.stream_turns.proofs.serving.serve.Goals as goal
 
 pub overflow_cast-len : goal.overflow_cast-len
@@ -15,6 +15,10 @@ serve_streams-requires-clause-few g c κs within =
 
 pub serve_streams-requires-clause-taken : goal.serve_streams-requires-clause-taken
 serve_streams-requires-clause-taken g c κs within = subst (All IsTaken) (sym c.into_vec.ensures) (all_taken c.requires.0 c.args.script c.requires.1)
+
+pub serve_streams-requires-clause-between : goal.serve_streams-requires-clause-between
+serve_streams-requires-clause-between g c κs within =
+    begins_between c.args.script c.in_ok-world.world c.len.result c.in_ok-world.ensures.sound c.in_ok-world.ensures.begun (few_replicas c.requires.0 c.args.script c.requires.1).1
 
 pub returns : goal.returns
 returns g c =

@@ -2,7 +2,7 @@ use Rattle.std.proofs.Common.{◌≡◌, ◌∷◌, ◌++◌, ◌+◌, map, refl
 use Rattle.std.proofs.lemmas.List.{nil_from_length}
 use Rattle.std.specs.Vec.Iter.{into_iter_items}
 use Rattle.stream_turns.specs.Volume.{heads_of}
-use Rattle.stream_turns.proofs.SoFar.{StreamsSoFar, no_streams, streams_more, streams_all, one_kept}
+use Rattle.stream_turns.proofs.SoFar.{StreamsSoFar, is_first, no_streams, streams_more, streams_all, one_kept}
 use Rattle.stream_turns.proofs.serving.serve_streams.Goals as goal
 
 pub loop-stream-init : goal.loop-stream-init
@@ -13,6 +13,11 @@ loop-stream-init g c =
           (no_streams c.args.streams.items c.args.world (g.W.Wiring.counts c.args.wiring.now) (g.W.Wiring.carried c.args.wiring.now) c.requires.between c.requires.begun);
       heads = λ i. c.new-heads.ensures.items i ++ map heads_of (gives i);
     }
+
+pub serve_stream-requires-clause-first : goal.serve_stream-requires-clause-first
+serve_stream-requires-clause-first g c κs within =
+    is_first c.loop-stream.number c.args.streams.items (into_iter_items c.loop-stream.stream-iterator) c.args.world c.loop-stream.world (g.W.Wiring.counts c.loop-stream.wiring) (g.W.Wiring.carried c.loop-stream.wiring)
+    c.loop-stream.invariant.far
 
 pub loop-stream-preserved : goal.loop-stream-preserved
 loop-stream-preserved g c =
