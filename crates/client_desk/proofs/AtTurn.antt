@@ -30,6 +30,7 @@ use Rattle.world_desk.proofs.Found.{found_later, none_own, has_no_command, still
 use Rattle.stream_steps.specs.Mine.{Mine, OwnCall, IsOwn}
 use Rattle.world_in_hand.specs.Hand.{own_call, is_own, own_entries, mine_in}
 use Rattle.world_in_hand.proofs.OwnLemmas.{own-append, idle_from, open_from, only_open, same_streams}
+use Rattle.world_in_hand.proofs.Turns.{Rest, rest_of}
 use Rattle.client_desk.specs.AtDesk.{without_log, mine_at, IsAtWork}
 use Rattle.client_desk.proofs.Unlogged.{own_shown}
 
@@ -107,12 +108,12 @@ module _ (d : Desk WorldOnDesk) (s : Seat WorldOnDesk) (n : ℕ) (x : WorldOnDes
       last_is : last_of u ≡ y
       last_is = ap (λ (k : Known WorldOnDesk). k.last) left.1
 
-      pub at_work : (laid y).commands ≡ (laid x).commands → IsAtWork d u n
+      pub at_work : rest_of (laid y) ≡ rest_of (laid x) → IsAtWork d u n
       at_work same = record {
         seat = (left.0 ∙ (turn.0 ∙ work.seat.0), (ap (λ (k : Known WorldOnDesk). k.stage) left.1, left.2));
         number = ap (λ (k : Known WorldOnDesk). k.number) left.1 ∙ (ap (λ (k : Known WorldOnDesk). k.number) turn.1.1 ∙ work.number);
         there = subst (λ (w : WorldOnDesk). n < length (laid w).indices) (sym last_is) (subst (λ k. n < k) (sym (same_streams n (laid x) (laid y) may)) found_there);
-        turns = subst (λ (w : WorldOnDesk). turning (laid w) n ≡ []) (sym last_is) (still_none n (laid x) (laid y) fits.sound same found_turns);
+        turns = subst (λ (w : WorldOnDesk). turning (laid w) n ≡ []) (sym last_is) (still_none n (laid x) (laid y) fits.sound (ap (λ (r : Rest). r.commands) same) found_turns);
       }
 
       -- what is so of the World in the turn is so of what the seat knew and knows
