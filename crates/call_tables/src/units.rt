@@ -35,8 +35,8 @@ fn names_are_read_by_their_grammar(rt: HostRuntime) {
 
 #[test]
 fn a_name_is_shown_as_a_text(rt: HostRuntime) -> Result<(), Fail> {
-    let shown = format!(in rt.alloc(); "{:?}", LayerName::sys(u32::MAX))?;
-    assert_eq!(rt; shown.as_str(), "\"sys-4294967295\"");
+    let shown = format!(in rt.alloc(); "{:?}", LayerName::sys(u64::MAX))?;
+    assert_eq!(rt; shown.as_str(), "\"sys-18446744073709551615\"");
     Ok(())
 }
 

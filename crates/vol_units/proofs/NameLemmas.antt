@@ -12,7 +12,7 @@ use Rattle.std.proofs.lemmas.Fmt.{decimal-digits_value, digits_decimal, length-d
 use Rattle.std.proofs.lemmas.Str.{IsUtf8-from_ascii}
 use Rattle.std.proofs.lemmas.Str.Ascii.{IsAscii-nil, IsAscii-cons}
 use Rattle.std.proofs.lemmas.Str.Parse.{IsNumeralModel, numerals_by_value, digits_value_short}
-use Rattle.vol_units.specs.Name.{is_name_byte, IsName, IsNumber, IsSysName, IsLayerName, sys_name}
+use Rattle.vol_units.specs.Name.{is_name_byte, IsName, IsNumber, IsSysName, IsOwnName, IsNameOfLayer, sys_name}
 
 -- a byte of a name is ASCII
 name_byte_lt : (c : ℕ) → is_name_byte c ≡ true → c < 128
@@ -79,32 +79,37 @@ IsNumber-zero (c ∷ []) zero one = (0, omega arith, ap (λ d. d ∷ []) zero �
 IsNumber-zero (c ∷ d ∷ more) zero one = absurd (omega arith)
 
 -- the engine's own names are names
-IsName-of_number : (number : ℕ) → number < 10 ^ 10 → IsName (sys_name number)
+IsName-of_number : (number : ℕ) → number < 2 ^ 64 → IsName (sys_name number)
 IsName-of_number number low =
-    let text = IsPlainNumeral-decimal number low in
+    let few : length (decimal number) ≤ 20 = length-decimal-le 20 number (omega arith) (omega arith) low in
     record {
       some = omega arith;
-      most = omega (arith, text.most);
-      bytes = list_all-append is_name_byte (codes "sys-") (decimal number) ∙ name_bytes-digits (decimal number) text.digits;
+      most = omega (arith, few);
+      bytes = list_all-append is_name_byte (codes "sys-") (decimal number)
+          ∙ name_bytes-digits (decimal number) (digits_decimal numerals number low);
     }
 
-pub IsName-sys : (name : List ℕ) → IsSysName name → IsName name
-IsName-sys name s = subst IsName (sym s.2) (IsName-of_number s.0 s.1)
+pub IsName-own : (name : List ℕ) → IsOwnName name → IsName name
+IsName-own name s = subst IsName (sym s.2) (IsName-of_number s.0 s.1)
+
+-- one of at most ten digits is one of them
+pub IsOwnName-sys : (name : List ℕ) → IsSysName name → IsOwnName name
+IsOwnName-sys name s = (s.0, omega (arith, s.1), s.2)
 
 -- and so are those of all layers
-pub IsName-layer : (name : List ℕ) → IsLayerName name → IsName name
+pub IsName-layer : (name : List ℕ) → IsNameOfLayer name → IsName name
 IsName-layer name (inl user) = user.spelled
-IsName-layer name (inr own) = IsName-sys name own
+IsName-layer name (inr own) = IsName-own name own
 
 -- a decimal text grows by its last digit
-pub decimal_more : (number : ℕ) → 10 ≤ number → number < 2 ^ 32 → decimal number ≡ decimal (number / 10) ++ ((48 + number % 10) ∷ [])
+pub decimal_more : (number : ℕ) → 10 ≤ number → number < 2 ^ 64 → decimal number ≡ decimal (number / 10) ++ ((48 + number % 10) ∷ [])
 decimal_more number more low = decimal_step number more (omega arith)
 
-pub length-decimal_more : (number : ℕ) → 10 ≤ number → number < 2 ^ 32 → length (decimal number) ≡ length (decimal (number / 10)) + 1
+pub length-decimal_more : (number : ℕ) → 10 ≤ number → number < 2 ^ 64 → length (decimal number) ≡ length (decimal (number / 10)) + 1
 length-decimal_more number more low =
     ap length (decimal_more number more low) ∙ length-append (decimal (number / 10)) ((48 + number % 10) ∷ [])
 
-pub length-decimal_u32 : (number : ℕ) → number < 2 ^ 32 → length (decimal number) ≤ 10
-length-decimal_u32 number low = length-decimal-le 10 number (omega arith) (omega arith) (omega arith)
+pub length-decimal_u64 : (number : ℕ) → number < 2 ^ 64 → length (decimal number) ≤ 20
+length-decimal_u64 number low = length-decimal-le 20 number (omega arith) (omega (arith, low)) low
 
-pub ruleset decimals = (decimal_digit, decimal_more, length-decimal_more, length-decimal_u32)
+pub ruleset decimals = (decimal_digit, decimal_more, length-decimal_more, length-decimal_u64)

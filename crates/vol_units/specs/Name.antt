@@ -40,6 +40,14 @@ sys_name number = codes "sys-" ++ decimal number
 abbrev pub IsSysName : List ℕ → Type 0
 IsSysName name = (number : ℕ) × (number < 10 ^ 10) × (name ≡ sys_name number)
 
--- a name of a layer below the head: a user's or the engine's own
+-- a name of a layer below the head, as texts give it: a user's or the engine's own
 abbrev pub IsLayerName : List ℕ → Type 0
 IsLayerName name = IsSnapName name ⊎ IsSysName name
+
+-- such a name, of whatever number a head has come to
+abbrev pub IsOwnName : List ℕ → Type 0
+IsOwnName name = (number : ℕ) × (number < 2 ^ 64) × (name ≡ sys_name number)
+
+-- a name that a layer has
+abbrev pub IsNameOfLayer : List ℕ → Type 0
+IsNameOfLayer name = IsSnapName name ⊎ IsOwnName name

@@ -3,7 +3,7 @@ ghost use Rattle.std.specs.Char.{is_ascii_digit};
 ghost use Rattle.std.specs.Fmt.{decimal};
 ghost use Rattle.std.specs.List.{list_all};
 ghost use Rattle.std.specs.Result.{OkIff};
-ghost use Rattle.vol_units.specs.Name.{IsLayerName, IsSysName, IsNumber, sys_name};
+ghost use Rattle.vol_units.specs.Name.{IsLayerName, IsNameOfLayer, IsSysName, IsNumber, sys_name};
 
 use crate::chars::Chars;
 use crate::error::BadName;
@@ -20,18 +20,19 @@ pub struct LayerName {
 
 impl Model for LayerName {
     ghost use Rattle.std.specs.Prelude.{List, ℕ};
-    ghost use Rattle.vol_units.specs.Name.{IsLayerName};
+    ghost use Rattle.vol_units.specs.Name.{IsNameOfLayer};
 
     ghost Value = { List ℕ };
 
     ghost view = { λ n. n.chars };
 
-    ghost invariant = { λ n. IsLayerName n.chars };
+    ghost invariant = { λ n. IsNameOfLayer n.chars };
 
     ghost inverse = { λ bytes. record { chars = bytes } };
 }
 
 impl LayerName {
+    /// Reads a name as texts give it: an engine's own name has at most ten digits there.
     pub fn read(bytes: &[u8]) -> Result<LayerName, BadName>
         ensures { OkIff result (IsLayerName bytes.now) bytes.now }
     {
@@ -45,7 +46,7 @@ impl LayerName {
 
     /// The engine's own name for the snapshot that closes the head of that number.
     #[tactic(auto, using(crate::proofs::NameLemmas::decimals))]
-    pub fn sys(number: u32) -> LayerName
+    pub fn sys(number: u64) -> LayerName
         ensures { result ≡ sys_name number }
     {
         let mut chars = Chars::of(b"sys-");
@@ -55,7 +56,7 @@ impl LayerName {
 
     pub fn as_bytes(&self) -> &[u8]
         ensures value { result.now ≡ self.now }
-        ensures name { IsLayerName self.now }
+        ensures name { IsNameOfLayer self.now }
     {
         self.chars.as_bytes()
     }
@@ -111,7 +112,7 @@ fn are_digits(text: &[u8]) -> bool
 }
 
 #[tactic(auto, using(crate::proofs::NameLemmas::decimals))]
-fn append_decimal(chars: &mut Chars, number: u32)
+fn append_decimal(chars: &mut Chars, number: u64)
     requires { length chars.old + length (decimal number) ≤ 64 }
     ensures { chars.new ≡ chars.old ++ decimal number }
 {
