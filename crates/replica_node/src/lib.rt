@@ -3,6 +3,7 @@
 
 mod blocks;
 mod fold;
+mod names;
 mod node;
 mod own;
 

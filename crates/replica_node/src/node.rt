@@ -10,12 +10,13 @@ ghost use Rattle.volume_model.specs.Names.{NamesOnce};
 ghost use Rattle.volume_model.specs.Purge.{CanFold, CanDrop, next_in};
 ghost use Rattle.volume_model.specs.Snapshots.{is_live, chain_of};
 ghost use Rattle.coalesce.specs.Way.{IsWayOf, HasNoWay};
-ghost use Rattle.replica_node.specs.Node.{Kept, blank, snapped_node, reverted_node, marked, disk_of_layer, block_in, has_own, node_of, IsNode, IsKept, IsFree, IsSpareOf};
+ghost use Rattle.replica_node.specs.Node.{Kept, blank, snapped_node, reverted_node, marked, disk_of_layer, layer_names, block_in, has_own, node_of, IsNode, IsKept, IsFree, IsSpareOf};
 ghost use Rattle.replica_node.specs.Fold.{tree_of, snapshots_of, own_named, HasBlockOf, HasNoBlockOf, IsBare, page_folded, replaced_node, folded_away, dropped_node};
 ghost use Rattle.replica_node.specs.Held.{IsChained, IsPageOf, PutsPage, emptied};
 
 use crate::blocks::Blocks;
 use crate::fold::fold_pages;
+use crate::names::names_in;
 use crate::own::{has_block, has_block_of};
 use layer_chain::LayerTree;
 use snapshot_ops::Spare;
@@ -269,6 +270,13 @@ impl ReplicaNode {
         ensures { result ≡ self.now.number }
     {
         self.tree.head_number()
+    }
+
+    /// The names of the layers, the newest first, and room for one more.
+    pub fn layer_names(&self, alloc: Global) -> Result<Vec<LayerName>, AllocError>
+        ensures { IfOk result (λ names. names.items ≡ layer_names self.now.layers) }
+    {
+        names_in(alloc, &self.tree)
     }
 
     pub fn has_layer(&self, name: &LayerName) -> bool
