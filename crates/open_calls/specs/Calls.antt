@@ -47,6 +47,7 @@ command_of (whole.Snapshot name) = command.Snapshot name
 command_of (whole.Remove name) = command.Remove name
 command_of (whole.Revert name) = command.Revert name
 command_of (whole.Purge part) = command.Purge
+command_of (whole.Barrier r) = command.Add r
 
 abbrev pub whole_asked : Option WholeOp → Call
 whole_asked None = call.Ping

@@ -11,6 +11,8 @@ pub enum WholeOp {
     Revert(LayerName),
     /// A layer goes, as a part of a purge: the last step of a fold, or a drop.
     Purge(FoldOrDrop),
+    /// The barrier of a rebuild of that replica: a snapshot under the engine's own name, so that the heads begin together.
+    Barrier(u8),
 }
 
 impl WholeOp {
@@ -23,6 +25,7 @@ impl WholeOp {
             WholeOp::Remove(name) => Command::Remove(name),
             WholeOp::Revert(name) => Command::Revert(name),
             WholeOp::Purge(_) => Command::Purge,
+            WholeOp::Barrier(replica) => Command::Add(replica),
         }
     }
 }
