@@ -31,6 +31,7 @@ turn_of maint commands stream (whole.Snapshot name) of asked = absurd of
 turn_of maint commands stream (whole.Remove name) of asked = asked
 turn_of maint commands stream (whole.Revert name) of asked = asked
 turn_of maint commands stream (whole.Purge f) of asked = asked
+turn_of maint commands stream (whole.Barrier r) of asked = asked
 
 -- ---- a call on the whole volume goes: it is done, given up or refused
 

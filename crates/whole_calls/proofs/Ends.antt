@@ -206,6 +206,7 @@ still_snapped p modes ns name (whole.Snapshot other) named unused can = tt
 still_snapped p modes ns name (whole.Remove other) named unused can = tt
 still_snapped p modes ns name (whole.Revert other) named unused can = tt
 still_snapped p modes ns name (whole.Purge f) named unused can = record { can = snapped_can p name f named unused can.can; folded = can.folded }
+still_snapped p modes ns name (whole.Barrier r) named unused can = tt
 
 -- each other ticket fits the maintenance turn and the due volume
 pub due_maint : (es : List Entry) (p : PlainState) (modes : List Mode) (ts : List Ticket) (cs : List OpenCall) (ns : List Node) (w : Whole) (maint : List Ticket) (commands : List MaintCall)
@@ -228,6 +229,7 @@ due_maint es p modes ts cs ns w maint commands named seen paired is fit =
     go (whole.Remove name) asks may = turn (whole.Remove name) asks tt
     go (whole.Revert name) asks may = turn (whole.Revert name) asks tt
     go (whole.Purge f) asks may = turn (whole.Purge f) asks tt
+    go (whole.Barrier r) asks may = turn (whole.Barrier r) asks tt
 
 -- and, where it is given up, the volume as it was
 pub lost_maint : (s : Snapshots) (modes : List Mode) (ts : List Ticket) (cs : List OpenCall) (ns : List Node) (i : ℕ) (maint : List Ticket) (commands : List MaintCall) → length cs ≡ length ts → i < length ts

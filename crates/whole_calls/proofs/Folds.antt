@@ -33,7 +33,7 @@ use Rattle.open_calls.proofs.PartLemmas.{up_in, rw_up}
 use Rattle.whole_calls.specs.declared.maint.MaintCall.{MaintCall}
 use Rattle.whole_calls.specs.declared.whole.Whole.{Whole}
 use Rattle.whole_calls.specs.Due.{due, due_of, form_part, formed, forms}
-use Rattle.whole_calls.specs.Whole.{MayBeDone, CanTake, HasSpare, IsStarted, IsWhole, spare_at}
+use Rattle.whole_calls.specs.Whole.{MayBeDone, CanTake, HasSpare, IsStarted, IsWhole, StandsFor, spare_at}
 use Rattle.whole_calls.specs.Maint.{command_at, IsAskedBy, FitsMaint}
 use Rattle.whole_calls.proofs.Forms.{length-forms, formed_at}
 use Rattle.whole_calls.proofs.Ops.{not_there}
@@ -97,11 +97,20 @@ IsSnapshot (whole.Snapshot name) = Unit {0}
 IsSnapshot (whole.Remove name) = ⊥
 IsSnapshot (whole.Revert name) = ⊥
 IsSnapshot (whole.Purge f) = ⊥
+IsSnapshot (whole.Barrier r) = ⊥
 
 -- no call on the whole volume is started, or a snapshot is
 abbrev pub IsBeside : Option Whole → Type 0
 IsBeside None = Unit {0}
 IsBeside (Some w) = IsSnapshot w.op
+
+-- a replica that owes its part of a snapshot has the volume's snapshots still
+pub snapshot_stands : (op : WholeOp) (s : Snapshots) (n : Node) → IsSnapshot op → StandsFor op s n → snapshots_of n ≡ s
+snapshot_stands (whole.Snapshot name) s n is stands = stands
+snapshot_stands (whole.Remove name) s n is stands = absurd is
+snapshot_stands (whole.Revert name) s n is stands = absurd is
+snapshot_stands (whole.Purge f) s n is stands = absurd is
+snapshot_stands (whole.Barrier r) s n is stands = absurd is
 
 -- replicas that show the same show the same once a snapshot of them is taken
 pub snapped_face : (old new : Node) (name : List ℕ) → SameFace old new → SameFace (snapped_node old name) (snapped_node new name)
@@ -124,6 +133,7 @@ formed_face (whole.Snapshot name) Acked old new is face = face
 formed_face (whole.Remove name) x old new is face = absurd is
 formed_face (whole.Revert name) x old new is face = absurd is
 formed_face (whole.Purge f) x old new is face = absurd is
+formed_face (whole.Barrier r) x old new is face = absurd is
 
 -- ---- what can be folded on the replica
 
@@ -155,11 +165,12 @@ module _ (p : PlainState) (size streams : ℕ) (es : List Entry) (modes : List M
       snapped v (whole.Remove name) e s may same = absurd s
       snapped v (whole.Revert name) e s may same = absurd s
       snapped v (whole.Purge f) e s may same = absurd s
+      snapped v (whole.Barrier q) e s may same = absurd s
 
       by_part : (v : Whole) → (st : IsStarted p modes ts cs ns v) → IsSnapshot v.op → AreClients (due_of v.op p.volume) size streams es modes ts cs (formed v.op v.parts ns)
           → (x : Part) → part_at v.parts r ≡ x → FoldsOn (node_at ns r) a b
       by_part v st s ok Apart e = absurd (st.owes r up e)
-      by_part v st s ok Owed e = folds_with (node_at ns r) p.volume.snapshots a b (st.takes r up e).still named.once can
+      by_part v st s ok Owed e = folds_with (node_at ns r) p.volume.snapshots a b (snapshot_stands v.op p.volume.snapshots (node_at ns r) s (st.takes r up e).still) named.once can
       by_part v st s ok Taken e = snapped v v.op refl s st.may (ap snapshots_of (sym (formed_at v.op v.parts ns r st.parts ∙ ap (λ x. form_part v.op x (node_at ns r)) e)) ∙ ok.agree.tree r up)
       by_part v st s ok Acked e = snapped v v.op refl s st.may (ap snapshots_of (sym (formed_at v.op v.parts ns r st.parts ∙ ap (λ x. form_part v.op x (node_at ns r)) e)) ∙ ok.agree.tree r up)
 
@@ -207,6 +218,7 @@ folded_takes (whole.Snapshot name) s n a b page spare is takes = record {
 folded_takes (whole.Remove name) s n a b page spare is takes = absurd is
 folded_takes (whole.Revert name) s n a b page spare is takes = absurd is
 folded_takes (whole.Purge f) s n a b page spare is takes = absurd is
+folded_takes (whole.Barrier r) s n a b page spare is takes = absurd is
 
 -- the snapshot is started as before
 pub folded_whole : (p : PlainState) (modes : List Mode) (ts : List Ticket) (cs : List OpenCall) (ns : List Node) (w : Option Whole) (r : ℕ) (a b : List ℕ) (page : ℕ) → r < length ns → IsBeside w
@@ -259,3 +271,4 @@ idle_beside p s modes modes2 ns ns2 maint commands ts cs (Some w) paired idle fi
     go (whole.Remove name) asked = absurd (off asked.own)
     go (whole.Revert name) asked = absurd (off asked.own)
     go (whole.Purge f) asked = absurd (off asked.own)
+    go (whole.Barrier r) asked = absurd (off asked.own)

@@ -209,6 +209,7 @@ pub still_can : (s : Snapshots) (modes modes2 : List Mode) (ns ns2 : List Node) 
 still_can s modes modes2 ns ns2 (whole.Snapshot name) fewer same can = tt
 still_can s modes modes2 ns ns2 (whole.Remove name) fewer same can = tt
 still_can s modes modes2 ns ns2 (whole.Revert name) fewer same can = tt
+still_can s modes modes2 ns ns2 (whole.Barrier q) fewer same can = tt
 still_can s modes modes2 ns ns2 (whole.Purge f) fewer same can = record { can = can.can; folded = λ r e. folded f r (can.folded r (fewer r e)) }
   where
     folded : (f : FoldOrDrop) (r : ℕ) → IsFolded f (node_at ns r) → IsFolded f (node_at ns2 r)

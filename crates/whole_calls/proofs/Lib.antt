@@ -4,6 +4,7 @@ pub mod Forms
 pub mod Starts
 pub mod PartSteps
 pub mod Ends
+pub mod Barrier
 pub mod Folds
 pub mod Turns
 pub mod Answered

@@ -17,7 +17,7 @@ use Rattle.replica_state.proofs.PurgeLemmas.{replaced_volume, dropped_volume}
 use Rattle.open_calls.specs.declared.whole_op.WholeOp.{WholeOp}
 use Rattle.open_calls.specs.declared.whole_op.WholeOp.TheVariants as whole
 use Rattle.whole_calls.specs.Due.{part_on, due_of}
-use Rattle.whole_calls.specs.Whole.{MayBeDone, CanTake, IsFit, IsSpared, CanSnap}
+use Rattle.whole_calls.specs.Whole.{MayBeDone, CanTake, IsFit, IsSpared, CanSnap, StandsFor}
 
 -- ---- what it makes of a replica
 
@@ -27,6 +27,12 @@ snaps_of (whole.Snapshot name) s = with_snapshot s name
 snaps_of (whole.Remove name) s = with_mark s name
 snaps_of (whole.Revert name) s = back_on s name
 snaps_of (whole.Purge f) s = with_part s f
+snaps_of (whole.Barrier r) s = s
+
+-- an operation that does the same to a replica and to the volume: each but a barrier, which changes replicas alone
+abbrev pub IsPlain : WholeOp → Type 0
+IsPlain (whole.Barrier r) = ⊥
+IsPlain op = Unit {0}
 
 -- what of it is asked of the snapshots alone, that it does the same to a replica and to the volume
 abbrev pub CanBe : WholeOp → Snapshots → Type 0
@@ -34,13 +40,15 @@ CanBe (whole.Snapshot name) s = Unit {0}
 CanBe (whole.Remove name) s = Unit {0}
 CanBe (whole.Revert name) s = is_live s.tree name ≡ true
 CanBe (whole.Purge f) s = CanBeDone s.tree s.on f
+CanBe (whole.Barrier r) s = ⊥
 
 -- what may be done can be
-pub can_be : (op : WholeOp) (p : PlainState) → MayBeDone op p → CanBe op p.volume.snapshots
-can_be (whole.Snapshot name) p may = tt
-can_be (whole.Remove name) p may = tt
-can_be (whole.Revert name) p may = may.0
-can_be (whole.Purge f) p may = may
+pub can_be : (op : WholeOp) (p : PlainState) → IsPlain op → MayBeDone op p → CanBe op p.volume.snapshots
+can_be (whole.Snapshot name) p plain may = tt
+can_be (whole.Remove name) p plain may = tt
+can_be (whole.Revert name) p plain may = may.0
+can_be (whole.Purge f) p plain may = may
+can_be (whole.Barrier r) p plain may = absurd plain
 
 -- the due volume has the due snapshots
 pub due_snaps : (op : WholeOp) (v : Volume) → (due_of op v).snapshots ≡ snaps_of op v.snapshots
@@ -48,6 +56,7 @@ due_snaps (whole.Snapshot name) v = refl
 due_snaps (whole.Remove name) v = refl
 due_snaps (whole.Revert name) v = refl
 due_snaps (whole.Purge f) v = refl
+due_snaps (whole.Barrier r) v = refl
 
 -- a replica that took its part is the due volume of the volume that it was
 pub op_volume : (op : WholeOp) (n : Node) → NamesOnce (tree_of n) → CanBe op (snapshots_of n) → volume_of_node (part_on op n) ≡ due_of op (volume_of_node n)
@@ -56,6 +65,7 @@ op_volume (whole.Remove name) n once can = marked_volume n name
 op_volume (whole.Revert name) n once can = reverted_volume n name can
 op_volume (whole.Purge (part.Fold p c)) n once can = replaced_volume n p c once can
 op_volume (whole.Purge (part.Drop p)) n once can = dropped_volume n p once can
+op_volume (whole.Barrier r) n once can = absurd can
 
 -- a replica that is the volume is the due volume once it took its part
 pub op_whole : (op : WholeOp) (v : Volume) (n : Node) → NamesOnce v.snapshots.tree → CanBe op v.snapshots → volume_of_node n ≡ v → volume_of_node (part_on op n) ≡ due_of op v
@@ -74,8 +84,17 @@ due_size (whole.Snapshot name) p may = refl
 due_size (whole.Remove name) p may = refl
 due_size (whole.Revert name) p may = may.1
 due_size (whole.Purge f) p may = refl
+due_size (whole.Barrier r) p may = refl
 
 -- ---- what then fits the replica
+
+-- a replica that owes its part stands so where it has the volume's snapshots, and the operation is no barrier
+pub plain_stands : (op : WholeOp) (s : Snapshots) (n : Node) → IsPlain op → snapshots_of n ≡ s → StandsFor op s n
+plain_stands (whole.Snapshot name) s n plain is = is
+plain_stands (whole.Remove name) s n plain is = is
+plain_stands (whole.Revert name) s n plain is = is
+plain_stands (whole.Purge f) s n plain is = is
+plain_stands (whole.Barrier r) s n plain is = absurd plain
 
 -- a name that was not taken is no snapshot's
 pub not_there : (p : PlainState) (name : List ℕ) → AreNamed p → is_used p.used name ≡ false → has_name p.volume.snapshots.tree name ≡ false
@@ -106,6 +125,7 @@ fits (whole.Purge f) p n spare named takes may number = record {
   can = subst (λ (t : Snapshots). CanBeDone t.tree t.on f) (sym takes.still) may;
   folded = takes.folded;
 }
+fits (whole.Barrier r) p n spare named takes may number = takes.still.1
 
 -- and what it uses is there
 pub spared : (op : WholeOp) (s : Snapshots) (n : Node) (spare : Option Tables) → CanTake op s n spare → IsSpared op n spare

@@ -144,6 +144,7 @@ pub snapped_still : (p : PlainState) (modes : List Mode) (ns : List Node) (r : �
 snapped_still p modes ns r name (whole.Snapshot other) named unused l can = tt
 snapped_still p modes ns r name (whole.Remove other) named unused l can = tt
 snapped_still p modes ns r name (whole.Revert other) named unused l can = tt
+snapped_still p modes ns r name (whole.Barrier q) named unused l can = tt
 snapped_still p modes ns r name (whole.Purge (part.Drop a)) named unused l can = record { can = can.can; folded = λ q e. tt }
 snapped_still p modes ns r name (whole.Purge (part.Fold a c)) named unused l can =
     let apart = other_name p name c named unused (child_there p.volume.snapshots.tree a c [] can.can.child) in
@@ -168,6 +169,7 @@ IsOfTurn (whole.Snapshot name) = ⊥
 IsOfTurn (whole.Remove name) = Unit {0}
 IsOfTurn (whole.Revert name) = Unit {0}
 IsOfTurn (whole.Purge f) = Unit {0}
+IsOfTurn (whole.Barrier r) = Unit {0}
 
 -- its stream is that of the first command
 pub turn_stream : (maint : List Ticket) (commands : List MaintCall) (stream : ℕ) (op : WholeOp) → IsOfTurn op → IsAskedBy maint commands stream op → (command_at commands 0).stream ≡ stream
@@ -175,6 +177,7 @@ turn_stream maint commands stream (whole.Snapshot name) of asked = absurd of
 turn_stream maint commands stream (whole.Remove name) of asked = asked.own
 turn_stream maint commands stream (whole.Revert name) of asked = asked.own
 turn_stream maint commands stream (whole.Purge f) of asked = asked.own
+turn_stream maint commands stream (whole.Barrier r) of asked = asked.own
 
 -- an operation of another stream asks nothing of the replicas while it waits
 pub other_still : (maint : List Ticket) (commands : List MaintCall) (stream : ℕ) (op : WholeOp) (s : Snapshots) (modes : List Mode) (ns : List Node) → (command_at commands 0).stream ≢ stream → IsAskedBy maint commands stream op → CanStill s modes ns op
@@ -182,6 +185,7 @@ other_still maint commands stream (whole.Snapshot name) s modes ns off asked = t
 other_still maint commands stream (whole.Remove name) s modes ns off asked = absurd (off asked.own)
 other_still maint commands stream (whole.Revert name) s modes ns off asked = absurd (off asked.own)
 other_still maint commands stream (whole.Purge f) s modes ns off asked = absurd (off asked.own)
+other_still maint commands stream (whole.Barrier r) s modes ns off asked = absurd (off asked.own)
 
 -- two calls of one stream are one
 pub one_stream : (es : List Entry) (cs : List OpenCall) (i j : ℕ) → AreSeen es cs → i < length cs → j < length cs → (open_at cs i).stream ≡ (open_at cs j).stream → j ≡ i
@@ -236,3 +240,4 @@ part_maint es p modes ts cs ns w r maint commands named seen paired is owed fit 
     go (whole.Remove name) asks may = turn (whole.Remove name) asks tt
     go (whole.Revert name) asks may = turn (whole.Revert name) asks tt
     go (whole.Purge f) asks may = turn (whole.Purge f) asks tt
+    go (whole.Barrier q) asks may = turn (whole.Barrier q) asks tt

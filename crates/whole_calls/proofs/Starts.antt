@@ -1,4 +1,4 @@
--- A call on the whole volume starts: nothing else has started, so each replica that has not failed is the volume.
+-- A call on the whole volume starts: nothing else has started, so each replica that is read is the volume.
 use Rattle.std.proofs.Common.{◌≡◌, ◌≢◌, ℕ, ◌<◌, ⊎_elim, Bool, true, false, List, length, map, length-set, get_or-set_same, subst, sym, refl, ap, ◌∙◌, arith}
 use Rattle.std.specs.Prelude.{Some}
 use Rattle.std.proofs.lemmas.Bool.{cases_lt, cases_eq}
@@ -15,6 +15,7 @@ use Rattle.range_turns.specs.declared.ticket.Ticket.{Ticket}
 use Rattle.range_turns.specs.Order.{ticket_at, no_ticket, IsClear, AreInOrder, StandsAt, with_started}
 use Rattle.range_turns.proofs.OrderLemmas.{AreInOrder-with_started}
 use Rattle.replica_node.specs.Node.{Node}
+use Rattle.replica_node.specs.Fold.{snapshots_of}
 use Rattle.replica_state.specs.Volume.{volume_of_node}
 use Rattle.open_calls.specs.declared.open_call.OpenCall.{OpenCall}
 use Rattle.open_calls.specs.declared.parts.Part.{Part}
@@ -28,12 +29,12 @@ use Rattle.open_calls.proofs.ListLemmas.{at_set}
 use Rattle.open_calls.proofs.PartLemmas.{up_in, rw_up, part_of, part_for_up}
 use Rattle.whole_calls.specs.declared.maint.MaintCall.{MaintCall}
 use Rattle.whole_calls.specs.declared.whole.Whole.{Whole}
-use Rattle.whole_calls.specs.Due.{due_of, form_part, formed}
-use Rattle.whole_calls.specs.Whole.{MayBeDone, IsFoldedFor, AreSpared, IsStarted}
+use Rattle.whole_calls.specs.Due.{part_on, due_of, form_part, formed}
+use Rattle.whole_calls.specs.Whole.{MayBeDone, CanTake, IsFoldedFor, AreSpared, IsStarted, spare_at}
 use Rattle.whole_calls.specs.Maint.{CanStill, FitsMaint}
 use Rattle.whole_calls.proofs.Forms.{length-formed, formed_in, part_for_owed}
 use Rattle.whole_calls.proofs.Kept.{whole_after, whole_before}
-use Rattle.whole_calls.proofs.Ops.{can_be, op_whole, due_size}
+use Rattle.whole_calls.proofs.Ops.{IsPlain, CanBe, can_be, op_whole, op_tree, due_size, plain_stands}
 
 -- ---- while no ticket is started
 
@@ -131,6 +132,7 @@ folded_still (whole.Snapshot name) s modes ns r can e = tt
 folded_still (whole.Remove name) s modes ns r can e = tt
 folded_still (whole.Revert name) s modes ns r can e = tt
 folded_still (whole.Purge f) s modes ns r can e = can.folded r e
+folded_still (whole.Barrier q) s modes ns r can e = tt
 
 -- ---- the start
 
@@ -140,28 +142,15 @@ no_write e = cc
 no_read : kind.Whole ≢ kind.Read
 no_read e = cc
 
-module _ (op : WholeOp) (p : PlainState) (size streams : ℕ) (es : List Entry) (modes : List Mode) (ts : List Ticket) (cs : List OpenCall) (ns : List Node) (i : ℕ)
-    (ok : AreClients p.volume size streams es modes ts cs ns) (may : MayBeDone op p) (settled : (r : ℕ) → mode_of modes r ≢ Wo)
+-- of the volume and of the replicas before and after
+module _ (v v2 : Volume) (size streams : ℕ) (es : List Entry) (modes : List Mode) (ts : List Ticket) (cs : List OpenCall) (ns ns2 : List Node) (i : ℕ) (ok : AreClients v size streams es modes ts cs ns)
     (h : i < length ts) (is : (ticket_at ts i).kind ≡ kind.Whole) (waits : (ticket_at ts i).started ≡ false) (clear : IsClear ts i) where
   abbrev begun : Ticket
   begun = record (ticket_at ts i) { started = true }
 
-  abbrev parts : List Part
-  parts = map part_for modes
-
   -- nothing has started before
   pub whole_still : IsStill ts
   whole_still = still_clear ts i ok.order h is waits clear
-
-  -- each replica that has not failed is the volume
-  pub each_volume : (r : ℕ) → mode_of modes r ≢ Err → volume_of_node (node_at ns r) ≡ p.volume
-  each_volume r up = is_volume p.volume size r modes ts ns whole_still ok.agree (settled_rw (mode_of modes r) (settled r) up)
-
-  -- and in due form the due volume
-  pub each_due : AreNamed p → (r : ℕ) → mode_of modes r ≢ Err → volume_of_node (node_at (formed op parts ns) r) ≡ due_of op p.volume
-  each_due named r up =
-      ap volume_of_node (formed_in op parts ns r (omega (arith, up_in modes r up, ok.agree.as_many)) ∙ ap (λ x. form_part op x (node_at ns r)) (part_of modes r ∙ part_for_owed (mode_of modes r) up))
-      ∙ op_whole op p.volume (node_at ns r) named.once (can_be op p may) (each_volume r up)
 
   still_in : (j : ℕ) → j < length (with_started ts i) → j < length ts
   still_in j l = omega (arith, l, length-set ts i begun)
@@ -183,49 +172,135 @@ module _ (op : WholeOp) (p : PlainState) (size streams : ℕ) (es : List Entry) 
     whole = λ r. absurd (no_write (sym w ∙ r.writes));
   }
 
+  -- the call starts, where the replicas are the volume that is due
+  pub started_whole : length ns2 ≡ length ns → length v2.disk ≡ size → ((r : ℕ) → mode_of modes r ≢ Err → length (node_at ns2 r).disk ≡ size) → ((r : ℕ) → mode_of modes r ≢ Err → snapshots_of (node_at ns2 r) ≡ v2.snapshots)
+      → ((r : ℕ) → mode_of modes r ≡ Rw → volume_of_node (node_at ns2 r) ≡ v2) → AreClients v2 size streams es modes (with_started ts i) cs ns2
+  started_whole many disk sizes tree read = record {
+    paired = ok.paired ∙ sym (length-set ts i begun);
+    order = AreInOrder-with_started ts i clear ok.order;
+    fits = λ j l. subst (λ n. Fits size streams n (ticket_at (with_started ts i) j) (open_at cs j)) (sym many)
+        (at_set (λ (x : Ticket). Fits size streams (length ns) x (open_at cs j)) ts i j begun no_ticket h
+        (λ e. subst (λ n. Fits size streams (length ns) begun (open_at cs n)) (sym e) (fits_begun (ticket_at ts i) (open_at cs i) is (ok.fits i h)))
+        (λ _. ok.fits j (still_in j l)));
+    agree = record {
+      disk = disk;
+      as_many = ok.agree.as_many ∙ sym many;
+      sizes = sizes;
+      tree = tree;
+      copies = λ r e. ap (λ (v : Volume). v.copies) (read r e);
+      bytes = λ r k e free. ap (λ (v : Volume). byte_of v.disk k) (read r e);
+    };
+    writes = λ j l w. absurd (no_writing j l w);
+    reads = λ j l w. absurd (no_reading j l w);
+    seen = ok.seen;
+  }
+
+-- the call is started then, which owes its part to each replica that has not failed
+pub started_is : (p : PlainState) (modes : List Mode) (ts : List Ticket) (cs : List OpenCall) (ns : List Node) (i : ℕ) (op : WholeOp) (w : Whole) → AreInOrder ts → i < length ts → (ticket_at ts i).kind ≡ kind.Whole
+    → length modes ≡ length ns → w.number ≡ (ticket_at ts i).number → w.op ≡ op → w.parts ≡ map part_for modes → (open_at cs i).op ≡ Some op → MayBeDone op p
+    → ((r : ℕ) → mode_of modes r ≢ Err → CanTake op p.volume.snapshots (node_at ns r) (spare_at w.spares r)) → IsStarted p modes (with_started ts i) cs ns w
+started_is p modes ts cs ns i op w order h is many number same owed asked may takes =
+    let here : ticket_at (with_started ts i) i ≡ record (ticket_at ts i) { started = true } = get_or-set_same ts i (record (ticket_at ts i) { started = true }) no_ticket h in
+    record {
+      place = i;
+      stands = subst (λ n. StandsAt (with_started ts i) n i) (sym number) (started_stands ts i order h);
+      kind = ap (λ (x : Ticket). x.kind) here ∙ is;
+      started = ap (λ (x : Ticket). x.started) here;
+      op = asked ∙ ap Some (sym same);
+      parts = ap length owed ∙ length-map modes part_for ∙ many;
+      owes = λ r up e. part_for_up (mode_of modes r) up (sym (ap (λ ps. part_at ps r) owed ∙ part_of modes r) ∙ e);
+      may = subst (λ o. MayBeDone o p) (sym same) may;
+      takes = λ r up _. subst (λ o. CanTake o p.volume.snapshots (node_at ns r) (spare_at w.spares r)) (sym same) (takes r up);
+    }
+
+-- ---- an operation that does the same to the replicas and to the volume
+
+-- the operation may start on replicas of these modes: none but a snapshot does while one is written and not read
+abbrev pub StartsOn : WholeOp → List Mode → Type 0
+StartsOn (whole.Snapshot name) modes = Unit {0}
+StartsOn (whole.Remove name) modes = (r : ℕ) → mode_of modes r ≢ Wo
+StartsOn (whole.Revert name) modes = (r : ℕ) → mode_of modes r ≢ Wo
+StartsOn (whole.Purge f) modes = (r : ℕ) → mode_of modes r ≢ Wo
+StartsOn (whole.Barrier q) modes = ⊥
+
+-- it is no barrier
+pub starts_plain : (op : WholeOp) (modes : List Mode) → StartsOn op modes → IsPlain op
+starts_plain (whole.Snapshot name) modes on = tt
+starts_plain (whole.Remove name) modes on = tt
+starts_plain (whole.Revert name) modes on = tt
+starts_plain (whole.Purge f) modes on = tt
+starts_plain (whole.Barrier q) modes on = absurd on
+
+-- and where no replica is rebuilt each may start that is no barrier
+pub settled_starts : (op : WholeOp) (modes : List Mode) → IsPlain op → ((r : ℕ) → mode_of modes r ≢ Wo) → StartsOn op modes
+settled_starts (whole.Snapshot name) modes plain settled = tt
+settled_starts (whole.Remove name) modes plain settled = settled
+settled_starts (whole.Revert name) modes plain settled = settled
+settled_starts (whole.Purge f) modes plain settled = settled
+settled_starts (whole.Barrier q) modes plain settled = absurd plain
+
+-- it keeps the length of a disk that is written and not read
+written_size : (op : WholeOp) (modes : List Mode) (r : ℕ) (n : Node) → StartsOn op modes → mode_of modes r ≡ Wo → length (part_on op n).disk ≡ length n.disk
+written_size (whole.Snapshot name) modes r n on e = refl
+written_size (whole.Remove name) modes r n on e = absurd (on r e)
+written_size (whole.Revert name) modes r n on e = absurd (on r e)
+written_size (whole.Purge f) modes r n on e = absurd (on r e)
+written_size (whole.Barrier q) modes r n on e = absurd on
+
+-- and finds no block of a child there
+written_folded : (op : WholeOp) (modes : List Mode) (r : ℕ) (n : Node) → StartsOn op modes → mode_of modes r ≡ Wo → IsFoldedFor op n
+written_folded (whole.Snapshot name) modes r n on e = tt
+written_folded (whole.Remove name) modes r n on e = tt
+written_folded (whole.Revert name) modes r n on e = tt
+written_folded (whole.Purge f) modes r n on e = absurd (on r e)
+written_folded (whole.Barrier q) modes r n on e = tt
+
+module _ (op : WholeOp) (p : PlainState) (size streams : ℕ) (es : List Entry) (modes : List Mode) (ts : List Ticket) (cs : List OpenCall) (ns : List Node) (i : ℕ)
+    (ok : AreClients p.volume size streams es modes ts cs ns) (may : MayBeDone op p) (on : StartsOn op modes)
+    (h : i < length ts) (is : (ticket_at ts i).kind ≡ kind.Whole) (waits : (ticket_at ts i).started ≡ false) (clear : IsClear ts i) where
+  abbrev parts : List Part
+  parts = map part_for modes
+
+  can : CanBe op p.volume.snapshots
+  can = can_be op p (starts_plain op modes on) may
+
+  -- a replica that has not failed owes its part
+  due_form : (r : ℕ) → mode_of modes r ≢ Err → node_at (formed op parts ns) r ≡ part_on op (node_at ns r)
+  due_form r up = formed_in op parts ns r (omega (arith, up_in modes r up, ok.agree.as_many)) ∙ ap (λ x. form_part op x (node_at ns r)) (part_of modes r ∙ part_for_owed (mode_of modes r) up)
+
+  -- one that is read is in due form the due volume
+  pub each_due : AreNamed p → (r : ℕ) → mode_of modes r ≡ Rw → volume_of_node (node_at (formed op parts ns) r) ≡ due_of op p.volume
+  each_due named r e =
+      ap volume_of_node (due_form r (rw_up (mode_of modes r) e))
+      ∙ op_whole op p.volume (node_at ns r) named.once can (is_volume p.volume size r modes ts ns (still_clear ts i ok.order h is waits clear) ok.agree e)
+
+  -- each has in due form the volume's length
+  each_size : AreNamed p → (r : ℕ) → mode_of modes r ≢ Err → length (node_at (formed op parts ns) r).disk ≡ size
+  each_size named r up = by (mode_of modes r) refl
+    where
+      by : (m : Mode) → mode_of modes r ≡ m → length (node_at (formed op parts ns) r).disk ≡ size
+      by Rw e = ap (λ (v : Volume). length v.disk) (each_due named r e) ∙ due_size op p may ∙ ok.agree.disk
+      by Wo e = ap (λ (n : Node). length n.disk) (due_form r up) ∙ written_size op modes r (node_at ns r) on e ∙ ok.agree.sizes r up
+      by Err e = absurd (up e)
+
   -- the replicas agree in due form with the due volume
   pub begun_whole : AreNamed p → AreClients (due_of op p.volume) size streams es modes (with_started ts i) cs (formed op parts ns)
   begun_whole named =
-      let a = ok.agree in
-      let disk : length (due_of op p.volume).disk ≡ size = due_size op p may ∙ a.disk in
-      let due = each_due named in
-      record {
-        paired = ok.paired ∙ sym (length-set ts i begun);
-        order = AreInOrder-with_started ts i clear ok.order;
-        fits = λ j l. subst (λ n. Fits size streams n (ticket_at (with_started ts i) j) (open_at cs j)) (sym (length-formed op parts ns))
-            (at_set (λ (x : Ticket). Fits size streams (length ns) x (open_at cs j)) ts i j begun no_ticket h
-            (λ e. subst (λ n. Fits size streams (length ns) begun (open_at cs n)) (sym e) (fits_begun (ticket_at ts i) (open_at cs i) is (ok.fits i h)))
-            (λ _. ok.fits j (still_in j l)));
-        agree = record {
-          disk = disk;
-          as_many = a.as_many ∙ sym (length-formed op parts ns);
-          sizes = λ r up. ap (λ (v : Volume). length v.disk) (due r up) ∙ disk;
-          tree = λ r up. ap (λ (v : Volume). v.snapshots) (due r up);
-          copies = λ r e. ap (λ (v : Volume). v.copies) (due r (rw_up (mode_of modes r) e));
-          bytes = λ r k e free. ap (λ (v : Volume). byte_of v.disk k) (due r (rw_up (mode_of modes r) e));
-        };
-        writes = λ j l w. absurd (no_writing j l w);
-        reads = λ j l w. absurd (no_reading j l w);
-        seen = ok.seen;
-      }
+      started_whole p.volume (due_of op p.volume) size streams es modes ts cs ns (formed op parts ns) i ok h is waits clear (length-formed op parts ns) (due_size op p may ∙ ok.agree.disk) (each_size named)
+      (λ r up. ap snapshots_of (due_form r up) ∙ op_tree op p.volume (node_at ns r) named.once can (ok.agree.tree r up)) (each_due named)
 
   -- and the call on the whole volume is started, which owes its part to each that has not failed
   pub begun_is : (w : Whole) → w.number ≡ (ticket_at ts i).number → w.op ≡ op → w.parts ≡ parts → AreSpared op modes ns w.spares → (open_at cs i).op ≡ Some op
       → ((r : ℕ) → mode_of modes r ≡ Rw → IsFoldedFor op (node_at ns r)) → IsStarted p modes (with_started ts i) cs ns w
   begun_is w number same owed spares asked folded =
-      let here : ticket_at (with_started ts i) i ≡ begun = get_or-set_same ts i begun no_ticket h in
-      record {
-        place = i;
-        stands = subst (λ n. StandsAt (with_started ts i) n i) (sym number) (started_stands ts i ok.order h);
-        kind = ap (λ (x : Ticket). x.kind) here ∙ is;
-        started = ap (λ (x : Ticket). x.started) here;
-        op = asked ∙ ap Some (sym same);
-        parts = ap length owed ∙ length-map modes part_for ∙ ok.agree.as_many;
-        owes = λ r up e. part_for_up (mode_of modes r) up (sym (ap (λ ps. part_at ps r) owed ∙ part_of modes r) ∙ e);
-        may = subst (λ o. MayBeDone o p) (sym same) may;
-        takes = λ r up _. record {
-          still = ok.agree.tree r up;
-          spared = subst (λ o. Rattle.whole_calls.specs.Whole.IsSpared o (node_at ns r) (Rattle.whole_calls.specs.Whole.spare_at w.spares r)) (sym same) (spares r up);
-          folded = subst (λ o. IsFoldedFor o (node_at ns r)) (sym same) (folded r (settled_rw (mode_of modes r) (settled r) up));
-        };
-      }
+      started_is p modes ts cs ns i op w ok.order h is ok.agree.as_many number same owed asked may
+      (λ r up. record {
+        still = plain_stands op p.volume.snapshots (node_at ns r) (starts_plain op modes on) (ok.agree.tree r up);
+        spared = spares r up;
+        folded = by r up (mode_of modes r) refl;
+      })
+    where
+      by : (r : ℕ) → mode_of modes r ≢ Err → (m : Mode) → mode_of modes r ≡ m → IsFoldedFor op (node_at ns r)
+      by r up Rw e = folded r e
+      by r up Wo e = written_folded op modes r (node_at ns r) on e
+      by r up Err e = absurd (up e)

@@ -40,6 +40,7 @@ asked_still maint maint2 commands commands2 stream (whole.Snapshot name) turn no
 asked_still maint maint2 commands commands2 stream (whole.Remove name) turn none asked = turn (command.Remove name) asked
 asked_still maint maint2 commands commands2 stream (whole.Revert name) turn none asked = turn (command.Revert name) asked
 asked_still maint maint2 commands commands2 stream (whole.Purge f) turn none asked = turn command.Purge asked
+asked_still maint maint2 commands commands2 stream (whole.Barrier r) turn none asked = turn (command.Add r) asked
 
 -- and its ticket fits
 pub fits_queue : (s : Snapshots) (modes : List Mode) (ns : List Node) (maint maint2 : List Ticket) (commands commands2 : List MaintCall) (t : Ticket) (c : OpenCall)
@@ -254,6 +255,7 @@ turn_asks s modes ns maint commands t c op is asks of turn can = record {
     go (whole.Remove name) of turn = turn
     go (whole.Revert name) of turn = turn
     go (whole.Purge f) of turn = turn
+    go (whole.Barrier r) of turn = turn
 
 -- a stream with no command asks for a snapshot
 pub snapshot_asks : (s : Snapshots) (modes : List Mode) (ns : List Node) (maint : List Ticket) (commands : List MaintCall) (t : Ticket) (c : OpenCall) (name : List ℕ) → t.kind ≡ kind.Whole → c.op ≡ Some (whole.Snapshot name)

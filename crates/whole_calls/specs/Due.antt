@@ -2,6 +2,7 @@
 -- part. So long as a call on the whole volume is started, replicas in due form are compared with the due volume, which is
 -- the volume once that call is done.
 use Rattle.std.specs.Prelude.{List, [], ◌∷◌, Option, None, Some}
+use Rattle.vol_units.specs.Name.{sys_name}
 use Rattle.volume_model.specs.PlainState.{Volume, snapped, removed, reverted, purged}
 use Rattle.volume_model.specs.declared.mark.FoldOrDrop.{FoldOrDrop}
 use Rattle.volume_model.specs.declared.mark.FoldOrDrop.TheVariants as part
@@ -20,19 +21,21 @@ abbrev pub purged_node : FoldOrDrop → Node → Node
 purged_node (part.Fold p c) node = replaced_node node p c
 purged_node (part.Drop p) node = dropped_node node p
 
--- the replica once its part is done
+-- the replica once its part is done: a rebuild's barrier closes the head under the engine's own name
 abbrev pub part_on : WholeOp → Node → Node
 part_on (whole.Snapshot name) node = snapped_node node name
 part_on (whole.Remove name) node = marked node name
 part_on (whole.Revert name) node = reverted_node node name
 part_on (whole.Purge f) node = purged_node f node
+part_on (whole.Barrier r) node = snapped_node node (sys_name node.number)
 
--- the volume once it is done
+-- the volume once it is done: a barrier's snapshot is the volume's from its start on, by the mark that it begins with
 abbrev pub due_of : WholeOp → Volume → Volume
 due_of (whole.Snapshot name) volume = snapped volume name
 due_of (whole.Remove name) volume = removed volume name
 due_of (whole.Revert name) volume = reverted volume name
 due_of (whole.Purge f) volume = purged volume f
+due_of (whole.Barrier r) volume = volume
 
 -- the due volume, where that call has started, or none
 abbrev pub due : Option Whole → Volume → Volume

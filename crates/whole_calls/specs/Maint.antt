@@ -33,11 +33,12 @@ no_command = record { stream = 0; saw = 0; command = command.Purge }
 abbrev pub command_at : List MaintCall → ℕ → MaintCall
 command_at commands k = slice_index_or commands k no_command
 
--- a command that wants the turn; no replica is rebuilt yet
+-- a command that wants the turn
 abbrev pub IsMaint : Command → Type 0
 IsMaint (command.Remove name) = Unit {0}
 IsMaint (command.Revert name) = Unit {0}
 IsMaint command.Purge = Unit {0}
+IsMaint (command.Add r) = Unit {0}
 IsMaint c = ⊥
 
 -- no command that has the turn or waits for it is the stream's

@@ -1,6 +1,6 @@
 -- The call on the whole volume that has started.
 use Rattle.std.specs.Prelude.{◌≡◌, ◌≢◌, ℕ, ◌+◌, ◌<◌, ◌^◌, List, length, slice_set, slice_index_or, Option, None, Some, true, false}
-use Rattle.vol_units.specs.Name.{begins_sys}
+use Rattle.vol_units.specs.Name.{begins_sys, sys_name}
 use Rattle.vol_units.specs.declared.limits.TheConstants.{MOST_LAYERS}
 use Rattle.sparse_image.specs.Image.{Tables}
 use Rattle.volume_model.specs.declared.mark.FoldOrDrop.{FoldOrDrop}
@@ -23,10 +23,12 @@ use Rattle.open_calls.specs.declared.whole_op.WholeOp.TheVariants as whole
 use Rattle.open_calls.specs.Parts.{part_at}
 use Rattle.open_calls.specs.Calls.{open_at, node_at}
 use Rattle.whole_calls.specs.declared.whole.Whole.{Whole}
+use Rattle.whole_calls.specs.Due.{part_on}
 
 -- ---- what has to be so of the volume
 
--- the operation can be done: a snapshot of a user's name, which is new, has room; what is reverted to or removed is there
+-- The operation can be done: a snapshot of a user's name, which is new, has room; what is reverted to or removed is
+-- there. A barrier's snapshot is the volume's already.
 abbrev pub MayBeDone : WholeOp → PlainState → Type 0
 MayBeDone (whole.Snapshot name) p =
     (begins_sys name ≡ false) × (is_used p.used name ≡ false) × (layer_count p.volume.snapshots < MOST_LAYERS)
@@ -34,6 +36,7 @@ MayBeDone (whole.Remove name) p = is_live p.volume.snapshots.tree name ≡ true
 MayBeDone (whole.Revert name) p =
     (is_live p.volume.snapshots.tree name ≡ true) × (length (copy_of p.volume.copies name) ≡ length p.volume.disk)
 MayBeDone (whole.Purge f) p = CanBeDone p.volume.snapshots.tree p.volume.snapshots.on f
+MayBeDone (whole.Barrier r) p = Unit {0}
 
 -- ---- what has to be so of a replica
 
@@ -57,6 +60,7 @@ IsSpared (whole.Snapshot name) node spare = HasSpare node spare
 IsSpared (whole.Remove name) node spare = Unit {0}
 IsSpared (whole.Revert name) node spare = HasSpare node spare
 IsSpared (whole.Purge f) node spare = Unit {0}
+IsSpared (whole.Barrier r) node spare = HasSpare node spare
 
 -- the operation finds no block of a child that is to be folded
 abbrev pub IsFoldedFor : WholeOp → Node → Type 0
@@ -64,18 +68,25 @@ IsFoldedFor (whole.Snapshot name) node = Unit {0}
 IsFoldedFor (whole.Remove name) node = Unit {0}
 IsFoldedFor (whole.Revert name) node = Unit {0}
 IsFoldedFor (whole.Purge f) node = IsFolded f node
-
--- the replica, which owes its part, has the volume's snapshots still, and all that the part takes
-pub record CanTake (op : WholeOp) (s : Snapshots) (node : Node) (spare : Option Tables) : Type 0 where
-  pub still : snapshots_of node ≡ s
-  pub spared : IsSpared op node spare
-  pub folded : IsFoldedFor op node
+IsFoldedFor (whole.Barrier r) node = Unit {0}
 
 -- a snapshot of the replica can be taken under the name
 pub record CanSnap (n : Node) (name : List ℕ) : Type 0 where
   pub layers : length n.layers + 1 < MOST_LAYERS
   pub free : IsFree n name
   pub number : n.number + 1 < 2 ^ 64
+
+-- the replica, which owes its part, has the volume's snapshots still; of a barrier it has them once it took its part
+abbrev pub StandsFor : WholeOp → Snapshots → Node → Type 0
+StandsFor (whole.Barrier r) s node =
+    (snapshots_of (part_on (whole.Barrier r) node) ≡ s) × CanSnap node (sys_name node.number)
+StandsFor op s node = snapshots_of node ≡ s
+
+-- the replica, which owes its part, stands so, and has all that the part takes
+pub record CanTake (op : WholeOp) (s : Snapshots) (node : Node) (spare : Option Tables) : Type 0 where
+  pub still : StandsFor op s node
+  pub spared : IsSpared op node spare
+  pub folded : IsFoldedFor op node
 
 -- the replica can go back to the snapshot of the name
 pub record CanRevert (n : Node) (name : List ℕ) : Type 0 where
@@ -93,6 +104,7 @@ IsFit (whole.Snapshot name) n = CanSnap n name
 IsFit (whole.Remove name) n = is_live (tree_of n) name ≡ true
 IsFit (whole.Revert name) n = CanRevert n name
 IsFit (whole.Purge f) n = CanPurge n f
+IsFit (whole.Barrier r) n = CanSnap n (sys_name n.number)
 
 -- a spare head for each replica that has not failed, where the operation uses one
 abbrev pub AreSpared : WholeOp → List Mode → List Node → List (Option Tables) → Type 0

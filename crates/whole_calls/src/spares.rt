@@ -1,6 +1,7 @@
 ghost use Rattle.std.specs.Prelude.{◌≡◌, ◌≢◌, ◌<◌, length, slice_set, None, IfOk};
 ghost use Rattle.volume_model.specs.Modes.{mode_of};
-ghost use Rattle.whole_calls.specs.Whole.{IsSpared, AreSpared, spare_at};
+ghost use Rattle.open_calls.specs.Calls.{node_at};
+ghost use Rattle.whole_calls.specs.Whole.{HasSpare, IsSpared, AreSpared, spare_at};
 
 use open_calls::{Mode, WholeOp};
 use replica_node::{ReplicaNode, Spare};
@@ -55,6 +56,25 @@ impl Spares {
         Ok(Spares { slots })
     }
 
+    /// Those of the barrier of a rebuild, by which the target is that blank replica.
+    pub fn with_blank(
+        alloc: Global,
+        nodes: &[ReplicaNode],
+        modes: &[Mode],
+        target: u8,
+        blank: &ReplicaNode,
+    ) -> Result<Spares, AllocError>
+        requires { length modes.now ≡ length nodes.now }
+        ensures { IfOk result (AreSpared (WholeOp.Barrier target) (slice_set modes.now target Mode.Wo)
+            (slice_set nodes.now target blank.now)) }
+    {
+        let mut slots = Vec::new(alloc);
+        for r in 0..modes.len() {
+            slots.push(barrier_slot(alloc, nodes, modes, target, blank, r)?)?;
+        }
+        Ok(Spares { slots })
+    }
+
     /// The one of a replica, which is used now.
     pub fn take(&mut self, replica: u8) -> Option<Spare>
         ensures value { result ≡ spare_at self.old replica }
@@ -79,9 +99,31 @@ fn slot_for(
     ensures { IfOk result (λ slot. mode ≢ Mode.Err → IsSpared op.now node.now slot) }
 {
     match (mode, op) {
-        (Mode::Rw | Mode::Wo, WholeOp::Snapshot(_) | WholeOp::Revert(_)) => Ok(SpareSlot {
-            spare: Some(node.spare_head(alloc)?),
-        }),
+        (Mode::Rw | Mode::Wo, WholeOp::Snapshot(_) | WholeOp::Revert(_) | WholeOp::Barrier(_)) =>
+            Ok(SpareSlot {
+                spare: Some(node.spare_head(alloc)?),
+            }),
         _ => Ok(SpareSlot { spare: None }),
+    }
+}
+
+/// A spare head for a replica at the barrier of a rebuild.
+fn barrier_slot(
+    alloc: Global,
+    nodes: &[ReplicaNode],
+    modes: &[Mode],
+    target: u8,
+    blank: &ReplicaNode,
+    r: usize,
+) -> Result<SpareSlot, AllocError>
+    requires node { r < length nodes.now }
+    requires mode { r < length modes.now }
+    ensures { IfOk result (λ slot. mode_of (slice_set modes.now target Mode.Wo) r ≢ Mode.Err
+        → HasSpare (node_at (slice_set nodes.now target blank.now) r) slot) }
+{
+    if r == target as usize {
+        slot_for(alloc, blank, Mode::Wo, &WholeOp::Barrier(target))
+    } else {
+        slot_for(alloc, &nodes[r], modes[r], &WholeOp::Barrier(target))
     }
 }

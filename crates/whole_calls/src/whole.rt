@@ -31,6 +31,7 @@ pub fn take_part(node: &mut ReplicaNode, op: &WholeOp, spare: Option<Spare>)
         WholeOp::Remove(name) => node.mark(*name),
         WholeOp::Revert(name) => revert(node, *name, spare),
         WholeOp::Purge(part) => let_go(node, part),
+        WholeOp::Barrier(_) => snapshot(node, LayerName::sys(node.head_number()), spare),
     }
 }
 
