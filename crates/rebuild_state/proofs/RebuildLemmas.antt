@@ -218,16 +218,17 @@ same_names : (ks : List Kept) → map (λ (k : Kept). k.meta.name) (map emptied_
 same_names [] = refl
 same_names (k ∷ ks) = ap (λ (ns : List (List ℕ)). k.meta.name ∷ ns) (same_names ks)
 
-pub rebuild_begins : (is_listed : List ℕ → ℕ → Bool) (Free : ℕ → Type 0) (source : Node) (name : List ℕ) → HasNoPage is_listed
-    → IsRebuilt (layer_names (snapped_node source name).layers) is_listed Free (snapped_node source name) (snapped_node (emptied source) name)
-rebuild_begins is_listed Free source name bare = record {
+pub rebuild_begins : (frozen : List (List ℕ)) (is_listed : List ℕ → ℕ → Bool) (Free : ℕ → Type 0) (source : Node) (name : List ℕ)
+    → ((n : List ℕ) → Contains (layer_names (snapped_node source name).layers) n → Contains frozen n) → HasNoPage is_listed
+    → IsRebuilt frozen is_listed Free (snapped_node source name) (snapped_node (emptied source) name)
+rebuild_begins frozen is_listed Free source name all bare = record {
   alike = same_snapshots (snapped_node (emptied source) name) (snapped_node source name)
       (ap (λ (ss : List Snapshot). record { name = name; parent = source.on; marked = false } ∷ ss) (emptied_told source.layers)) refl refl;
   listed = λ other block f c. absurd (bare other (block / 512) c);
   newer = λ other block none.
       no_layer (snapped_node (emptied source) name).layers other block
-      (λ c. none (subst (λ (ns : List (List ℕ)). Contains (name ∷ ns) other) (same_names source.layers) c))
-      ∙ sym (no_layer (snapped_node source name).layers other block none);
+      (λ c. none (all other (subst (λ (ns : List (List ℕ)). Contains (name ∷ ns) other) (same_names source.layers) c)))
+      ∙ sym (no_layer (snapped_node source name).layers other block (λ c. none (all other c)));
   head = λ block is. none_own (length (no_own source)) (emptied source).disk block ∙ sym (none_own (length source.own) source.disk block);
 }
 

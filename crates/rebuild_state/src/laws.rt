@@ -16,10 +16,12 @@ use open_calls::{Mode, Ticket};
 use replica_node::{BLOCK_BYTES, PAGE_BLOCKS};
 
 /// The barrier: the replica that is to be rebuilt has the source's layers and head without a block, and a snapshot is
-/// taken on both. From then on each layer but the head is frozen, and no page is listed.
+/// taken on both. From then on each layer but the head is frozen, in whatever order they stand, and no page is listed.
 pub fn a_rebuild_begins()
-    ensures { (is_listed : List ℕ → ℕ → Bool) (free : ℕ → Bool) (source : Node) (name : List ℕ) → HasNoPage is_listed
-        → IsRebuilt (layer_names (snapped_node source name).layers) is_listed (λ block. free block ≡ true)
+    ensures { (frozen : List (List ℕ)) (is_listed : List ℕ → ℕ → Bool) (free : ℕ → Bool) (source : Node) (name : List ℕ)
+        → ((n : List ℕ) → Contains (layer_names (snapped_node source name).layers) n → Contains frozen n)
+        → HasNoPage is_listed
+        → IsRebuilt frozen is_listed (λ block. free block ≡ true)
         (snapped_node source name) (snapped_node (emptied source) name) }
 {}
 
