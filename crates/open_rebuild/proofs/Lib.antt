@@ -4,3 +4,5 @@ pub mod WholeSteps
 pub mod PageSteps
 pub mod ModeSteps
 pub mod PlaceLemmas
+pub mod FrozenLemmas
+pub mod ShownSteps

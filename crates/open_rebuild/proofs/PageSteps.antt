@@ -17,7 +17,7 @@ use Rattle.volume_model.specs.Snapshots.{Snapshot, Snapshots}
 use Rattle.range_turns.specs.declared.ticket.Ticket.{Ticket}
 use Rattle.replica_node.specs.Node.{Kept, Node, blank, layer_names, snapped_node}
 use Rattle.replica_node.specs.Room.{head_block}
-use Rattle.replica_node.specs.Fold.{is_in, tree_of, snapshots_of}
+use Rattle.replica_node.specs.Fold.{is_in, tree_of}
 use Rattle.replica_node.specs.Held.{block_named, IsPageOf, PutsPage, metas_of}
 use Rattle.open_calls.specs.declared.open_call.OpenCall.{OpenCall}
 use Rattle.open_calls.specs.declared.parts.Part.{Part}
@@ -29,7 +29,7 @@ use Rattle.open_calls.specs.Parts.{part_at}
 use Rattle.open_calls.proofs.PartLemmas.{up_in}
 use Rattle.whole_calls.specs.declared.whole.Whole.{Whole}
 use Rattle.whole_calls.specs.Due.{form_part, formed, forms}
-use Rattle.whole_calls.specs.Whole.{MayBeDone, IsStarted}
+use Rattle.whole_calls.specs.Whole.{MayBeDone, StandsFor, IsStarted}
 use Rattle.whole_calls.proofs.Forms.{length-forms, formed_in}
 use Rattle.rebuild_state.specs.Rebuild.{IsRebuilt, IsFreeBlock, ListsPage, IsReplica}
 use Rattle.rebuild_state.specs.Listed.{place_of}
@@ -88,6 +88,7 @@ put_form (whole.Snapshot n) frozen Apart old new name page table beside there is
 put_form (whole.Remove n) frozen p old new name page table beside there is = absurd beside
 put_form (whole.Revert n) frozen p old new name page table beside there is = absurd beside
 put_form (whole.Purge f) frozen p old new name page table beside there is = absurd beside
+put_form (whole.Barrier x) frozen p old new name page table beside there is = absurd beside
 
 page_form : (op : WholeOp) (frozen : List (List ℕ)) (p : Part) (source : Node) (name : List ℕ) (page : ℕ) (table : Table) → IsBesideThese frozen op → Contains frozen name → IsPageOf source name page table
     → IsPageOf (form_part op p source) name page table
@@ -98,6 +99,7 @@ page_form (whole.Snapshot n) frozen Apart source name page table beside there is
 page_form (whole.Remove n) frozen p source name page table beside there is = absurd beside
 page_form (whole.Revert n) frozen p source name page table beside there is = absurd beside
 page_form (whole.Purge f) frozen p source name page table beside there is = absurd beside
+page_form (whole.Barrier x) frozen p source name page table beside there is = absurd beside
 
 -- a replica in due form, where one has started or none
 abbrev form_in : Option Whole → ℕ → Node → Node
@@ -129,16 +131,15 @@ form_other w ns t r x n =
 -- ---- a page is copied
 
 module _ (size : ℕ) (modes : List Mode) (ts : List Ticket) (cs : List OpenCall) (w : Option Whole) (ns : List Node) (b : Rebuilding) (after : Node) (name : List ℕ) (page : ℕ) (table : Table)
-    (many : length modes ≡ length ns) (may : b.may_copy ≡ true) (there : Contains b.frozen name) (inside : page < b.pages)
-    (out : IsPageOf (node_at ns b.source) name page table) (puts : PutsPage (node_at ns b.target) after name page table)
+    (many : length modes ≡ length ns) (may : b.may_copy ≡ true) (there : Contains b.frozen name) (puts : PutsPage (node_at ns b.target) after name page table)
     (k : IsRebuilding size modes ts cs w ns (Some b)) where
   abbrev ms : List Node
   ms = set ns b.target after
 
-  u : IsUnderWay size ts cs (forms w ns) b
+  pub u : IsUnderWay size ts cs (forms w ns) b
   u = let o = k.claim in o.under_way
 
-  still : IsBesideStarted b w
+  pub still : IsBesideStarted b w
   still = let o = k.claim in o.beside may
 
   apart : b.source ≢ b.target
@@ -150,13 +151,13 @@ module _ (size : ℕ) (modes : List Mode) (ts : List Ticket) (cs : List OpenCall
   source_in : b.source < length ns
   source_in = omega (arith, up_in modes b.source (up_rw (mode_of modes b.source) k.roles.source), many)
 
-  target_in : b.target < length ns
+  pub target_in : b.target < length ns
   target_in = omega (arith, up_in modes b.target (up_wo (mode_of modes b.target) k.roles.target), many)
 
-  other : (r : ℕ) → r ≢ b.target → node_at (forms w ms) r ≡ node_at (forms w ns) r
+  pub other : (r : ℕ) → r ≢ b.target → node_at (forms w ms) r ≡ node_at (forms w ns) r
   other r n = form_other w ns b.target r after n
 
-  new_puts : PutsPage (node_at (forms w ns) b.target) (node_at (forms w ms) b.target) name page table
+  pub new_puts : PutsPage (node_at (forms w ns) b.target) (node_at (forms w ms) b.target) name page table
   new_puts =
       let was : node_at (forms w ns) b.target ≡ form_in w b.target (node_at ns b.target) = form_at w ns b.target target_in in
       let is : node_at (forms w ms) b.target ≡ form_in w b.target after =
@@ -165,39 +166,41 @@ module _ (size : ℕ) (modes : List Mode) (ts : List Ticket) (cs : List OpenCall
       (subst (λ (x : Node). PutsPage (form_in w b.target (node_at ns b.target)) x name page table) (sym is)
       (puts_in w b b.target (node_at ns b.target) after name page table still there puts))
 
-  new_out : IsPageOf (node_at (forms w ns) b.source) name page table
-  new_out = subst (λ (x : Node). IsPageOf x name page table) (sym (form_at w ns b.source source_in)) (page_in w b b.source (node_at ns b.source) name page table still there out)
-
-  same_head : (r block : ℕ) → head_block (node_at (forms w ms) r) block ≡ head_block (node_at (forms w ns) r) block
+  pub same_head : (r block : ℕ) → head_block (node_at (forms w ms) r) block ≡ head_block (node_at (forms w ns) r) block
   same_head r block =
       ⊎_elim
       (λ e. subst (λ n. head_block (node_at (forms w ms) n) block ≡ head_block (node_at (forms w ns) n) block) (sym e) (new_puts.head block))
       (λ n. ap (λ (x : Node). head_block x block) (other r n))
       (cases_eq r b.target)
 
-  lists : ListsPage (listed_of b) (listed_of (with_page b name page)) name page
-  lists = page_listed b.frozen b.pages b.listed name page there inside
+  -- one that went out of the source
+  module _ (inside : page < b.pages) (out : IsPageOf (node_at ns b.source) name page table) where
+    new_out : IsPageOf (node_at (forms w ns) b.source) name page table
+    new_out = subst (λ (x : Node). IsPageOf x name page table) (sym (form_at w ns b.source source_in)) (page_in w b b.source (node_at ns b.source) name page table still there out)
 
-  pub page_kept : IsRebuilding size modes ts cs w ms (Some (with_page b name page))
-  page_kept = record {
-    roles = record { target = k.roles.target; source = k.roles.source; only = k.roles.only };
-    claim = record {
-      under_way = record {
-        pages = u.pages;
-        bits = length-set b.listed (place_of b.frozen name * b.pages + page) true ∙ u.bits;
-        frozen = λ n c. subst (λ (x : Node). Contains (layer_names x.layers) n) (sym (other b.source apart)) (u.frozen n c);
-        rebuilt = subst (λ (x : Node). IsRebuilt b.frozen (listed_of (with_page b name page)) (IsFreeBlock ts) x (node_at (forms w ms) b.target)) (sym (other b.source apart))
-            (page_copied b.frozen (listed_of b) (listed_of (with_page b name page)) (IsFreeBlock ts) (node_at (forms w ns) b.source) (node_at (forms w ns) b.target) (node_at (forms w ms) b.target) name page table
-            u.rebuilt there new_out new_puts lists);
-        writes = λ i l x r taken block f g. same_head r block ∙ u.writes i l x r taken block f g;
+    lists : ListsPage (listed_of b) (listed_of (with_page b name page)) name page
+    lists = page_listed b.frozen b.pages b.listed name page there inside
+
+    pub page_kept : IsRebuilding size modes ts cs w ms (Some (with_page b name page))
+    page_kept = record {
+      roles = record { target = k.roles.target; source = k.roles.source; only = k.roles.only };
+      claim = record {
+        under_way = record {
+          pages = u.pages;
+          bits = length-set b.listed (place_of b.frozen name * b.pages + page) true ∙ u.bits;
+          frozen = λ n c. subst (λ (x : Node). Contains (layer_names x.layers) n) (sym (other b.source apart)) (u.frozen n c);
+          rebuilt = subst (λ (x : Node). IsRebuilt b.frozen (listed_of (with_page b name page)) (IsFreeBlock ts) x (node_at (forms w ms) b.target)) (sym (other b.source apart))
+              (page_copied b.frozen (listed_of b) (listed_of (with_page b name page)) (IsFreeBlock ts) (node_at (forms w ns) b.source) (node_at (forms w ns) b.target) (node_at (forms w ms) b.target) name page table
+              u.rebuilt there new_out new_puts lists);
+          writes = λ i l x r taken block f g. same_head r block ∙ u.writes i l x r taken block f g;
+        };
+        beside = λ _. again w still;
       };
-      beside = λ _. again w still;
-    };
-  }
-    where
-      again : (o : Option Whole) → IsBesideStarted b o → IsBesideStarted (with_page b name page) o
-      again None x = x
-      again (Some y) x = x
+    }
+      where
+        again : (o : Option Whole) → IsBesideStarted b o → IsBesideStarted (with_page b name page) o
+        again None x = x
+        again (Some y) x = x
 
 -- ---- the layers that pages are copied of
 
@@ -219,6 +222,7 @@ names_form (whole.Snapshot n) frozen Apart node name beside there c = c
 names_form (whole.Remove n) frozen p node name beside there c = absurd beside
 names_form (whole.Revert n) frozen p node name beside there c = absurd beside
 names_form (whole.Purge f) frozen p node name beside there c = absurd beside
+names_form (whole.Barrier x) frozen p node name beside there c = absurd beside
 
 names_in : (w : Option Whole) (b : Rebuilding) (r : ℕ) (node : Node) (name : List ℕ) → IsBesideStarted b w → Contains b.frozen name → Contains (layer_names (form_in w r node).layers) name
     → Contains (layer_names node.layers) name
@@ -257,7 +261,7 @@ replica_form p modes ts cs ns w frozen r count named is many up beside whole_one
     subst (λ (x : Node). IsReplica x count) (sym (formed_in w.op w.parts ns r (omega (arith, up_in modes r up, many))))
     (go w.op (part_at w.parts r) beside is.may (λ e. let takes = is.takes r up e in takes.still))
   where
-    go : (op : WholeOp) (a : Part) → IsBesideThese frozen op → MayBeDone op p → (a ≡ Owed → snapshots_of (node_at ns r) ≡ p.volume.snapshots) → IsReplica (form_part op a (node_at ns r)) count
+    go : (op : WholeOp) (a : Part) → IsBesideThese frozen op → MayBeDone op p → (a ≡ Owed → StandsFor op p.volume.snapshots (node_at ns r)) → IsReplica (form_part op a (node_at ns r)) count
     go (whole.Snapshot name) Owed beside may still = replica_snapped_node (node_at ns r) count name (new (has_name p.volume.snapshots.tree name) refl) whole_one
       where
         new : (b : Bool) → has_name p.volume.snapshots.tree name ≡ b → has_name (tree_of (node_at ns r)) name ≡ false
@@ -269,3 +273,4 @@ replica_form p modes ts cs ns w frozen r count named is many up beside whole_one
     go (whole.Remove name) a beside may still = absurd beside
     go (whole.Revert name) a beside may still = absurd beside
     go (whole.Purge f) a beside may still = absurd beside
+    go (whole.Barrier x) a beside may still = absurd beside

@@ -4,6 +4,7 @@ use Rattle.std.specs.List.{remove}
 use Rattle.std.specs.Prelude.{Contains}
 use Rattle.std.proofs.lemmas.Bool.{cases_eq}
 use Rattle.std.proofs.lemmas.List.{length-replicate}
+use Rattle.vol_units.specs.Name.{sys_name}
 use Rattle.volume_model.specs.declared.mode.Mode.{Mode}
 use Rattle.volume_model.specs.declared.mode.Mode.TheVariants.{Rw, Wo, Err}
 use Rattle.volume_model.specs.Modes.{mode_of}
@@ -84,6 +85,7 @@ snapped_way : (size : ℕ) (modes : List Mode) (ts us : List Ticket) (cs : List 
 snapped_way size modes ts us cs ns b (whole.Remove name) many roles beside calm none u = absurd beside
 snapped_way size modes ts us cs ns b (whole.Revert name) many roles beside calm none u = absurd beside
 snapped_way size modes ts us cs ns b (whole.Purge f) many roles beside calm none u = absurd beside
+snapped_way size modes ts us cs ns b (whole.Barrier r) many roles beside calm none u = absurd beside
 snapped_way size modes ts us cs ns b (whole.Snapshot name) many roles beside calm none u =
     let op = whole.Snapshot name in
     let fs : List Node = formed op (map part_for modes) ns in
@@ -183,7 +185,7 @@ barrier_ended size modes ts cs ns b k =
 
 module _ (size : ℕ) (modes : List Mode) (ts : List Ticket) (cs : List OpenCall) (ns : List Node) (w : Whole) (i : ℕ) (name : List ℕ) (b : Rebuilding)
     (order : AreInOrder ts) (h : i < length ts) (is : (ticket_at ts i).kind ≡ kind.Whole) (waits : (ticket_at ts i).started ≡ false) (clear : IsClear ts i) (many : length modes ≡ length ns)
-    (failed : mode_of modes b.target ≡ Err) (read : mode_of modes b.source ≡ Rw) (in_modes : b.target < length modes) (begins : IsNew size (node_at ns b.source) name b) (snaps : Snaps w.op name) where
+    (failed : mode_of modes b.target ≡ Err) (read : mode_of modes b.source ≡ Rw) (in_modes : b.target < length modes) (begins : IsNew size (node_at ns b.source) name b) (snaps : Snaps w.op (node_at ns b.source).number name) where
   abbrev new_modes : List Mode
   new_modes = set modes b.target Wo
 
@@ -210,26 +212,27 @@ module _ (size : ℕ) (modes : List Mode) (ts : List Ticket) (cs : List OpenCall
 
   of_source : node_at fs b.source ≡ snapped_node (node_at ns b.source) name
   of_source =
+      let same = get_or-set_other ns b.target b.source (emptied (node_at ns b.source)) (blank 0) apart in
       owes_form w.op new_modes new_nodes b.source new_many (up_rw (mode_of new_modes b.source) reads)
-      ∙ snaps (node_at new_nodes b.source)
-      ∙ ap (λ (n : Node). snapped_node n name) (get_or-set_other ns b.target b.source (emptied (node_at ns b.source)) (blank 0) apart)
+      ∙ snaps (node_at new_nodes b.source) (ap (λ (n : Node). n.number) same)
+      ∙ ap (λ (n : Node). snapped_node n name) same
 
   of_target : node_at fs b.target ≡ snapped_node (emptied (node_at ns b.source)) name
   of_target =
+      let same = get_or-set_same ns b.target (emptied (node_at ns b.source)) (blank 0) (omega (arith, in_modes, many)) in
       owes_form w.op new_modes new_nodes b.target new_many (up_wo (mode_of new_modes b.target) writes)
-      ∙ snaps (node_at new_nodes b.target)
-      ∙ ap (λ (n : Node). snapped_node n name) (get_or-set_same ns b.target (emptied (node_at ns b.source)) (blank 0) (omega (arith, in_modes, many)))
+      ∙ snaps (node_at new_nodes b.target) (ap (λ (n : Node). n.number) same)
+      ∙ ap (λ (n : Node). snapped_node n name) same
 
   begun_way : IsUnderWay size (with_started ts i) cs fs b
   begun_way = record {
     pages = begins.pages;
     bits = ap length begins.listed ∙ length-replicate (length b.frozen * b.pages) false;
-    frozen = λ n c. subst (λ (x : Node). Contains (layer_names x.layers) n) (sym of_source) (subst (λ (ns : List (List ℕ)). Contains ns n) begins.frozen c);
+    frozen = λ n c. subst (λ (x : Node). Contains (layer_names x.layers) n) (sym of_source) ((begins.frozen n).0 c);
     rebuilt = subst (λ (x : Node). IsRebuilt b.frozen (listed_of b) (IsFreeBlock (with_started ts i)) x (node_at fs b.target)) (sym of_source)
         (subst (λ (x : Node). IsRebuilt b.frozen (listed_of b) (IsFreeBlock (with_started ts i)) (snapped_node (node_at ns b.source) name) x) (sym of_target)
-        (subst (λ (fr : List (List ℕ)). IsRebuilt fr (listed_of b) (IsFreeBlock (with_started ts i)) (snapped_node (node_at ns b.source) name) (snapped_node (emptied (node_at ns b.source)) name)) (sym begins.frozen)
-        (rebuild_begins (listed_of b) (IsFreeBlock (with_started ts i)) (node_at ns b.source) name
-        (λ n page e. none_listed b.frozen b.pages (length b.frozen * b.pages) n page (subst (λ (bits : List Rattle.std.specs.Prelude.Bool). is_listed_in b.frozen b.pages bits n page ≡ true) begins.listed e)))));
+        (rebuild_begins b.frozen (listed_of b) (IsFreeBlock (with_started ts i)) (node_at ns b.source) name (λ n. (begins.frozen n).1)
+        (λ n page e. none_listed b.frozen b.pages (length b.frozen * b.pages) n page (subst (λ (bits : List Rattle.std.specs.Prelude.Bool). is_listed_in b.frozen b.pages bits n page ≡ true) begins.listed e))));
     writes = λ j l x. absurd (none_written ts i h is still j l x);
   }
 
@@ -245,3 +248,7 @@ module _ (size : ℕ) (modes : List Mode) (ts : List Ticket) (cs : List OpenCall
       beside = λ e. absurd (not_both b.may_copy begins.waits e);
     };
   }
+
+-- a barrier takes a snapshot under the engine's own name of the head's number
+pub barrier_snaps : (r number : ℕ) → Snaps (whole.Barrier r) number (sys_name number)
+barrier_snaps r number node e = ap (λ n. snapped_node node (sys_name n)) e

@@ -21,6 +21,7 @@ use Rattle.whole_calls.specs.Due.{forms, part_on}
 use Rattle.rebuild_state.specs.Listed.{place_of, is_listed_in}
 use Rattle.rebuild_state.specs.Rebuild.{IsRebuilt, IsFreeBlock, HasPut}
 use Rattle.open_rebuild.specs.declared.rebuilding.Rebuilding.{Rebuilding}
+use Rattle.open_rebuild.specs.Frozen.{AreFrozen, IsInByteOrder}
 
 -- ---- the modes
 
@@ -40,6 +41,10 @@ AreRoles modes (Some b) = HasRoles modes b
 -- whether a page of the layer of a name is listed
 abbrev pub listed_of : Rebuilding → List ℕ → ℕ → Bool
 listed_of b = is_listed_in b.frozen b.pages b.listed
+
+-- there is a bit for each page of each layer
+abbrev pub HasBits : Rebuilding → Type 0
+HasBits b = length b.listed ≡ length b.frozen * b.pages
 
 -- one more is
 abbrev pub with_page : Rebuilding → List ℕ → ℕ → Rebuilding
@@ -65,6 +70,7 @@ IsBesideThese frozen (whole.Snapshot name) = Contains frozen name → ⊥
 IsBesideThese frozen (whole.Remove name) = ⊥
 IsBesideThese frozen (whole.Revert name) = ⊥
 IsBesideThese frozen (whole.Purge f) = ⊥
+IsBesideThese frozen (whole.Barrier r) = ⊥
 
 -- an operation that may start, where a rebuild may be open
 abbrev pub IsBeside : Option Rebuilding → WholeOp → Type 0
@@ -83,7 +89,7 @@ IsBesideStarted b (Some w) = IsBesideThese b.frozen w.op
 pub record IsUnderWay (size : ℕ) (tickets : List Ticket) (calls : List OpenCall) (nodes : List Node) (b : Rebuilding)
     : Type 0 where
   pub pages : b.pages * PAGE_BYTES ≡ size
-  pub bits : length b.listed ≡ length b.frozen * b.pages
+  pub bits : HasBits b
   pub frozen : (name : List ℕ) → Contains b.frozen name → Contains (layer_names (node_at nodes b.source).layers) name
   pub rebuilt : IsRebuilt b.frozen (listed_of b) (IsFreeBlock tickets) (node_at nodes b.source) (node_at nodes b.target)
   pub writes : AreKept tickets calls nodes
@@ -125,13 +131,14 @@ pub record MayEndAt (modes : List Mode) (tickets : List Ticket) (nodes : List No
   pub owes : (r : ℕ) → mode_of modes r ≢ Err → part_at w.parts r ≢ Apart
   pub acknowledged : (r : ℕ) → r < length nodes → is_pending_at (mode_of modes r) (part_at w.parts r) ≡ false
 
--- the operation takes a snapshot of that name on each replica
-abbrev pub Snaps : WholeOp → List ℕ → Type 0
-Snaps op name = (node : Node) → part_on op node ≡ snapped_node node name
+-- the operation takes a snapshot of that name on each replica whose head has that number
+abbrev pub Snaps : WholeOp → ℕ → List ℕ → Type 0
+Snaps op number name = (node : Node) → node.number ≡ number → part_on op node ≡ snapped_node node name
 
--- its barrier leaves these layers of the source, of which no page is listed
+-- its barrier leaves these layers of the source, and closes its head under the name, and no page is listed
 pub record IsNew (size : ℕ) (source : Node) (name : List ℕ) (b : Rebuilding) : Type 0 where
-  pub frozen : b.frozen ≡ layer_names (snapped_node source name).layers
+  pub frozen : AreFrozen (layer_names source.layers) name b.frozen
+  pub order : IsInByteOrder b.frozen
   pub pages : b.pages * PAGE_BYTES ≡ size
   pub listed : b.listed ≡ replicate (length b.frozen * b.pages) false
   pub waits : b.may_copy ≡ false

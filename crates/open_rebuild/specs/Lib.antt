@@ -1,1 +1,3 @@
+pub mod Frozen
 pub mod Claim
+pub mod Pages

@@ -6,6 +6,7 @@ ghost use Rattle.volume_model.specs.declared.entry.Entry.{Entry};
 ghost use Rattle.volume_model.specs.PlainState.{PlainState, Volume};
 ghost use Rattle.volume_model.specs.Modes.{mode_of};
 ghost use Rattle.volume_model.specs.Names.{AreNamed};
+ghost use Rattle.volume_model.specs.Snapshots.{Snapshots};
 ghost use Rattle.range_turns.specs.Order.{ticket_at, with_started};
 ghost use Rattle.replica_node.specs.Node.{Node, layer_names};
 ghost use Rattle.replica_node.specs.Room.{put_at};
@@ -16,8 +17,10 @@ ghost use Rattle.open_calls.specs.Clients.{AreClients, IsWriting, IsReading};
 ghost use Rattle.open_calls.specs.Parts.{part_at, part_for, is_pending_at, IsTaken};
 ghost use Rattle.open_calls.specs.Starts.{KeepsNodes};
 ghost use Rattle.whole_calls.specs.declared.whole.Whole.{Whole};
+ghost use Rattle.whole_calls.specs.declared.maint.MaintCall.{MaintCall};
+ghost use Rattle.whole_calls.specs.Maint.{AreMaint};
 ghost use Rattle.whole_calls.specs.Due.{part_on, forms};
-ghost use Rattle.whole_calls.specs.Whole.{IsStarted, parted, part_acked};
+ghost use Rattle.whole_calls.specs.Whole.{IsStarted, IsWhole, parted, part_acked};
 ghost use Rattle.rebuild_state.specs.Listed.{AreListed};
 ghost use Rattle.rebuild_state.specs.Rebuild.{IsReplica};
 ghost use Rattle.open_rebuild.specs.declared.rebuilding.Rebuilding.{Rebuilding};
@@ -131,7 +134,7 @@ pub fn a_rebuild_begins()
         (w : Whole) (i : ℕ) (name : List ℕ) (b : Rebuilding)
         → MayStartAt tickets i → length modes ≡ length nodes → mode_of modes b.target ≡ Mode.Err
         → mode_of modes b.source ≡ Mode.Rw → b.target < length modes → IsNew size (node_at nodes b.source) name b
-        → Snaps w.op name → w.parts ≡ map part_for (slice_set modes b.target Mode.Wo)
+        → Snaps w.op (node_at nodes b.source).number name → w.parts ≡ map part_for (slice_set modes b.target Mode.Wo)
         → IsRebuilding size modes tickets calls None nodes None
         → IsRebuilding size (slice_set modes b.target Mode.Wo) (with_started tickets i) calls (Some w)
         (slice_set nodes b.target (emptied (node_at nodes b.source))) (Some b) }
@@ -153,6 +156,34 @@ pub fn a_page_is_copied()
         → IsRebuilding size modes tickets calls whole nodes (Some b)
         → IsRebuilding size modes tickets calls whole (slice_set nodes b.target after)
         (Some (with_page b name page)) }
+{}
+
+/// A page that comes into the target shows nowhere while it is written and not read: not to the calls on ranges, not to
+/// the call on the whole volume that has started, and not to what waits for the maintenance turn.
+pub fn a_copied_page_does_not_show()
+    ensures clients { (volume : Volume) (size streams : ℕ) (entries : List Entry) (modes : List Mode)
+        (tickets : List Ticket) (calls : List OpenCall) (whole : Option Whole) (nodes : List Node) (b : Rebuilding)
+        (after : Node) (name : List ℕ) (page : ℕ) (table : Table)
+        → length modes ≡ length nodes → b.may_copy ≡ true → Contains b.frozen name
+        → PutsPage (node_at nodes b.target) after name page table
+        → IsRebuilding size modes tickets calls whole nodes (Some b)
+        → AreClients volume size streams entries modes tickets calls (forms whole nodes)
+        → AreClients volume size streams entries modes tickets calls (forms whole (slice_set nodes b.target after)) }
+    ensures whole { (p : PlainState) (size : ℕ) (modes : List Mode) (tickets : List Ticket) (calls : List OpenCall)
+        (whole : Option Whole) (nodes : List Node) (b : Rebuilding) (after : Node) (name : List ℕ) (page : ℕ)
+        (table : Table) → length modes ≡ length nodes → b.may_copy ≡ true → Contains b.frozen name
+        → PutsPage (node_at nodes b.target) after name page table
+        → IsRebuilding size modes tickets calls whole nodes (Some b)
+        → IsWhole p modes tickets calls nodes whole
+        → IsWhole p modes tickets calls (slice_set nodes b.target after) whole }
+    ensures maint { (s : Snapshots) (size streams : ℕ) (entries : List Entry) (modes : List Mode)
+        (tickets : List Ticket) (calls : List OpenCall) (whole : Option Whole) (nodes : List Node)
+        (maint : List Ticket) (commands : List MaintCall) (b : Rebuilding) (after : Node) (name : List ℕ) (page : ℕ)
+        (table : Table) → length modes ≡ length nodes → b.may_copy ≡ true → Contains b.frozen name
+        → PutsPage (node_at nodes b.target) after name page table
+        → IsRebuilding size modes tickets calls whole nodes (Some b)
+        → AreMaint s streams entries modes tickets calls nodes maint commands
+        → AreMaint s streams entries modes tickets calls (slice_set nodes b.target after) maint commands }
 {}
 
 /// Both the source and the target have each layer of which pages are copied.

@@ -8,7 +8,8 @@ mod rebuilding;
 pub use frozen_layers::FrozenLayers;
 pub use rebuild_state::ListedPages;
 pub use rebuilding::Rebuilding;
-pub use replica_node::LayerName;
+pub use replica_node::{LayerName, ReplicaNode};
+pub use vol_units::PageRef;
 
 #[cfg(test)]
 mod tests;
