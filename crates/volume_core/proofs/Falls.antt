@@ -61,7 +61,7 @@ set_again : (modes : List Mode) (r : ℕ) → mode_of modes r ≡ Err → set mo
 set_again modes r e = ap (set modes r) (sym e) ∙ set-get_or modes r Err
 
 -- whether it had or not
-failed_again : (v : Volume) (size streams r : ℕ) (es : List Entry) (modes : List Mode) (ts : List Ticket) (cs : List OpenCall) (ns : List Node) → AreClients v size streams es modes ts cs ns
+pub failed_again : (v : Volume) (size streams r : ℕ) (es : List Entry) (modes : List Mode) (ts : List Ticket) (cs : List OpenCall) (ns : List Node) → AreClients v size streams es modes ts cs ns
     → AreClients v size streams es (set modes r Err) ts cs ns
 failed_again v size streams r es modes ts cs ns ok = by (mode_of modes r) refl
   where
@@ -82,7 +82,7 @@ failed_room modes r up = omega (arith, sum_by-set as_up modes r Err Err (up_in m
     one Err n = absurd (n refl)
 
 -- and then no more of them are left
-fewer_up : (modes : List Mode) (r : ℕ) → count_by is_up (set modes r Err) ≤ count_by is_up modes
+pub fewer_up : (modes : List Mode) (r : ℕ) → count_by is_up (set modes r Err) ≤ count_by is_up modes
 fewer_up modes r = by (mode_of modes r) refl
   where
     by : (m : Mode) → mode_of modes r ≡ m → count_by is_up (set modes r Err) ≤ count_by is_up modes

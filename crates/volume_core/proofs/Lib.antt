@@ -9,6 +9,7 @@ pub mod Falls
 pub mod Now
 pub mod Keep
 pub mod FallsKept
+pub mod GivenUp
 pub mod CallLemmas
 pub mod Appends
 pub mod Moves

@@ -37,11 +37,11 @@ order-append index least (x ∷ xs) ys h k =
 own_free : (o : Spot) (es : List Entry) (e : Entry) → IsOwn (replay o.state es) e → AreOwnFree (replay o.state es) → AreOwnFree (replay o.state (es ++ e ∷ []))
 own_free o es e is free = subst AreOwnFree (sym (replay-push o.state es e)) (own_entry (replay o.state es) e is free)
 
--- an answer of the next index, which saw the stream's last and no more than there is
-pub answer_ordered : (o : Spot) (es : List Entry) (indices : List ℕ) (b : Option Rebuilding) (g : Option EndedRebuild) (a : Answer) → IsOrdered o es indices b g → IsOwn (replay o.state es) (entry.Answer a) → added_by a.call ≡ None
-    → a.stream < length indices → a.index ≡ index_at indices a.stream → behind_last a.stream es ≤ a.saw → a.saw ≤ length es
-    → IsOrdered o (es ++ entry.Answer a ∷ []) (set indices a.stream (index_at indices a.stream + 1)) b g
-answer_ordered o es indices b g a ok is_own none within is past saw = record {
+-- an answer of the next index, which saw the stream's last and no more than there is, behind which rebuilds are so far
+pub answer_ordered_to : (o : Spot) (es : List Entry) (indices : List ℕ) (b b2 : Option Rebuilding) (g g2 : Option EndedRebuild) (a : Answer) → IsOrdered o es indices b g → IsOwn (replay o.state es) (entry.Answer a)
+    → ((q : ℕ) → rebuild_of q (es ++ entry.Answer a ∷ []) ≡ how_far b2 g2 q) → a.stream < length indices → a.index ≡ index_at indices a.stream → behind_last a.stream es ≤ a.saw → a.saw ≤ length es
+    → IsOrdered o (es ++ entry.Answer a ∷ []) (set indices a.stream (index_at indices a.stream + 1)) b2 g2
+answer_ordered_to o es indices b b2 g g2 a ok is_own rebuild within is past saw = record {
   rise = rise-answer es a ok.rise;
   order = λ stream. ⊎_elim
       (λ e. subst (λ s. InOrderFrom 0 0 (answers_of s (es ++ entry.Answer a ∷ []))) e (subst (InOrderFrom 0 0) (sym (own_more es a))
@@ -61,8 +61,15 @@ answer_ordered o es indices b g a ok is_own none within is past saw = record {
       (λ n. omega (arith, get_or-set_other indices a.stream stream (index_at indices a.stream + 1) 0 (λ e. n (sym e)), ok.few stream (omega (arith, length-set indices a.stream (index_at indices a.stream + 1))), length-append es (entry.Answer a ∷ [])))
       (cases_eq a.stream stream);
   own = own_free o es (entry.Answer a) is_own ok.own;
-  rebuild = λ q. rebuild_of-push q es (entry.Answer a) ∙ ap (rebuild_after_add q (rebuild_of q es)) none ∙ ok.rebuild q;
+  rebuild = rebuild;
 }
+
+-- the answer of a call that is no add leaves them as they are
+pub answer_ordered : (o : Spot) (es : List Entry) (indices : List ℕ) (b : Option Rebuilding) (g : Option EndedRebuild) (a : Answer) → IsOrdered o es indices b g → IsOwn (replay o.state es) (entry.Answer a) → added_by a.call ≡ None
+    → a.stream < length indices → a.index ≡ index_at indices a.stream → behind_last a.stream es ≤ a.saw → a.saw ≤ length es
+    → IsOrdered o (es ++ entry.Answer a ∷ []) (set indices a.stream (index_at indices a.stream + 1)) b g
+answer_ordered o es indices b g a ok is_own none within is past saw =
+    answer_ordered_to o es indices b b g g a ok is_own (λ q. rebuild_of-push q es (entry.Answer a) ∙ ap (rebuild_after_add q (rebuild_of q es)) none ∙ ok.rebuild q) within is past saw
 
 -- a mark
 pub mark_ordered : (o : Spot) (es : List Entry) (indices : List ℕ) (b b2 : Option Rebuilding) (g g2 : Option EndedRebuild) (m : Mark) → IsOrdered o es indices b g → IsOwn (replay o.state es) (entry.Mark m)

@@ -31,6 +31,7 @@ HadNoStep s t r = (i : ℕ) × IsCallAt s t i × (¬ IsTaken (part_at (open_at s
 abbrev pub AgainstAck : State → ℕ → ℕ → NotThis → Type 0
 AgainstAck s t r against.Ticket = (i : ℕ) → IsCallAt s t i → ⊥
 AgainstAck s t r (against.Mode m) = (m ≡ mode_of (modes_in s) r) × (m ≡ Err) × HadNoStep s t r
+AgainstAck s t r against.Page = ⊥
 AgainstAck s t r (against.Pending q) = (q ≡ r) × (mode_of (modes_in s) r ≢ Err) × HadNoStep s t r
 AgainstAck s t r (against.Count count) = ⊥
 

@@ -1,5 +1,5 @@
 -- What each step makes of a World.
-use Rattle.std.specs.Prelude.{ℕ, ◌+◌, ◌-◌, ◌==◌, Bool, false, ◌||◌, List, [], ◌∷◌, ◌++◌, length, slice_set, remove, Option, None, Some, if◌then◌else◌}
+use Rattle.std.specs.Prelude.{ℕ, ◌+◌, ◌-◌, ◌==◌, Bool, false, true, ◌||◌, List, [], ◌∷◌, ◌++◌, length, slice_set, remove, Option, None, Some, if◌then◌else◌}
 use Rattle.volume_model.specs.declared.call.Call.{Call}
 use Rattle.volume_model.specs.declared.call.Reply.{Reply}
 use Rattle.volume_model.specs.declared.entry.Entry.{Entry}
@@ -66,6 +66,10 @@ aborted s target = record s {
   ended = Some (record { target = target; place = length s.book.entries });
   book = with_entry s.book (entry.Mark (mark.Aborted target));
 }
+
+-- so it is where a stream gives the rebuild up
+abbrev pub given_up : State → ℕ → ℕ → State
+given_up s stream target = record (aborted s target) { gave_up = slice_set s.gave_up stream true }
 
 -- the rebuild that is open is aborted where the replica has a part in it
 abbrev pub aborted_with : Option Rebuilding → State → ℕ → State

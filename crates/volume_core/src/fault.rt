@@ -4,7 +4,7 @@ ghost use Rattle.std.specs.Prelude.{◌≡◌, ◌≢◌, ◌+◌, ◌<◌, ◌�
 ghost use Rattle.volume_model.specs.Faults.{last_count};
 ghost use Rattle.volume_model.specs.Modes.{mode_of};
 ghost use Rattle.volume_core.specs.State.{state_of, modes_in};
-ghost use Rattle.volume_core.specs.Steps.{faulted, behind_fall, marks_of_fall};
+ghost use Rattle.volume_core.specs.Steps.{faulted, aborted, behind_fall, marks_of_fall};
 ghost use Rattle.volume_core.specs.Sound.{IsSound};
 ghost use Rattle.volume_core.specs.Streams.{MayGo, Stays, HasFault};
 ghost use Rattle.volume_core.specs.Against.{AgainstFault};
@@ -64,10 +64,20 @@ impl World {
         if replica != target && replica != rebuild.source {
             return;
         }
+        self.push_aborted(target);
+    }
+
+    /// The rebuild of that replica is aborted, in the mark that stands next: its place. It takes no memory.
+    pub(crate) fn push_aborted(&mut self, target: u8) -> u64
+        requires { 0 < self.old.journal.spare }
+        ensures place { result ≡ length self.old.journal.entries }
+        ensures state { state_of self.new ≡ aborted (state_of self.old) target }
+    {
         let place = self.journal.len();
         self.rebuild = None;
         self.ended = Some(EndedRebuild { target, place });
         self.journal
             .push_reserved(Entry::Mark(Mark::Aborted(target)));
+        place
     }
 }

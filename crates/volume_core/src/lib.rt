@@ -8,6 +8,7 @@ mod end;
 mod enrol;
 mod fault;
 mod first;
+mod give_up;
 mod in_place;
 mod job;
 mod open;

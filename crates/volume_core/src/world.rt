@@ -52,6 +52,8 @@ pub enum NotThis {
     Ticket,
     /// The replica has that mode.
     Mode(Mode),
+    /// The page is not one of a frozen layer, or is listed already, or may not be copied yet.
+    Page,
     /// That replica has still to acknowledge.
     Pending(u8),
     /// The line's last count, which is not below the given one.
