@@ -5,7 +5,6 @@ use Rattle.std.specs.List.{remove}
 use Rattle.std.proofs.lemmas.Bool.{cases_eq}
 use Rattle.std.proofs.lemmas.List.{get_or_append_left, length_push}
 use Rattle.std.proofs.lemmas.List.Edits.{length-remove, get_or-remove_below}
-use Rattle.volume_model.specs.declared.entry.Entry.{Entry}
 use Rattle.command_text.specs.declared.command.Command.{Command}
 use Rattle.command_text.specs.declared.command.Command.TheVariants as command
 use Rattle.volume_model.specs.declared.mode.Mode.{Mode}
@@ -21,7 +20,8 @@ use Rattle.open_calls.specs.Calls.{command_of}
 use Rattle.open_calls.proofs.FreeLemmas.{not_both}
 use Rattle.whole_calls.specs.declared.maint.MaintCall.{MaintCall}
 use Rattle.whole_calls.specs.declared.whole.Whole.{Whole}
-use Rattle.whole_calls.specs.Maint.{command_at, no_command, IsMaint, HasTurn, AreQueued}
+use Rattle.whole_calls.specs.Maint.{command_at, no_command, HasTurn}
+use Rattle.whole_calls.proofs.Ops.{IsPlain}
 use Rattle.open_rebuild.specs.declared.rebuilding.Rebuilding.{Rebuilding}
 use Rattle.open_rebuild.specs.Claim.{AreRoles, IsClaim, IsRebuilding}
 use Rattle.volume_core.specs.declared.world.EndedRebuild.{EndedRebuild}
@@ -92,29 +92,19 @@ none_adds maint commands b g none =
     subst (λ (x : Option EndedRebuild). AreAdds maint commands b x) (sym none.1)
     (subst (λ (x : Option Rebuilding). AreAdds maint commands x None) (sym none.0) (record { of_begun = tt; of_ended = tt; one = tt }))
 
--- the commands that enrol something for the whole volume are no adds
-other_command : (op : WholeOp) (c : Command) (r : ℕ) → c ≡ command_of op → c ≢ command.Add r
-other_command (whole.Snapshot name) c r e f = cc
-other_command (whole.Remove name) c r e f = cc
-other_command (whole.Revert name) c r e f = cc
-other_command (whole.Purge p) c r e f = cc
+-- the command of an operation that is no barrier is no add
+other_command : (op : WholeOp) (c : Command) (r : ℕ) → IsPlain op → c ≡ command_of op → c ≢ command.Add r
+other_command (whole.Snapshot name) c r other e f = cc
+other_command (whole.Remove name) c r other e f = cc
+other_command (whole.Revert name) c r other e f = cc
+other_command (whole.Purge p) c r other e f = cc
+other_command (whole.Barrier q) c r other e f = absurd other
 
-pub turn_no_add : (maint : List Ticket) (commands : List MaintCall) (stream : ℕ) (op : WholeOp) → HasTurn maint commands stream (command_of op) → (r : ℕ) → (command_at commands 0).command ≢ command.Add r
-turn_no_add maint commands stream op has r = other_command op (command_at commands 0).command r has.command
+pub turn_no_add : (maint : List Ticket) (commands : List MaintCall) (stream : ℕ) (op : WholeOp) → IsPlain op → HasTurn maint commands stream (command_of op) → (r : ℕ) → (command_at commands 0).command ≢ command.Add r
+turn_no_add maint commands stream op other has r = other_command op (command_at commands 0).command r other has.command
 
 pub purge_no_add : (c : Command) → c ≡ command.Purge → (r : ℕ) → c ≢ command.Add r
 purge_no_add c e r f = cc
-
--- no command that may be enrolled is an add yet
-pub want_no_add : (c : Command) → IsMaint c → (r : ℕ) → c ≢ command.Add r
-want_no_add c wants r e = subst IsMaint e wants
-
-pub none_yet : (streams : ℕ) (es : List Entry) (maint : List Ticket) (commands : List MaintCall) (b : Option Rebuilding) (g : Option EndedRebuild)
-    → AreQueued streams es maint commands → AreAdds maint commands b g → b ≡ None
-none_yet streams es maint commands None g queued adds = refl
-none_yet streams es maint commands (Some b) g queued adds =
-    let has = adds.of_begun.turn in
-    absurd (want_no_add (command_at commands 0).command (queued.want 0 has.some) b.target has.command)
 
 -- nor is one open where no replica is read
 pub none_read : (modes : List Mode) (b : Option Rebuilding) → AreRoles modes b → HasNoSource modes → b ≡ None

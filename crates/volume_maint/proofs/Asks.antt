@@ -26,6 +26,7 @@ pub asked_fits : (s : State) (number stream saw : ℕ) (op : WholeOp) → MayAsk
 asked_fits s number stream saw (whole.Snapshot name) may can = snapshot_asks (snapshots_told s) (modes_in s) s.nodes s.maint s.commands (steps.whole_ticket number) (whole_call stream saw (whole.Snapshot name)) name refl refl may.0 may.1
 asked_fits s number stream saw (whole.Remove name) may can = turn_asks (snapshots_told s) (modes_in s) s.nodes s.maint s.commands (steps.whole_ticket number) (whole_call stream saw (whole.Remove name)) (whole.Remove name) refl refl tt may can
 asked_fits s number stream saw (whole.Revert name) may can = turn_asks (snapshots_told s) (modes_in s) s.nodes s.maint s.commands (steps.whole_ticket number) (whole_call stream saw (whole.Revert name)) (whole.Revert name) refl refl tt may can
+asked_fits s number stream saw (whole.Barrier r) may can = turn_asks (snapshots_told s) (modes_in s) s.nodes s.maint s.commands (steps.whole_ticket number) (whole_call stream saw (whole.Barrier r)) (whole.Barrier r) refl refl tt may can
 asked_fits s number stream saw (whole.Purge f) may can = turn_asks (snapshots_told s) (modes_in s) s.nodes s.maint s.commands (steps.whole_ticket number) (whole_call stream saw (whole.Purge f)) (whole.Purge f) refl refl tt may can
 
 -- its caller saw its stream's last answer, and no more than there is
@@ -39,6 +40,7 @@ asker_saw s stream (whole.Snapshot name) ok may = (behind_within stream s.book.e
 asker_saw s stream (whole.Remove name) ok may = turn_saw s stream (Rattle.command_text.specs.declared.command.Command.TheVariants.Remove name) ok may
 asker_saw s stream (whole.Revert name) ok may = turn_saw s stream (Rattle.command_text.specs.declared.command.Command.TheVariants.Revert name) ok may
 asker_saw s stream (whole.Purge f) ok may = turn_saw s stream Rattle.command_text.specs.declared.command.Command.TheVariants.Purge ok may
+asker_saw s stream (whole.Barrier r) ok may = turn_saw s stream (Rattle.command_text.specs.declared.command.Command.TheVariants.Add r) ok may
 
 -- the World keeps its invariant
 pub asked_sound : (s : State) (number stream : ℕ) (op : WholeOp) → IsSound s → s.size % 2097152 ≡ 0 → IsFresh s.tickets number → stream < length s.indices → IsIdle stream s.calls → MayAsk s stream op

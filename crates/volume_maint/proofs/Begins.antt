@@ -12,7 +12,7 @@ use Rattle.command_text.specs.declared.command.Command.TheVariants as command
 use Rattle.volume_model.specs.declared.call.Call.TheVariants as call
 use Rattle.volume_model.specs.declared.call.Refusal.{Refusal}
 use Rattle.volume_model.specs.declared.call.Refusal.TheVariants.{NameUsed, ChainFull, NoSuchSnapshot}
-use Rattle.volume_model.specs.declared.mode.Mode.TheVariants.{Rw}
+use Rattle.volume_model.specs.declared.mode.Mode.TheVariants.{Rw, Wo}
 use Rattle.volume_model.specs.Modes.{mode_of, source_of}
 use Rattle.volume_model.specs.OneWorker.{want_of_replica}
 use Rattle.volume_model.specs.PlainState.{PlainState, Volume, is_used, copy_of}
@@ -33,7 +33,8 @@ use Rattle.open_calls.specs.Calls.{open_at, node_at, command_of}
 use Rattle.whole_calls.specs.Whole.{MayBeDone, AreSpared}
 use Rattle.open_calls.proofs.FreeLemmas.{not_both}
 use Rattle.whole_calls.specs.Maint.{command_at, IsAskedBy, CanStill}
-use Rattle.whole_calls.proofs.Starts.{is_volume, still_clear, begun_whole, begun_is, folded_still, maint_started}
+use Rattle.whole_calls.proofs.Ops.{IsPlain}
+use Rattle.whole_calls.proofs.Starts.{StartsOn, is_volume, still_clear, begun_whole, begun_is, folded_still, maint_started}
 use Rattle.volume_core.specs.State.{State, told_of, modes_in}
 use Rattle.volume_core.specs.Sound.{IsSound, IsCalm}
 use Rattle.open_rebuild.specs.declared.rebuilding.Rebuilding.{Rebuilding}
@@ -43,7 +44,7 @@ use Rattle.volume_core.proofs.Keep.{calm_by, calm_of, rebuild_of_none}
 use Rattle.volume_core.proofs.Rows.{counts_not}
 use Rattle.volume_maint.specs.Answers.{refused_in, snapshots_told, IsLongSource}
 use Rattle.volume_maint.specs.Steps as steps
-use Rattle.volume_maint.proofs.Adds.{no_rebuild, turn_no_add, none_yet, settled}
+use Rattle.volume_maint.proofs.Adds.{no_rebuild, turn_no_add, settled}
 use Rattle.volume_maint.proofs.WholeSound.{told_named}
 
 -- ---- what stands against nothing can be done
@@ -52,7 +53,7 @@ not_used : (used : Bool) (x : Option Refusal) → option_or (cond used (Some Nam
 not_used true x e = absurd cc
 not_used false x e = (refl, e)
 
-has_room : (fits : Bool) → cond fits None (Some ChainFull) ≡ None → fits ≡ true
+pub has_room : (fits : Bool) → cond fits None (Some ChainFull) ≡ None → fits ≡ true
 has_room true e = refl
 has_room false e = absurd cc
 
@@ -60,7 +61,7 @@ is_there : (live : Bool) → cond live None (Some NoSuchSnapshot) ≡ None → l
 is_there true e = refl
 is_there false e = absurd cc
 
-nothing : (x : Option Refusal) (source : Option ℕ) → option_or x (want_of_replica true source) ≡ None → (x ≡ None) × ((r : ℕ) × (source ≡ Some r))
+pub nothing : (x : Option Refusal) (source : Option ℕ) → option_or x (want_of_replica true source) ≡ None → (x ≡ None) × ((r : ℕ) × (source ≡ Some r))
 nothing (Some why) source e = absurd cc
 nothing None None e = absurd cc
 nothing None (Some r) e = (refl, (r, refl))
@@ -71,6 +72,7 @@ free_source s (whole.Snapshot name) e = (nothing (refusal_of (modes_in s) (told_
 free_source s (whole.Remove name) e = (nothing (refusal_of (modes_in s) (told_of s) (call.Command (command.Remove name))) (source_of (modes_in s)) e).1
 free_source s (whole.Revert name) e = (nothing (refusal_of (modes_in s) (told_of s) (call.Command (command.Revert name))) (source_of (modes_in s)) e).1
 free_source s (whole.Purge f) e = (nothing (refusal_of (modes_in s) (told_of s) (call.Command command.Purge)) (source_of (modes_in s)) e).1
+free_source s (whole.Barrier r) e = (nothing (refusal_of (modes_in s) (told_of s) (call.Command (command.Add r))) (source_of (modes_in s)) e).1
 
 -- the copy of a live name is as long as the layers
 copy_long : (layers : List Kept) (name : List ℕ) (n : ℕ) → is_live (map (λ k. snapshot_of k.meta) layers) name ≡ true → All (λ (k : Kept). length k.disk ≡ n) layers → length (copy_of (copies_in layers) name) ≡ n
@@ -107,32 +109,33 @@ not_among ks name free c = at ks free c.0 c.1 c.2
     at (k ∷ ks) free (suc j) l e = at ks (All-tail (λ (x : Kept). x.meta.name ≢ name) k ks free) j (omega arith) e
 
 module _ (s : State) (i : ℕ) (ok : IsSound s) (h : i < length s.tickets) (is : (ticket_at s.tickets i).kind ≡ kind.Whole) (waits : (ticket_at s.tickets i).started ≡ false) (clear : IsClear s.tickets i) where
-  none : s.whole ≡ None
+  pub none : s.whole ≡ None
   none = calm_by s i ok h clear (λ w. waits)
 
-  calm : IsCalm s
+  pub calm : IsCalm s
   calm = calm_of s ok none
 
-  its_volume : (r : ℕ) → mode_of (modes_in s) r ≡ Rw → volume_of_node (node_at s.nodes r) ≡ (told_of s).volume
+  pub its_volume : (r : ℕ) → mode_of (modes_in s) r ≡ Rw → volume_of_node (node_at s.nodes r) ≡ (told_of s).volume
   its_volume r e = is_volume (told_of s).volume s.size r (modes_in s) s.tickets s.nodes (still_clear s.tickets i calm.clients.order h is waits clear) calm.clients.agree e
 
-  can_do : (op : WholeOp) → IsAskedBy s.maint s.commands (open_at s.calls i).stream op → CanStill (snapshots_told s) (modes_in s) s.nodes op → refused_in s (command_of op) ≡ None
+  can_do : (op : WholeOp) → IsPlain op → IsAskedBy s.maint s.commands (open_at s.calls i).stream op → CanStill (snapshots_told s) (modes_in s) s.nodes op → refused_in s (command_of op) ≡ None
       → (r : ℕ) → IsLongSource s r → MayBeDone op (told_of s)
-  can_do (whole.Snapshot name) asked can free r at =
+  can_do (whole.Snapshot name) other asked can free r at =
       let no = nothing (refusal_of (modes_in s) (told_of s) (call.Command (command.Snapshot name))) (source_of (modes_in s)) free in
       let two = not_used (is_used (told_of s).used name) _ no.0 in
       (asked.0, two.0, ltb-true (layer_count (snapshots_told s)) 250 (has_room _ two.1))
-  can_do (whole.Remove name) asked can free r at = is_there _ (nothing (refusal_of (modes_in s) (told_of s) (call.Command (command.Remove name))) (source_of (modes_in s)) free).0
-  can_do (whole.Revert name) asked can free r at =
+  can_do (whole.Remove name) other asked can free r at = is_there _ (nothing (refusal_of (modes_in s) (told_of s) (call.Command (command.Remove name))) (source_of (modes_in s)) free).0
+  can_do (whole.Revert name) other asked can free r at =
       let live : is_live (snapshots_told s).tree name ≡ true = is_there _ (nothing (refusal_of (modes_in s) (told_of s) (call.Command (command.Revert name))) (source_of (modes_in s)) free).0 in
       let v = its_volume r at.read in (
         live,
         subst (λ (x : Volume). length (copy_of x.copies name) ≡ length x.disk) v
             (copy_long (node_at s.nodes r).layers name (length (node_at s.nodes r).disk) (ap (λ (x : Volume). is_live x.snapshots.tree name) v ∙ live) at.long),
       )
-  can_do (whole.Purge f) asked can free r at = can.can
+  can_do (whole.Purge f) other asked can free r at = can.can
+  can_do (whole.Barrier q) other asked can free r at = absurd other
 
-  started_room : count_by (λ t. t.started) (with_started s.tickets i) ≡ count_by (λ t. t.started) s.tickets + 1
+  pub started_room : count_by (λ t. t.started) (with_started s.tickets i) ≡ count_by (λ t. t.started) s.tickets + 1
   started_room = omega (arith, sum_by-set (λ (x : Ticket). cond x.started 1 0) s.tickets i (record (ticket_at s.tickets i) { started = true }) no_ticket h, counts_not (ticket_at s.tickets i).started waits)
 
   -- a name that was not used is of no layer of the source of a rebuild
@@ -151,39 +154,51 @@ module _ (s : State) (i : ℕ) (ok : IsSound s) (h : i < length s.tickets) (is :
   alone op other = subst (λ (x : Option Rebuilding). IsBeside x op) (sym (no_rebuild s.maint s.commands s.rebuild s.ended ok.adds other).0) tt
 
   -- so that the operation may start
-  may_begin : (op : WholeOp) → IsAskedBy s.maint s.commands (open_at s.calls i).stream op → MayBeDone op (told_of s) → IsBeside s.rebuild op
-  may_begin (whole.Snapshot name) asked may = by s.rebuild refl
+  may_begin : (op : WholeOp) → IsPlain op → IsAskedBy s.maint s.commands (open_at s.calls i).stream op → MayBeDone op (told_of s) → IsBeside s.rebuild op
+  may_begin (whole.Snapshot name) other asked may = by s.rebuild refl
     where
       by : (o : Option Rebuilding) → s.rebuild ≡ o → IsBeside o (whole.Snapshot name)
       by None e = tt
       by (Some b) e = new_name b e name may.1
-  may_begin (whole.Remove name) asked may = alone (whole.Remove name) (turn_no_add s.maint s.commands (open_at s.calls i).stream (whole.Remove name) asked)
-  may_begin (whole.Revert name) asked may = alone (whole.Revert name) (turn_no_add s.maint s.commands (open_at s.calls i).stream (whole.Revert name) asked)
-  may_begin (whole.Purge f) asked may = alone (whole.Purge f) (turn_no_add s.maint s.commands (open_at s.calls i).stream (whole.Purge f) asked)
+  may_begin (whole.Remove name) other asked may = alone (whole.Remove name) (turn_no_add s.maint s.commands (open_at s.calls i).stream (whole.Remove name) tt asked)
+  may_begin (whole.Revert name) other asked may = alone (whole.Revert name) (turn_no_add s.maint s.commands (open_at s.calls i).stream (whole.Revert name) tt asked)
+  may_begin (whole.Purge f) other asked may = alone (whole.Purge f) (turn_no_add s.maint s.commands (open_at s.calls i).stream (whole.Purge f) tt asked)
+  may_begin (whole.Barrier r) other asked may = absurd other
 
-  pub begun_sound : (op : WholeOp) (spares : List (Option Tables)) → (open_at s.calls i).op ≡ Some op → IsAskedBy s.maint s.commands (open_at s.calls i).stream op → CanStill (snapshots_told s) (modes_in s) s.nodes op
+  -- no replica is rebuilt meanwhile, but where a snapshot starts
+  none_rebuilt : ((r : ℕ) → (command_at s.commands 0).command ≢ command.Add r) → (r : ℕ) → mode_of (modes_in s) r ≢ Wo
+  none_rebuilt other = settled (modes_in s) s.rebuild (no_rebuild s.maint s.commands s.rebuild s.ended ok.adds other).0 ok.rebuild.roles
+
+  starts_on : (op : WholeOp) → IsPlain op → IsAskedBy s.maint s.commands (open_at s.calls i).stream op → StartsOn op (modes_in s)
+  starts_on (whole.Snapshot name) other asked = tt
+  starts_on (whole.Remove name) other asked = none_rebuilt (turn_no_add s.maint s.commands (open_at s.calls i).stream (whole.Remove name) tt asked)
+  starts_on (whole.Revert name) other asked = none_rebuilt (turn_no_add s.maint s.commands (open_at s.calls i).stream (whole.Revert name) tt asked)
+  starts_on (whole.Purge f) other asked = none_rebuilt (turn_no_add s.maint s.commands (open_at s.calls i).stream (whole.Purge f) tt asked)
+  starts_on (whole.Barrier q) other asked = absurd other
+
+  pub begun_sound : (op : WholeOp) (spares : List (Option Tables)) → IsPlain op → (open_at s.calls i).op ≡ Some op → IsAskedBy s.maint s.commands (open_at s.calls i).stream op → CanStill (snapshots_told s) (modes_in s) s.nodes op
       → refused_in s (command_of op) ≡ None → (r : ℕ) → IsLongSource s r → AreSpared op (modes_in s) s.nodes spares → IsSound (steps.whole_begun s i op spares)
-  begun_sound op spares asks asked can free r at spared =
+  begun_sound op spares other asks asked can free r at spared =
       let p = told_of s in
-      let may = can_do op asked can free r at in
+      let may = can_do op other asked can free r at in
       let named = told_named s ok in
       let w = steps.begun_of s i op spares in
-      let all_up = settled (modes_in s) s.rebuild (none_yet (length s.indices) s.book.entries s.maint s.commands s.rebuild s.ended ok.maint.queued ok.adds) ok.rebuild.roles in
+      let starts = starts_on op other asked in
       record {
         on = record {
           opened = ok.on.opened;
           told = record { legal = ok.on.told.legal; ordered = ok.on.told.ordered };
-          clients = begun_whole op p s.size (length s.indices) s.book.entries (modes_in s) s.tickets s.calls s.nodes i calm.clients may all_up h is waits clear named;
+          clients = begun_whole op p s.size (length s.indices) s.book.entries (modes_in s) s.tickets s.calls s.nodes i calm.clients may starts h is waits clear named;
           spare = omega (arith, ok.on.spare, started_room);
         };
-        whole = begun_is op p s.size (length s.indices) s.book.entries (modes_in s) s.tickets s.calls s.nodes i calm.clients may all_up h is waits clear w refl refl refl spared asks
+        whole = begun_is op p s.size (length s.indices) s.book.entries (modes_in s) s.tickets s.calls s.nodes i calm.clients may starts h is waits clear w refl refl refl spared asks
             (λ q e. folded_still op (snapshots_told s) (modes_in s) s.nodes q can e);
         maint = record {
           queued = ok.maint.queued;
           fits = maint_started (snapshots_told s) (modes_in s) s.nodes s.maint s.commands s.tickets s.calls i h ok.maint.fits;
         };
         disk = ok.disk;
-        rebuild = whole_started s.size (modes_in s) s.tickets s.calls s.nodes s.rebuild w i calm.clients.order h is waits clear calm.clients.agree.as_many refl (may_begin op asked may) (rebuild_of_none s ok none);
+        rebuild = whole_started s.size (modes_in s) s.tickets s.calls s.nodes s.rebuild w i calm.clients.order h is waits clear calm.clients.agree.as_many refl (may_begin op other asked may) (rebuild_of_none s ok none);
         adds = ok.adds;
         fell = ok.fell;
         streams = ok.streams;

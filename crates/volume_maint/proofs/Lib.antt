@@ -1,5 +1,8 @@
+pub mod AddEnds
 pub mod Adds
 pub mod Asks
+pub mod BarrierSound
+pub mod Barriers
 pub mod Begins
 pub mod Owes
 pub mod Purging
@@ -7,5 +10,6 @@ pub mod Refusals
 pub mod TurnSound
 pub mod TurnStreams
 pub mod WholeSound
+pub mod WholeAnswers
 pub mod WholeEnds
 pub mod WholeAsked

@@ -16,6 +16,7 @@ use Rattle.range_turns.specs.Order.{ticket_at, StandsAt, with_started}
 use Rattle.sparse_image.specs.Image.{Tables}
 use Rattle.replica_node.specs.Fold.{page_folded}
 use Rattle.replica_node.specs.Node.{Node}
+use Rattle.replica_node.specs.Held.{emptied}
 use Rattle.open_calls.specs.declared.whole_op.WholeOp.{WholeOp}
 use Rattle.open_calls.specs.declared.whole_op.WholeOp.TheVariants as whole
 use Rattle.open_calls.specs.Calls.{open_at, node_at, command_of, whole_call, no_call}
@@ -23,14 +24,15 @@ use Rattle.whole_calls.specs.declared.whole.Whole.{Whole}
 use Rattle.whole_calls.specs.Due.{part_on}
 use Rattle.whole_calls.specs.Maint.{IsAskedBy}
 use Rattle.whole_calls.specs.Whole.{parted, part_acked}
+use Rattle.open_rebuild.specs.declared.rebuilding.Rebuilding.{Rebuilding}
 use Rattle.volume_core.specs.State.{State, modes_in, index_at, gave_up_at}
 use Rattle.volume_core.specs.Steps.{without_call, answer_entry}
 use Rattle.volume_core.specs.Sound.{IsSound}
 use Rattle.volume_core.specs.Streams.{calls_in, running, turning, MayGo, origin_of}
 use Rattle.volume_core.proofs.CallLemmas.{calls-push_other, calls-set_other, calls-remove_other}
-use Rattle.volume_maint.specs.Steps.{whole_ticket, whole_enrolled, whole_begun, whole_parted, whole_acked, without_whole, whole_ended, whole_marked, turn_over, folded_on}
+use Rattle.volume_maint.specs.Steps.{whole_ticket, whole_enrolled, whole_begun, whole_parted, whole_acked, without_whole, whole_ended, whole_marked, turn_over, barrier_name, barrier_begun, barrier_ended, folded_on}
 use Rattle.volume_maint.specs.Places.{ForCaller, IsWholeOn}
-use Rattle.volume_maint.specs.Answers.{whole_done, whole_lost, EndsWhole}
+use Rattle.volume_maint.specs.Answers.{whole_done, whole_lost, BeginsWhole, EndsWhole}
 use Rattle.volume_maint.proofs.TurnStreams.{commands-remove_other}
 use Rattle.volume_maint.proofs.WholeAsked.{over_book}
 use Rattle.volume_maint.proofs.WholeSound.{is_started, place_is}
@@ -95,9 +97,28 @@ module _ (s s2 : State) (ok : IsSound s) (ok2 : IsSound s2) where
       gave_up = λ m other. ap (λ (x : State). gave_up_at x.gave_up m) is;
     }
 
-    -- it is taken back, or goes with nothing to mark
-    pub gone_goes : (o : Option Whole) → s2 ≡ record (without_call s i) { whole = o } → MayGo (open_at s.calls i).stream s s2
-    gone_goes o is = record {
+    -- a barrier's mark is no stream's
+    pub barrier_goes : (b : Rebuilding) (spares : List (Option Tables)) → s2 ≡ barrier_begun s i b spares → MayGo (open_at s.calls i).stream s s2
+    barrier_goes b spares is = record {
+      sound = ok2;
+      origin = ap origin_of is
+          ∙ ap (λ k. record { first = s.first; opening = s.book.opening; size = s.size; streams = length s.indices; replicas = k }) (length-set s.nodes b.target (emptied (node_at s.nodes b.source)));
+      added = (entry.Mark (mark.Added b.target b.source (barrier_name s b.source)) ∷ [], ap (λ (x : State). x.book.entries) is, (tt, tt));
+      others = λ m other. ap (λ (x : State). running x m) is ∙ start_others m other;
+      turns = λ m other. ap (λ (x : State). turning x m) is;
+      gave_up = λ m other. ap (λ (x : State). gave_up_at x.gave_up m) is;
+    }
+
+    pub starts_goes : (op : WholeOp) → BeginsWhole s i op s2 → MayGo (open_at s.calls i).stream s s2
+    starts_goes (whole.Snapshot name) y = begun_goes (whole.Snapshot name) y.0 y.2
+    starts_goes (whole.Remove name) y = begun_goes (whole.Remove name) y.0 y.2
+    starts_goes (whole.Revert name) y = begun_goes (whole.Revert name) y.0 y.2
+    starts_goes (whole.Purge f) y = begun_goes (whole.Purge f) y.0 y.2
+    starts_goes (whole.Barrier r) y = barrier_goes y.b y.spares y.state
+
+    -- a call is taken back, or goes with nothing to mark; beside it the rebuild may be
+    pub gone_goes : (o : Option Whole) (b : Option Rebuilding) → s2 ≡ record (without_call s i) { whole = o; rebuild = b } → MayGo (open_at s.calls i).stream s s2
+    gone_goes o b is = record {
       sound = ok2;
       origin = ap origin_of is;
       added = ([], ap (λ (x : State). x.book.entries) is ∙ sym (append-nil s.book.entries), tt);
@@ -124,18 +145,21 @@ over_running (whole.Snapshot name) s m = refl
 over_running (whole.Remove name) s m = refl
 over_running (whole.Revert name) s m = refl
 over_running (whole.Purge f) s m = refl
+over_running (whole.Barrier r) s m = refl
 
 over_origin : (op : WholeOp) (s : State) → origin_of (turn_over op s) ≡ origin_of s
 over_origin (whole.Snapshot name) s = refl
 over_origin (whole.Remove name) s = refl
 over_origin (whole.Revert name) s = refl
 over_origin (whole.Purge f) s = refl
+over_origin (whole.Barrier r) s = refl
 
 over_gave_up : (op : WholeOp) (s : State) → (turn_over op s).gave_up ≡ s.gave_up
 over_gave_up (whole.Snapshot name) s = refl
 over_gave_up (whole.Remove name) s = refl
 over_gave_up (whole.Revert name) s = refl
 over_gave_up (whole.Purge f) s = refl
+over_gave_up (whole.Barrier r) s = refl
 
 -- and the commands of the streams that did not ask it
 over_turning : (op : WholeOp) (s : State) (n m : ℕ) → length s.commands ≡ length s.maint → IsAskedBy s.maint s.commands n op → m ≢ n → turning (turn_over op s) m ≡ turning s m
@@ -143,6 +167,7 @@ over_turning (whole.Snapshot name) s n m paired asked other = refl
 over_turning (whole.Remove name) s n m paired asked other = commands-remove_other m s.maint s.commands 0 paired (λ e. other (sym e ∙ asked.own))
 over_turning (whole.Revert name) s n m paired asked other = commands-remove_other m s.maint s.commands 0 paired (λ e. other (sym e ∙ asked.own))
 over_turning (whole.Purge f) s n m paired asked other = commands-remove_other m s.maint s.commands 0 paired (λ e. other (sym e ∙ asked.own))
+over_turning (whole.Barrier r) s n m paired asked other = commands-remove_other m s.maint s.commands 0 paired (λ e. other (sym e ∙ asked.own))
 
 abbrev with_spare : State → ℕ → State
 with_spare s spare = record s { book = record s.book { spare = spare } }
@@ -172,13 +197,15 @@ module _ (s s2 : State) (ok : IsSound s) (ok2 : IsSound s2) (i : ℕ) where
   done_goes (whole.Remove name) asked is = ended_goes s.book.spare (whole.Remove name) reply.Done asked is
   done_goes (whole.Revert name) asked is = ended_goes s.book.spare (whole.Revert name) reply.Done asked is
   done_goes (whole.Purge f) asked is = marked_goes s s2 ok ok2 i f is
+  done_goes (whole.Barrier r) asked is = gone_goes s s2 ok ok2 i None (barrier_ended s i).rebuild is
 
   -- or none is
   lost_goes : (op : WholeOp) → IsAskedBy s.maint s.commands (open_at s.calls i).stream op → s2 ≡ whole_lost s i op → MayGo (open_at s.calls i).stream s s2
   lost_goes (whole.Snapshot name) asked is = ended_goes s.book.spare (whole.Snapshot name) (reply.Refused NoReplica) asked is
   lost_goes (whole.Remove name) asked is = ended_goes s.book.spare (whole.Remove name) (reply.Refused NoReplica) asked is
   lost_goes (whole.Revert name) asked is = ended_goes s.book.spare (whole.Revert name) (reply.Refused NoReplica) asked is
-  lost_goes (whole.Purge f) asked is = gone_goes s s2 ok ok2 i None is
+  lost_goes (whole.Purge f) asked is = gone_goes s s2 ok ok2 i None s.rebuild is
+  lost_goes (whole.Barrier r) asked is = gone_goes s s2 ok ok2 i None (barrier_ended s i).rebuild is
 
 -- the started operation is asked by the stream of its call
 started_asked : (s : State) (t i : ℕ) (w : Whole) → IsSound s → IsWholeOn s t w i → IsAskedBy s.maint s.commands (open_at s.calls i).stream w.op

@@ -27,7 +27,7 @@ use Rattle.whole_calls.specs.declared.whole.Whole.{Whole}
 use Rattle.whole_calls.specs.Due.{due, due_of, form_part, formed, forms}
 use Rattle.whole_calls.specs.Whole.{IsWhole, IsStarted, MayBeDone}
 use Rattle.whole_calls.specs.Maint.{command_at}
-use Rattle.whole_calls.proofs.Folds.{IsBeside, IsSnapshot, FoldsOn, folds_on, folded_clients, folded_whole, idle_maint, idle_beside}
+use Rattle.whole_calls.proofs.Folds.{IsBeside, IsSnapshot, snapshot_stands, FoldsOn, folds_on, folded_clients, folded_whole, idle_maint, idle_beside}
 use Rattle.whole_calls.proofs.Forms.{formed_at, length-forms}
 use Rattle.whole_calls.proofs.Ends.{snapped_can}
 use Rattle.whole_calls.proofs.Ops.{not_there}
@@ -134,12 +134,13 @@ module _ (s : State) (r : ℕ) (ok : IsSound s) (purging : IsPurging s) (read : 
       by_op w e (whole.Remove name) f s may same = absurd s
       by_op w e (whole.Revert name) f s may same = absurd s
       by_op w e (whole.Purge g) f s may same = absurd s
+      by_op w e (whole.Barrier q) f s may same = absurd s
 
       by_part : (w : Whole) → s.whole ≡ Some w → (st : IsStarted (told_of s) (modes_in s) s.tickets s.calls s.nodes w) → IsSnapshot w.op
           → AreClients (due_of w.op (told_of s).volume) s.size (length s.indices) s.book.entries (modes_in s) s.tickets s.calls (formed w.op w.parts s.nodes)
           → (x : Part) → part_at w.parts r ≡ x → (snapshots_of (node_at s.nodes r) ≡ snapshots_told s) ⊎ HasMore
       by_part w e st b c Apart x = absurd (st.owes r up x)
-      by_part w e st b c Owed x = inl (st.takes r up x).still
+      by_part w e st b c Owed x = inl (snapshot_stands w.op (snapshots_told s) (node_at s.nodes r) b (st.takes r up x).still)
       by_part w e st b c Taken x = inr (by_op w e w.op refl b st.may (ap snapshots_of (sym (formed_at w.op w.parts s.nodes r st.parts ∙ ap (λ y. form_part w.op y (node_at s.nodes r)) x)) ∙ c.agree.tree r up))
       by_part w e st b c Acked x = inr (by_op w e w.op refl b st.may (ap snapshots_of (sym (formed_at w.op w.parts s.nodes r st.parts ∙ ap (λ y. form_part w.op y (node_at s.nodes r)) x)) ∙ c.agree.tree r up))
 
@@ -181,6 +182,7 @@ module _ (s : State) (r : ℕ) (ok : IsSound s) (purging : IsPurging s) (read : 
       same_disk (whole.Remove name) x n b = absurd b
       same_disk (whole.Revert name) x n b = absurd b
       same_disk (whole.Purge f) x n b = absurd b
+      same_disk (whole.Barrier q) x n b = absurd b
 
       go : (w : Option Whole) → IsWhole (told_of s) (modes_in s) s.tickets s.calls s.nodes w → IsBeside w
           → AreClients (due w (told_of s).volume) s.size (length s.indices) s.book.entries (modes_in s) s.tickets s.calls (forms w s.nodes) → length (node_at s.nodes r).disk ≡ s.size

@@ -1,5 +1,5 @@
 -- What stands against a command, as the journal tells it, and how it may then be answered.
-use Rattle.std.proofs.Common.{◌≡◌, ℕ, ◌<◌, ◌≤◌, true, false, cond, List, refl, sym, ap, subst, ◌∙◌, arith}
+use Rattle.std.proofs.Common.{◌≡◌, ◌≢◌, ℕ, ◌<◌, ◌≤◌, true, false, cond, List, refl, sym, ap, subst, ◌∙◌, arith}
 use Rattle.std.specs.Prelude.{Option, None, Some}
 use Rattle.std.specs.Option.{option_or}
 use Rattle.std.proofs.lemmas.Bool.{lt-ltb, le-ltb}
@@ -7,16 +7,18 @@ use Rattle.command_text.specs.declared.command.Command.{Command}
 use Rattle.command_text.specs.declared.command.Command.TheVariants as command
 use Rattle.volume_model.specs.declared.call.Call.TheVariants as call
 use Rattle.volume_model.specs.declared.call.Refusal.{Refusal}
-use Rattle.volume_model.specs.declared.call.Refusal.TheVariants.{NameUsed, ChainFull, NoSuchSnapshot}
+use Rattle.volume_model.specs.declared.call.Refusal.TheVariants.{NameUsed, ChainFull, NoSuchSnapshot, InUse}
 use Rattle.volume_model.specs.declared.call.Reply.{Reply}
 use Rattle.volume_model.specs.declared.call.Reply.TheVariants as reply
 use Rattle.volume_model.specs.declared.mark.FoldOrDrop.{FoldOrDrop}
 use Rattle.volume_model.specs.History.{IsAnswered}
-use Rattle.volume_model.specs.Modes.{source_of}
+use Rattle.volume_model.specs.declared.mode.Mode.{Mode}
+use Rattle.volume_model.specs.declared.mode.Mode.TheVariants.{Rw, Wo, Err}
+use Rattle.volume_model.specs.Modes.{mode_of, source_of}
 use Rattle.volume_model.specs.Names.{TellOf, is_used_in, is_live_in}
 use Rattle.volume_model.specs.OneWorker.{want_of_replica, reply_for}
 use Rattle.volume_model.specs.PlainState.{Volume, is_used}
-use Rattle.volume_model.specs.PlainStep.{refusal_of, room_refusal, live_refusal, most_layers}
+use Rattle.volume_model.specs.PlainStep.{refusal_of, room_refusal, live_refusal, add_refusal, most_layers}
 use Rattle.volume_model.specs.Purge.{IsPurged, next_of}
 use Rattle.volume_model.specs.Replay.{is_refusal}
 use Rattle.volume_model.specs.Snapshots.{is_live, layer_count}
@@ -67,6 +69,14 @@ pub name_unused : (s : State) (name : List ℕ) (x : Option Refusal) → is_used
     → x ≡ refusal_of (modes_in s) (told_of s) (call.Command (command.Snapshot name))
 name_unused s name x e is = is ∙ ap (λ b. option_or (cond b (Some NameUsed) None) (room_refusal (told_of s).volume)) (sym e)
 
+pub replica_up : (s : State) (r : ℕ) (m : Mode) → m ≡ mode_of (modes_in s) r → m ≢ Err → Some InUse ≡ refusal_of (modes_in s) (told_of s) (call.Command (command.Add r))
+replica_up s r m is up = by m up ∙ ap (λ x. add_refusal x (told_of s).volume) is
+  where
+    by : (x : Mode) → x ≢ Err → Some InUse ≡ add_refusal x (told_of s).volume
+    by Rw n = refl
+    by Wo n = refl
+    by Err n = absurd (n refl)
+
 -- ---- and then that there is no replica
 
 -- a command asks for one
@@ -77,7 +87,7 @@ asks_source s (command.Revert name) asks = refl
 asks_source s command.Purge asks = refl
 asks_source s command.Status asks = absurd asks
 asks_source s (command.Fail r) asks = absurd asks
-asks_source s (command.Add r) asks = absurd asks
+asks_source s (command.Add r) asks = refl
 
 -- ---- nothing stands against it
 
@@ -101,7 +111,7 @@ maint_whole (command.Revert name) w = tt
 maint_whole command.Purge w = tt
 maint_whole command.Status w = absurd w
 maint_whole (command.Fail r) w = absurd w
-maint_whole (command.Add r) w = absurd w
+maint_whole (command.Add r) w = tt
 
 -- ---- how it may be answered
 

@@ -1,7 +1,7 @@
--- A command is enrolled for the maintenance turn, has it, is taken back, ends: each step keeps the invariant.
+-- A command is enrolled for the maintenance turn, has it, is taken back, ends or is abandoned: each step keeps the invariant.
 use Rattle.std.proofs.Common.{◌≡◌, ℕ, ◌+◌, ◌<◌, true, List, [], ◌∷◌, ◌++◌, length, length-set, get_or-set_same, refl, sym, ap, subst, ◌∙◌, arith}
-use Rattle.std.specs.Prelude.{None}
-use Rattle.std.specs.List.{remove}
+use Rattle.std.specs.Prelude.{Option, None, Some, IfSome}
+use Rattle.std.specs.List.{remove, count_by}
 use Rattle.std.proofs.lemmas.List.{length_push}
 use Rattle.std.proofs.lemmas.List.Edits.{length-remove}
 use Rattle.command_text.specs.declared.command.Command.{Command}
@@ -11,37 +11,45 @@ use Rattle.volume_model.specs.declared.call.Call.TheVariants as call
 use Rattle.volume_model.specs.declared.call.Reply.{Reply}
 use Rattle.volume_model.specs.declared.call.Reply.TheVariants as reply
 use Rattle.volume_model.specs.declared.entry.Answer.{Answer}
+use Rattle.volume_model.specs.declared.entry.Entry.{Entry}
 use Rattle.volume_model.specs.declared.entry.Entry.TheVariants as entry
 use Rattle.volume_model.specs.declared.mode.Mode.{Mode}
-use Rattle.volume_model.specs.History.{IsAnswered}
+use Rattle.volume_model.specs.History.{IsLegal, IsEnded}
 use Rattle.volume_model.specs.PlainState.{PlainState, Volume}
 use Rattle.volume_model.specs.PlainStep.{after_call}
 use Rattle.volume_model.specs.Rebuilds.{added_by}
 use Rattle.volume_model.specs.Replay.{after_entry}
-use Rattle.volume_model.specs.Snapshots.{Snapshots}
+use Rattle.volume_model.proofs.FallLemmas.{behind_falls_answer}
 use Rattle.volume_model.proofs.OwnNames.{IsOwn}
-use Rattle.volume_model.proofs.PushLemmas.{modes_after-push}
+use Rattle.volume_model.proofs.PushLemmas.{modes_after-push, IsLegal-push}
+use Rattle.volume_model.proofs.RebuildLemmas.{legal_aborted}
 use Rattle.volume_model.proofs.StepLemmas.{replay-push}
 use Rattle.range_turns.specs.declared.ticket.Ticket.{Ticket}
 use Rattle.range_turns.specs.Order.{ticket_at, no_ticket, with_started, IsFresh}
 use Rattle.replica_node.specs.Node.{Node}
 use Rattle.open_calls.specs.Clients.{IsIdle}
+use Rattle.open_calls.proofs.Gone.{seen_clients}
+use Rattle.open_calls.proofs.SeenLemmas.{seen_answer}
 use Rattle.whole_calls.specs.declared.maint.MaintCall.{MaintCall}
 use Rattle.whole_calls.specs.Due.{due, forms}
-use Rattle.whole_calls.specs.Whole.{IsWhole}
 use Rattle.whole_calls.specs.Maint.{HasNoCommand, IsMaint, AreMaint, command_at}
 use Rattle.whole_calls.proofs.Turns as turns
 use Rattle.whole_calls.proofs.Answered.{command_answered}
-use Rattle.volume_core.specs.State.{State, opening_of, told_of, modes_in, index_at}
-use Rattle.volume_core.specs.Sound.{IsSound, IsSoundOn, AreAdds}
+use Rattle.open_rebuild.specs.declared.rebuilding.Rebuilding.{Rebuilding}
 use Rattle.open_rebuild.specs.Claim.{IsRebuilding}
-use Rattle.volume_model.proofs.FallLemmas.{behind_falls_answer}
-use Rattle.volume_maint.proofs.Adds.{adds_still, add_pushed, add_started, add_left, no_rebuild, none_adds, want_no_add}
-use Rattle.volume_core.proofs.Ends.{its_answer, answered_on}
-use Rattle.volume_maint.specs.Steps.{whole_ticket, maint_enrolled, turn_begun, turn_ended, without_command}
+use Rattle.volume_core.specs.declared.world.EndedRebuild.{EndedRebuild}
+use Rattle.volume_core.specs.State.{State, opening_of, told_of, modes_in, index_at}
+use Rattle.volume_core.specs.Steps.{given_up}
+use Rattle.volume_core.specs.Sound.{IsSound, IsSoundOn, IsOrdered, AreAdds, HasAdd, is_up, how_far}
+use Rattle.volume_core.proofs.Ends.{its_answer, same_clients}
+use Rattle.volume_core.proofs.GivenUp.{given_up_kept}
+use Rattle.volume_core.proofs.Keep.{same_whole, same_maint, on_same}
+use Rattle.volume_core.proofs.Told.{answer_ordered_to}
+use Rattle.volume_maint.specs.Steps.{whole_ticket, maint_enrolled, turn_begun, turn_ended, without_command, gives_up, ends_aborted, gives_back, abandoned_with, turn_abandoned}
 use Rattle.volume_maint.specs.Places.{AwaitsTurn, IsFreeTurn}
 use Rattle.volume_maint.specs.Answers.{MayEnd}
-use Rattle.volume_maint.proofs.Refusals.{refused_right, done_right, maint_whole}
+use Rattle.volume_maint.proofs.Adds.{adds_still, add_pushed, add_started, add_left, no_rebuild, none_adds, purge_no_add}
+use Rattle.volume_maint.proofs.AddEnds.{cleared, unbegun, none_beside, aborted_far, done_ends, refused_ends}
 
 -- ---- a command is enrolled
 
@@ -108,18 +116,13 @@ withdrawn_kept s t k ok at =
     (turns.turn_withdrawn (told_of s).volume.snapshots (length s.indices) s.book.entries (modes_in s) s.tickets s.calls s.nodes s.maint s.commands k at.stands.within at.waits ok.maint)
     (adds_still s.maint (remove s.maint k) s.commands (remove s.commands k) (add_left s.maint s.commands k ok.maint.queued.paired at.stands.within at.waits) s.rebuild s.ended ok.adds)
 
--- no rebuild is open or was aborted of the one that has the turn
-none_open : (s : State) → IsSound s → 0 < length s.commands → (s.rebuild ≡ None) × (s.ended ≡ None)
-none_open s ok some = no_rebuild s.maint s.commands s.rebuild s.ended ok.adds (want_no_add (command_at s.commands 0).command (ok.maint.queued.want 0 some))
-
--- the one that has the turn, and nothing enrolled
-pub abandoned_kept : (s : State) (t : ℕ) → IsSound s → IsFreeTurn s t → IsSound (without_command s 0)
-abandoned_kept s t ok at =
-    less_kept s 0 ok at.stands.within
-    (turns.turn_ended (told_of s).volume.snapshots (length s.indices) s.book.entries (modes_in s) s.tickets s.calls s.nodes s.maint s.commands ok.on.clients.paired at.stands.within at.idle ok.maint)
-    (none_adds (remove s.maint 0) (remove s.commands 0) s.rebuild s.ended (none_open s ok (command_in s 0 ok at.stands.within)))
-
 -- ---- it ends with its answer
+
+maint_own : (p : PlainState) (a : Answer) (c : Command) → IsMaint c → a.call ≡ call.Command c → IsOwn p (entry.Answer a)
+maint_own p a c w is = λ name e. absurd (subst IsMaint (alike name (sym is ∙ e)) w)
+  where
+    alike : (name : List ℕ) → call.Command c ≡ call.Command (command.Snapshot name) → c ≡ command.Snapshot name
+    alike name e = cc
 
 module _ (s : State) (t : ℕ) (r : Reply) (ok : IsSound s) (at : IsFreeTurn s t) where
   abbrev its : MaintCall
@@ -129,7 +132,10 @@ module _ (s : State) (t : ℕ) (r : Reply) (ok : IsSound s) (at : IsFreeTurn s t
   as_call = call.Command its.command
 
   abbrev answer : Answer
-  answer = its_answer (without_command s 0) its.stream its.saw as_call r
+  answer = its_answer s its.stream its.saw as_call r
+
+  abbrev longer : List Entry
+  longer = s.book.entries ++ entry.Answer answer ∷ []
 
   abbrev next : State
   next = turn_ended s r
@@ -137,66 +143,104 @@ module _ (s : State) (t : ℕ) (r : Reply) (ok : IsSound s) (at : IsFreeTurn s t
   here : 0 < length s.commands
   here = command_in s 0 ok at.stands.within
 
-  wants : IsMaint its.command
-  wants = ok.maint.queued.want 0 here
+  modes : modes_in s ≡ modes_in next
+  modes = sym (modes_after-push (opening_of s).modes s.book.entries (entry.Answer answer))
 
-  -- what the plain volume is, stays
-  ended_with : IsAnswered (told_of s) (modes_in s) answer → after_entry (told_of s) (entry.Answer answer) ≡ told_of s → IsSound next
-  ended_with may same =
+  counted : length s.indices ≡ length next.indices
+  counted = sym (length-set s.indices its.stream (index_at s.indices its.stream + 1))
+
+  ordered_next : s.rebuild ≡ None → IsOrdered (opening_of s) longer next.indices s.rebuild None
+  ordered_next none =
+      answer_ordered_to (opening_of s) s.book.entries s.indices s.rebuild s.rebuild s.ended None answer ok.on.told.ordered (maint_own (told_of s) answer its.command (ok.maint.queued.want 0 here) refl)
+      (λ q. cleared s.book.entries s.maint s.commands s.rebuild s.ended answer none refl ok.adds ok.on.told.ordered.rebuild q ∙ ap (λ (x : Option Rebuilding). how_far x None q) (sym none))
+      (ok.maint.queued.within 0 here) refl (ok.maint.queued.past 0 here) (ok.maint.queued.saw 0 here)
+
+  on_next : (v : Volume) (ns : List Node) → s.rebuild ≡ None → IsLegal (opening_of s) longer → IsSoundOn v ns s → IsSoundOn v ns next
+  on_next v ns none legal on = record {
+    opened = on.opened;
+    told = record { legal = legal; ordered = ordered_next none };
+    clients = same_clients v s.size (length s.indices) (length next.indices) longer (modes_in s) (modes_in next) s.tickets s.calls ns counted modes
+        (seen_clients v s.size (length s.indices) s.book.entries longer (modes_in s) s.tickets s.calls ns (seen_answer s.book.entries s.calls on.clients.seen answer at.idle) on.clients);
+    spare = omega (arith, on.spare, length-remove s.commands 0 here, ap (count_by is_up) modes);
+  }
+
+  -- no rebuild is open then, and what the plain volume is, stays
+  ended_with : s.rebuild ≡ None → IsLegal (opening_of s) longer → after_entry (told_of s) (entry.Answer answer) ≡ told_of s → IsSound next
+  ended_with none legal same =
       let told : told_of s ≡ told_of next = sym (replay-push (opening_of s).state s.book.entries (entry.Answer answer) ∙ same) in
-      let modes : modes_in s ≡ modes_in next = sym (modes_after-push (opening_of s).modes s.book.entries (entry.Answer answer)) in
-      let v = due s.whole (told_of s).volume in
-      let ns = forms s.whole s.nodes in
-      let on : IsSoundOn v ns next = answered_on (without_command s 0) its.stream its.saw as_call r v v ns ns s.tickets s.calls (on_less v ns s 0 ok.on here) at.idle
-      (ok.maint.queued.within 0 here) (ok.maint.queued.past 0 here) (ok.maint.queued.saw 0 here) (maint_no_add its.command wants) (maint_own (told_of s) answer its.command wants refl) may ok.on.clients
-      (omega (arith, ok.on.spare, length-remove s.commands 0 here)) in
       record {
-        on = subst (λ (x : PlainState). IsSoundOn (due s.whole x.volume) ns next) told on;
-        whole = subst (λ (x : List Mode). IsWhole (told_of next) x s.tickets s.calls s.nodes s.whole) modes (subst (λ (x : PlainState). IsWhole x (modes_in s) s.tickets s.calls s.nodes s.whole) told ok.whole);
-        maint = still (told_of s).volume.snapshots (told_of next).volume.snapshots (length s.indices) (length next.indices) (modes_in s) (modes_in next) (ap (λ (p : PlainState). p.volume.snapshots) told)
-            (sym (length-set s.indices its.stream (index_at s.indices its.stream + 1))) modes
+        on = on_same s.whole (told_of s) (told_of next) s.nodes next told (on_next (due s.whole (told_of s).volume) (forms s.whole s.nodes) none legal ok.on);
+        whole = same_whole (told_of s) (told_of next) (modes_in s) (modes_in next) s.tickets s.calls s.nodes s.whole told modes ok.whole;
+        maint = same_maint (told_of s).volume.snapshots (told_of next).volume.snapshots (length s.indices) (length next.indices) longer (modes_in s) (modes_in next) s.tickets s.calls s.nodes next.maint next.commands
+            (ap (λ (p : PlainState). p.volume.snapshots) told) counted modes
             (command_answered (told_of s).volume.snapshots (length s.indices) s.book.entries (modes_in s) s.tickets s.calls s.nodes s.maint s.commands ok.maint answer ok.on.clients.paired at.stands.within at.idle refl);
         disk = ap (λ (p : PlainState). length p.volume.disk) (sym told) ∙ ok.disk;
         rebuild = subst (λ (x : List Mode). IsRebuilding s.size x s.tickets s.calls s.whole s.nodes s.rebuild) modes ok.rebuild;
-        adds = none_adds next.maint next.commands s.rebuild s.ended (none_open s ok here);
-        fell = λ none. behind_falls_answer s.book.entries answer (ok.fell none);
-        streams = ok.streams ∙ sym (length-set s.indices its.stream (index_at s.indices its.stream + 1));
+        adds = none_adds next.maint next.commands s.rebuild None (none, refl);
+        fell = λ gave. behind_falls_answer s.book.entries answer (ok.fell gave);
+        streams = ok.streams ∙ counted;
       }
-    where
-      maint_no_add : (c : Command) → IsMaint c → added_by (call.Command c) ≡ None
-      maint_no_add (command.Snapshot name) w = absurd w
-      maint_no_add (command.Remove name) w = refl
-      maint_no_add (command.Revert name) w = refl
-      maint_no_add command.Purge w = refl
-      maint_no_add command.Status w = absurd w
-      maint_no_add (command.Fail r) w = absurd w
-      maint_no_add (command.Add r) w = absurd w
-
-      maint_own : (p : PlainState) (a : Answer) (c : Command) → IsMaint c → a.call ≡ call.Command c → IsOwn p (entry.Answer a)
-      maint_own p a c w is = λ name e. absurd (subst IsMaint (alike name (sym is ∙ e)) w)
-        where
-          alike : (name : List ℕ) → call.Command c ≡ call.Command (command.Snapshot name) → c ≡ command.Snapshot name
-          alike name e = cc
-
-      still : (a b : Snapshots) (n m : ℕ) (ms ks : List Mode) → a ≡ b → n ≡ m → ms ≡ ks
-          → AreMaint a n next.book.entries ms s.tickets s.calls s.nodes next.maint next.commands → AreMaint b m next.book.entries ks s.tickets s.calls s.nodes next.maint next.commands
-      still a b n m ms ks e f g is =
-          subst (λ (x : List Mode). AreMaint b m next.book.entries x s.tickets s.calls s.nodes next.maint next.commands) g
-          (subst (λ (x : ℕ). AreMaint b x next.book.entries ms s.tickets s.calls s.nodes next.maint next.commands) f
-          (subst (λ (x : Snapshots). AreMaint x n next.book.entries ms s.tickets s.calls s.nodes next.maint next.commands) e is))
 
 -- so that it may
-pub ended_kept : (s : State) (t : ℕ) (r : Reply) → IsSound s → IsFreeTurn s t → MayEnd s (command_at s.commands 0).command r → IsSound (turn_ended s r)
-ended_kept s t reply.Done ok at may =
-    let c = command_at s.commands 0 in
-    ended_with s t reply.Done ok at (done_right s c.stream c.saw (index_at s.indices c.stream) c.command may.0 may.1 may.2) (same c.command may.0)
+module _ (s : State) (t : ℕ) (ok : IsSound s) (at : IsFreeTurn s t) where
+  abbrev first : MaintCall
+  first = command_at s.commands 0
+
+  first_in : 0 < length s.commands
+  first_in = command_in s 0 ok at.stands.within
+
+  legal_with : (r : Reply) → IsEnded (added_by (call.Command first.command)) s.book.entries (told_of s) (modes_in s) (its_answer s first.stream first.saw (call.Command first.command) r)
+      → IsLegal (opening_of s) (s.book.entries ++ entry.Answer (its_answer s first.stream first.saw (call.Command first.command) r) ∷ [])
+  legal_with r ends = IsLegal-push (opening_of s) s.book.entries (entry.Answer (its_answer s first.stream first.saw (call.Command first.command) r)) ok.on.told.legal ends
+
+  pub ended_kept : (r : Reply) → MayEnd s first.command r → IsSound (turn_ended s r)
+  ended_kept reply.Done may =
+      ended_with s t reply.Done ok at (no_rebuild s.maint s.commands s.rebuild s.ended ok.adds (purge_no_add first.command may.0)).0
+      (legal_with reply.Done (done_ends s first.stream first.saw (index_at s.indices first.stream) first.command may)) (same first.command may.0)
+    where
+      same : (c : Command) → c ≡ command.Purge → after_call (told_of s) (call.Command c) ≡ told_of s
+      same c e = ap (λ x. after_call (told_of s) (call.Command x)) e
+  ended_kept (reply.Refused why) may =
+      ended_with s t (reply.Refused why) ok at (unbegun s ok.adds first.command refl may.1).0
+      (legal_with (reply.Refused why) (refused_ends s ok first.stream first.saw (index_at s.indices first.stream) first.command why (ok.maint.queued.want 0 first_in) may)) refl
+  ended_kept (reply.Aborted place) may =
+      let none = none_beside s.rebuild s.ended ok.adds.one (record { target = may.0; place = place }) may.2 in
+      ended_with s t (reply.Aborted place) ok at none
+      (legal_aborted (opening_of s) s.book.entries may.0 place (its_answer s first.stream first.saw (call.Command first.command) (reply.Aborted place)) ok.on.told.legal
+      (aborted_far s ok may.0 place none may.2) (ap call.Command may.1) refl)
+      refl
+  ended_kept (reply.Read bytes) may = absurd may
+  ended_kept (reply.Status layers each) may = absurd may
+
+-- ---- it is abandoned
+
+-- where nothing was begun of a rebuild
+given_back_kept : (s : State) (t : ℕ) → IsSound s → IsFreeTurn s t → s.rebuild ≡ None → s.ended ≡ None → IsSound (gives_back s)
+given_back_kept s t ok at none gone =
+    less_kept s 0 ok at.stands.within
+    (turns.turn_ended (told_of s).volume.snapshots (length s.indices) s.book.entries (modes_in s) s.tickets s.calls s.nodes s.maint s.commands ok.on.clients.paired at.stands.within at.idle ok.maint)
+    (none_adds (remove s.maint 0) (remove s.commands 0) s.rebuild s.ended (none, gone))
+
+-- where a rebuild was aborted
+aborted_kept : (s : State) (t : ℕ) (e : EndedRebuild) → IsSound s → IsFreeTurn s t → s.ended ≡ Some e → IsSound (ends_aborted s e.place)
+aborted_kept s t e ok at was =
+    let add : HasAdd s.maint s.commands e.target = subst (λ (x : Option EndedRebuild). IfSome x (λ y. HasAdd s.maint s.commands y.target)) was ok.adds.of_ended in
+    ended_kept s t ok at (reply.Aborted e.place) (e.target, add.turn.command, was)
+
+-- where one is open
+pub given_turn : (s : State) (t stream target : ℕ) → IsFreeTurn s t → IsFreeTurn (given_up s stream target) t
+given_turn s t stream target at = record { stands = at.stands; started = at.started; idle = at.idle }
+
+open_kept : (s : State) (t : ℕ) (b : Rebuilding) → IsSound s → IsFreeTurn s t → s.rebuild ≡ Some b → IsSound (gives_up s b.target)
+open_kept s t b ok at begun =
+    let stream = (command_at s.commands 0).stream in
+    let mid = given_up_kept s stream b ok (ok.maint.queued.within 0 (command_in s 0 ok at.stands.within)) begun in
+    aborted_kept (given_up s stream b.target) t (record { target = b.target; place = length s.book.entries }) mid (given_turn s t stream b.target at) refl
+
+pub abandoned_kept : (s : State) (t : ℕ) → IsSound s → IsFreeTurn s t → IsSound (turn_abandoned s)
+abandoned_kept s t ok at = by s.rebuild s.ended refl refl
   where
-    same : (c : Command) → c ≡ command.Purge → after_call (told_of s) (call.Command c) ≡ told_of s
-    same c e = ap (λ x. after_call (told_of s) (call.Command x)) e
-ended_kept s t (reply.Refused why) ok at may =
-    let c = command_at s.commands 0 in
-    ended_with s t (reply.Refused why) ok at
-    (refused_right s c.stream c.saw (index_at s.indices c.stream) c.command why (maint_whole c.command (ok.maint.queued.want 0 (omega (arith, at.stands.within, ok.maint.queued.paired)))) may) refl
-ended_kept s t (reply.Read bytes) ok at may = absurd may
-ended_kept s t (reply.Status layers modes) ok at may = absurd may
-ended_kept s t (reply.Aborted place) ok at may = absurd may
+    by : (b : Option Rebuilding) (g : Option EndedRebuild) → s.rebuild ≡ b → s.ended ≡ g → IsSound (abandoned_with b g s)
+    by (Some b) g begun was = open_kept s t b ok at begun
+    by None (Some e) begun was = aborted_kept s t e ok at was
+    by None None begun was = given_back_kept s t ok at begun was

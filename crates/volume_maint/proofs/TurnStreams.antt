@@ -1,17 +1,24 @@
 -- What the other streams see of the steps of the maintenance turn.
-use Rattle.std.proofs.Common.{◌≡◌, ◌≢◌, ℕ, zero, suc, ◌+◌, Bool, true, cond, eqb, List, [], ◌∷◌, ◌++◌, length, length-set, set, sym, refl, ap, subst, ◌∙◌, arith, ne_eqb, append-nil}
+use Rattle.std.proofs.Common.{◌≡◌, ◌≢◌, ℕ, zero, suc, ◌+◌, ◌<◌, Bool, true, cond, eqb, List, [], ◌∷◌, ◌++◌, length, length-set, set, sym, refl, ap, subst, ◌∙◌, arith, ne_eqb, append-nil, append_assoc}
 use Rattle.std.specs.List.{remove}
+use Rattle.std.specs.Prelude.{Option, None, Some}
 use Rattle.volume_model.specs.declared.call.Call.TheVariants as call
 use Rattle.volume_model.specs.declared.call.Reply.{Reply}
+use Rattle.volume_model.specs.declared.call.Reply.TheVariants as reply
+use Rattle.volume_model.specs.declared.entry.Entry.{Entry}
+use Rattle.volume_model.specs.declared.entry.Entry.TheVariants as entry
 use Rattle.range_turns.specs.declared.ticket.Ticket.{Ticket}
 use Rattle.range_turns.specs.Order.{ticket_at, StandsAt}
 use Rattle.whole_calls.specs.declared.maint.MaintCall.{MaintCall}
 use Rattle.whole_calls.specs.Maint.{command_at}
+use Rattle.open_rebuild.specs.declared.rebuilding.Rebuilding.{Rebuilding}
+use Rattle.volume_core.specs.declared.world.EndedRebuild.{EndedRebuild}
 use Rattle.volume_core.specs.State.{State, index_at, gave_up_at}
-use Rattle.volume_core.specs.Steps.{answer_entry}
+use Rattle.volume_core.specs.Steps.{answer_entry, given_up}
 use Rattle.volume_core.specs.Sound.{IsSound}
-use Rattle.volume_core.specs.Streams.{running, commands_in, turning, MayGo, origin_of}
-use Rattle.volume_maint.specs.Steps.{whole_ticket, maint_enrolled, turn_begun, turn_ended, without_command}
+use Rattle.volume_core.specs.Streams.{running, commands_in, turning, MayAppend, MayGo, origin_of}
+use Rattle.volume_maint.specs.Steps.{whole_ticket, maint_enrolled, turn_begun, turn_ended, without_command, abandoned_with, turn_abandoned}
+use Rattle.volume_core.proofs.GivenUp.{given_up_kept, given_up_may}
 use Rattle.volume_maint.specs.Places.{ForAsker}
 
 -- ---- the commands of a stream
@@ -94,6 +101,42 @@ module _ (s s2 : State) (ok : IsSound s) (ok2 : IsSound s2) where
         turns = λ n other. ap (λ (x : State). turning x n) is ∙ commands-remove_other n s.maint s.commands 0 ok.maint.queued.paired (λ e. other (sym e));
         gave_up = λ n other. ap (λ (x : State). gave_up_at x.gave_up n) is;
       }
+
+-- ---- two steps of one stream
+
+more_may : (n : ℕ) (xs ys : List Entry) → MayAppend n xs → MayAppend n ys → MayAppend n (xs ++ ys)
+more_may n [] ys h k = k
+more_may n (entry.Answer a ∷ xs) ys h k = (h.0, more_may n xs ys h.1 k)
+more_may n (entry.Mark m ∷ xs) ys h k = (h.0, more_may n xs ys h.1 k)
+
+pub goes_on : (n : ℕ) (s s1 s2 : State) → MayGo n s s1 → MayGo n s1 s2 → MayGo n s s2
+goes_on n s s1 s2 a b = record {
+  sound = b.sound;
+  origin = b.origin ∙ a.origin;
+  added = (
+    a.added.0 ++ b.added.0,
+    b.added.1 ∙ ap (λ (l : List Entry). l ++ b.added.0) a.added.1 ∙ append_assoc s.book.entries a.added.0 b.added.0,
+    more_may n a.added.0 b.added.0 a.added.2 b.added.2,
+  );
+  others = λ m other. b.others m other ∙ a.others m other;
+  turns = λ m other. b.turns m other ∙ a.turns m other;
+  gave_up = λ m other. b.gave_up m other ∙ a.gave_up m other;
+}
+
+-- the turn is abandoned
+pub abandoned_goes : (s s2 : State) → IsSound s → IsSound s2 → 0 < length s.commands → s2 ≡ turn_abandoned s → MayGo (command_at s.commands 0).stream s s2
+abandoned_goes s s2 ok ok2 some is = by s.rebuild s.ended refl is
+  where
+    stream : ℕ
+    stream = (command_at s.commands 0).stream
+
+    by : (b : Option Rebuilding) (g : Option EndedRebuild) → s.rebuild ≡ b → s2 ≡ abandoned_with b g s → MayGo stream s s2
+    by (Some b) g begun is =
+        let mid = given_up_kept s stream b ok (ok.maint.queued.within 0 some) begun in
+        goes_on stream s (given_up s stream b.target) s2 (given_up_may s (given_up s stream b.target) stream b.target refl mid)
+        (ended_goes (given_up s stream b.target) s2 mid ok2 (reply.Aborted (length s.book.entries)) is)
+    by None (Some e) begun is = ended_goes s s2 ok ok2 (reply.Aborted e.place) is
+    by None None begun is = less_goes s s2 ok ok2 0 is
 
 -- ---- for the stream whose command has that ticket
 

@@ -31,12 +31,14 @@ over_indices (whole.Snapshot name) s = refl
 over_indices (whole.Remove name) s = refl
 over_indices (whole.Revert name) s = refl
 over_indices (whole.Purge f) s = refl
+over_indices (whole.Barrier r) s = refl
 
 pub over_book : (op : WholeOp) (s : State) → (turn_over op s).book ≡ s.book
 over_book (whole.Snapshot name) s = refl
 over_book (whole.Remove name) s = refl
 over_book (whole.Revert name) s = refl
 over_book (whole.Purge f) s = refl
+over_book (whole.Barrier r) s = refl
 
 -- where no call on the whole volume is started
 none_gone : (s : State) (i : ℕ) → s.whole ≡ None → without_call s i ≡ without_whole s i

@@ -1,5 +1,5 @@
 -- What the answers of the steps say.
-use Rattle.std.specs.Prelude.{◌≡◌, ◌≢◌, ℕ, ◌<◌, List, length, Option, None, Some, true, false, All}
+use Rattle.std.specs.Prelude.{◌≡◌, ◌≢◌, ◌⊎◌, ℕ, ◌<◌, ◌≤◌, List, length, Option, None, Some, true, false, All}
 use Rattle.vol_units.specs.Name.{begins_sys}
 use Rattle.sparse_image.specs.Image.{Tables}
 use Rattle.command_text.specs.declared.command.Command.{Command}
@@ -13,7 +13,7 @@ use Rattle.volume_model.specs.declared.mark.FoldOrDrop.{FoldOrDrop}
 use Rattle.volume_model.specs.declared.mark.FoldOrDrop.TheVariants as part
 use Rattle.volume_model.specs.declared.mode.Mode.TheVariants.{Rw, Err}
 use Rattle.volume_model.specs.History.{Spot}
-use Rattle.volume_model.specs.Modes.{mode_of, HasSource, HasNoSource}
+use Rattle.volume_model.specs.Modes.{mode_of, HasSource, HasNoSource, IsSource}
 use Rattle.volume_model.specs.OneWorker.{refused_at}
 use Rattle.volume_model.specs.Purge.{CanFold, next_of}
 use Rattle.volume_model.specs.Snapshots.{Snapshots}
@@ -31,6 +31,8 @@ use Rattle.open_calls.specs.Parts.{part_at, is_pending_at, IsTaken}
 use Rattle.whole_calls.specs.declared.whole.Whole.{Whole}
 use Rattle.whole_calls.specs.Maint.{HasNoCommand, HasTurn, CanGo, command_at}
 use Rattle.whole_calls.specs.Whole.{AreSpared}
+use Rattle.open_rebuild.specs.declared.rebuilding.Rebuilding.{Rebuilding}
+use Rattle.open_rebuild.specs.Claim as claim
 use Rattle.volume_core.specs.declared.world.NotThis.{NotThis}
 use Rattle.volume_core.specs.declared.world.NotThis.TheVariants as against
 use Rattle.volume_core.specs.State.{State, told_of, modes_in}
@@ -39,7 +41,7 @@ use Rattle.volume_maint.specs.declared.answers.AdmitWhole.{AdmitWhole}
 use Rattle.volume_maint.specs.declared.answers.AdmitWhole.TheVariants as admit
 use Rattle.volume_maint.specs.declared.answers.NextPart.{NextPart}
 use Rattle.volume_maint.specs.declared.answers.NextPart.TheVariants as next
-use Rattle.volume_maint.specs.Steps.{turn_begun, turn_ended, whole_enrolled, whole_begun, whole_parted, whole_acked, whole_ended, whole_marked, without_whole, folded_on}
+use Rattle.volume_maint.specs.Steps.{turn_begun, turn_ended, whole_enrolled, whole_begun, whole_parted, whole_acked, whole_ended, whole_marked, without_whole, barrier_name, barrier_modes, barrier_nodes, barrier_begun, barrier_ended, folded_on}
 use Rattle.volume_maint.specs.Places.{AwaitsTurn, IsFreeTurn, IsTurnOf, AwaitsWhole, IsWholeOn}
 
 -- where the World stands
@@ -62,11 +64,19 @@ TurnsTo s t may.Yes s2 = AwaitsTurn s t 0 × (s2 ≡ turn_begun s)
 TurnsTo s t (may.After number) s2 = (k : ℕ) × AwaitsTurn s t k × (0 < k)
     × ((ticket_at s.maint 0).number ≡ number) × (s2 ≡ s)
 
--- A command that has the turn may be answered so: as it is refused there, or, of a purge that nothing stands against,
--- that it is done where nothing can go.
+-- no rebuild of the command was begun, if it is an add
+abbrev pub HasNoRebuild : State → Command → Type 0
+HasNoRebuild s (command.Add r) = (s.rebuild ≡ None) × (s.ended ≡ None)
+HasNoRebuild s c = Unit {0}
+
+-- A command that has the turn may be answered so: as it is refused there, of an add only where no rebuild was begun; of a
+-- purge that nothing stands against, that it is done where nothing can go; and of an add whose rebuild was aborted, the
+-- place of that mark.
 abbrev pub MayEnd : State → Command → Reply → Type 0
-MayEnd s c (reply.Refused why) = refused_in s c ≡ Some why
+MayEnd s c (reply.Refused why) = (refused_in s c ≡ Some why) × HasNoRebuild s c
 MayEnd s c reply.Done = (c ≡ command.Purge) × (refused_in s c ≡ None) × (next_of (snapshots_told s) ≡ None)
+MayEnd s c (reply.Aborted place) =
+    (r : ℕ) × (c ≡ command.Add r) × (s.ended ≡ Some (record { target = r; place = place }))
 MayEnd s c r = ⊥
 
 -- it is so now, as far as that shows: while a call on the whole volume is started, not that a purge is done
@@ -83,6 +93,7 @@ MayAsk s stream (whole.Snapshot name) = (begins_sys name ≡ false) × HasNoComm
 MayAsk s stream (whole.Remove name) = HasTurn s.maint s.commands stream (command.Remove name)
 MayAsk s stream (whole.Revert name) = HasTurn s.maint s.commands stream (command.Revert name)
 MayAsk s stream (whole.Purge f) = HasTurn s.maint s.commands stream command.Purge
+MayAsk s stream (whole.Barrier r) = HasTurn s.maint s.commands stream (command.Add r)
 
 -- what its caller saw: of what the command does that has the turn, what that saw
 abbrev pub seen_by : State → WholeOp → ℕ
@@ -90,6 +101,7 @@ seen_by s (whole.Snapshot name) = length s.book.entries
 seen_by s (whole.Remove name) = (command_at s.commands 0).saw
 seen_by s (whole.Revert name) = (command_at s.commands 0).saw
 seen_by s (whole.Purge f) = (command_at s.commands 0).saw
+seen_by s (whole.Barrier r) = (command_at s.commands 0).saw
 
 -- a part of a purge that cannot go now: it cannot be done, a replica that is read has not folded it, or none is read
 abbrev pub CannotGo : State → WholeOp → Type 0
@@ -101,26 +113,62 @@ EnrolsWhole s stream op (Some number) s2 =
     IsFresh s.tickets number × (s2 ≡ whole_enrolled s number stream (seen_by s op) op)
 EnrolsWhole s stream op None s2 = CannotGo s op × (s2 ≡ s)
 
+-- a barrier may begin a rebuild: none is open or was aborted of the command that has the turn, and the replica is there
+pub record MayBeginOf (s : State) (r : ℕ) : Type 0 where
+  pub closed : s.rebuild ≡ None
+  pub first : s.ended ≡ None
+  pub there : r < length s.nodes
+
+abbrev pub MayBegin : State → WholeOp → Type 0
+MayBegin s (whole.Barrier r) = MayBeginOf s r
+MayBegin s op = Unit {0}
+
+-- or it may not: that rebuild was begun already, or there is no such replica
+abbrev pub MayNotBegin : State → WholeOp → Type 0
+MayNotBegin s (whole.Barrier r) = (s.rebuild ≢ None) ⊎ ((s.ended ≢ None) ⊎ (length s.nodes ≤ r))
+MayNotBegin s op = ⊥
+
+-- The barrier at i starts: a rebuild is open of r from the first replica that is read, of whose layers no page is copied,
+-- with spare heads for the replicas, r among them.
+pub record BeginsBarrier (s : State) (i r : ℕ) (s2 : State) : Type 0 where
+  pub b : Rebuilding
+  pub spares : List (Option Tables)
+  pub source : IsSource (modes_in s) b.source
+  pub target : b.target ≡ r
+  pub new : claim.IsNew s.size (node_at s.nodes b.source) (barrier_name s b.source) b
+  pub spared : AreSpared (whole.Barrier r) (barrier_modes s r) (barrier_nodes s b) spares
+  pub state : s2 ≡ barrier_begun s i b spares
+
+-- the operation at i starts, with spare heads for the replicas
+abbrev pub BeginsWith : State → ℕ → WholeOp → State → Type 0
+BeginsWith s i op s2 = (spares : List (Option Tables)) × AreSpared op (modes_in s) s.nodes spares
+    × (s2 ≡ whole_begun s i op spares)
+
+abbrev pub BeginsWhole : State → ℕ → WholeOp → State → Type 0
+BeginsWhole s i (whole.Barrier r) s2 = BeginsBarrier s i r s2
+BeginsWhole s i op s2 = BeginsWith s i op s2
+
+-- an operation that waits there with nothing earlier in its way
+pub record IsWaiting (s : State) (t i : ℕ) (op : WholeOp) : Type 0 where
+  pub awaits : AwaitsWhole s t i
+  pub asks : (open_at s.calls i).op ≡ Some op
+  pub clear : IsClear s.tickets i
+
 -- what asking to start is answered
 abbrev pub AdmitsWhole : State → ℕ → AdmitWhole → State → Type 0
-AdmitsWhole s t admit.Go s2 = (i : ℕ) × (op : WholeOp) × (spares : List (Option Tables)) × AwaitsWhole s t i
-    × ((open_at s.calls i).op ≡ Some op) × IsClear s.tickets i × (refused_in s (command_of op) ≡ None)
-    × AreSpared op (modes_in s) s.nodes spares × (s2 ≡ whole_begun s i op spares)
+AdmitsWhole s t admit.Go s2 = (i : ℕ) × (op : WholeOp) × IsWaiting s t i op × MayBegin s op
+    × (refused_in s (command_of op) ≡ None) × BeginsWhole s i op s2
 AdmitsWhole s t (admit.After number) s2 = (i : ℕ) × AwaitsWhole s t i
     × ((j : ℕ) × IsFirstInWay s.tickets i j × ((ticket_at s.tickets j).number ≡ number)) × (s2 ≡ s)
-AdmitsWhole s t (admit.Refused why place) s2 = (i : ℕ) × (op : WholeOp) × AwaitsWhole s t i
-    × ((open_at s.calls i).op ≡ Some op) × IsClear s.tickets i × (refused_in s (command_of op) ≡ Some why)
-    × (place ≡ length s.book.entries) × (s2 ≡ whole_ended (with_place s) i op (reply.Refused why))
+AdmitsWhole s t admit.Never s2 = (i : ℕ) × (op : WholeOp) × IsWaiting s t i op × MayNotBegin s op × (s2 ≡ s)
+AdmitsWhole s t (admit.Refused why place) s2 = (i : ℕ) × (op : WholeOp) × IsWaiting s t i op × MayBegin s op
+    × (refused_in s (command_of op) ≡ Some why) × (place ≡ length s.book.entries)
+    × (s2 ≡ whole_ended (with_place s) i op (reply.Refused why))
 
 -- a replica that is read, whose layers are as long as its head
 pub record IsLongSource (s : State) (r : ℕ) : Type 0 where
   pub read : mode_of (modes_in s) r ≡ Rw
   pub long : All (λ (k : Kept). length k.disk ≡ length (node_at s.nodes r).disk) (node_at s.nodes r).layers
-
--- the operation at i starts, with spare heads for the replicas
-abbrev pub BeginsWhole : State → ℕ → WholeOp → State → Type 0
-BeginsWhole s i op s2 = (spares : List (Option Tables)) × AreSpared op (modes_in s) s.nodes spares
-    × (s2 ≡ whole_begun s i op spares)
 
 -- a replica takes its part
 pub record TakesPart (s : State) (t r : ℕ) (s2 : State) : Type 0 where
@@ -155,16 +203,18 @@ AgainstAckPart s t r why = ⊥
 abbrev pub AreDone : State → Whole → Type 0
 AreDone s w = (r : ℕ) → r < length s.nodes → is_pending_at (mode_of (modes_in s) r) (part_at w.parts r) ≡ false
 
--- What it ends with, where a replica is read and written, and where there is none: its command is answered, or its part of
--- a purge marked.
+-- What it ends with, where a replica is read and written, and where there is none: its command is answered, its part of a
+-- purge marked, or, of a barrier, its rebuild goes on.
 abbrev pub whole_done : State → ℕ → WholeOp → State
 whole_done s i (whole.Purge f) = whole_marked s i f
+whole_done s i (whole.Barrier r) = barrier_ended s i
 whole_done s i (whole.Snapshot name) = whole_ended s i (whole.Snapshot name) reply.Done
 whole_done s i (whole.Remove name) = whole_ended s i (whole.Remove name) reply.Done
 whole_done s i (whole.Revert name) = whole_ended s i (whole.Revert name) reply.Done
 
 abbrev pub whole_lost : State → ℕ → WholeOp → State
 whole_lost s i (whole.Purge f) = without_whole s i
+whole_lost s i (whole.Barrier r) = barrier_ended s i
 whole_lost s i (whole.Snapshot name) = whole_ended s i (whole.Snapshot name) (reply.Refused NoReplica)
 whole_lost s i (whole.Remove name) = whole_ended s i (whole.Remove name) (reply.Refused NoReplica)
 whole_lost s i (whole.Revert name) = whole_ended s i (whole.Revert name) (reply.Refused NoReplica)

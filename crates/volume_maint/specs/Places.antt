@@ -54,4 +54,5 @@ IsWholeCommand (command.Snapshot name) = begins_sys name ≡ false
 IsWholeCommand (command.Remove name) = Unit {0}
 IsWholeCommand (command.Revert name) = Unit {0}
 IsWholeCommand command.Purge = Unit {0}
+IsWholeCommand (command.Add r) = Unit {0}
 IsWholeCommand c = ⊥

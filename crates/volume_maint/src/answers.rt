@@ -9,6 +9,8 @@ pub enum AdmitWhole {
     Go,
     /// It has to wait for that ticket.
     After(TicketNumber),
+    /// It may not begin: the add's rebuild was begun already, or there is no such replica.
+    Never,
     /// Its command is refused: the answer stands at that place.
     Refused(Refusal, u64),
 }

@@ -94,7 +94,8 @@ fn is_new(world: &World, name: &LayerName) -> bool
     match &world.whole {
         Some(whole) => match whole.op {
             WholeOp::Snapshot(new) => *name == LayerName::from(new),
-            WholeOp::Remove(_) | WholeOp::Revert(_) | WholeOp::Purge(_) => false,
+            WholeOp::Remove(_) | WholeOp::Revert(_) | WholeOp::Purge(_) | WholeOp::Barrier(_) =>
+                false,
         },
         None => false,
     }

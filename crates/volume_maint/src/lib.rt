@@ -2,6 +2,7 @@
 #![tactic(auto)]
 
 mod answers;
+mod barrier;
 mod fold;
 mod places;
 mod refusal;
@@ -14,7 +15,7 @@ pub use fold::{fold_next, fold_page, fold_wanted};
 pub use open_calls::{FoldOrDrop, LayerName, SnapName, WholeOp};
 pub use places::{free_turn_at, is_idle};
 pub use range_turns::{MayStart, TicketNumber};
-pub use turn::{abandon, admit_maint, end_maint, enrol_maint, withdraw_maint};
+pub use turn::{abandon, admit_maint, end_first, end_maint, enrol_maint, withdraw_maint};
 pub use volume_core::{Command, Mode, NotThis, Refusal, Reply, World};
 pub use whole::{admit_whole, enrol_whole, part, withdraw_whole};
 pub use whole_end::{ack_whole, complete_whole};

@@ -2,17 +2,19 @@
 
 ghost use Rattle.std.specs.Prelude.{◌≡◌, ◌≢◌, ◌<◌, length, false, true, None};
 ghost use Rattle.volume_model.specs.declared.call.Call.TheVariants as call;
-ghost use Rattle.volume_model.specs.PlainStep.{refusal_of, room_refusal, live_refusal};
+ghost use Rattle.volume_model.specs.declared.call.Reply.TheVariants as reply;
+ghost use Rattle.volume_model.specs.Modes.{mode_of};
+ghost use Rattle.volume_model.specs.PlainStep.{refusal_of, room_refusal, live_refusal, add_refusal};
 ghost use Rattle.whole_calls.specs.Maint.{command_at};
 ghost use Rattle.volume_core.specs.State.{state_of, told_of, modes_in};
 ghost use Rattle.volume_core.specs.Sound.{IsSound};
 ghost use Rattle.volume_maint.specs.Places.{IsWholeCommand};
-ghost use Rattle.volume_maint.specs.Answers.{refused_in, MayEnd};
+ghost use Rattle.volume_maint.specs.Answers.{refused_in, HasNoRebuild, MayEnd};
 
 use crate::answers::NextPart;
 use crate::fold::fold_next;
 use vol_units::{LayerName, MOST_LAYERS};
-use volume_core::{Command, Refusal, Reply, World};
+use volume_core::{Command, EndedRebuild, Mode, Refusal, Reply, World};
 
 /// What stands against a command, as the journal tells it, the first in the order in which refusals are tried.
 pub(crate) fn refusal(world: &World, command: &Command) -> Option<Refusal>
@@ -45,7 +47,8 @@ fn volume_refusal(world: &World, command: &Command) -> Option<Refusal>
         }
         Command::Remove(name) | Command::Revert(name) => name_refusal(world, name),
         Command::Purge => None,
-        Command::Status | Command::Fail(_) | Command::Add(_) => unreachable!(),
+        Command::Add(replica) => replica_refusal(world, *replica),
+        Command::Status | Command::Fail(_) => unreachable!(),
     }
 }
 
@@ -58,6 +61,18 @@ fn chain_refusal(world: &World) -> Option<Refusal>
         None
     } else {
         Some(Refusal::ChainFull)
+    }
+}
+
+/// What stands against the rebuild of the replica.
+fn replica_refusal(world: &World, replica: u8) -> Option<Refusal>
+    requires { IsSound (state_of world.now) }
+    ensures { result ≡ add_refusal (mode_of (modes_in (state_of world.now)) replica)
+        (told_of (state_of world.now)).volume }
+{
+    match world.mode(replica) {
+        Mode::Rw | Mode::Wo => Some(Refusal::InUse),
+        Mode::Err => chain_refusal(world),
     }
 }
 
@@ -85,8 +100,39 @@ pub(crate) fn may_end(world: &World, reply: &Reply) -> bool
 {
     let command = world.commands[0].command;
     match reply {
-        Reply::Refused(why) => refusal(world, &command) == Some(*why),
+        Reply::Refused(why) => {
+            !has_rebuild(world, &command) && refusal(world, &command) == Some(*why)
+        }
         Reply::Done => command == Command::Purge && fold_next(world) == NextPart::Nothing,
-        Reply::Read(_) | Reply::Status { .. } | Reply::Aborted(_) => false,
+        Reply::Aborted(place) => was_aborted(world, &command, *place),
+        Reply::Read(_) | Reply::Status { .. } => false,
+    }
+}
+
+/// Whether a rebuild of the command was begun, if it is an add.
+fn has_rebuild(world: &World, command: &Command) -> bool
+    ensures not { result ≡ false → HasNoRebuild (state_of world.now) command.now }
+    ensures has { result ≡ true → HasNoRebuild (state_of world.now) command.now → ⊥ }
+{
+    match command {
+        Command::Add(_) => world.rebuild.is_some() || world.ended.is_some(),
+        _ => false,
+    }
+}
+
+/// Whether the command is an add whose rebuild was aborted, by the mark at that place.
+fn was_aborted(world: &World, command: &Command, place: u64) -> bool
+    ensures was { result ≡ true → MayEnd (state_of world.now) command.now (reply.Aborted place) }
+    ensures not { result ≡ false → MayEnd (state_of world.now) command.now (reply.Aborted place) → ⊥ }
+{
+    match command {
+        Command::Add(replica) => {
+            world.ended
+                == Some(EndedRebuild {
+                    target: *replica,
+                    place,
+                })
+        }
+        _ => false,
     }
 }

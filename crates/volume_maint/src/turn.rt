@@ -1,13 +1,13 @@
 //! The maintenance turn.
 
-ghost use Rattle.std.specs.Prelude.{◌≡◌, ℕ, ◌<◌, length, IfOk, IfErr, OnOk, OnErr};
+ghost use Rattle.std.specs.Prelude.{◌≡◌, ℕ, ◌<◌, ◌≤◌, length, IfOk, IfErr, OnOk, OnErr};
 ghost use Rattle.range_turns.specs.Order.{IsFresh};
 ghost use Rattle.open_calls.specs.Clients.{IsIdle};
 ghost use Rattle.whole_calls.specs.Maint.{HasNoCommand, IsMaint, command_at};
-ghost use Rattle.volume_core.specs.State.{state_of};
+ghost use Rattle.volume_core.specs.State.{state_of, index_at};
 ghost use Rattle.volume_core.specs.Sound.{IsSound};
 ghost use Rattle.volume_core.specs.Streams.{MayGo};
-ghost use Rattle.volume_maint.specs.Steps.{maint_enrolled, without_command};
+ghost use Rattle.volume_maint.specs.Steps.{maint_enrolled, turn_ended, turn_abandoned, without_command};
 ghost use Rattle.volume_maint.specs.Places.{AwaitsTurn, IsFreeTurn, ForAsker};
 ghost use Rattle.volume_maint.specs.Answers.{TurnsTo, EndsTurn, AgainstEndTurn};
 
@@ -94,19 +94,45 @@ pub fn end_maint(world: &mut World, t: TicketNumber, reply: Reply) -> Result<u64
     if !free_turn_at(world, t) || !may_end(world, &reply) {
         return Err(NotThis::Ticket);
     }
-    let call = take_command(world, 0);
-    Ok(world.push_answer(call.stream, call.saw, Call::Command(call.command), reply))
+    Ok(end_first(world, reply))
 }
 
-/// Gives the turn back without an answer, once memory ran out. It takes no memory.
+/// Ends the first command with that reply, in a place that was made before, and gives the place of its answer. It is a
+/// part of a step, and not a step: whether the command may be answered so, its caller knows. It takes no memory.
+pub fn end_first(world: &mut World, reply: Reply) -> u64
+    requires ticket { 0 < length world.old.maint.tickets }
+    requires command { 0 < length world.old.commands.items }
+    requires stream { (command_at world.old.commands.items 0).stream < length world.old.indices.items }
+    requires few { index_at world.old.indices.items (command_at world.old.commands.items 0).stream
+        ≤ length world.old.journal.entries }
+    requires spare { 0 < world.old.journal.spare }
+    ensures place { result ≡ length world.old.journal.entries }
+    ensures state { state_of world.new ≡ turn_ended (state_of world.old) reply }
+{
+    let call = take_command(world, 0);
+    world.ended = None;
+    world.push_answer(call.stream, call.saw, Call::Command(call.command), reply)
+}
+
+/// Gives the turn back, once memory ran out: without an answer, but where a rebuild of its command was begun. One that is
+/// open is given up, and its command answered so; one that was aborted is answered. It takes no memory.
 pub fn abandon(world: &mut World, t: TicketNumber)
     requires sound { IsSound (state_of world.old) }
     requires turn { IsFreeTurn (state_of world.old) t }
     ensures sound { IsSound (state_of world.new) }
-    ensures gone { state_of world.new ≡ without_command (state_of world.old) 0 }
+    ensures gone { state_of world.new ≡ turn_abandoned (state_of world.old) }
     ensures may { ForAsker (state_of world.old) t (λ stream. MayGo stream (state_of world.old) (state_of world.new)) }
 {
-    take_command(world, 0);
+    if let Some(rebuild) = &world.rebuild {
+        let target = rebuild.target;
+        let stream = world.commands[0].stream;
+        let place = world.give_up(stream, target);
+        end_first(world, Reply::Aborted(place));
+    } else if let Some(ended) = world.ended {
+        end_first(world, Reply::Aborted(ended.place));
+    } else {
+        take_command(world, 0);
+    }
 }
 
 /// Takes the command at k out.

@@ -1,7 +1,7 @@
 //! An operation on the whole volume is enrolled, starts, and is taken on each replica.
 
 ghost use Rattle.std.specs.Prelude.{◌≡◌, ◌≢◌, ℕ, List, ◌<◌, length, map, true, false, None, Some, IfOk, IfErr, IfSome, OnOk, OnErr};
-ghost use Rattle.volume_model.specs.Modes.{HasSource};
+ghost use Rattle.volume_model.specs.Modes.{HasSource, IsSource};
 ghost use Rattle.range_turns.specs.Order.{ticket_at, IsFresh, IsClear};
 ghost use Rattle.open_calls.specs.Calls.{open_at, node_at};
 ghost use Rattle.open_calls.specs.Clients.{IsIdle};
@@ -15,9 +15,10 @@ ghost use Rattle.volume_core.specs.Sound.{IsSound};
 ghost use Rattle.volume_core.specs.Streams.{MayGo};
 ghost use Rattle.volume_maint.specs.Steps.{whole_ticket, whole_parted, whole_ended};
 ghost use Rattle.volume_maint.specs.Places.{AwaitsWhole, ForCaller, IsWholeOn};
-ghost use Rattle.volume_maint.specs.Answers.{snapshots_told, IsLongSource, MayAsk, seen_by, EnrolsWhole, CannotGo, AdmitsWhole, BeginsWhole, TakesPart, AgainstPart};
+ghost use Rattle.volume_maint.specs.Answers.{snapshots_told, IsLongSource, MayAsk, seen_by, EnrolsWhole, CannotGo, AdmitsWhole, MayBegin, BeginsWhole, BeginsWith, TakesPart, AgainstPart};
 
 use crate::answers::AdmitWhole;
+use crate::barrier::{begin_barrier, may_begin};
 use crate::fold::can_go;
 use crate::places::waiting_whole_at;
 use crate::refusal::refusal;
@@ -65,7 +66,8 @@ fn can_be_asked(world: &World, op: &WholeOp) -> bool
 {
     match op {
         WholeOp::Purge(part) => can_go(world, part),
-        WholeOp::Snapshot(_) | WholeOp::Remove(_) | WholeOp::Revert(_) => true,
+        WholeOp::Snapshot(_) | WholeOp::Remove(_) | WholeOp::Revert(_) | WholeOp::Barrier(_) =>
+            true,
     }
 }
 
@@ -76,7 +78,8 @@ fn seen_by(world: &World, op: &WholeOp) -> u64
 {
     match op {
         WholeOp::Snapshot(_) => world.journal.len(),
-        WholeOp::Remove(_) | WholeOp::Revert(_) | WholeOp::Purge(_) => world.commands[0].saw,
+        WholeOp::Remove(_) | WholeOp::Revert(_) | WholeOp::Purge(_) | WholeOp::Barrier(_) =>
+            world.commands[0].saw,
     }
 }
 
@@ -95,8 +98,8 @@ fn put_whole(world: &mut World, call: OpenCall) -> Result<TicketNumber, AllocErr
     Ok(number)
 }
 
-/// Starts an operation that waits, if nothing earlier is in its way and nothing stands against its command. It takes all
-/// memory that the operation needs.
+/// Starts an operation that waits, if nothing earlier is in its way, its rebuild may begin, where it is a barrier, and
+/// nothing stands against its command. It takes all memory that the operation needs.
 pub fn admit_whole(
     world: &mut World,
     alloc: Global,
@@ -114,12 +117,16 @@ pub fn admit_whole(
         return Ok(AdmitWhole::After(world.turns.ticket(j).number));
     }
     let op = op_at(world, i);
+    if !may_begin(world, &op) {
+        return Ok(AdmitWhole::Never);
+    }
     if let Some(why) = refusal(world, &op.command()) {
         let place = refuse(world, i, &op, why)?;
         return Ok(AdmitWhole::Refused(why, place));
     }
-    let _source = long_source(world);
-    begin(world, alloc, i, op)?;
+    let source = long_source(world);
+    let _entries = world.journal.len();
+    begin(world, alloc, i, op, source)?;
     Ok(AdmitWhole::Go)
 }
 
@@ -140,19 +147,44 @@ fn op_at(world: &World, i: usize) -> WholeOp
 fn long_source(world: &World) -> u8
     requires sound { IsSound (state_of world.now) }
     requires read { HasSource (modes_in (state_of world.now)) }
-    ensures { IsLongSource (state_of world.now) result }
+    ensures first { IsSource (modes_in (state_of world.now)) result }
+    ensures long { IsLongSource (state_of world.now) result }
 {
     let source = world.journal.source().unwrap();
     let _blocks = world.nodes[source as usize].block_count();
     source
 }
 
-/// The operation at i starts.
-fn begin(world: &mut World, alloc: Global, i: usize, op: WholeOp) -> Result<(), AllocError>
+/// The operation at i starts, where that is the first replica that is read.
+fn begin(
+    world: &mut World,
+    alloc: Global,
+    i: usize,
+    op: WholeOp,
+    source: u8,
+) -> Result<(), AllocError>
     requires sound { IsSound (state_of world.old) }
     requires within { i < length world.old.turns.tickets }
     requires clear { IsClear world.old.turns.tickets i }
+    requires none { (state_of world.old).whole ≡ None }
+    requires may { MayBegin (state_of world.old) op }
+    requires source { IsSource (modes_in (state_of world.old)) source }
     ensures ok { OnOk result (BeginsWhole (state_of world.old) i op (state_of world.new)) }
+    ensures err { OnErr result (state_of world.new ≡ state_of world.old) }
+{
+    match op {
+        WholeOp::Barrier(target) => begin_barrier(world, alloc, i, target, source),
+        WholeOp::Snapshot(_) | WholeOp::Remove(_) | WholeOp::Revert(_) | WholeOp::Purge(_) =>
+            begin_other(world, alloc, i, op),
+    }
+}
+
+/// An operation starts that is no barrier.
+fn begin_other(world: &mut World, alloc: Global, i: usize, op: WholeOp) -> Result<(), AllocError>
+    requires sound { IsSound (state_of world.old) }
+    requires within { i < length world.old.turns.tickets }
+    requires clear { IsClear world.old.turns.tickets i }
+    ensures ok { OnOk result (BeginsWith (state_of world.old) i op (state_of world.new)) }
     ensures err { OnErr result (state_of world.new ≡ state_of world.old) }
 {
     let _replicas = world.journal.replica_count();

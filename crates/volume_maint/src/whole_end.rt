@@ -18,6 +18,7 @@ ghost use Rattle.volume_maint.specs.Places.{ForCaller, IsWholeOn};
 ghost use Rattle.volume_maint.specs.Answers.{AcksPart, AgainstAckPart};
 ghost use Rattle.volume_maint.specs.Answers.{EndsWhole, AgainstEndWhole, whole_done, whole_lost};
 
+use crate::barrier::pass_barrier;
 use crate::turn::take_command;
 use open_calls::{FoldOrDrop, Part, WholeOp};
 use range_turns::TicketNumber;
@@ -65,8 +66,9 @@ fn ack_on(world: &mut World, replica: u8)
 }
 
 /// Ends the started operation once each replica has acknowledged its part or has failed: with the answer of its
-/// command, or with the mark of a part of a purge, for which there is none where no replica is read. It gives the place
-/// of what it appended, and else the journal's length. It takes no memory.
+/// command, or with the mark of a part of a purge, for which there is none where no replica is read. A barrier ends with
+/// neither: pages may be copied, if its rebuild is open. It gives the place of what it appended, and else the journal's
+/// length. It takes no memory.
 pub fn complete_whole(world: &mut World, t: TicketNumber) -> Result<u64, NotThis>
     requires sound { IsSound (state_of world.old) }
     ensures sound { IsSound (state_of world.new) }
@@ -133,6 +135,10 @@ fn end_at(world: &mut World, i: usize) -> u64
             mark_part(world, part);
         }
         (WholeOp::Purge(_), false) => take_call(world, i),
+        (WholeOp::Barrier(_), _) => {
+            take_call(world, i);
+            pass_barrier(world);
+        }
         (op, true) => {
             end_with_answer(world, i, &op, Reply::Done);
         }
@@ -182,7 +188,7 @@ fn end_turn(world: &mut World, op: &WholeOp)
 {
     match op {
         WholeOp::Snapshot(_) => {}
-        WholeOp::Remove(_) | WholeOp::Revert(_) | WholeOp::Purge(_) => {
+        WholeOp::Remove(_) | WholeOp::Revert(_) | WholeOp::Purge(_) | WholeOp::Barrier(_) => {
             take_command(world, 0);
         }
     }

@@ -15,13 +15,13 @@ returns-clause-sound c =
     let s : State = state_of c.args.world.now in
     let turn : IsFreeTurn s c.args.t = search rules in
     let may : MayEnd s (command_at s.commands 0).command c.args.reply = search rules in
-    let is : state_of c.push_answer.new.self ≡ turn_ended s c.args.reply = search rules in
-    subst IsSound (sym is) (ended_kept s c.args.t c.args.reply c.requires.sound turn may)
+    let is : state_of c.end_first.new.world ≡ turn_ended s c.args.reply = c.end_first.ensures.state in
+    subst IsSound (sym is) (ended_kept s c.args.t c.requires.sound turn c.args.reply may)
 
 pub returns-clause-may : goal.returns-clause-may
 returns-clause-may c =
     let s : State = state_of c.args.world.now in
     let turn : IsFreeTurn s c.args.t = search rules in
-    let is : state_of c.push_answer.new.self ≡ turn_ended s c.args.reply = search rules in
-    for_asker s c.args.t 0 (λ stream. MayGo stream s (state_of c.push_answer.new.self)) turn.stands
-    (ended_goes s (state_of c.push_answer.new.self) c.requires.sound (returns-clause-sound c) c.args.reply is)
+    let is : state_of c.end_first.new.world ≡ turn_ended s c.args.reply = c.end_first.ensures.state in
+    for_asker s c.args.t 0 (λ stream. MayGo stream s (state_of c.end_first.new.world)) turn.stands
+    (ended_goes s (state_of c.end_first.new.world) c.requires.sound (returns-clause-sound c) c.args.reply is)

@@ -1,4 +1,4 @@
-use Rattle.std.proofs.Common.{◌≡◌, ◌+◌, sym, subst, rules}
+use Rattle.std.proofs.Common.{◌≡◌, ◌+◌, ◌<◌, ◌^◌, length, sym, subst, rules}
 use Rattle.std.specs.Prelude.{None, Some}
 use Rattle.volume_model.specs.declared.call.Reply.TheVariants as reply
 use Rattle.volume_model.proofs.SpotLemmas.{has_source}
@@ -10,15 +10,23 @@ use Rattle.volume_core.specs.Steps.{with_place}
 use Rattle.volume_core.specs.Sound.{IsSound}
 use Rattle.volume_core.specs.Streams.{MayGo}
 use Rattle.volume_core.proofs.Keep.{calm_by}
-use Rattle.volume_maint.specs.Answers.{refused_in, BeginsWhole}
+use Rattle.volume_maint.specs.Answers.{refused_in, IsWaiting, MayBegin}
 use Rattle.volume_maint.specs.Steps.{whole_ended}
-use Rattle.volume_maint.proofs.Begins.{begun_sound, free_source, asked_op, still_op}
+use Rattle.volume_maint.proofs.BarrierSound.{starts_sound}
+use Rattle.volume_maint.proofs.Begins.{free_source, asked_op}
 use Rattle.volume_maint.proofs.WholeEnds.{refused_whole}
-use Rattle.volume_maint.proofs.Owes.{for_caller, begun_goes, ended_goes}
+use Rattle.volume_maint.proofs.Owes.{for_caller, starts_goes, ended_goes}
 use Rattle.volume_maint.proofs.whole.admit_whole.Goals as goal
 
 pub refuse-requires-clause-none : goal.refuse-requires-clause-none
 refuse-requires-clause-none c =
+    let s : State = state_of c.args.world.now in
+    let at = c.waiting_whole_at-i.ensures in
+    let clear : IsClear s.tickets c.waiting_whole_at-i.result = search rules in
+    calm_by s c.waiting_whole_at-i.result c.requires.sound at.stands.within clear (λ w. at.waits)
+
+pub begin-requires-clause-none : goal.begin-requires-clause-none
+begin-requires-clause-none c =
     let s : State = state_of c.args.world.now in
     let at = c.waiting_whole_at-i.ensures in
     let clear : IsClear s.tickets c.waiting_whole_at-i.result = search rules in
@@ -31,9 +39,10 @@ returns-in-Some-refusal-clause-sound c =
     let at = c.waiting_whole_at-i.ensures in
     let clear : IsClear s.tickets i = search rules in
     let asks : (open_at s.calls i).op ≡ Some c.op_at-op.result = search rules in
+    let begins : MayBegin s c.op_at-op.result = search rules in
     let why : refused_in s (command_of c.op_at-op.result) ≡ Some c.in-Some-refusal.why = search rules in
     let is : state_of c.refuse.new.world ≡ whole_ended (with_place s) i c.op_at-op.result (reply.Refused c.in-Some-refusal.why) = search rules in
-    subst IsSound (sym is) (refused_whole s i c.op_at-op.result c.in-Some-refusal.why c.requires.sound at.stands.within at.kind at.waits clear asks why)
+    subst IsSound (sym is) (refused_whole s i c.op_at-op.result c.in-Some-refusal.why c.requires.sound at.stands.within at.kind at.waits clear asks begins why)
 
 pub long_source-source-requires-clause-read : goal.long_source-source-requires-clause-read
 long_source-source-requires-clause-read c =
@@ -47,13 +56,13 @@ returns-clause-sound c =
     let s : State = state_of c.args.world.now in
     let i = c.waiting_whole_at-i.result in
     let op : WholeOp = c.op_at-op.result in
-    let at = c.waiting_whole_at-i.ensures in
     let clear : IsClear s.tickets i = search rules in
     let asks : (open_at s.calls i).op ≡ Some op = search rules in
+    let begins : MayBegin s op = search rules in
     let free : refused_in s (command_of op) ≡ None = search rules in
-    let begins : BeginsWhole s i op (state_of c.begin.new.world) = c.in_ok-begin.ensures.ok in
-    subst IsSound (sym begins.2) (begun_sound s i c.requires.sound at.stands.within at.kind at.waits clear op begins.0 asks (asked_op s i op c.requires.sound at.stands.within at.kind asks)
-    (still_op s i op c.requires.sound at.stands.within at.kind at.waits asks) free c.long_source-source.result c.long_source-source.ensures begins.1)
+    let few : length s.book.entries < 2 ^ 63 = search rules in
+    let waiting : IsWaiting s c.args.t i op = record { awaits = c.waiting_whole_at-i.ensures; asks = asks; clear = clear } in
+    starts_sound s (state_of c.begin.new.world) c.args.t i c.long_source-source.result op c.requires.sound waiting begins free few c.long_source-source.ensures.long c.in_ok-begin.ensures.ok
 
 pub returns-in-Some-refusal-clause-may : goal.returns-in-Some-refusal-clause-may
 returns-in-Some-refusal-clause-may c =
@@ -73,5 +82,4 @@ returns-clause-may c =
     let s2 : State = state_of c.begin.new.world in
     let i = c.waiting_whole_at-i.result in
     let op : WholeOp = c.op_at-op.result in
-    let begins : BeginsWhole s i op s2 = c.in_ok-begin.ensures.ok in
-    for_caller s c.args.t i (λ n. MayGo n s s2) c.waiting_whole_at-i.ensures.stands (begun_goes s s2 c.requires.sound (returns-clause-sound c) i op begins.0 begins.2)
+    for_caller s c.args.t i (λ n. MayGo n s s2) c.waiting_whole_at-i.ensures.stands (starts_goes s s2 c.requires.sound (returns-clause-sound c) i op c.in_ok-begin.ensures.ok)

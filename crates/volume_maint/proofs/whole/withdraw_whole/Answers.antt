@@ -16,4 +16,4 @@ returns-clause-may c =
     let s = state_of c.args.world.now in
     let s2 = state_of c.take_call.new.world in
     let i = c.waiting_whole_at-i.result in
-    for_caller s c.args.t i (λ stream. MayGo stream s s2) c.waiting_whole_at-i.ensures.stands (gone_goes s s2 c.requires.sound (returns-clause-sound c) i s.whole c.take_call.ensures)
+    for_caller s c.args.t i (λ stream. MayGo stream s s2) c.waiting_whole_at-i.ensures.stands (gone_goes s s2 c.requires.sound (returns-clause-sound c) i s.whole s.rebuild c.take_call.ensures)
