@@ -1,4 +1,5 @@
 pub mod Guards
 pub mod MaintGuards
 pub mod MaintTakes
+pub mod RebuildTakes
 pub mod Takes

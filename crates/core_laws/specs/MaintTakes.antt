@@ -6,7 +6,7 @@ use Rattle.volume_core.specs.declared.world.NotThis.{NotThis}
 use Rattle.volume_core.specs.State.{State}
 use Rattle.volume_core.specs.Steps.{without_call}
 use Rattle.volume_maint.specs.declared.answers.AdmitWhole.{AdmitWhole}
-use Rattle.volume_maint.specs.Steps.{maint_enrolled, without_command}
+use Rattle.volume_maint.specs.Steps.{maint_enrolled, without_command, turn_abandoned}
 use Rattle.volume_maint.specs.Places.{AwaitsTurn, AwaitsWhole, IsFreeTurn}
 use Rattle.volume_maint.specs.Answers.{TurnsTo, EndsTurn, EnrolsWhole, AdmitsWhole}
 use Rattle.volume_maint.specs.Answers.{TakesPart, AcksPart, EndsWhole, FoldsPage}
@@ -22,7 +22,7 @@ TakesMaint (step.Enrol stream c) s s2 = MayWant s stream c × ((number : ℕ) ×
 TakesMaint (step.Admit t) s s2 = (may : MayStart) × TurnsTo s t may s2
 TakesMaint (step.Withdraw t) s s2 = (k : ℕ) × AwaitsTurn s t k × (s2 ≡ without_command s k)
 TakesMaint (step.End t r) s s2 = EndsTurn s t r s2
-TakesMaint (step.Abandon t) s s2 = IsFreeTurn s t × (s2 ≡ without_command s 0)
+TakesMaint (step.Abandon t) s s2 = IsFreeTurn s t × (s2 ≡ turn_abandoned s)
 TakesMaint (step.EnrolWhole stream op) s s2 =
     MayEnrolWhole s stream op × ((t : Option ℕ) × EnrolsWhole s stream op t s2)
 TakesMaint (step.AdmitWhole t) s s2 = (a : AdmitWhole) × AdmitsWhole s t a s2

@@ -16,6 +16,7 @@ use Rattle.core_laws.specs.declared.step.Step.{Step}
 use Rattle.core_laws.specs.declared.step.Step.TheVariants as step
 use Rattle.core_laws.specs.Guards.{MayEnrol, MayAnswer, IsWaiting, MayFault}
 use Rattle.core_laws.specs.MaintTakes.{TakesMaint, IsAgainstMaint}
+use Rattle.core_laws.specs.RebuildTakes.{TakesRebuild, IsAgainstRebuild}
 
 -- the step could be taken, and makes that of the World
 abbrev pub Takes : Step → State → State → Type 0
@@ -32,6 +33,7 @@ Takes (step.Ack t r) s s2 =
 Takes (step.Fault stream r count) s s2 = MayFault s stream r count × (s2 ≡ faulted s stream r count)
 Takes (step.Complete t) s s2 = Completes s t s2
 Takes (step.Maint x) s s2 = TakesMaint x s s2
+Takes (step.Rebuild x) s s2 = TakesRebuild x s s2
 
 -- something stands against the step: its condition or its guard fails
 abbrev pub IsAgainst : Step → State → Type 0
@@ -45,6 +47,7 @@ IsAgainst (step.Ack t r) s = (why : NotThis) × AgainstAck s t r why
 IsAgainst (step.Fault stream r count) s = (why : NotThis) × AgainstFault s stream r count why
 IsAgainst (step.Complete t) s = (why : NotThis) × AgainstEnd s t why
 IsAgainst (step.Maint x) s = IsAgainstMaint x s
+IsAgainst (step.Rebuild x) s = IsAgainstRebuild x s
 
 -- the step is taken, or something stands against it, and it is skipped
 abbrev pub Makes : Step → State → State → Type 0

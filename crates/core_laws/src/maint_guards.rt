@@ -25,8 +25,8 @@ fn is_maint(command: &Command) -> bool
     ensures no { result ≡ false → IsMaint command.now → ⊥ }
 {
     match command {
-        Command::Remove(_) | Command::Revert(_) | Command::Purge => true,
-        Command::Snapshot(_) | Command::Status | Command::Fail(_) | Command::Add(_) => false,
+        Command::Remove(_) | Command::Revert(_) | Command::Purge | Command::Add(_) => true,
+        Command::Snapshot(_) | Command::Status | Command::Fail(_) => false,
     }
 }
 
@@ -61,9 +61,8 @@ fn may_ask(world: &World, stream: u8, op: &WholeOp) -> bool
             let _name = name.as_bytes();
             has_no_command(world, stream)
         }
-        WholeOp::Remove(_) | WholeOp::Revert(_) | WholeOp::Purge(_) => {
-            has_turn(world, stream, &op.command())
-        }
+        WholeOp::Remove(_) | WholeOp::Revert(_) | WholeOp::Purge(_) | WholeOp::Barrier(_) =>
+            has_turn(world, stream, &op.command()),
     }
 }
 

@@ -18,7 +18,7 @@ pub enum MaintStep {
         ticket: TicketNumber,
         reply: Reply,
     },
-    /// The command that has the turn gives it back without an answer.
+    /// The command that has the turn gives it back, without an answer but where a rebuild of it was begun.
     Abandon(TicketNumber),
     /// A stream enrols an operation on the whole volume.
     EnrolWhole {

@@ -1,4 +1,5 @@
 use crate::maint_step::MaintStep;
+use crate::rebuild_step::RebuildStep;
 use volume_core::{Call, TicketNumber};
 
 /// A step that may be asked of a World. It names no blocks: those of a write are made where it is taken.
@@ -24,4 +25,6 @@ pub enum Step {
     Complete(TicketNumber),
     /// A step of the maintenance turn, of a call on the whole volume, or of folding.
     Maint(MaintStep),
+    /// A step of a rebuild that is past its barrier.
+    Rebuild(RebuildStep),
 }

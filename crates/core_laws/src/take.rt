@@ -12,6 +12,7 @@ ghost use Rattle.core_laws.specs.Takes.{Makes};
 use crate::guards::{is_waiting, may_answer, may_enrol};
 use crate::step::Step;
 use crate::take_maint::take_maint_step;
+use crate::take_rebuild::take_rebuild_step;
 use std::alloc::{AllocError, Global};
 use volume_core::{Blocks, Call, TicketNumber, World};
 
@@ -49,6 +50,7 @@ pub(crate) fn take_step(world: &mut World, alloc: Global, step: &Step) -> Result
             Ok(())
         }
         Step::Maint(step) => take_maint_step(world, alloc, step),
+        Step::Rebuild(step) => take_rebuild_step(world, alloc, step),
     }
 }
 

@@ -87,7 +87,7 @@ fn withdraw(world: &mut World, ticket: TicketNumber)
     }
 }
 
-/// No command of the turn is answered otherwise than that it is done or refused.
+/// No command of the turn is answered otherwise than that it is done or refused, or that its rebuild was aborted.
 fn end(world: &mut World, ticket: TicketNumber, reply: &Reply)
     requires { IsSound (state_of world.old) }
     ensures sound { IsSound (state_of world.new) }
@@ -100,7 +100,10 @@ fn end(world: &mut World, ticket: TicketNumber, reply: &Reply)
         Reply::Refused(why) => {
             let _ = end_maint(world, ticket, Reply::Refused(*why));
         }
-        Reply::Read(_) | Reply::Status { .. } | Reply::Aborted(_) => {}
+        Reply::Aborted(place) => {
+            let _ = end_maint(world, ticket, Reply::Aborted(*place));
+        }
+        Reply::Read(_) | Reply::Status { .. } => {}
     }
 }
 

@@ -73,6 +73,8 @@ fn kind_of(step: &Step) -> usize {
         Step::Fault { .. } => 7,
         Step::Complete(_) => 8,
         Step::Maint(step) => kind_of_maint(step),
+        // No random list rebuilds a replica yet.
+        Step::Rebuild(_) => KINDS.len(),
     }
 }
 
