@@ -6,7 +6,7 @@ use Rattle.frame_wire.specs.declared.head.Head.{Head}
 use Rattle.frame_wire.specs.Spelling.{frame, header, IsHead}
 use Rattle.page_text.specs.Text.{blocks_of, map_of, page_text}
 use Rattle.outer_traits.specs.Lines.{TellsMore}
-use Rattle.rebuild_worker.specs.declared.steps.PageRef.{PageRef}
+use Rattle.vol_units.specs.declared.page_ref.PageRef.{PageRef}
 use Rattle.rebuild_worker.specs.Frames.{ask_head, done_head, give_head, send_head, response_kind, source_request, source_reply, target_request, target_reply}
 use Rattle.rebuild_worker.specs.Copying.{AreKept, AreQuiet, Copying, OnLine, CarriesOn, IsFrame, IsQuiet, IsTextOf, number_after, numbered}
 use Rattle.rebuild_worker.specs.Rooms.{HasPlace, text_in}

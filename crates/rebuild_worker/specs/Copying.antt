@@ -6,7 +6,7 @@ use Rattle.page_text.specs.Text.{page_text, longest_text}
 use Rattle.frame_wire.specs.declared.head.Head.{Head}
 use Rattle.frame_wire.specs.Spelling.{frame, IsHead}
 use Rattle.outer_traits.specs.Lines.{TellsMore}
-use Rattle.rebuild_worker.specs.declared.steps.PageRef.{PageRef}
+use Rattle.vol_units.specs.declared.page_ref.PageRef.{PageRef}
 use Rattle.rebuild_worker.specs.declared.steps.CopyNext.{CopyNext}
 use Rattle.rebuild_worker.specs.declared.steps.CopyNext.TheVariants as next
 use Rattle.rebuild_worker.specs.declared.steps.CopyOut.{CopyOut}

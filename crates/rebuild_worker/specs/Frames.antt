@@ -6,7 +6,7 @@ use Rattle.vol_units.specs.declared.size.TheConstants.{PAGE_BYTES}
 use Rattle.frame_stream.specs.Asked.{read_kind, write_kind}
 use Rattle.frame_wire.specs.declared.head.Head.{Head}
 use Rattle.frame_wire.specs.Spelling.{frame}
-use Rattle.rebuild_worker.specs.declared.steps.PageRef.{PageRef}
+use Rattle.vol_units.specs.declared.page_ref.PageRef.{PageRef}
 
 -- the type of a frame that replies, as dataconn numbers it
 abbrev pub response_kind : ℕ

@@ -1,7 +1,7 @@
 -- What the two lines of a rebuild tell of the pages that were copied.
 use Rattle.std.specs.Prelude.{◌≡◌, ℕ, ◌+◌, List, [], ◌∷◌, ◌++◌, length, All, None}
 use Rattle.outer_traits.specs.Lines.{TellsMore}
-use Rattle.rebuild_worker.specs.declared.steps.PageRef.{PageRef}
+use Rattle.vol_units.specs.declared.page_ref.PageRef.{PageRef}
 use Rattle.rebuild_worker.specs.declared.steps.Carried.{Carried}
 use Rattle.rebuild_worker.specs.declared.steps.Carried.TheVariants as carried
 use Rattle.rebuild_worker.specs.declared.copy.Copied.{Copied}

@@ -7,10 +7,11 @@ ghost use Rattle.rebuild_worker.specs.Told.{CopiesPage, CopyEnds, IfEnded, IsUnt
 
 use crate::frames::{done_head, fill_request, give_head, put_header, send_head};
 use crate::rooms::{Rooms, clear_text};
-use crate::steps::{Carried, CopyNext, CopyOut, CopyPut, CopySide, CopySteps, PageRef};
+use crate::steps::{Carried, CopyNext, CopyOut, CopyPut, CopySide, CopySteps};
 use frame_wire::{HEADER_LENGTH, encode_header};
 use std::alloc::{AllocError, Global};
 use std::sync::Wait;
+use vol_units::PageRef;
 
 /// How a copying ended.
 #[derive(Clone, Copy, Debug, PartialEq, Eq)]
@@ -33,6 +34,7 @@ pub fn copy_all<R: Wait, C: CopySteps>(
     ensures ready { C.ready steps.new }
     ensures home { C.home steps.new ≡ C.home steps.old }
     ensures kept { AreKept (C.is_aborted steps.old) (C.is_aborted steps.new) (C.is_text steps.old) (C.is_text steps.new) }
+    ensures stays { (f : C.Fact) → C.stays steps.old f → C.stays steps.new f }
     ensures fewer { (C.copying steps.new).left ≤ (C.copying steps.old).left }
     ensures ok { IfOk result (λ e. CopyEnds e (C.is_aborted steps.new) (C.is_text steps.new)
         (C.copying steps.old) (C.copying steps.new)) }
@@ -66,6 +68,7 @@ fn copy_page<R: Wait, C: CopySteps>(
     ensures ready { C.ready steps.new }
     ensures home { C.home steps.new ≡ C.home steps.old }
     ensures kept { AreKept (C.is_aborted steps.old) (C.is_aborted steps.new) (C.is_text steps.old) (C.is_text steps.new) }
+    ensures stays { (f : C.Fact) → C.stays steps.old f → C.stays steps.new f }
     ensures fewer { (C.copying steps.new).left ≤ (C.copying steps.old).left }
     ensures room { HasRoom rooms.new }
     ensures ended { IfOk result (λ c. IfEnded c (C.is_aborted steps.new)) }
@@ -102,6 +105,7 @@ fn carry_page<R: Wait, C: CopySteps>(
     ensures ready { C.ready steps.new }
     ensures home { C.home steps.new ≡ C.home steps.old }
     ensures kept { AreKept (C.is_aborted steps.old) (C.is_aborted steps.new) (C.is_text steps.old) (C.is_text steps.new) }
+    ensures stays { (f : C.Fact) → C.stays steps.old f → C.stays steps.new f }
     ensures fewer { (C.copying steps.new).left ≤ (C.copying steps.old).left }
     ensures ended { IfOk result (λ c. IfEnded c (C.is_aborted steps.new)) }
     ensures listed { result ≡ Ok carried.Whole → Lists (C.copying steps.old) (C.copying steps.new) }
@@ -136,6 +140,7 @@ fn take_page<R: Wait, C: CopySteps>(
     ensures ready { C.ready steps.new }
     ensures home { C.home steps.new ≡ C.home steps.old }
     ensures kept { AreKept (C.is_aborted steps.old) (C.is_aborted steps.new) (C.is_text steps.old) (C.is_text steps.new) }
+    ensures stays { (f : C.Fact) → C.stays steps.old f → C.stays steps.new f }
     ensures same { KeepsPages (C.copying steps.old) (C.copying steps.new) }
     ensures ended { IfOk result (λ c. IfEnded c (C.is_aborted steps.new)) }
     ensures takes { result ≡ Ok carried.Whole → TakesPage page.now (text_in frame.old)
@@ -170,6 +175,7 @@ fn send_page<R: Wait, C: CopySteps>(
     ensures ready { C.ready steps.new }
     ensures home { C.home steps.new ≡ C.home steps.old }
     ensures kept { AreKept (C.is_aborted steps.old) (C.is_aborted steps.new) (C.is_text steps.old) (C.is_text steps.new) }
+    ensures stays { (f : C.Fact) → C.stays steps.old f → C.stays steps.new f }
     ensures fewer { (C.copying steps.new).left ≤ (C.copying steps.old).left }
     ensures ended { IfOk result (λ c. IfEnded c (C.is_aborted steps.new)) }
     ensures listed { result ≡ Ok carried.Whole → Lists (C.copying steps.old) (C.copying steps.new) }
@@ -204,6 +210,7 @@ fn put_page<R: Wait, C: CopySteps>(
     ensures ready { C.ready steps.new }
     ensures home { C.home steps.new ≡ C.home steps.old }
     ensures kept { AreKept (C.is_aborted steps.old) (C.is_aborted steps.new) (C.is_text steps.old) (C.is_text steps.new) }
+    ensures stays { (f : C.Fact) → C.stays steps.old f → C.stays steps.new f }
     ensures quiet { AreQuiet (C.copying steps.old) (C.copying steps.new) }
     ensures fewer { (C.copying steps.new).left ≤ (C.copying steps.old).left }
     ensures ended { IfOk result (λ c. IfEnded c (C.is_aborted steps.new)) }

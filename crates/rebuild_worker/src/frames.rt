@@ -9,10 +9,9 @@ ghost use Rattle.rebuild_worker.specs.Frames.{ask_head, done_head, give_head, of
 ghost use Rattle.rebuild_worker.specs.Copying.{IsFrame, number_after, numbered};
 ghost use Rattle.rebuild_worker.specs.Rooms.{text_in};
 
-use crate::steps::PageRef;
 use frame_stream::{READ, WRITE};
 use frame_wire::{HEADER_LENGTH, Head, encode_header};
-use vol_units::{LayerName, PAGE_BYTES};
+use vol_units::{LayerName, PAGE_BYTES, PageRef};
 
 /// The type of a frame that replies, as dataconn numbers it.
 const RESPONSE: u32 = 2;

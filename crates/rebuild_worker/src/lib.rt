@@ -10,5 +10,5 @@ mod tests;
 
 pub use copy::{Copied, copy_all};
 pub use frames::put_number;
-pub use steps::{Carried, CopyNext, CopyOut, CopyPut, CopySide, CopySteps, PageRef};
-pub use vol_units::LayerName;
+pub use steps::{Carried, CopyNext, CopyOut, CopyPut, CopySide, CopySteps};
+pub use vol_units::{LayerName, PageRef};

@@ -3,14 +3,7 @@ ghost use Rattle.rebuild_worker.specs.Copying.{AreQuiet, AreKept, CarriesTo, IsF
 
 use std::alloc::{AllocError, Global};
 use std::sync::Wait;
-use vol_units::LayerName;
-
-/// A page of a frozen layer: its number from 0 on.
-#[derive(Clone, Copy, Debug, PartialEq, Eq)]
-pub struct PageRef {
-    pub layer: LayerName,
-    pub page: u32,
-}
+use vol_units::PageRef;
 
 /// What is to be copied next.
 #[derive(Clone, Copy, Debug, PartialEq, Eq)]
@@ -64,7 +57,7 @@ pub enum Carried {
 /// The core's steps of a rebuild past its barrier, and its two lines. What others do between two of them is not said.
 pub trait CopySteps {
     ghost use Rattle.std.specs.Prelude.{ℕ, List};
-    ghost use Rattle.rebuild_worker.specs.declared.steps.PageRef.{PageRef};
+    ghost use Rattle.vol_units.specs.declared.page_ref.PageRef.{PageRef};
     ghost use Rattle.rebuild_worker.specs.Copying.{Copying};
 
     // How far the copying is.
@@ -75,6 +68,11 @@ pub trait CopySteps {
 
     // This is the text of a page of a frozen layer on the source, and no byte where it has no block there.
     ghost is_text: { Self → PageRef → List ℕ → Type 0 };
+
+    // What else is true of the steps for good, once it is.
+    ghost Fact: { Type 0 };
+
+    ghost stays: { Self → Fact → Type 0 };
 
     // What no step changes.
     ghost Home: { Type 0 };
@@ -91,6 +89,7 @@ pub trait CopySteps {
         ensures ready { ready self.new }
         ensures home { home self.new ≡ home self.old }
         ensures kept { AreKept (is_aborted self.old) (is_aborted self.new) (is_text self.old) (is_text self.new) }
+        ensures stays { (f : Fact) → stays self.old f → stays self.new f }
         ensures quiet { AreQuiet (copying self.old) (copying self.new) }
         ensures fewer { (copying self.new).left ≤ (copying self.old).left }
         ensures takes { TakesTo result (is_aborted self.new) (copying self.old) (copying self.new) };
@@ -109,6 +108,7 @@ pub trait CopySteps {
         ensures ready { ready self.new }
         ensures home { home self.new ≡ home self.old }
         ensures kept { AreKept (is_aborted self.old) (is_aborted self.new) (is_text self.old) (is_text self.new) }
+        ensures stays { (f : Fact) → stays self.old f → stays self.new f }
         ensures same { KeepsPages (copying self.old) (copying self.new) }
         ensures ok { IfOk result (λ c. CarriesTo side c (is_aborted self.new) frame.old frame.new
             (copying self.old) (copying self.new)) };
@@ -127,6 +127,7 @@ pub trait CopySteps {
         ensures ready { ready self.new }
         ensures home { home self.new ≡ home self.old }
         ensures kept { AreKept (is_aborted self.old) (is_aborted self.new) (is_text self.old) (is_text self.new) }
+        ensures stays { (f : Fact) → stays self.old f → stays self.new f }
         ensures quiet { AreQuiet (copying self.old) (copying self.new) }
         ensures fewer { (copying self.new).left ≤ (copying self.old).left }
         ensures room { vec_capacity text.old ≤ vec_capacity text.new }
@@ -141,6 +142,7 @@ pub trait CopySteps {
         ensures ready { ready self.new }
         ensures home { home self.new ≡ home self.old }
         ensures kept { AreKept (is_aborted self.old) (is_aborted self.new) (is_text self.old) (is_text self.new) }
+        ensures stays { (f : Fact) → stays self.old f → stays self.new f }
         ensures quiet { AreQuiet (copying self.old) (copying self.new) }
         ensures fewer { (copying self.new).left ≤ (copying self.old).left }
         ensures ok { IfOk result (λ p. PutsTo p (is_aborted self.new) (copying self.old) (copying self.new)) };
@@ -151,6 +153,7 @@ pub trait CopySteps {
         ensures ready { ready self.new }
         ensures home { home self.new ≡ home self.old }
         ensures kept { AreKept (is_aborted self.old) (is_aborted self.new) (is_text self.old) (is_text self.new) }
+        ensures stays { (f : Fact) → stays self.old f → stays self.new f }
         ensures quiet { AreQuiet (copying self.old) (copying self.new) }
         ensures same { KeepsPages (copying self.old) (copying self.new) }
         ensures is { IfSome result (is_aborted self.new) };

@@ -54,7 +54,7 @@ fn keep(
 
 impl CopySteps for Fake {
     ghost use Rattle.std.specs.Prelude.{◌≡◌, ℕ, ◌<◌, None, Some, vec_len};
-    ghost use Rattle.rebuild_worker.specs.declared.steps.PageRef.{PageRef};
+    ghost use Rattle.vol_units.specs.declared.page_ref.PageRef.{PageRef};
 
     ghost copying = { λ s. record {
       left = vec_len s.pages;
@@ -67,6 +67,10 @@ impl CopySteps for Fake {
     ghost is_aborted = { λ s place. s.ended ≡ Some place };
 
     ghost is_text = { λ s page text. Unit {0} };
+
+    ghost Fact = { Unit {0} };
+
+    ghost stays = { λ s f. Unit {0} };
 
     ghost Home = { Unit {0} };
 
