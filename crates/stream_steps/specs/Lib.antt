@@ -2,3 +2,4 @@ pub mod Mine
 pub mod Against
 pub mod Steps
 pub mod Maint
+pub mod Add

@@ -15,7 +15,8 @@ use Rattle.volume_model.specs.declared.mark.FoldOrDrop.{FoldOrDrop}
 use Rattle.volume_model.specs.declared.mark.Mark.TheVariants as mark
 use Rattle.volume_model.specs.declared.mode.Mode.{Mode}
 use Rattle.volume_model.specs.declared.mode.Mode.TheVariants.{Err}
-use Rattle.volume_model.specs.Modes.{mode_of, HasSource, HasNoSource}
+use Rattle.vol_units.specs.Name.{sys_name}
+use Rattle.volume_model.specs.Modes.{mode_of, source_of, HasSource, HasNoSource}
 use Rattle.volume_model.specs.OneWorker.{refused_at}
 use Rattle.volume_model.specs.Purge.{next_of}
 use Rattle.range_turns.specs.declared.turns.MayStart.{MayStart}
@@ -24,7 +25,7 @@ use Rattle.open_calls.specs.declared.parts.Part.TheVariants.{Owed, Taken, Acked}
 use Rattle.open_calls.specs.declared.whole_op.WholeOp.{WholeOp}
 use Rattle.open_calls.specs.declared.whole_op.WholeOp.TheVariants as whole
 use Rattle.open_calls.specs.Calls.{command_of}
-use Rattle.open_calls.specs.Parts.{part_at}
+use Rattle.open_calls.specs.Parts.{part_at, IsTaken}
 use Rattle.volume_core.specs.declared.world.NotThis.{NotThis}
 use Rattle.volume_core.specs.declared.world.NotThis.TheVariants as against
 use Rattle.volume_maint.specs.declared.answers.AdmitWhole.{AdmitWhole}
@@ -40,7 +41,13 @@ abbrev pub IsMaint : Command → Type 0
 IsMaint (command.Remove name) = Unit {0}
 IsMaint (command.Revert name) = Unit {0}
 IsMaint command.Purge = Unit {0}
+IsMaint (command.Add r) = Unit {0}
 IsMaint c = ⊥
+
+-- one that rebuilds no replica
+abbrev pub IsNoAdd : Command → Type 0
+IsNoAdd (command.Add r) = ⊥
+IsNoAdd c = Unit {0}
 
 -- that command is the stream's open call: it has the turn, and nothing is enrolled for the whole volume
 pub record HasTurn (t : ℕ) (c : Command) (o : OwnCall) (m : Mine) : Type 0 where
@@ -110,10 +117,28 @@ pub record StartsWhole (turn : List OwnCall) (o : OwnCall) (m m2 : Mine) : Type 
   pub none : (r : ℕ) → part_at own.parts r ≢ Acked
   pub free : IfSome m.log (λ log. refused_at log.spot o.call ≡ None)
 
-abbrev pub AdmitsWhole : List OwnCall → OwnCall → AdmitWhole → Mine → Mine → Type 0
-AdmitsWhole turn o admit.Go m m2 = StartsWhole turn o m m2
-AdmitsWhole turn o (admit.After other) m m2 = m2 ≡ m
-AdmitsWhole turn o (admit.Refused why place) m m2 =
+-- A barrier starts, and with it the rebuild of the replica, whose mark comes. Where the journal is known, the mark is the
+-- one that one worker makes of it there.
+pub record StartsBarrier (r : ℕ) (turn : List OwnCall) (o : OwnCall) (m m2 : Mine) : Type 0 where
+  pub own : OwnCall
+  pub source : ℕ
+  pub name : List ℕ
+  pub is : m2 ≡ with_entries m [] (entry.Mark (mark.Added r source name) ∷ []) (turn ++ own ∷ [])
+  pub same : own ≡ record o { started = true; parts = own.parts }
+  pub none : (q : ℕ) → part_at own.parts q ≢ Acked
+  pub free : IfSome m.log (λ log. refused_at log.spot o.call ≡ None)
+  pub from : IfSome m.log (λ log. source_of log.spot.modes ≡ Some source)
+  pub under : IfSome m.log (λ log. name ≡ sys_name log.spot.state.volume.snapshots.number)
+
+abbrev pub StartsAs : WholeOp → List OwnCall → OwnCall → Mine → Mine → Type 0
+StartsAs (whole.Barrier r) turn o m m2 = StartsBarrier r turn o m m2
+StartsAs op turn o m m2 = StartsWhole turn o m m2
+
+abbrev pub AdmitsWhole : WholeOp → List OwnCall → OwnCall → AdmitWhole → Mine → Mine → Type 0
+AdmitsWhole op turn o admit.Go m m2 = StartsAs op turn o m m2
+AdmitsWhole op turn o (admit.After other) m m2 = m2 ≡ m
+AdmitsWhole op turn o admit.Never m m2 = m2 ≡ m
+AdmitsWhole op turn o (admit.Refused why place) m m2 =
     AnswersWhole o (reply.Refused why) m m2 × IfSome m.log (λ log. refused_at log.spot o.call ≡ Some why)
 
 -- no earlier call is in the way
@@ -133,6 +158,11 @@ abbrev pub AgainstPart : List Mode → OwnCall → ℕ → NotThis → Type 0
 AgainstPart modes o r (against.Mode m) = (m ≡ mode_of modes r) × (m ≡ Err)
 AgainstPart modes o r against.Ticket = part_at o.parts r ≢ Owed
 AgainstPart modes o r why = ⊥
+
+-- the replica does not acknowledge it: it has not taken its part
+abbrev pub AgainstAckWhole : OwnCall → ℕ → NotThis → Type 0
+AgainstAckWhole o r (against.Pending q) = (q ≡ r) × (¬ IsTaken (part_at o.parts r))
+AgainstAckWhole o r why = ⊥
 
 -- ---- its end
 
@@ -157,8 +187,10 @@ pub record EndsPart (f : FoldOrDrop) (turn : List OwnCall) (m m2 : Mine) : Type 
   pub done : IfSome m.log (λ log. HasSource log.spot.modes → marks ≡ entry.Mark (mark.Purged f) ∷ [])
   pub none : IfSome m.log (λ log. HasNoSource log.spot.modes → marks ≡ [])
 
+-- a barrier ends with neither entry nor mark, and its command has the turn still
 abbrev pub WholeEnds : WholeOp → List OwnCall → OwnCall → Mine → Mine → Type 0
 WholeEnds (whole.Purge f) turn o m m2 = EndsPart f turn m m2
+WholeEnds (whole.Barrier r) turn o m m2 = m2 ≡ with_running m turn
 WholeEnds op turn o m m2 = EndsWhole o m m2
 
 -- ---- a purge

@@ -1,5 +1,5 @@
 -- What the core's steps say to the stream for which they are taken.
-use Rattle.std.specs.Prelude.{◌≡◌, ℕ, ◌+◌, ◌*◌, ◌<◌, ℤ, true, false, List, [], ◌∷◌, ◌++◌, length, slice_set, All, is_some, Option, IfSome}
+use Rattle.std.specs.Prelude.{◌≡◌, ◌⊎◌, ℕ, ◌+◌, ◌*◌, ◌<◌, ℤ, true, false, List, [], ◌∷◌, ◌++◌, length, slice_set, All, is_some, Option, IfSome}
 use Rattle.vol_units.specs.Range.{place_of, blocks_around}
 use Rattle.vol_units.specs.declared.range.BlockRange.{BlockRange}
 use Rattle.vol_units.specs.declared.size.TheConstants.{BLOCK_BYTES}
@@ -178,6 +178,17 @@ AcksTo o r m m2 = m2 ≡ with_running m (record o { parts = slice_set o.parts r 
 pub record FaultsTo (r count : ℕ) (m m2 : Mine) : Type 0 where
   pub modes : List Mode
   pub is : m2 ≡ with_more m (fault_placed modes m.stream r count ∷ []) m.running
+
+-- a rebuild is aborted, or none is
+abbrev pub AreAborts : List Entry → Type 0
+AreAborts es = (es ≡ []) ⊎ ((q : ℕ) × (es ≡ entry.Mark (mark.Aborted q) ∷ []))
+
+-- the same, and behind it stands that a rebuild was aborted thereby, if one was
+pub record FallsTo (r count : ℕ) (m m2 : Mine) : Type 0 where
+  pub modes : List Mode
+  pub aborted : List Entry
+  pub is : m2 ≡ with_entries m (fault_placed modes m.stream r count ∷ []) (entry.Mark (mark.Fault m.stream r count) ∷ aborted) m.running
+  pub are : AreAborts aborted
 
 -- ---- commands
 

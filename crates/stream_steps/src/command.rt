@@ -8,8 +8,8 @@ ghost use Rattle.volume_model.specs.Modes.{mode_of};
 ghost use Rattle.open_calls.specs.Calls.{command_of};
 ghost use Rattle.stream_steps.specs.Mine.{Mine, OwnCall, with_running};
 ghost use Rattle.stream_steps.specs.Against.{RefusesFault};
-ghost use Rattle.stream_steps.specs.Steps.{CommandsTo, EnrolsAt, FaultsTo, IsAtOnce};
-ghost use Rattle.stream_steps.specs.Maint.{IsMaint, HasTurn, AwaitsTurn, TurnsTo, IsYes, HasWhole, EnrolsWhole, EnrolsUnder, AnswersWhole, AdmitsWhole, IsNotLater, PartsTo, AcksWhole, AgainstPart, WholeEnds, IsNext};
+ghost use Rattle.stream_steps.specs.Steps.{CommandsTo, EnrolsAt, FallsTo, IsAtOnce};
+ghost use Rattle.stream_steps.specs.Maint.{IsMaint, IsNoAdd, HasTurn, AwaitsTurn, TurnsTo, IsYes, HasWhole, EnrolsWhole, EnrolsUnder, AnswersWhole, AdmitsWhole, IsNotLater, PartsTo, AcksWhole, AgainstPart, AgainstAckWhole, WholeEnds, IsNext};
 
 use std::alloc::{AllocError, Global};
 use std::sync::Wait;
@@ -60,12 +60,12 @@ pub trait CommandSteps {
         ensures same { mine self.new ≡ mine self.old }
         ensures is { result ≡ mode_of (modes self.new) replica };
 
-    /// The stream's line to a replica has failed, and so the replica.
+    /// The stream's line to a replica has failed, and so the replica: thereby a rebuild may be aborted.
     fn line_failed<R: Wait>(&mut self, rt: &R, replica: u8, count: u64) -> Result<(), NotThis>
         requires ready { ready self.old }
         ensures ready { ready self.new }
         ensures home { home self.new ≡ home self.old }
-        ensures ok { OnOk result (FaultsTo replica count (mine self.old) (mine self.new)) }
+        ensures ok { OnOk result (FallsTo replica count (mine self.old) (mine self.new)) }
         ensures failed { OnOk result (mode_of (modes self.new) replica ≡ Mode.Err) }
         ensures why { IfErr result (RefusesFault (modes self.new) (mine self.old) replica count) }
         ensures err { OnErr result (mine self.new ≡ mine self.old) };
@@ -115,10 +115,10 @@ pub trait CommandSteps {
             → AnswersWhole o reply (mine self.old) (mine self.new)) }
         ensures err { OnErr result (mine self.new ≡ mine self.old) };
 
-    /// Gives the turn back without an answer, once memory ran out.
+    /// Gives the turn back without an answer, once memory ran out: of a command that is no add.
     fn abandon<R: Wait>(&mut self, rt: &R, t: TicketNumber)
         requires ready { ready self.old }
-        requires turn { (c : Command) × (o : OwnCall) × HasTurn t c o (mine self.old) }
+        requires turn { (c : Command) × (o : OwnCall) × HasTurn t c o (mine self.old) × IsNoAdd c }
         ensures ready { ready self.new }
         ensures home { home self.new ≡ home self.old }
         ensures gone { mine self.new ≡ with_running (mine self.old) [] };
@@ -172,7 +172,7 @@ pub trait CommandSteps {
         ensures ready { ready self.new }
         ensures home { home self.new ≡ home self.old }
         ensures ok { IfOk result (λ a. (op : WholeOp) (turn : List OwnCall) (o : OwnCall)
-            → HasWhole t op turn o (mine self.old) → AdmitsWhole turn o a (mine self.old) (mine self.new)) }
+            → HasWhole t op turn o (mine self.old) → AdmitsWhole op turn o a (mine self.old) (mine self.new)) }
         ensures free { IfOk result (λ a. IfSome (mine self.old).log (λ log. IsNotLater a)) }
         ensures err { OnErr result (mine self.new ≡ mine self.old) };
 
@@ -208,6 +208,8 @@ pub trait CommandSteps {
         ensures home { home self.new ≡ home self.old }
         ensures ok { OnOk result ((op : WholeOp) (turn : List OwnCall) (o : OwnCall)
             → HasWhole t op turn o (mine self.old) → AcksWhole turn o replica (mine self.old) (mine self.new)) }
+        ensures why { IfErr result (λ why. (op : WholeOp) (turn : List OwnCall) (o : OwnCall)
+            → HasWhole t op turn o (mine self.old) → AgainstAckWhole o replica why) }
         ensures err { OnErr result (mine self.new ≡ mine self.old) };
 
     /// Ends the operation, once each replica has acknowledged its part or has failed.

@@ -1,0 +1,89 @@
+-- What the core's steps of an add say to the stream for which they are taken.
+use Rattle.std.specs.Prelude.{◌≡◌, ◌⊎◌, ℕ, ◌+◌, ◌<◌, List, [], ◌∷◌, ◌++◌, Contains, Some, IfSome}
+use Rattle.command_text.specs.declared.command.Command.TheVariants as command
+use Rattle.sparse_image.specs.Image.{Table, HasBlock}
+use Rattle.vol_units.specs.declared.page_ref.PageRef.{PageRef}
+use Rattle.volume_model.specs.declared.call.Reply.TheVariants as reply
+use Rattle.volume_model.specs.declared.entry.Answer.{Answer}
+use Rattle.volume_model.specs.declared.entry.Entry.{Entry}
+use Rattle.volume_model.specs.declared.entry.Entry.TheVariants as entry
+use Rattle.volume_model.specs.declared.mark.Mark.TheVariants as mark
+use Rattle.volume_model.specs.declared.mark.Rebuild.TheVariants as rebuild
+use Rattle.volume_model.specs.declared.mode.Mode.{Mode}
+use Rattle.volume_model.specs.Rebuilds.{rebuild_of}
+use Rattle.stream_steps.specs.declared.add.Added.{Added}
+use Rattle.stream_steps.specs.declared.add.NextPage.{NextPage}
+use Rattle.stream_steps.specs.declared.add.NextPage.TheVariants as next
+use Rattle.stream_steps.specs.declared.add.PageOut.{PageOut}
+use Rattle.stream_steps.specs.declared.add.PageOut.TheVariants as out
+use Rattle.stream_steps.specs.declared.add.PageIn.{PageIn}
+use Rattle.stream_steps.specs.declared.add.PageIn.TheVariants as put
+use Rattle.stream_steps.specs.Mine.{Mine, OwnCall, Log, with_entries, with_running, answer_placed}
+use Rattle.stream_steps.specs.Steps.{AreAborts}
+use Rattle.stream_steps.specs.Maint.{HasTurn, AnswersWhole}
+
+-- the add of that replica is the stream's open call: it has the turn, and nothing is enrolled for the whole volume
+abbrev pub HasAdd : ℕ → ℕ → OwnCall → Mine → Type 0
+HasAdd t r o m = HasTurn t (command.Add r) o m
+
+-- the mark of a rebuild that began so stands in the journal
+abbrev pub IsAddedBy : ℕ → Added → Log → Type 0
+IsAddedBy r a log = Contains log.entries (entry.Mark (mark.Added r a.source a.name))
+
+-- ---- pages
+
+-- what was true of the rebuild's end and of the source's pages is true still
+pub record AreKept (aborted aborted_still : ℕ → Type 0) (is_page is_page_still : PageRef → Table → Type 0) : Type 0 where
+  pub ended : (place : ℕ) → aborted place → aborted_still place
+  pub pages : (page : PageRef) (table : Table) → is_page page table → is_page_still page table
+
+-- a page that waits to be copied; none, where none is left; or the rebuild's aborted mark stands there
+abbrev pub TakesNext : NextPage → (PageRef → Type 0) → (ℕ → Type 0) → ℕ → Type 0
+TakesNext (next.Page page) awaits aborted left = awaits page × (0 < left)
+TakesNext next.All awaits aborted left = left ≡ 0
+TakesNext (next.Ended place) awaits aborted left = aborted place
+
+-- what the source itself has of the page: no block, or these
+abbrev pub TakesOut : PageOut → PageRef → Table → (PageRef → Table → Type 0) → (ℕ → Type 0) → Type 0
+TakesOut out.Empty page table is_page aborted = is_page page []
+TakesOut out.Blocks page table is_page aborted = is_page page table × HasBlock table
+TakesOut (out.Ended place) page table is_page aborted = aborted place
+
+-- one page fewer is left
+abbrev pub PutsIn : PageIn → (ℕ → Type 0) → ℕ → ℕ → Type 0
+PutsIn put.Listed aborted before now = now + 1 ≡ before
+PutsIn (put.Ended place) aborted before now = aborted place
+
+-- ---- its end
+
+-- the mark tells that the replica is promoted, and the add is answered that it is done
+pub record Promotes (r : ℕ) (o : OwnCall) (m m2 : Mine) : Type 0 where
+  pub modes : List Mode
+  pub answer : Answer
+  pub is : m2 ≡ with_entries m (answer_placed modes answer ∷ []) (entry.Mark (mark.Promoted r) ∷ entry.Answer answer ∷ []) []
+  pub call : answer.call ≡ o.call
+  pub by : answer.stream ≡ m.stream
+  pub saw : answer.saw ≡ o.saw
+  pub reply : answer.reply ≡ reply.Done
+
+-- the add is answered that its rebuild was aborted, as the journal tells where it is known
+pub record EndsAborted (r place : ℕ) (o : OwnCall) (m m2 : Mine) : Type 0 where
+  pub answers : AnswersWhole o (reply.Aborted place) m m2
+  pub right : IfSome m.log (λ log. rebuild_of r log.entries ≡ rebuild.Aborted place)
+
+-- its rebuild is aborted, unless it was before, and the add is answered so
+pub record AbandonsAdd (o : OwnCall) (m m2 : Mine) : Type 0 where
+  pub place : ℕ
+  pub marks : List Entry
+  pub are : AreAborts marks
+  pub modes : List Mode
+  pub answer : Answer
+  pub is : m2 ≡ with_entries m (answer_placed modes answer ∷ []) (marks ++ entry.Answer answer ∷ []) []
+  pub call : answer.call ≡ o.call
+  pub by : answer.stream ≡ m.stream
+  pub saw : answer.saw ≡ o.saw
+  pub reply : answer.reply ≡ reply.Aborted place
+
+-- memory ran out: the turn is given back without an answer, or so
+abbrev pub LeavesAdd : OwnCall → Mine → Mine → Type 0
+LeavesAdd o m m2 = (m2 ≡ with_running m []) ⊎ AbandonsAdd o m m2

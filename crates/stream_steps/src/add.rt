@@ -1,0 +1,195 @@
+ghost use Rattle.std.specs.Prelude.{◌≡◌, ◌⊎◌, ℕ, ◌+◌, ◌≤◌, List, None, true, IfSome, Contains};
+ghost use Rattle.sparse_image.specs.Image.{IsLent};
+ghost use Rattle.open_calls.specs.declared.whole_op.WholeOp.{WholeOp};
+ghost use Rattle.stream_steps.specs.Mine.{Mine, OwnCall};
+ghost use Rattle.stream_steps.specs.Steps.{FallsTo};
+ghost use Rattle.stream_steps.specs.Maint.{HasWhole};
+ghost use Rattle.stream_steps.specs.Add.{AreKept, EndsAborted, HasAdd, IsAddedBy, LeavesAdd, Promotes, PutsIn, TakesNext, TakesOut};
+
+use crate::command::CommandSteps;
+use replica_node::Page;
+use std::sync::Wait;
+use vol_units::{LayerName, PageRef};
+use volume_core::TicketNumber;
+
+/// What a rebuild copies next.
+#[derive(Clone, Copy, Debug, PartialEq, Eq)]
+pub enum NextPage {
+    /// This page.
+    Page(PageRef),
+    /// Nothing: every page is listed as copied.
+    All,
+    /// Nothing: the rebuild was aborted, and its mark stands at that place of the journal.
+    Ended(u64),
+}
+
+/// What went out of the source of a page.
+#[derive(Clone, Copy, Debug, PartialEq, Eq)]
+pub enum PageOut {
+    /// Nothing: the layer has no block there.
+    Empty,
+    /// The blocks that the layer has there.
+    Blocks,
+    /// Nothing: the rebuild was aborted, and its mark stands at that place.
+    Ended(u64),
+}
+
+/// How a page came into the replica that is rebuilt.
+#[derive(Clone, Copy, Debug, PartialEq, Eq)]
+pub enum PageIn {
+    /// It has the blocks, and the page is listed as copied.
+    Listed,
+    /// It did not: the rebuild was aborted, and its mark stands at that place.
+    Ended(u64),
+}
+
+/// How a rebuild began: from which replica, and under which name the barrier's snapshot is taken.
+#[derive(Clone, Copy, Debug, PartialEq, Eq)]
+pub struct Added {
+    pub source: u8,
+    pub name: LayerName,
+}
+
+/// The core's steps of a rebuild, as the worker of the stream takes them whose add has the maintenance turn, each whole by
+/// itself. The barrier is an operation on the whole volume, and its steps are those of `CommandSteps`.
+pub trait AddSteps: CommandSteps {
+    ghost use Rattle.std.specs.Prelude.{ℕ};
+    ghost use Rattle.sparse_image.specs.Image.{Table};
+    ghost use Rattle.vol_units.specs.declared.page_ref.PageRef.{PageRef};
+
+    // How many pages of frozen layers are not listed as copied, as it was seen last.
+    ghost left: { Self → ℕ };
+
+    // The page is of a frozen layer and not listed, or the rebuild has ended.
+    ghost awaits: { Self → PageRef → Type 0 };
+
+    // These are the blocks that the source itself has of the page, or the rebuild has ended.
+    ghost is_page: { Self → PageRef → Table → Type 0 };
+
+    // The rebuild's aborted mark stands at that place of the journal.
+    ghost is_aborted: { Self → ℕ → Type 0 };
+
+    /// How the rebuild of the started barrier began, as its mark tells.
+    fn added<R: Wait>(&mut self, rt: &R, t: TicketNumber) -> Added
+        requires ready { Self.ready self.old }
+        requires started { (r : ℕ) × (turn : List OwnCall) × (o : OwnCall)
+            × HasWhole t (WholeOp.Barrier r) turn o (Self.mine self.old) × (o.started ≡ true) }
+        ensures ready { Self.ready self.new }
+        ensures home { Self.home self.new ≡ Self.home self.old }
+        ensures same { Self.mine self.new ≡ Self.mine self.old }
+        ensures is { IfSome (Self.mine self.old).log (λ log. (r : ℕ) (turn : List OwnCall) (o : OwnCall)
+            → HasWhole t (WholeOp.Barrier r) turn o (Self.mine self.old) → IsAddedBy r result log) };
+
+    // ---- pages
+
+    /// The first page that is not listed.
+    fn copy_next<R: Wait>(&mut self, rt: &R, t: TicketNumber) -> NextPage
+        requires ready { Self.ready self.old }
+        requires turn { (r : ℕ) × (o : OwnCall) × HasAdd t r o (Self.mine self.old) }
+        ensures ready { Self.ready self.new }
+        ensures home { Self.home self.new ≡ Self.home self.old }
+        ensures same { Self.mine self.new ≡ Self.mine self.old }
+        ensures kept { AreKept (is_aborted self.old) (is_aborted self.new) (is_page self.old) (is_page self.new) }
+        ensures left { left self.new ≡ left self.old }
+        ensures takes { TakesNext result (awaits self.new) (is_aborted self.new) (left self.new) };
+
+    /// Copies what the source itself has of the page into a page that is lent, which stays as it is where that is
+    /// nothing. It takes no memory.
+    fn copy_out<R: Wait>(
+        &mut self,
+        rt: &R,
+        t: TicketNumber,
+        page: &PageRef,
+        into: &mut Page,
+    ) -> PageOut
+        requires ready { Self.ready self.old }
+        requires turn { (r : ℕ) × (o : OwnCall) × HasAdd t r o (Self.mine self.old) }
+        requires page { awaits self.old page.now }
+        requires lent { IsLent into.old }
+        ensures ready { Self.ready self.new }
+        ensures home { Self.home self.new ≡ Self.home self.old }
+        ensures same { Self.mine self.new ≡ Self.mine self.old }
+        ensures kept { AreKept (is_aborted self.old) (is_aborted self.new) (is_page self.old) (is_page self.new) }
+        ensures awaits { (p : PageRef) → awaits self.old p → awaits self.new p }
+        ensures left { left self.new ≡ left self.old }
+        ensures takes { TakesOut result page.now into.new (is_page self.new) (is_aborted self.new) };
+
+    /// Puts a page, which went out of the source, into the replica that is rebuilt, whose own comes back, and lists it. It
+    /// takes no memory.
+    fn copy_in<R: Wait>(
+        &mut self,
+        rt: &R,
+        t: TicketNumber,
+        page: &PageRef,
+        with: &mut Page,
+    ) -> PageIn
+        requires ready { Self.ready self.old }
+        requires turn { (r : ℕ) × (o : OwnCall) × HasAdd t r o (Self.mine self.old) }
+        requires page { awaits self.old page.now }
+        requires blocks { is_page self.old page.now with.old }
+        ensures ready { Self.ready self.new }
+        ensures home { Self.home self.new ≡ Self.home self.old }
+        ensures same { Self.mine self.new ≡ Self.mine self.old }
+        ensures kept { AreKept (is_aborted self.old) (is_aborted self.new) (is_page self.old) (is_page self.new) }
+        ensures fewer { left self.new ≤ left self.old }
+        ensures puts { PutsIn result (is_aborted self.new) (left self.old) (left self.new) };
+
+    /// Where the rebuild was aborted, its mark's place.
+    fn aborted<R: Wait>(&mut self, rt: &R, t: TicketNumber) -> Option<u64>
+        requires ready { Self.ready self.old }
+        requires turn { (r : ℕ) × (o : OwnCall) × HasAdd t r o (Self.mine self.old) }
+        ensures ready { Self.ready self.new }
+        ensures home { Self.home self.new ≡ Self.home self.old }
+        ensures same { Self.mine self.new ≡ Self.mine self.old }
+        ensures kept { AreKept (is_aborted self.old) (is_aborted self.new) (is_page self.old) (is_page self.new) }
+        ensures awaits { (p : PageRef) → awaits self.old p → awaits self.new p }
+        ensures left { left self.new ≡ left self.old }
+        ensures is { IfSome result (is_aborted self.new) };
+
+    /// The stream's line to the source or to the replica that is rebuilt has failed, and so that replica: thereby the
+    /// rebuild is aborted, unless it was before, and its mark's place is told.
+    fn copy_fault<R: Wait>(&mut self, rt: &R, t: TicketNumber, replica: u8, count: u64) -> u64
+        requires ready { Self.ready self.old }
+        requires turn { (r : ℕ) × (o : OwnCall) × HasAdd t r o (Self.mine self.old) }
+        ensures ready { Self.ready self.new }
+        ensures home { Self.home self.new ≡ Self.home self.old }
+        ensures fell { FallsTo replica count (Self.mine self.old) (Self.mine self.new)
+            ⊎ (Self.mine self.new ≡ Self.mine self.old) }
+        ensures kept { AreKept (is_aborted self.old) (is_aborted self.new) (is_page self.old) (is_page self.new) }
+        ensures awaits { (p : PageRef) → awaits self.old p → awaits self.new p }
+        ensures left { left self.new ≡ left self.old }
+        ensures is { is_aborted self.new result };
+
+    // ---- its end
+
+    /// Promotes the replica that is rebuilt, and answers the add that it is done. None: no rebuild of it is open past its
+    /// barrier, or a page is not listed.
+    fn promote<R: Wait>(&mut self, rt: &R, t: TicketNumber) -> Option<u64>
+        requires ready { Self.ready self.old }
+        requires turn { (r : ℕ) × (o : OwnCall) × HasAdd t r o (Self.mine self.old) }
+        ensures ready { Self.ready self.new }
+        ensures home { Self.home self.new ≡ Self.home self.old }
+        ensures done { IfSome result (λ place. (r : ℕ) (o : OwnCall) → HasAdd t r o (Self.mine self.old)
+            → Promotes r o (Self.mine self.old) (Self.mine self.new)) }
+        ensures none { result ≡ None → Self.mine self.new ≡ Self.mine self.old };
+
+    /// Answers the add that its rebuild was aborted, whose mark stands at that place. None: it was not.
+    fn end_aborted<R: Wait>(&mut self, rt: &R, t: TicketNumber, place: u64) -> Option<u64>
+        requires ready { Self.ready self.old }
+        requires turn { (r : ℕ) × (o : OwnCall) × HasAdd t r o (Self.mine self.old) }
+        ensures ready { Self.ready self.new }
+        ensures home { Self.home self.new ≡ Self.home self.old }
+        ensures done { IfSome result (λ at. (r : ℕ) (o : OwnCall) → HasAdd t r o (Self.mine self.old)
+            → EndsAborted r place o (Self.mine self.old) (Self.mine self.new)) }
+        ensures none { result ≡ None → Self.mine self.new ≡ Self.mine self.old };
+
+    /// Gives the turn of the add back, once memory ran out. Where its rebuild is open it is aborted, and where it was
+    /// aborted, then or before, the add is answered so. It takes no memory. What is kept at
+    /// home may tell then that the stream gave a rebuild up.
+    fn abandon_add<R: Wait>(&mut self, rt: &R, t: TicketNumber)
+        requires ready { Self.ready self.old }
+        requires turn { (r : ℕ) × (o : OwnCall) × HasAdd t r o (Self.mine self.old) }
+        ensures ready { Self.ready self.new }
+        ensures left { (r : ℕ) (o : OwnCall) → HasAdd t r o (Self.mine self.old)
+            → LeavesAdd o (Self.mine self.old) (Self.mine self.new) };
+}
