@@ -24,12 +24,14 @@ use Rattle.client_worker.proofs.Going.{one_of}
 take_failed : (modes : List Mode) (r : ℕ) (why : NotThis) → AgainstTake modes r why → mode_of modes r ≡ mode.Err
 take_failed modes r (against.Mode m) h = sym h.0 ∙ h.1
 take_failed modes r against.Ticket h = absurd h
+take_failed modes r against.Page h = absurd h
 take_failed modes r (against.Pending q) h = absurd h
 take_failed modes r (against.Count n) h = absurd h
 
 give_unread : (modes : List Mode) (r : ℕ) (why : NotThis) → AgainstGive modes r why → mode_of modes r ≢ mode.Rw
 give_unread modes r (against.Mode m) h = λ e. h.1 (h.0 ∙ e)
 give_unread modes r against.Ticket h = absurd h
+give_unread modes r against.Page h = absurd h
 give_unread modes r (against.Pending q) h = absurd h
 give_unread modes r (against.Count n) h = absurd h
 
@@ -37,6 +39,7 @@ fault_failed : (modes : List Mode) (m : Mine) (r count : ℕ) (why : NotThis) �
 fault_failed modes m r count (against.Mode x) above h = sym h.0 ∙ h.1
 fault_failed modes m r count (against.Count last) above h = absurd (omega (arith, above, h.0, h.1))
 fault_failed modes m r count against.Ticket above h = absurd h
+fault_failed modes m r count against.Page above h = absurd h
 fault_failed modes m r count (against.Pending q) above h = absurd h
 
 end_unacked : (modes : List Mode) (o : OwnCall) (c : Call) (parts : List Part) (why : NotThis) → IsReadCall c → o.call ≡ c → RefusesEnd modes o why → (r : ℕ) → part_at o.parts r ≢ Acked
@@ -49,6 +52,7 @@ end_unacked modes o (call.Read offset n) parts (against.Pending q) w e h = by o.
     by (call.Other k) same a = a.1
     by (call.Command c) same a = a.1
 end_unacked modes o (call.Read offset n) parts against.Ticket w e h = absurd h
+end_unacked modes o (call.Read offset n) parts against.Page w e h = absurd h
 end_unacked modes o (call.Read offset n) parts (against.Mode x) w e h = absurd h
 end_unacked modes o (call.Read offset n) parts (against.Count x) w e h = absurd h
 end_unacked modes o (call.Write offset bytes) parts why w e h = absurd w
@@ -87,6 +91,7 @@ not_refused : (modes : List Mode) (o : OwnCall) (r : ℕ) (why : NotThis) → Ha
 not_refused modes o r (against.Mode m) taken h = inr (sym h.0 ∙ h.1)
 not_refused modes o r (against.Pending q) taken h = inl (λ inside. absurd (h.1 (taken inside)))
 not_refused modes o r against.Ticket taken h = absurd h
+not_refused modes o r against.Page taken h = absurd h
 not_refused modes o r (against.Count n) taken h = absurd h
 
 -- what an acknowledgement leaves

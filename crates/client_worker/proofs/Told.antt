@@ -1,6 +1,6 @@
 -- What lines tell goes on: an exchange that was told is told still.
-use Rattle.std.proofs.Common.{zero, suc, arith, ◌≡◌, ℕ, ◌+◌, ◌-◌, ◌<◌, ◌≤◌, ℤ, List, [], ◌∷◌, ◌++◌, length, take, drop, length-append, length-drop, get_or, set, map, Option, Some, None, IfSome, Result, Ok, Err, is_ok, true, subst, sym, ap, ◌∙◌, append_assoc, append-nil}
-use Rattle.std.proofs.lemmas.List.{length-take-le}
+use Rattle.std.proofs.Common.{zero, suc, arith, ◌≡◌, ◌≢◌, ℕ, ◌+◌, ◌-◌, ◌<◌, ◌≤◌, ℤ, List, [], ◌∷◌, ◌++◌, length, take, drop, length-append, length-drop, get_or, set, map, Option, Some, None, IfSome, Result, Ok, Err, is_ok, true, subst, sym, ap, ◌∙◌, append_assoc, append-nil}
+use Rattle.std.proofs.lemmas.List.{length-take-le, map-set, get_or-set_other}
 use Rattle.std.proofs.lemmas.List.Elements.{All-weaker}
 use Rattle.std.proofs.lemmas.Slice.{between_to_end, between-put_mid}
 use borrow.Rule.Slice.PartMut.{put_mid, post_of}
@@ -91,6 +91,10 @@ pub here_set : {L : Type 0} (told : L → Option (List (List ℕ))) (xs : List L
 here_set told [] i x d more l h = absurd (omega arith)
 here_set told (y ∷ ys) zero x d more l h = h
 here_set told (y ∷ ys) (suc i) x d more l h = here_set told ys i x d more (omega arith) h
+
+-- no other line tells more
+pub other_set : {L : Type 0} (told : L → Option (List (List ℕ))) (xs : List L) (i r : ℕ) (x : L) → r ≢ i → told_in (map told (set xs i x)) r ≡ told_in (map told xs) r
+other_set told xs i r x apart = ap (λ ls. told_in ls r) (map-set told xs i x) ∙ get_or-set_other (map told xs) i r (told x) None apart
 
 -- whether the frame came through or not
 pub carry_more : {E : Type 0} (res : Result (Unit {0}) E) (s t : Option (List (List ℕ))) (frame : List ℕ) → Carries s t frame res → (more : List (List ℕ)) × TellsMore s t more

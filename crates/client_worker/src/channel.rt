@@ -1,7 +1,8 @@
 //! A line of the stream to one replica, and what is carried on it.
 
-ghost use Rattle.std.specs.Prelude.{◌≡◌, ℕ, ◌<◌, ◌≤◌, length, map, vec_capacity, slice_index_or, true, false};
+ghost use Rattle.std.specs.Prelude.{◌≡◌, ◌≢◌, ℕ, ◌<◌, ◌≤◌, length, map, vec_capacity, slice_index_or, true, false};
 ghost use Rattle.client_worker.specs.Asking.{TellOn, TellsFrame};
+ghost use Rattle.client_worker.specs.Exchanges.{told_in};
 
 use outer_traits::Line;
 
@@ -9,7 +10,7 @@ use outer_traits::Line;
 #[derive(Drop)]
 pub struct Channel<L: Drop> {
     pub line: L,
-    seq: u32,
+    pub seq: u32,
 }
 
 impl<L: Line + Drop> Channel<L> {
@@ -53,6 +54,9 @@ pub fn carry<L: Line + Drop>(
     ensures told { TellOn (map (λ c. L.carried c.line) channels.old) (map (λ c. L.carried c.line) channels.new) }
     ensures carried { result ≡ true → TellsFrame (map (λ c. L.carried c.line) channels.old)
         (map (λ c. L.carried c.line) channels.new) replica frame.now }
+    ensures others { (r : ℕ) → r ≢ replica → told_in (map (λ c. L.carried c.line) channels.new) r
+        ≡ told_in (map (λ c. L.carried c.line) channels.old) r }
+    ensures begun { map (λ c. c.seq) channels.new ≡ map (λ c. c.seq) channels.old }
 {
     room.clear();
     channels[replica as usize].line.carry(frame, room).is_ok()

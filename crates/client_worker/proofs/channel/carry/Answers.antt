@@ -1,9 +1,9 @@
-use Rattle.std.proofs.Common.{rules, ◌≡◌, ◌≤◌, is_ok, true, false, slice_index_or}
+use Rattle.std.proofs.Common.{rules, refl, ◌≡◌, ◌≤◌, is_ok, true, false, slice_index_or}
 use Rattle.std.proofs.Math.Seq.{map-set_same}
 use Rattle.outer_traits.specs.Causes.{HasLineCause}
 use Rattle.outer_traits.specs.Lines.{Carries}
 use Rattle.client_worker.proofs.Counts.{later_set, rose_set, line_rose}
-use Rattle.client_worker.proofs.Told.{on_set, here_set, carry_more, carry_ok}
+use Rattle.client_worker.proofs.Told.{on_set, here_set, other_set, carry_more, carry_ok}
 use Rattle.client_worker.proofs.channel.carry.Goals as goal
 
 pub returns-clause-ends : goal.returns-clause-ends
@@ -34,3 +34,9 @@ returns-clause-carried g c = λ e.
     let yes : is_ok c.carry.result ≡ true = search rules in
     here_set (λ x. g.L.Line.carried x.line) c.args.channels.now c.args.replica _ c.index-channels-replica.result _ c.requires.line
     (carry_ok c.carry.result (g.L.Line.carried (slice_index_or c.args.channels.now c.args.replica c.index-channels-replica.result).line) (g.L.Line.carried c.carry.new.self) c.args.frame.now yes told)
+
+pub returns-clause-others : goal.returns-clause-others
+returns-clause-others g c = λ r apart. other_set (λ x. g.L.Line.carried x.line) c.args.channels.now c.args.replica r _ apart
+
+pub returns-clause-begun : goal.returns-clause-begun
+returns-clause-begun g c = map-set_same (λ x. x.seq) c.args.channels.now c.args.replica _ c.index-channels-replica.result refl
