@@ -1,8 +1,7 @@
 -- A command is answered as one worker answers it there, where no line failed.
-use Rattle.std.proofs.Common.{◌≡◌, ℕ, zero, suc, arith, inl, inr, true, List, [], ◌∷◌, ◌++◌, Option, Some, None, IfSome, subst, sym, refl, ap, ◌∙◌}
+use Rattle.std.proofs.Common.{◌≡◌, ℕ, inr, true, List, [], ◌∷◌, ◌++◌, Option, Some, None, IfSome, subst, sym, refl, ap, ◌∙◌}
 use Rattle.std.specs.Prelude.{All}
 use Rattle.std.specs.Option.{option_map, option_or}
-use Rattle.std.proofs.lemmas.List.Elements.{All-head, All-weaker}
 use Rattle.volume_model.specs.declared.call.Call.{Call}
 use Rattle.volume_model.specs.declared.call.Call.TheVariants as call
 use Rattle.volume_model.specs.declared.call.Refusal.{Refusal}
@@ -21,55 +20,22 @@ use Rattle.open_calls.specs.declared.whole_op.WholeOp.{WholeOp}
 use Rattle.open_calls.specs.declared.whole_op.WholeOp.TheVariants as whole
 use Rattle.open_calls.specs.Calls.{command_of}
 use Rattle.command_text.specs.declared.command.Command.{Command}
-use Rattle.stream_steps.specs.Mine.{Mine, OwnCall, Log, entries_in, with_entries, with_more, with_running, longer, length_of, log_length, answer_placed}
+use Rattle.stream_steps.specs.Mine.{Mine, OwnCall, Log, with_entries, with_more, with_running, longer, length_of, log_length, answer_placed}
 use Rattle.stream_steps.specs.Steps.{AreMarks, IsCommandAt, CommandsTo}
 use Rattle.stream_steps.specs.Maint.{HasWhole, StartsWhole, EndsWhole, WholeEnds, IsWholeReply}
-use Rattle.stream_steps.proofs.MineLemmas.{entries-append, longer_none, more_twice}
-use Rattle.client_worker.specs.Serving.{IsOwnFault}
-use Rattle.client_worker.proofs.Going.{no_faults}
-use Rattle.command_worker.specs.Purges.{MayComeBefore}
+use Rattle.stream_steps.proofs.MineLemmas.{entries_twice, longer_none}
+use Rattle.command_worker.specs.Purges.{MayComeBefore, AreFalls}
 use Rattle.command_worker.specs.Serving.{GrewByCommand}
 use Rattle.command_worker.specs.Whole.{RefusedWhole, EndsBehind, AnswersCall, IsNoPart, reply_at}
+use Rattle.command_worker.proofs.Goes.{comes, falls_none, none_come}
 
--- ---- faults and other marks
-
--- where no line failed there are no faults
-pub no_fault_marks : (stream : ℕ) (es : List Entry) → All (IsOwnFault stream) es → AreMarks es → es ≡ []
-no_fault_marks stream [] faults are = refl
-no_fault_marks stream (entry.Answer a ∷ es) faults are = absurd are
-no_fault_marks stream (entry.Mark (mark.Fault s r n) ∷ es) faults are = absurd are.0
-no_fault_marks stream (entry.Mark (mark.Purged p) ∷ es) faults are = absurd (All-head (IsOwnFault stream) (entry.Mark (mark.Purged p)) es faults)
-no_fault_marks stream (entry.Mark (mark.Failed r) ∷ es) faults are = absurd (All-head (IsOwnFault stream) (entry.Mark (mark.Failed r)) es faults)
-no_fault_marks stream (entry.Mark (mark.Added r s n) ∷ es) faults are = absurd (All-head (IsOwnFault stream) (entry.Mark (mark.Added r s n)) es faults)
-no_fault_marks stream (entry.Mark (mark.Promoted r) ∷ es) faults are = absurd (All-head (IsOwnFault stream) (entry.Mark (mark.Promoted r)) es faults)
-no_fault_marks stream (entry.Mark (mark.Aborted r) ∷ es) faults are = absurd (All-head (IsOwnFault stream) (entry.Mark (mark.Aborted r)) es faults)
-
-one_comes : (stream : ℕ) (e : Entry) → IsOwnFault stream e → MayComeBefore stream e
-one_comes stream (entry.Answer a) h = absurd h
-one_comes stream (entry.Mark m) h = inl h
-
-pub faults_come : (stream : ℕ) (es : List Entry) → All (IsOwnFault stream) es → All (MayComeBefore stream) es
-faults_come stream es h = All-weaker (IsOwnFault stream) (MayComeBefore stream) (one_comes stream) es h
-
-comes : (stream : ℕ) (e : Entry) (es : List Entry) → MayComeBefore stream e → All (MayComeBefore stream) es → All (MayComeBefore stream) (e ∷ es)
-comes stream e es h all zero d l = h
-comes stream e es h all (suc k) d l = all k d (omega (arith, l))
+-- ---- marks
 
 -- marks that are no faults may come
 pub marks_come : (stream : ℕ) (es : List Entry) → AreMarks es → All (MayComeBefore stream) es
-marks_come stream [] are = λ k d l. absurd (omega (arith, l))
+marks_come stream [] are = none_come stream
 marks_come stream (entry.Answer a ∷ es) are = absurd are
 marks_come stream (entry.Mark m ∷ es) are = comes stream (entry.Mark m) es (inr are.0) (marks_come stream es are.1)
-
-pub are_first : (xs ys : List Entry) → AreMarks (xs ++ ys) → AreMarks xs
-are_first [] ys h = tt
-are_first (entry.Answer a ∷ xs) ys h = absurd h
-are_first (entry.Mark m ∷ xs) ys h = (h.0, are_first xs ys h.1)
-
-pub are_second : (xs ys : List Entry) → AreMarks (xs ++ ys) → AreMarks ys
-are_second [] ys h = h
-are_second (entry.Answer a ∷ xs) ys h = absurd h
-are_second (entry.Mark m ∷ xs) ys h = are_second xs ys h.1
 
 -- ---- what is answered
 
@@ -99,6 +65,7 @@ whole_reply (whole.Remove name) n spot r free right =
 whole_reply (whole.Revert name) n spot r free right =
     done_where spot (refusal_of spot.modes spot.state (call.Command (command_of (whole.Revert name)))) r free right ∙ sym (ap (λ w. reply_for w spot (call.Command (command_of (whole.Revert name)))) free)
 whole_reply (whole.Purge f) n spot r free right = absurd n
+whole_reply (whole.Barrier q) n spot r free right = absurd n
 
 -- ---- the open call
 
@@ -106,11 +73,12 @@ whole_reply (whole.Purge f) n spot r free right = absurd n
 pub refused_call : (o : OwnCall) (a b : Mine) → RefusedWhole o a b → AnswersCall o a b
 refused_call o a b s = record {
   ends = record {
+    own = [];
     marks = [];
+    falls = falls_none a.stream;
     modes = s.answers.modes;
     answer = s.answers.answer;
     is = s.answers.is;
-    faults = no_faults a.stream;
     call = s.answers.call;
     by = s.answers.by;
     saw = s.answers.saw;
@@ -128,12 +96,13 @@ ends_whole (whole.Snapshot name) n turn o a b h = h
 ends_whole (whole.Remove name) n turn o a b h = h
 ends_whole (whole.Revert name) n turn o a b h = h
 ends_whole (whole.Purge f) n turn o a b h = absurd n
+ends_whole (whole.Barrier r) n turn o a b h = absurd n
 
-right_of : (stream : ℕ) (op : WholeOp) (n : IsNoPart op) (c : Call) (r said : Reply) (marks : List Entry) (log mid : Option Log) → c ≡ call.Command (command_of op) → All (IsOwnFault stream) marks → mid ≡ longer log marks
+right_of : (stream : ℕ) (op : WholeOp) (n : IsNoPart op) (c : Call) (r said : Reply) (marks : List Entry) (log mid : Option Log) → c ≡ call.Command (command_of op) → AreFalls stream marks → mid ≡ longer log marks
     → IfSome log (λ l. refused_at l.spot c ≡ None) → said ≡ r → IfSome mid (λ l. IsWholeReply l.spot.modes r) → IfSome log (λ l. AreMarks marks → said ≡ reply_at l.spot c)
-right_of stream op n c r said marks None mid is faults more free says right = tt
-right_of stream op n c r said marks (Some l) mid is faults more free says right = λ are.
-    let same : mid ≡ Some l = more ∙ ap (longer (Some l)) (no_fault_marks stream marks faults are) ∙ longer_none (Some l) in
+right_of stream op n c r said marks None mid is falls more free says right = tt
+right_of stream op n c r said marks (Some l) mid is falls more free says right = λ are.
+    let same : mid ≡ Some l = more ∙ ap (longer (Some l)) (falls.none are) ∙ longer_none (Some l) in
     let here : IsWholeReply l.spot.modes r = subst (λ x. IfSome x (λ (y : Log). IsWholeReply y.spot.modes r)) same right in
     says ∙ whole_reply op n l.spot r (subst (λ x. refused_at l.spot x ≡ None) is free) here ∙ sym (ap (reply_at l.spot) is)
 
@@ -144,21 +113,23 @@ started_call t op n turn o a b c h s e =
     let w = end.answers in
     let g = e.goes in
     let os = turn ++ record s.own { parts = e.parts } ∷ [] in
-    let mid : e.mid ≡ with_more a g.marks os = g.is ∙ ap (λ (m : Mine). with_more m g.marks os) s.is in
+    let mid : e.mid ≡ with_entries a g.own g.marks os = g.is ∙ ap (λ (m : Mine). with_entries m g.own g.marks os) s.is in
     let stream : b.stream ≡ a.stream = ap (λ (m : Mine). m.stream) s.is in
-    let faults : All (IsOwnFault a.stream) (entries_in g.marks) = subst (λ k. All (IsOwnFault k) (entries_in g.marks)) stream g.faults in
+    let falls : AreFalls a.stream g.marks = subst (λ k. AreFalls k g.marks) stream g.falls in
     record {
       ends = record {
+        own = g.own;
         marks = g.marks;
+        falls = falls;
         modes = w.modes;
         answer = w.answer;
-        is = w.is ∙ ap (λ (m : Mine). with_more m (answer_placed w.modes w.answer ∷ []) []) mid ∙ more_twice a g.marks (answer_placed w.modes w.answer ∷ []) os [];
-        faults = faults;
+        is = w.is ∙ ap (λ (m : Mine). with_more m (answer_placed w.modes w.answer ∷ []) []) mid
+            ∙ entries_twice a g.own (answer_placed w.modes w.answer ∷ []) g.marks (entry.Answer w.answer ∷ []) os [];
         call = w.call ∙ ap (λ (x : OwnCall). x.call) s.same;
         by = w.by ∙ ap (λ (m : Mine). m.stream) mid;
         saw = w.saw ∙ ap (λ (x : OwnCall). x.saw) s.same;
       };
-      right = right_of a.stream op n o.call end.reply w.answer.reply (entries_in g.marks) a.log e.mid.log h.call faults (ap (λ (m : Mine). m.log) mid) s.free w.reply end.right;
+      right = right_of a.stream op n o.call end.reply w.answer.reply g.marks a.log e.mid.log h.call falls (ap (λ (m : Mine). m.log) mid) s.free w.reply end.right;
     }
 
 -- ---- a command
@@ -175,18 +146,19 @@ no_marks_of (whole.Snapshot name) n None spot = refl
 no_marks_of (whole.Remove name) n None spot = refl
 no_marks_of (whole.Revert name) n None spot = refl
 no_marks_of (whole.Purge f) n None spot = absurd n
+no_marks_of (whole.Barrier r) n None spot = absurd n
 
 pub known : (log : Option Log) (k n : ℕ) → n ≡ k → IfSome (option_map length_of log) (λ p. k ≡ p) → IfSome log (λ l. n ≡ length_of l)
 known None k n e h = tt
 known (Some l) k n e h = e ∙ h
 
-turn_of : (stream : ℕ) (op : WholeOp) (n : IsNoPart op) (oc : Call) (marks : List Entry) (a : Answer) (log : Option Log) → All (IsOwnFault stream) marks → oc ≡ call.Command (command_of op) → a.call ≡ oc → a.stream ≡ stream
+turn_of : (stream : ℕ) (op : WholeOp) (n : IsNoPart op) (oc : Call) (marks : List Entry) (a : Answer) (log : Option Log) → AreFalls stream marks → oc ≡ call.Command (command_of op) → a.call ≡ oc → a.stream ≡ stream
     → IfSome log (λ l. a.saw ≡ length_of l) → IfSome log (λ l. AreMarks marks → a.reply ≡ reply_at l.spot oc)
     → IfSome log (λ l. AreMarks marks → IsCommandAt stream (command_of op) (marks ++ entry.Answer a ∷ []) a l)
-turn_of stream op n oc marks a None faults same is by saw right = tt
-turn_of stream op n oc marks a (Some l) faults same is by saw right = λ are.
+turn_of stream op n oc marks a None falls same is by saw right = tt
+turn_of stream op n oc marks a (Some l) falls same is by saw right = λ are.
     let c = call.Command (command_of op) in
-    command_at l.spot stream (length_of l) c marks a (no_marks_of op n (refused_at l.spot c) l.spot ∙ sym (no_fault_marks stream marks faults are)) (is ∙ same)
+    command_at l.spot stream (length_of l) c marks a (no_marks_of op n (refused_at l.spot c) l.spot ∙ sym (falls.none are)) (is ∙ same)
     (right are ∙ ap (reply_at l.spot) same) saw by
 
 -- an enrolled call that is answered, with these calls open before
@@ -194,25 +166,26 @@ pub grew_call : (op : WholeOp) → IsNoPart op → (p : OwnCall) (os : List OwnC
     → IfSome (log_length a) (λ place. p.saw ≡ place) → AnswersCall p b c → GrewByCommand (command_of op) a c
 grew_call op n p os a b c e is saw s =
     let d = s.ends in
-    let faults : All (IsOwnFault a.stream) (entries_in d.marks) = subst (λ k. All (IsOwnFault k) (entries_in d.marks)) (ap (λ (m : Mine). m.stream) e) d.faults in
+    let falls : AreFalls a.stream d.marks = subst (λ k. AreFalls k d.marks) (ap (λ (m : Mine). m.stream) e) d.falls in
     let log : b.log ≡ a.log = ap (λ (m : Mine). m.log) e in
     let stream : d.answer.stream ≡ a.stream = d.by ∙ ap (λ (m : Mine). m.stream) e in
     let seen : IfSome a.log (λ l. d.answer.saw ≡ length_of l) = known a.log p.saw d.answer.saw d.saw saw in
-    let own = d.marks ++ answer_placed d.modes d.answer ∷ [] in
+    let own = d.own ++ answer_placed d.modes d.answer ∷ [] in
+    let all = d.marks ++ entry.Answer d.answer ∷ [] in
     record {
       own = own;
-      all = entries_in d.marks ++ entry.Answer d.answer ∷ [];
-      is = d.is ∙ ap (λ (m : Mine). with_more m own []) e ∙ ap (λ es. with_entries a own es []) (entries-append d.marks (answer_placed d.modes d.answer ∷ []));
+      all = all;
+      is = d.is ∙ ap (λ (m : Mine). with_entries m own all []) e;
       done = record {
-        marks = entries_in d.marks;
+        marks = d.marks;
         answer = d.answer;
         is = refl;
-        are = faults_come a.stream (entries_in d.marks) faults;
+        are = falls.come;
         call = d.call ∙ is;
         by = stream;
         saw = seen;
-        turn = turn_of a.stream op n p.call (entries_in d.marks) d.answer a.log faults is d.call stream seen
-            (subst (λ x. IfSome x (λ (l : Log). AreMarks (entries_in d.marks) → d.answer.reply ≡ reply_at l.spot p.call)) log s.right);
+        turn = turn_of a.stream op n p.call d.marks d.answer a.log falls is d.call stream seen
+            (subst (λ x. IfSome x (λ (l : Log). AreMarks d.marks → d.answer.reply ≡ reply_at l.spot p.call)) log s.right);
       };
     }
 

@@ -3,12 +3,13 @@ use Rattle.std.proofs.Common.{◌≡◌, ℕ, Bool, true, false, List, [], ◌�
 use Rattle.volume_model.specs.declared.call.Call.TheVariants as call
 use Rattle.command_text.specs.declared.command.Command.{Command}
 use Rattle.open_calls.specs.declared.whole_op.WholeOp.{WholeOp}
+use Rattle.open_calls.specs.declared.whole_op.WholeOp.TheVariants as whole
 use Rattle.open_calls.specs.Calls.{command_of}
 use Rattle.range_turns.specs.declared.turns.MayStart.{MayStart}
 use Rattle.range_turns.specs.declared.turns.MayStart.TheVariants as may
 use Rattle.stream_steps.specs.Mine.{Mine, OwnCall, with_running, log_length}
 use Rattle.stream_steps.specs.Steps.{EnrolsAt}
-use Rattle.stream_steps.specs.Maint.{IsMaint, HasTurn, AwaitsTurn, TurnsTo, HasWhole, EnrolsWhole, EnrolsUnder, StartsWhole}
+use Rattle.stream_steps.specs.Maint.{IsMaint, IsNoAdd, HasTurn, AwaitsTurn, TurnsTo, HasWhole, EnrolsWhole, EnrolsUnder, StartsWhole, StartsAs}
 use Rattle.client_worker.specs.Serving.{IsShown}
 use Rattle.client_worker.specs.Ends.{KeepsShown}
 use Rattle.client_worker.proofs.Going.{one_of}
@@ -16,7 +17,7 @@ use Rattle.client_worker.proofs.Shown.{shown_same}
 use Rattle.command_worker.specs.Serving.{GrewByCommand}
 use Rattle.command_worker.specs.Whole.{IsWhole, IsNoPart, StartsOr, EndsBehind, AnswersCall, TurnBegins}
 use Rattle.command_worker.proofs.AnswerLemmas.{grew_call, refused_call, started_call}
-use Rattle.command_worker.proofs.PartLemmas.{started_whole}
+use Rattle.command_worker.proofs.PartLemmas.{started_whole, starts_plainly}
 use Rattle.command_worker.proofs.ShownLemmas.{idle_of}
 
 -- ---- none open, and one open
@@ -45,19 +46,19 @@ enrolled_waits t op turn a b e = (turn, e.own, enrolled_has t op turn a b e, e.w
 -- ---- taken up
 
 -- it starts, and is carried to its end
-pub taken_started : (t : ℕ) (op : WholeOp) (n : IsNoPart op) (started : Bool) (a b c : Mine) → started ≡ true → ((op : WholeOp) (turn : List OwnCall) (o : OwnCall) → HasWhole t op turn o a → StartsOr started turn o a b)
+pub taken_started : (t : ℕ) (op : WholeOp) (n : IsNoPart op) (started : Bool) (a b c : Mine) → started ≡ true → ((op : WholeOp) (turn : List OwnCall) (o : OwnCall) → HasWhole t op turn o a → StartsOr started op turn o a b)
     → ((turn : List OwnCall) (o : OwnCall) → HasWhole t op turn o b → EndsBehind op turn o b c) → (turn : List OwnCall) (o : OwnCall) → HasWhole t op turn o a → AnswersCall o a c
 taken_started t op n started a b c e start done turn o h =
-    let s : StartsWhole turn o a b = subst (λ x. StartsOr x turn o a b) e (start op turn o h) in
+    let s : StartsWhole turn o a b = starts_plainly op n turn o a b (subst (λ x. StartsOr x op turn o a b) e (start op turn o h)) in
     started_call t op n turn o a b c h s (done turn s.own (started_whole t op turn o a b h s))
 
-pub taken_refused : (t : ℕ) (op : WholeOp) (started : Bool) (a b : Mine) → started ≡ false → ((op : WholeOp) (turn : List OwnCall) (o : OwnCall) → HasWhole t op turn o a → StartsOr started turn o a b)
+pub taken_refused : (t : ℕ) (op : WholeOp) (started : Bool) (a b : Mine) → started ≡ false → ((op : WholeOp) (turn : List OwnCall) (o : OwnCall) → HasWhole t op turn o a → StartsOr started op turn o a b)
     → (turn : List OwnCall) (o : OwnCall) → HasWhole t op turn o a → AnswersCall o a b
-taken_refused t op started a b e start turn o h = refused_call o a b (subst (λ x. StartsOr x turn o a b) e (start op turn o h))
+taken_refused t op started a b e start turn o h = refused_call o a b (subst (λ x. StartsOr x op turn o a b) e (start op turn o h))
 
-pub starts_so : (t : ℕ) (op : WholeOp) (started : Bool) (a b : Mine) → started ≡ true → ((op : WholeOp) (turn : List OwnCall) (o : OwnCall) → HasWhole t op turn o a → StartsOr started turn o a b)
-    → (w : IsWhole false t op a) → StartsWhole w.0 w.1 a b
-starts_so t op started a b e start w = subst (λ x. StartsOr x w.0 w.1 a b) e (start op w.0 w.1 w.2)
+pub starts_so : (t : ℕ) (op : WholeOp) (started : Bool) (a b : Mine) → started ≡ true → ((op : WholeOp) (turn : List OwnCall) (o : OwnCall) → HasWhole t op turn o a → StartsOr started op turn o a b)
+    → (w : IsWhole false t op a) → StartsAs op w.0 w.1 a b
+starts_so t op started a b e start w = subst (λ x. StartsOr x op w.0 w.1 a b) e (start op w.0 w.1 w.2)
 
 -- ---- a snapshot
 
@@ -75,6 +76,14 @@ snapshot_left (Err x) t op a b c idle e left =
     left [] e.own (enrolled_has t op [] a b e) ∙ ap (λ (m : Mine). with_running m []) e.is ∙ sym (idle_of a idle)
 
 -- ---- under the turn
+
+-- the command of one that is no part is no add
+pub no_add : (op : WholeOp) → IsNoPart op → IsNoAdd (command_of op)
+no_add (whole.Snapshot name) n = tt
+no_add (whole.Remove name) n = tt
+no_add (whole.Revert name) n = tt
+no_add (whole.Purge f) n = tt
+no_add (whole.Barrier r) n = absurd n
 
 pub awaits : (t : ℕ) (c : Command) → IsMaint c → (a b : Mine) → (e : EnrolsAt t (call.Command c) a b) → AwaitsTurn t c e.own b
 awaits t c wants a b e = record { is = ap (λ (m : Mine). m.running) e.is; number = e.number; call = e.call; wants = wants; waits = e.waits }

@@ -1,11 +1,13 @@
 -- The requests and replies are those that a line is to carry.
-use Rattle.std.proofs.Common.{◌≡◌, ℕ, ◌+◌, ◌-◌, ◌≤◌, ℤ, arith, List, ◌++◌, length, drop, length-drop, length-append, sym, ap, ◌∙◌, append_assoc}
+use Rattle.std.proofs.Common.{◌≡◌, ℕ, ◌+◌, ◌-◌, ◌≤◌, ℤ, arith, List, [], ◌++◌, length, drop, length-drop, length-append, subst, refl, sym, ap, ◌∙◌, append_assoc, append-nil}
 use Rattle.std.specs.Prelude.{codes}
 use Rattle.std.proofs.lemmas.List.{drop-append-le}
 use Rattle.frame_wire.specs.declared.head.Head.{Head}
 use Rattle.frame_wire.specs.Spelling.{header, frame}
 use Rattle.client_worker.proofs.Told.{header_alone}
-use Rattle.command_worker.specs.Frames.{ask_head, ask_request, done_head, done_reply, pair_text, AsksBy}
+use Rattle.open_calls.specs.declared.whole_op.WholeOp.{WholeOp}
+use Rattle.open_calls.specs.declared.whole_op.WholeOp.TheVariants as whole
+use Rattle.command_worker.specs.Frames.{ask_head, ask_request, done_head, done_reply, pair_text, part_text, AsksBy, AsksPart, IsPartText}
 
 -- a request's header is put before its text
 pub asks_now : (seq : ℕ) (offset : ℤ) (text before request : List ℕ) (h : Head) → AsksBy text before → h ≡ ask_head seq offset (length before - 26) → request ≡ frame h (drop 26 before) → request ≡ ask_request seq offset text
@@ -23,6 +25,20 @@ asks_still text before request h asks long same = record {
   few = omega (arith, asks.few, long);
   tells = same ∙ asks.tells;
 }
+
+pub part_still : (op : WholeOp) (before request : List ℕ) (h : Head) → AsksPart op before → length request ≡ length before → drop 26 request ≡ drop 26 before → AsksPart op request
+part_still op before request h asks long same = (asks.0, asks.1, asks_still asks.0 before request h asks.2 long same)
+
+-- the text of each operation, with no name of a barrier's snapshot
+pub part_is_text : (op : WholeOp) → IsPartText op (part_text op)
+part_is_text (whole.Snapshot name) = refl
+part_is_text (whole.Remove name) = refl
+part_is_text (whole.Revert name) = refl
+part_is_text (whole.Purge f) = refl
+part_is_text (whole.Barrier r) = ([], sym (append-nil (codes "snapshot ")))
+
+pub barrier_is_text : (op : WholeOp) (r : ℕ) (name : List ℕ) → op ≡ whole.Barrier r → IsPartText op (codes "snapshot " ++ name)
+barrier_is_text op r name e = subst (λ x. IsPartText x (codes "snapshot " ++ name)) (sym e) (name, refl)
 
 -- how long a request is
 pub asks_length : (text request : List ℕ) → AsksBy text request → length request ≡ 26 + length text

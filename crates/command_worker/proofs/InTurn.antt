@@ -1,5 +1,5 @@
 -- A command is answered, and then the next.
-use Rattle.std.proofs.Common.{◌≡◌, ℕ, ◌+◌, ◌<◌, List, [], ◌∷◌, ◌++◌, length, take, drop, Option, subst, sym, refl, ap, ◌∙◌, append_assoc, append-nil}
+use Rattle.std.proofs.Common.{◌≡◌, ℕ, zero, suc, arith, inl, ◌+◌, ◌<◌, List, [], ◌∷◌, ◌++◌, length, take, drop, Option, subst, sym, refl, ap, ◌∙◌, append_assoc, append-nil}
 use Rattle.std.specs.Prelude.{All}
 use Rattle.std.proofs.lemmas.List.{take_more, take-append-drop}
 use Rattle.std.proofs.Math.ListN.{get_or}
@@ -8,7 +8,8 @@ use Rattle.volume_model.specs.declared.entry.Entry.{Entry}
 use Rattle.stream_steps.specs.Mine.{Mine, Log, with_entries, with_running, longer}
 use Rattle.stream_steps.proofs.MineLemmas.{entries_none, entries_twice, longer_none, longer_twice}
 use Rattle.command_worker.specs.Purges.{MayComeBefore}
-use Rattle.command_worker.specs.Serving.{Commands, AreCommanded, GrewByCommand, GaveUp, Commanded, CommandedSome}
+use Rattle.command_worker.specs.Serving.{Commands, AreCommanded, GrewByCommand, GaveUp, IsLeft, LeftUndone, IsFirstLeft, Commanded, CommandedSome}
+use Rattle.command_worker.proofs.Goes.{none_come}
 
 pub commanded_none : (m : Mine) → m.running ≡ [] → Commanded [] m m
 commanded_none m idle = record { own = []; all = []; is = ap (with_running m) idle ∙ sym (entries_none m []); done = refl }
@@ -44,16 +45,57 @@ pub commanded_more : (cs : List Command) (i : ℕ) (c : Command) (a b d : Mine) 
     → Commanded (take (i + 1) cs) a d
 commanded_more cs i c a b d h g s = subst (λ xs. Commanded xs a d) (sym (take_more cs i c h)) (commanded_next (take i cs) (get_or cs i c) a b d g s)
 
--- as far as memory lasted
-pub commanded_some : (cs : List Command) (i : ℕ) (a b d : Mine) → Commanded (take i cs) a b → GaveUp b d → CommandedSome cs a d
-commanded_some cs i a b d g s = record {
+-- ---- as far as memory lasted
+
+pub left_of : (c : Command) (a b : Mine) → GaveUp a b → LeftUndone c a b
+left_of c a b g = record {
+  own = g.own;
+  marks = g.marks;
+  last = [];
+  is = g.is ∙ ap (λ es. with_entries a g.own es []) (sym (append-nil g.marks));
+  are = g.are;
+  left = inl refl;
+}
+
+none_left : (stream : ℕ) (log : Option Log) (cs : List Command) → IsFirstLeft stream log cs []
+none_left stream log [] = refl
+none_left stream log (c ∷ cs) = inl refl
+
+-- of a list that has that command at i
+first_left : (stream : ℕ) (log : Option Log) (cs : List Command) (i : ℕ) (c : Command) (es : List Entry) → i < length cs → IsLeft stream log (get_or cs i c) es → IsFirstLeft stream log (drop i cs) es
+first_left stream log [] i c es h l = absurd (omega (arith, h))
+first_left stream log (x ∷ cs) zero c es h l = l
+first_left stream log (x ∷ cs) (suc i) c es h l = first_left stream log cs i c es (omega (arith, h)) l
+
+pub commanded_some : (cs : List Command) (i : ℕ) (c : Command) (a b d : Mine) → i < length cs → Commanded (take i cs) a b → LeftUndone (get_or cs i c) b d → CommandedSome cs a d
+commanded_some cs i c a b d h g s = record {
   some = take i cs;
   left = drop i cs;
   are = take-append-drop i cs;
   own = g.own ++ s.own;
   all = g.all;
   marks = s.marks;
-  is = s.is ∙ ap (λ (m : Mine). with_entries m s.own s.marks []) g.is ∙ entries_twice a g.own s.own g.all s.marks [] [];
+  last = s.last;
+  is = s.is ∙ ap (λ (m : Mine). with_entries m s.own (s.marks ++ s.last) []) g.is ∙ entries_twice a g.own s.own g.all (s.marks ++ s.last) [] [];
   done = g.done;
   more = subst (λ (n : ℕ). All (MayComeBefore n) s.marks) (ap (λ (m : Mine). m.stream) g.is) s.are;
+  next = first_left a.stream (longer a.log g.all) cs i c s.last h
+      (subst (λ (l : Option Log). IsLeft a.stream l (get_or cs i c) s.last) (ap (λ (m : Mine). m.log) g.is)
+      (subst (λ (n : ℕ). IsLeft n b.log (get_or cs i c) s.last) (ap (λ (m : Mine). m.stream) g.is) s.left));
+}
+
+-- before the first
+pub commanded_stopped : (cs : List Command) (m : Mine) → m.running ≡ [] → CommandedSome cs m m
+commanded_stopped cs m idle = record {
+  some = [];
+  left = cs;
+  are = refl;
+  own = [];
+  all = [];
+  marks = [];
+  last = [];
+  is = ap (with_running m) idle ∙ sym (entries_none m []);
+  done = refl;
+  more = none_come m.stream;
+  next = none_left m.stream (longer m.log []) cs;
 }

@@ -25,15 +25,15 @@ use Rattle.volume_model.proofs.PurgeLemmas.{parts-none, parts-some}
 use Rattle.volume_model.proofs.ServedLemmas.{behind-append}
 use Rattle.volume_model.proofs.SpotLemmas.{no_source, source_is}
 use Rattle.command_text.specs.declared.command.Command.TheVariants as command
-use Rattle.stream_steps.specs.Mine.{Mine, OwnCall, Log, entries_in, with_entries, with_more, with_running, longer, length_of, log_length, answer_placed}
+use Rattle.stream_steps.specs.Mine.{Mine, OwnCall, Log, with_entries, with_more, with_running, longer, length_of, log_length, answer_placed}
 use Rattle.stream_steps.specs.Steps.{AreMarks, IsCommandAt}
 use Rattle.stream_steps.specs.Maint.{AnswersWhole, EndsPart}
 use Rattle.stream_steps.proofs.MineLemmas.{entries_none, entries_twice, longer_none}
-use Rattle.client_worker.specs.Serving.{IsOwnFault}
-use Rattle.command_worker.specs.Purges.{MayComeBefore, PurgesFar, IsPurgeReply, PurgesOn, PurgeEnds, GoesNext}
+use Rattle.command_worker.specs.Purges.{MayComeBefore, AreFalls, PurgesFar, IsPurgeReply, PurgesOn, PurgeEnds, GoesNext}
 use Rattle.command_worker.specs.Serving.{GrewByCommand, GaveUp}
 use Rattle.command_worker.specs.Whole.{Goes, RefusedWhole}
-use Rattle.command_worker.proofs.AnswerLemmas.{no_fault_marks, faults_come, are_first, are_second, known, command_at}
+use Rattle.command_worker.proofs.AnswerLemmas.{known, command_at}
+use Rattle.command_worker.proofs.Goes.{are_first, are_second, none_come}
 
 -- ---- how far a purge is
 
@@ -71,7 +71,7 @@ on_none os a b e = record {
   own = [];
   marks = [];
   is = e ∙ sym (entries_none a os);
-  are = faults_come a.stream [] (λ k d l. absurd (omega (arith, l)));
+  are = none_come a.stream;
   far = at a.log;
 }
   where
@@ -96,16 +96,16 @@ on_then os ps a b c f g = record {
 -- lines failed
 pub on_goes : (os : List OwnCall) (a b : Mine) → Goes os a b → PurgesOn os a b
 on_goes os a b g = record {
-  own = g.marks;
-  marks = entries_in g.marks;
+  own = g.own;
+  marks = g.marks;
   is = g.is;
-  are = faults_come a.stream (entries_in g.marks) g.faults;
+  are = g.falls.come;
   far = at a.log;
 }
   where
-    at : (log : Option Log) → IfSome log (λ l. AreMarks (entries_in g.marks) → PurgesFar l.spot (entries_in g.marks))
+    at : (log : Option Log) → IfSome log (λ l. AreMarks g.marks → PurgesFar l.spot g.marks)
     at None = tt
-    at (Some l) = λ are. subst (PurgesFar l.spot) (sym (no_fault_marks a.stream (entries_in g.marks) g.faults are)) (far_none l.spot)
+    at (Some l) = λ are. subst (PurgesFar l.spot) (sym (g.falls.none are)) (far_none l.spot)
 
 -- a part ended
 one_part : (spot : Spot) (f : FoldOrDrop) (ms : List Entry) → next_of spot.state.volume.snapshots ≡ Some f → (ms ≡ entry.Mark (mark.Purged f) ∷ []) ⊎ (ms ≡ []) → (HasNoSource spot.modes → ms ≡ []) → PurgesFar spot ms
@@ -123,22 +123,22 @@ part_marks stream f ms (inl one) = subst (All (MayComeBefore stream)) (sym one) 
     at_one (suc k) d l = absurd (omega (arith, l))
 part_marks stream f ms (inr empty) = subst (All (MayComeBefore stream)) (sym empty) (λ k d l. absurd (omega (arith, l)))
 
-part_far : (stream : ℕ) (f : FoldOrDrop) (log mid : Option Log) (xs ms : List Entry) → All (IsOwnFault stream) xs → mid ≡ longer log xs → IfSome log (λ l. next_of l.spot.state.volume.snapshots ≡ Some f)
+part_far : (stream : ℕ) (f : FoldOrDrop) (log mid : Option Log) (xs ms : List Entry) → AreFalls stream xs → mid ≡ longer log xs → IfSome log (λ l. next_of l.spot.state.volume.snapshots ≡ Some f)
     → (ms ≡ entry.Mark (mark.Purged f) ∷ []) ⊎ (ms ≡ []) → IfSome mid (λ l. HasNoSource l.spot.modes → ms ≡ []) → IfSome log (λ l. AreMarks (xs ++ ms) → PurgesFar l.spot (xs ++ ms))
-part_far stream f None mid xs ms faults e next are none = tt
-part_far stream f (Some l) mid xs ms faults e next are none = λ marks.
-    let no : xs ≡ [] = no_fault_marks stream xs faults (are_first xs ms marks) in
+part_far stream f None mid xs ms falls e next are none = tt
+part_far stream f (Some l) mid xs ms falls e next are none = λ marks.
+    let no : xs ≡ [] = falls.none (are_first xs ms marks) in
     let same : mid ≡ Some l = e ∙ ap (longer (Some l)) no ∙ longer_none (Some l) in
     let here : HasNoSource l.spot.modes → ms ≡ [] = subst (λ x. IfSome x (λ (y : Log). HasNoSource y.spot.modes → ms ≡ [])) same none in
     subst (PurgesFar l.spot) (ap (λ ys. ys ++ ms) (sym no)) (one_part l.spot f ms next are here)
 
 pub on_part : (f : FoldOrDrop) (os turn : List OwnCall) (a b c : Mine) → Goes os a b → GoesNext f a → EndsPart f turn b c → PurgesOn turn a c
 on_part f os turn a b c g next e = record {
-  own = g.marks ++ [];
-  marks = entries_in g.marks ++ e.marks;
-  is = e.is ∙ ap (λ (m : Mine). with_entries m [] e.marks turn) g.is ∙ entries_twice a g.marks [] (entries_in g.marks) e.marks os turn;
-  are = All-append (MayComeBefore a.stream) (entries_in g.marks) e.marks (faults_come a.stream (entries_in g.marks) g.faults) (part_marks a.stream f e.marks e.are);
-  far = part_far a.stream f a.log b.log (entries_in g.marks) e.marks g.faults (ap (λ (m : Mine). m.log) g.is) next e.are e.none;
+  own = g.own ++ [];
+  marks = g.marks ++ e.marks;
+  is = e.is ∙ ap (λ (m : Mine). with_entries m [] e.marks turn) g.is ∙ entries_twice a g.own [] g.marks e.marks os turn;
+  are = All-append (MayComeBefore a.stream) g.marks e.marks g.falls.come (part_marks a.stream f e.marks e.are);
+  far = part_far a.stream f a.log b.log g.marks e.marks g.falls (ap (λ (m : Mine). m.log) g.is) next e.are e.none;
 }
 
 -- ---- the answer
@@ -169,11 +169,11 @@ purge_refused spot None why is e = (refusal_is e, no_source spot.modes is)
     refusal_is h = cc
 purge_refused spot (Some s) why is e = absurd cc
 
-refused_far : (stream : ℕ) (why : Refusal) (c : Call) (said : Reply) (log mid : Option Log) (xs : List Entry) → c ≡ call.Command command.Purge → All (IsOwnFault stream) xs → mid ≡ longer log xs → said ≡ reply.Refused why
+refused_far : (stream : ℕ) (why : Refusal) (c : Call) (said : Reply) (log mid : Option Log) (xs : List Entry) → c ≡ call.Command command.Purge → AreFalls stream xs → mid ≡ longer log xs → said ≡ reply.Refused why
     → IfSome mid (λ l. refused_at l.spot c ≡ Some why) → IfSome log (λ l. AreMarks xs → (xs ≡ []) × IsPurgeReply l.spot said)
-refused_far stream why c said None mid xs is faults e says right = tt
-refused_far stream why c said (Some l) mid xs is faults e says right = λ are.
-    let no : xs ≡ [] = no_fault_marks stream xs faults are in
+refused_far stream why c said None mid xs is falls e says right = tt
+refused_far stream why c said (Some l) mid xs is falls e says right = λ are.
+    let no : xs ≡ [] = falls.none are in
     let same : mid ≡ Some l = e ∙ ap (longer (Some l)) no ∙ longer_none (Some l) in
     let here : refused_at l.spot c ≡ Some why = subst (λ x. IfSome x (λ (y : Log). refused_at y.spot c ≡ Some why)) same right in
     (no, subst (IsPurgeReply l.spot) (sym says) (purge_refused l.spot (source_of l.spot.modes) why refl (subst (λ x. refused_at l.spot x ≡ Some why) is here)))
@@ -182,16 +182,16 @@ pub ends_refused : (o p : OwnCall) (os : List OwnCall) (a b c : Mine) → Goes o
 ends_refused o p os a b c g s is same saw =
     let w = s.answers in
     record {
-      own = g.marks ++ answer_placed w.modes w.answer ∷ [];
-      marks = entries_in g.marks;
+      own = g.own ++ answer_placed w.modes w.answer ∷ [];
+      marks = g.marks;
       answer = w.answer;
       is = w.is ∙ ap (λ (m : Mine). with_more m (answer_placed w.modes w.answer ∷ []) []) g.is
-          ∙ entries_twice a g.marks (answer_placed w.modes w.answer ∷ []) (entries_in g.marks) (entry.Answer w.answer ∷ []) os [];
-      are = faults_come a.stream (entries_in g.marks) g.faults;
+          ∙ entries_twice a g.own (answer_placed w.modes w.answer ∷ []) g.marks (entry.Answer w.answer ∷ []) os [];
+      are = g.falls.come;
       call = w.call ∙ same;
       by = w.by ∙ ap (λ (m : Mine). m.stream) g.is;
       saw = w.saw ∙ saw;
-      right = refused_far a.stream s.why o.call w.answer.reply a.log b.log (entries_in g.marks) is g.faults (ap (λ (m : Mine). m.log) g.is) w.reply s.right;
+      right = refused_far a.stream s.why o.call w.answer.reply a.log b.log g.marks is g.falls (ap (λ (m : Mine). m.log) g.is) w.reply s.right;
     }
 
 -- ---- the whole purge

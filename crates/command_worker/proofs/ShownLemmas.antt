@@ -1,19 +1,21 @@
 -- What lines show of the stream while it answers commands: of a command there is nothing to show but the counts.
-use Rattle.std.proofs.Common.{◌≡◌, ℕ, List, [], ◌∷◌, Option, Result, Ok, Err, OnOk, OnErr, subst, sym, refl, ap}
+use Rattle.std.proofs.Common.{◌≡◌, ◌≤◌, ℕ, List, [], ◌∷◌, get_or, Option, Result, Ok, Err, OnOk, OnErr, subst, sym, refl, ap}
 use Rattle.volume_model.specs.declared.call.Call.{Call}
 use Rattle.volume_model.specs.declared.call.Call.TheVariants as call
 use Rattle.volume_model.specs.declared.entry.Answer.{Answer}
 use Rattle.volume_model.specs.declared.entry.Entry.{Entry}
+use Rattle.volume_model.specs.declared.entry.Entry.TheVariants as entry
+use Rattle.volume_model.specs.declared.mark.Mark.TheVariants as mark
 use Rattle.volume_model.specs.declared.mode.Mode.{Mode}
 use Rattle.command_text.specs.declared.command.Command.{Command}
-use Rattle.stream_steps.specs.Mine.{Placed, Mine, OwnCall, entries_in, with_entries, with_more, with_running, answer_placed}
-use Rattle.stream_steps.specs.Steps.{FaultsTo}
+use Rattle.stream_steps.specs.Mine.{Placed, Mine, OwnCall, entries_in, with_entries, with_more, with_running, answer_placed, fault_placed}
+use Rattle.stream_steps.specs.Steps.{FallsTo}
 use Rattle.stream_steps.proofs.MineLemmas.{entries_none}
 use Rattle.client_worker.specs.Exchanges.{told_in, CarriedOf}
 use Rattle.client_worker.specs.Serving.{IsShown}
 use Rattle.client_worker.specs.Ends.{KeepsShown}
 use Rattle.client_worker.proofs.Counts.{counted_answer}
-use Rattle.client_worker.proofs.Shown.{shown_same, shown_more, no_call}
+use Rattle.client_worker.proofs.Shown.{shown_same, shown_more, shown_told, no_call}
 
 -- with no call open
 abbrev pub KeepsIdle : Mine → Mine → Type 0
@@ -33,15 +35,20 @@ idle_then a b c f k = λ counts carried h. k counts carried (f counts carried h)
 pub idle_of : (m : Mine) → m.running ≡ [] → m ≡ with_running m []
 idle_of m e = ap (with_running m) e
 
--- a line failed
-pub idle_told : {E : Type 0} (res : Result (Unit {0}) E) (r count : ℕ) (a b : Mine) → OnOk res (FaultsTo r count a b) → OnErr res (b ≡ a)
-    → OnOk res (FaultsTo r count (with_running a []) (with_running b [])) × OnErr res (with_running b [] ≡ with_running a [])
-idle_told (Ok u) r count a b ok err = (record { modes = ok.modes; is = ap (λ (m : Mine). with_running m []) ok.is }, tt)
-idle_told (Err e) r count a b ok err = (tt, ap (λ (m : Mine). with_running m []) err)
-
 -- entries that are not the stream's show nothing
 pub shown_log : (a : Mine) (own : List Placed) (es fs : List Entry) (counts : List ℕ) (carried : List (Option (List (List ℕ)))) → IsShown (with_entries a own es []) counts carried → IsShown (with_entries a own fs []) counts carried
 shown_log a own es fs counts carried h = record { counted = h.counted; answered = h.answered; acked = h.acked }
+
+-- a line failed
+pub idle_told : {E : Type 0} (res : Result (Unit {0}) E) (r count : ℕ) (a b : Mine) (counts : List ℕ) (carried : List (Option (List (List ℕ)))) → OnOk res (FallsTo r count a b) → OnErr res (b ≡ a)
+    → count ≤ get_or counts r 0 → IsShown (with_running a []) counts carried → IsShown (with_running b []) counts carried
+idle_told (Ok u) r count a b counts carried ok err low h =
+    let own = fault_placed ok.modes a.stream r count ∷ [] in
+    let done : Result (Unit {0}) (Unit {0}) = Ok tt in
+    subst (λ (m : Mine). IsShown m counts carried) (sym (ap (λ (m : Mine). with_running m []) ok.is))
+    (shown_log a own (entries_in own) (entry.Mark (mark.Fault a.stream r count) ∷ ok.aborted) counts carried
+    (shown_told done r count (with_running a []) (with_more a own []) counts carried (record { modes = ok.modes; is = refl }) tt low h))
+idle_told (Err e) r count a b counts carried ok err low h = idle_same a b err counts carried h
 
 pub idle_others : (es : List Entry) (os : List OwnCall) (a b : Mine) → b ≡ with_entries a [] es os → KeepsIdle a b
 idle_others es os a b e = λ counts carried h.

@@ -17,13 +17,19 @@ use Rattle.client_worker.specs.Exchanges.{HasExchange}
 abbrev pub pair_text : List ℕ → List ℕ → List ℕ
 pair_text p c = p ++ (codes " " ++ c)
 
--- what a replica is asked as its part of what is done to the whole volume
+-- what a replica is asked as its part of what is done to the whole volume: of a barrier, but for the snapshot's name
 abbrev pub part_text : WholeOp → List ℕ
 part_text (whole.Snapshot name) = codes "snapshot " ++ name
 part_text (whole.Remove name) = codes "remove " ++ name
 part_text (whole.Revert name) = codes "revert " ++ name
 part_text (whole.Purge (part.Fold p c)) = codes "replace " ++ pair_text p c
 part_text (whole.Purge (part.Drop p)) = codes "delete " ++ p
+part_text (whole.Barrier r) = codes "snapshot "
+
+-- it is asked by that text
+abbrev pub IsPartText : WholeOp → List ℕ → Type 0
+IsPartText (whole.Barrier r) text = (name : List ℕ) × (text ≡ codes "snapshot " ++ name)
+IsPartText op text = text ≡ part_text op
 
 -- what it is asked of a page, where the first of two layers takes the blocks of the second
 abbrev pub fold_text : List ℕ → List ℕ → List ℕ
@@ -52,8 +58,8 @@ abbrev pub done_reply : ℕ → ℤ → List ℕ
 done_reply seq offset = frame (done_head seq offset) []
 
 -- a replica's part of what is done to the whole volume
-abbrev pub part_request : ℕ → WholeOp → List ℕ
-part_request seq op = ask_request seq (pos 0) (part_text op)
+abbrev pub part_request : ℕ → List ℕ → List ℕ
+part_request seq text = ask_request seq (pos 0) text
 
 abbrev pub part_reply : ℕ → List ℕ
 part_reply seq = done_reply seq (pos 0)
@@ -71,8 +77,16 @@ fold_reply seq page = done_reply seq (pos (page * PAGE_BYTES))
 abbrev pub HasAsked : ℤ → List ℕ → List (List ℕ) → Type 0
 HasAsked offset text frames = (seq : ℕ) × HasExchange (ask_request seq offset text) (done_reply seq offset) frames
 
+-- the exchange for a replica's part was carried
+abbrev pub HasPartAsked : WholeOp → List (List ℕ) → Type 0
+HasPartAsked op frames = (text : List ℕ) × IsPartText op text × HasAsked (pos 0) text frames
+
 -- behind a place for its header, a request has that text
 pub record AsksBy (text request : List ℕ) : Type 0 where
   pub header : header_length ≤ length request
   pub few : length request ≤ header_length + longest_text
   pub tells : drop header_length request ≡ text
+
+-- it asks for a replica's part
+abbrev pub AsksPart : WholeOp → List ℕ → Type 0
+AsksPart op request = (text : List ℕ) × IsPartText op text × AsksBy text request

@@ -21,6 +21,12 @@ abbrev pub MayComeBefore : ℕ → Entry → Type 0
 MayComeBefore stream (entry.Answer a) = ⊥
 MayComeBefore stream (entry.Mark m) = IsFaultMark stream m ⊎ IsNoFault m
 
+-- Faults of the stream's own lines, and behind each the mark of a rebuild that was aborted thereby, if one was: where no
+-- line failed there are none.
+pub record AreFalls (stream : ℕ) (marks : List Entry) : Type 0 where
+  pub come : All (MayComeBefore stream) marks
+  pub none : AreMarks marks → marks ≡ []
+
 -- The entries are the marks of the first parts that go, and those that go from then on are the others. Where no replica
 -- is read and written they are none.
 pub record PurgesFar (spot : Spot) (es : List Entry) : Type 0 where

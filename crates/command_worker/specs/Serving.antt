@@ -1,9 +1,10 @@
 -- How what a worker knows of its stream grows while it answers the stream's commands.
-use Rattle.std.specs.Prelude.{◌≡◌, ℕ, List, [], ◌∷◌, ◌++◌, All, false, Option, IfSome}
+use Rattle.std.specs.Prelude.{◌≡◌, ◌⊎◌, ℕ, List, [], ◌∷◌, ◌++◌, All, false, Option, IfSome}
 use Rattle.vol_units.specs.Name.{begins_sys}
 use Rattle.command_text.specs.declared.command.Command.{Command}
 use Rattle.command_text.specs.declared.command.Command.TheVariants as command
 use Rattle.volume_model.specs.declared.call.Call.TheVariants as call
+use Rattle.volume_model.specs.declared.call.Reply.TheVariants as reply
 use Rattle.volume_model.specs.declared.entry.Answer.{Answer}
 use Rattle.volume_model.specs.declared.entry.Entry.{Entry}
 use Rattle.volume_model.specs.declared.entry.Entry.TheVariants as entry
@@ -51,6 +52,31 @@ pub record GaveUp (m m2 : Mine) : Type 0 where
   pub is : m2 ≡ with_entries m own marks []
   pub are : All (MayComeBefore m.stream) marks
 
+-- the one entry answers an add, which was taken up behind that journal: its rebuild was aborted
+pub record IsAborted (stream : ℕ) (log : Option Log) (c : Command) (es : List Entry) : Type 0 where
+  pub replica : ℕ
+  pub place : ℕ
+  pub answer : Answer
+  pub is : es ≡ entry.Answer answer ∷ []
+  pub add : c ≡ command.Add replica
+  pub call : answer.call ≡ call.Command c
+  pub by : answer.stream ≡ stream
+  pub saw : IfSome log (λ l. answer.saw ≡ length_of l)
+  pub reply : answer.reply ≡ reply.Aborted place
+
+-- how a command ends for which memory ran out: with no answer, or as an add whose rebuild was aborted
+abbrev pub IsLeft : ℕ → Option Log → Command → List Entry → Type 0
+IsLeft stream log c es = (es ≡ []) ⊎ IsAborted stream log c es
+
+-- memory ran out: it grew by marks, and then it was left so, and none is open
+pub record LeftUndone (c : Command) (m m2 : Mine) : Type 0 where
+  pub own : List Placed
+  pub marks : List Entry
+  pub last : List Entry
+  pub is : m2 ≡ with_entries m own (marks ++ last) []
+  pub are : All (MayComeBefore m.stream) marks
+  pub left : IsLeft m.stream m.log c last
+
 -- ---- all of them
 
 -- the whole journal, where it is known, grew by those of these commands, each once and in their order, and none is open
@@ -60,7 +86,12 @@ pub record Commanded (cs : List Command) (m m2 : Mine) : Type 0 where
   pub is : m2 ≡ with_entries m own all []
   pub done : AreCommanded m.stream m.log cs all
 
--- the same of some of the first of them, as far as memory lasted, and then by marks of the next one
+-- the first of these was left so, if there is one
+abbrev pub IsFirstLeft : ℕ → Option Log → List Command → List Entry → Type 0
+IsFirstLeft stream log [] es = es ≡ []
+IsFirstLeft stream log (c ∷ cs) es = IsLeft stream log c es
+
+-- the same of some of the first of them, as far as memory lasted, and then by marks of the next one, which was left so
 pub record CommandedSome (cs : List Command) (m m2 : Mine) : Type 0 where
   pub some : List Command
   pub left : List Command
@@ -68,6 +99,8 @@ pub record CommandedSome (cs : List Command) (m m2 : Mine) : Type 0 where
   pub own : List Placed
   pub all : List Entry
   pub marks : List Entry
-  pub is : m2 ≡ with_entries m own (all ++ marks) []
+  pub last : List Entry
+  pub is : m2 ≡ with_entries m own (all ++ (marks ++ last)) []
   pub done : AreCommanded m.stream m.log some all
   pub more : All (MayComeBefore m.stream) marks
+  pub next : IsFirstLeft m.stream (longer m.log all) left last

@@ -89,7 +89,7 @@ pub(crate) fn under_turn<R: Wait, C: CommandSteps, L: Line + Drop>(
 }
 
 /// Waits until the command has the maintenance turn.
-pub(crate) fn await_turn<R: Wait, C: CommandSteps>(rt: &R, steps: &mut C, t: TicketNumber)
+pub fn await_turn<R: Wait, C: CommandSteps>(rt: &R, steps: &mut C, t: TicketNumber)
     requires ready { C.ready steps.old }
     requires waits { (c : Command) × (o : OwnCall) × AwaitsTurn t c o (C.mine steps.old) }
     ensures ready { C.ready steps.new }
@@ -115,6 +115,7 @@ fn enrol_under<R: Wait, C: CommandSteps>(
 ) -> Result<TicketNumber, AllocError>
     requires ready { C.ready steps.old }
     requires turn { (o : OwnCall) × HasTurn t (command_of op.now) o (C.mine steps.old) }
+    requires plain { IsNoPart op.now }
     ensures ready { C.ready steps.new }
     ensures home { C.home steps.new ≡ C.home steps.old }
     ensures ok { IfOk result (λ n. (o : OwnCall) → HasTurn t (command_of op.now) o (C.mine steps.old)

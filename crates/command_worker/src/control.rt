@@ -45,7 +45,7 @@ pub fn run_commands<R: Wait, C: CommandSteps, L: Line + Drop>(
 }
 
 /// Takes one command to its answer.
-fn answer<R: Wait, C: CommandSteps, L: Line + Drop>(
+pub fn answer<R: Wait, C: CommandSteps, L: Line + Drop>(
     rt: &R,
     alloc: Global,
     steps: &mut C,

@@ -46,7 +46,8 @@ pub(crate) fn offset_of(page: u32) -> i64
     i64::from(page) * PAGE_BYTES as i64
 }
 
-/// Makes the request for a replica's part, but for its header. It takes no memory.
+/// Makes the request for a replica's part, but for its header: of a barrier, without the snapshot's name. It takes no
+/// memory.
 pub(crate) fn fill_part(request: &mut Vec<u8>, op: &WholeOp)
     requires room { header_length + longest_text ≤ vec_capacity request.old }
     ensures asks { AsksBy (part_text op.now) request.new.items }
@@ -60,7 +61,17 @@ pub(crate) fn fill_part(request: &mut Vec<u8>, op: &WholeOp)
             fill_pair(request, b"replace ", parent, child)
         }
         WholeOp::Purge(FoldOrDrop::Drop(name)) => fill(request, b"delete ", bytes_of(name)),
+        WholeOp::Barrier(_) => fill(request, b"snapshot ", b""),
     }
+}
+
+/// Makes the request for a replica's part of a barrier, but for its header. It takes no memory.
+pub(crate) fn fill_barrier(request: &mut Vec<u8>, name: &LayerName)
+    requires room { header_length + longest_text ≤ vec_capacity request.old }
+    ensures asks { AsksBy (codes "snapshot " ++ name.now) request.new.items }
+    ensures room { vec_capacity request.old ≤ vec_capacity request.new }
+{
+    fill(request, b"snapshot ", bytes_of(name));
 }
 
 /// Makes the request for the fold of a page, but for its header. It takes no memory.

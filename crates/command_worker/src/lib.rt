@@ -11,5 +11,8 @@ mod purge;
 mod rooms;
 
 pub use client_worker::{Channel, Line};
-pub use control::run_commands;
+pub use commands::await_turn;
+pub use control::{answer, run_commands};
+pub use parts::{carry_barrier, start};
+pub use rooms::Rooms;
 pub use stream_steps::{Command, CommandSteps};

@@ -1,18 +1,19 @@
 //! What is done to the whole volume: a replica after another is asked for its part.
 
-ghost use Rattle.std.specs.Prelude.{◌≡◌, ℕ, ◌+◌, ◌<◌, ◌≤◌, List, [], length, map, vec_capacity, true, false, IfOk, OnErr};
+ghost use Rattle.std.specs.Prelude.{◌≡◌, ◌⊎◌, ℕ, ◌+◌, ◌<◌, ◌≤◌, List, [], length, map, vec_capacity, true, false, IfOk, OnErr};
 ghost use Rattle.open_calls.specs.declared.whole_op.WholeOp.{WholeOp};
+ghost use Rattle.volume_model.specs.Modes.{mode_of};
 ghost use Rattle.frame_wire.specs.Spelling.{header_length};
 ghost use Rattle.stream_steps.specs.Mine.{OwnCall, with_running};
 ghost use Rattle.stream_steps.specs.Maint.{HasWhole, WholeEnds};
 ghost use Rattle.client_worker.specs.Exchanges.{told_in};
 ghost use Rattle.client_worker.specs.Ends.{KeepsShown};
 ghost use Rattle.client_worker.specs.Serving.{IsShown};
-ghost use Rattle.command_worker.specs.Frames.{AsksBy, longest_text, part_text};
+ghost use Rattle.command_worker.specs.Frames.{AsksPart, longest_text};
 ghost use Rattle.command_worker.specs.Rooms.{HasRoom};
-ghost use Rattle.command_worker.specs.Whole.{EndsBehind, IsAskedLast, IsWhole, KeepsWhole, StartsOr, WholeShown};
+ghost use Rattle.command_worker.specs.Whole.{AwaitsNone, EndsBehind, IsAskedLast, IsWhole, KeepsWhole, OwesNone, StartsOr, WholeShown};
 
-use crate::frames::{ask_head, done_head, fill_part};
+use crate::frames::{ask_head, done_head, fill_barrier, fill_part};
 use crate::pass::pass;
 use crate::rooms::Rooms;
 use client_worker::{Channel, Line, next_exchange, put_header};
@@ -20,11 +21,11 @@ use frame_wire::{HEADER_LENGTH, encode_header};
 use std::alloc::{AllocError, Global};
 use std::sync::Wait;
 use stream_steps::CommandSteps;
-use volume_maint::{AdmitWhole, Mode, TicketNumber, WholeOp};
+use volume_maint::{AdmitWhole, LayerName, Mode, TicketNumber, WholeOp};
 
 /// Waits until the operation starts, or its call is refused, and says whether it has started. Out of memory takes it
 /// back.
-pub(crate) fn start<R: Wait, C: CommandSteps>(
+pub fn start<R: Wait, C: CommandSteps>(
     rt: &R,
     alloc: Global,
     steps: &mut C,
@@ -36,7 +37,7 @@ pub(crate) fn start<R: Wait, C: CommandSteps>(
     ensures home { C.home steps.new ≡ C.home steps.old }
     ensures shown { KeepsShown (with_running (C.mine steps.old) []) (with_running (C.mine steps.new) []) }
     ensures ok { IfOk result (λ started. (op : WholeOp) (turn : List OwnCall) (o : OwnCall)
-        → HasWhole t op turn o (C.mine steps.old) → StartsOr started turn o (C.mine steps.old) (C.mine steps.new)) }
+        → HasWhole t op turn o (C.mine steps.old) → StartsOr started op turn o (C.mine steps.old) (C.mine steps.new)) }
     ensures err { OnErr result ((op : WholeOp) (turn : List OwnCall) (o : OwnCall)
         → HasWhole t op turn o (C.mine steps.old) → C.mine steps.new ≡ with_running (C.mine steps.old) turn) }
 {
@@ -45,6 +46,8 @@ pub(crate) fn start<R: Wait, C: CommandSteps>(
             Ok(AdmitWhole::Go) => return Ok(true),
             Ok(AdmitWhole::Refused(_, _)) => return Ok(false),
             Ok(AdmitWhole::After(_)) => {}
+            // No caller can know more than that it may not start.
+            Ok(AdmitWhole::Never) => {}
             Err(error) => {
                 steps.withdraw_whole(rt, t);
                 return Err(error);
@@ -68,7 +71,7 @@ fn ask_part<R: Wait, C: CommandSteps, L: Line + Drop>(
     requires ready { C.ready steps.old }
     requires line { replica < length channels.old }
     requires room { header_length + longest_text ≤ vec_capacity room.old }
-    requires asks { AsksBy (part_text op.now) request.old }
+    requires asks { AsksPart op.now request.old }
     requires started { IsWhole true t op.now (C.mine steps.old) }
     requires shown { WholeShown t (C.mine steps.old) (map (λ c. L.count c.line) channels.old)
         (map (λ c. L.carried c.line) channels.old) }
@@ -77,10 +80,11 @@ fn ask_part<R: Wait, C: CommandSteps, L: Line + Drop>(
     ensures count { length channels.new ≡ length channels.old }
     ensures ends { map (λ c. L.ends c.line) channels.new ≡ map (λ c. L.ends c.line) channels.old }
     ensures room { vec_capacity room.old ≤ vec_capacity room.new }
-    ensures asks { AsksBy (part_text op.now) request.new }
+    ensures asks { AsksPart op.now request.new }
     ensures shown { WholeShown t (C.mine steps.new) (map (λ c. L.count c.line) channels.new)
         (map (λ c. L.carried c.line) channels.new) }
     ensures goes { KeepsWhole t (C.mine steps.old) (C.mine steps.new) }
+    ensures asked { OwesNone t op.now replica (C.mine steps.new) ⊎ (mode_of (C.modes steps.new) replica ≡ Mode.Err) }
 {
     if steps.mode_of(rt, replica) == Mode::Err {
         return;
@@ -125,6 +129,7 @@ fn reply_part<R: Wait, C: CommandSteps, L: Line + Drop>(
     ensures shown { WholeShown t (C.mine steps.new) (map (λ c. L.count c.line) channels.new)
         (map (λ c. L.carried c.line) channels.new) }
     ensures goes { KeepsWhole t (C.mine steps.old) (C.mine steps.new) }
+    ensures replied { AwaitsNone t op.now replica (C.mine steps.new) ⊎ (mode_of (C.modes steps.new) replica ≡ Mode.Err) }
 {
     let reply = encode_header(&done_head(seq, 0));
     if pass(rt, steps, channels, replica, &reply, room) {
@@ -145,7 +150,7 @@ fn ask_all<R: Wait, C: CommandSteps, L: Line + Drop>(
     requires ready { C.ready steps.old }
     requires lines { length channels.old ≤ 8 }
     requires room { header_length + longest_text ≤ vec_capacity room.old }
-    requires asks { AsksBy (part_text op.now) request.old }
+    requires asks { AsksPart op.now request.old }
     requires started { IsWhole true t op.now (C.mine steps.old) }
     requires shown { WholeShown t (C.mine steps.old) (map (λ c. L.count c.line) channels.old)
         (map (λ c. L.carried c.line) channels.old) }
@@ -157,6 +162,9 @@ fn ask_all<R: Wait, C: CommandSteps, L: Line + Drop>(
     ensures shown { WholeShown t (C.mine steps.new) (map (λ c. L.count c.line) channels.new)
         (map (λ c. L.carried c.line) channels.new) }
     ensures goes { KeepsWhole t (C.mine steps.old) (C.mine steps.new) }
+    // A replica that is asked no more had failed when it was its turn.
+    ensures asked { (r : ℕ) → r < length channels.old → OwesNone t op.now r (C.mine steps.new)
+        ⊎ ((seen : C) × (C.home seen ≡ C.home steps.old) × (mode_of (C.modes seen) r ≡ Mode.Err)) }
 {
     for r in 0..channels.len() {
         ask_part(rt, steps, channels, t, r as u8, op, request, room);
@@ -207,6 +215,66 @@ pub(crate) fn carry_whole<R: Wait, C: CommandSteps, L: Line + Drop>(
         → EndsBehind op.now turn o (C.mine steps.old) (C.mine steps.new) }
 {
     fill_part(&mut rooms.request, op);
+    carry_filled(rt, steps, channels, rooms, t, op);
+}
+
+/// Carries the barrier of an add, which has started, to the replicas, and waits for its end.
+pub fn carry_barrier<R: Wait, C: CommandSteps, L: Line + Drop>(
+    rt: &R,
+    steps: &mut C,
+    channels: &mut [Channel<L>],
+    rooms: &mut Rooms,
+    t: TicketNumber,
+    op: &WholeOp,
+    name: &LayerName,
+)
+    requires ready { C.ready steps.old }
+    requires lines { length channels.old ≤ 8 }
+    requires room { HasRoom rooms.old }
+    requires barrier { (r : ℕ) × (op.now ≡ WholeOp.Barrier r) }
+    requires started { IsWhole true t op.now (C.mine steps.old) }
+    requires shown { WholeShown t (C.mine steps.old) (map (λ c. L.count c.line) channels.old)
+        (map (λ c. L.carried c.line) channels.old) }
+    ensures ready { C.ready steps.new }
+    ensures home { C.home steps.new ≡ C.home steps.old }
+    ensures count { length channels.new ≡ length channels.old }
+    ensures ends { map (λ c. L.ends c.line) channels.new ≡ map (λ c. L.ends c.line) channels.old }
+    ensures room { HasRoom rooms.new }
+    ensures shown { IsShown (with_running (C.mine steps.new) []) (map (λ c. L.count c.line) channels.new)
+        (map (λ c. L.carried c.line) channels.new) }
+    ensures done { (turn : List OwnCall) (o : OwnCall) → HasWhole t op.now turn o (C.mine steps.old)
+        → EndsBehind op.now turn o (C.mine steps.old) (C.mine steps.new) }
+{
+    fill_barrier(&mut rooms.request, name);
+    carry_filled(rt, steps, channels, rooms, t, op);
+}
+
+/// Carries the operation to the replicas, and waits for its end: the request for its parts is there but for the header.
+fn carry_filled<R: Wait, C: CommandSteps, L: Line + Drop>(
+    rt: &R,
+    steps: &mut C,
+    channels: &mut [Channel<L>],
+    rooms: &mut Rooms,
+    t: TicketNumber,
+    op: &WholeOp,
+)
+    requires ready { C.ready steps.old }
+    requires lines { length channels.old ≤ 8 }
+    requires room { HasRoom rooms.old }
+    requires asks { AsksPart op.now rooms.old.request.items }
+    requires started { IsWhole true t op.now (C.mine steps.old) }
+    requires shown { WholeShown t (C.mine steps.old) (map (λ c. L.count c.line) channels.old)
+        (map (λ c. L.carried c.line) channels.old) }
+    ensures ready { C.ready steps.new }
+    ensures home { C.home steps.new ≡ C.home steps.old }
+    ensures count { length channels.new ≡ length channels.old }
+    ensures ends { map (λ c. L.ends c.line) channels.new ≡ map (λ c. L.ends c.line) channels.old }
+    ensures room { HasRoom rooms.new }
+    ensures shown { IsShown (with_running (C.mine steps.new) []) (map (λ c. L.count c.line) channels.new)
+        (map (λ c. L.carried c.line) channels.new) }
+    ensures done { (turn : List OwnCall) (o : OwnCall) → HasWhole t op.now turn o (C.mine steps.old)
+        → EndsBehind op.now turn o (C.mine steps.old) (C.mine steps.new) }
+{
     ask_all(
         rt,
         steps,

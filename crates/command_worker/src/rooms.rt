@@ -13,7 +13,7 @@ const LONGEST_TEXT: usize = 8 + 64 + 1 + 64;
 
 /// What the commands of a stream are carried in, one after another. It is made before the first, and never grows.
 #[derive(Drop)]
-pub(crate) struct Rooms {
+pub struct Rooms {
     /// A request: a place for the header, and the text.
     pub(crate) request: Vec<u8>,
     /// Where frames arrive.
@@ -22,7 +22,7 @@ pub(crate) struct Rooms {
 
 impl Rooms {
     /// With room for the longest request.
-    pub(crate) fn new(alloc: Global) -> Result<Rooms, AllocError>
+    pub fn new(alloc: Global) -> Result<Rooms, AllocError>
         ensures { IfOk result HasRoom }
     {
         let most = HEADER_LENGTH + LONGEST_TEXT;

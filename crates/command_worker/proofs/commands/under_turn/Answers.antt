@@ -4,7 +4,7 @@ use Rattle.volume_model.specs.declared.call.Call.TheVariants as call
 use Rattle.stream_steps.specs.Mine.{Mine, with_running}
 use Rattle.stream_steps.specs.Steps.{EnrolsAt}
 use Rattle.client_worker.specs.Serving.{IsShown}
-use Rattle.command_worker.proofs.CommandLemmas.{awaits, has_turn, with_turn, enrolled_waits, enrolled_has, shown_open, shown_closed, grew_closed, turn_grew, turn_left, turn_there, under_left, on_err}
+use Rattle.command_worker.proofs.CommandLemmas.{awaits, has_turn, no_add, with_turn, enrolled_waits, enrolled_has, shown_open, shown_closed, grew_closed, turn_grew, turn_left, turn_there, under_left, on_err}
 use Rattle.command_worker.proofs.PartLemmas.{ok_of, err_of}
 use Rattle.command_worker.proofs.commands.under_turn.Goals as goal
 
@@ -53,7 +53,7 @@ abandon-requires-clause-turn g c =
     let w = c.in_ok-whole.ensures.ok (with_turn e.own) h in
     let no : is_ok c.take_up-done.result ≡ false = search rules in
     let left = err_of c.take_up-done.result no c.take_up-done.ensures.err (with_turn e.own ∷ []) w.whole.own (enrolled_has c.in_ok-whole.whole c.args.op.now (with_turn e.own ∷ []) (g.C.CommandSteps.mine c.await_turn.new.steps) (g.C.CommandSteps.mine c.enrol_under.new.steps) w.whole) in
-    ((command_of c.args.op.now), with_turn e.own, turn_there c.in_ok-t.t c.in_ok-whole.whole c.args.op.now (with_turn e.own) (g.C.CommandSteps.mine c.await_turn.new.steps) (g.C.CommandSteps.mine c.enrol_under.new.steps) (g.C.CommandSteps.mine c.take_up-done.new.steps) h w left)
+    ((command_of c.args.op.now), with_turn e.own, turn_there c.in_ok-t.t c.in_ok-whole.whole c.args.op.now (with_turn e.own) (g.C.CommandSteps.mine c.await_turn.new.steps) (g.C.CommandSteps.mine c.enrol_under.new.steps) (g.C.CommandSteps.mine c.take_up-done.new.steps) h w left, no_add c.args.op.now c.requires.wants.1)
 
 pub returns-then-is_err-clause-err : goal.returns-then-is_err-clause-err
 returns-then-is_err-clause-err g c =

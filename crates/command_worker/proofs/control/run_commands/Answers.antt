@@ -3,14 +3,15 @@ use Rattle.std.proofs.lemmas.Grind.{common_steps}
 use Rattle.std.proofs.Math.ListN.{get_or}
 use Rattle.command_worker.specs.Serving.{GrewByCommand}
 use Rattle.command_worker.proofs.CommandLemmas.{on_err}
-use Rattle.command_worker.proofs.InTurn.{commanded_none, commanded_idle, commanded_more, commanded_some}
-use Rattle.command_worker.proofs.PurgeLemmas.{gave_none}
+use Rattle.command_worker.proofs.InTurn.{commanded_none, commanded_idle, commanded_more, commanded_some, commanded_stopped, left_of}
 use Rattle.command_worker.proofs.control.run_commands.Goals as goal
 
 pub returns-in_err-answer-clause-err : goal.returns-in_err-answer-clause-err
 returns-in_err-answer-clause-err g c =
     let i = c.loop-command.command-index in
-    on_err c.from_residual-in_err-answer.result (commanded_some c.args.commands.now i (g.C.CommandSteps.mine c.args.steps.now) (g.C.CommandSteps.mine c.loop-command.steps) (g.C.CommandSteps.mine c.answer.new.steps) c.loop-command.invariant.done c.in_err-answer.ensures.err)
+    let x = c.command-item.result in
+    on_err c.from_residual-in_err-answer.result (commanded_some c.args.commands.now i x (g.C.CommandSteps.mine c.args.steps.now) (g.C.CommandSteps.mine c.loop-command.steps) (g.C.CommandSteps.mine c.answer.new.steps) c.loop-command-test.true c.loop-command.invariant.done
+    (left_of (get_or c.args.commands.now i x) (g.C.CommandSteps.mine c.loop-command.steps) (g.C.CommandSteps.mine c.answer.new.steps) c.in_err-answer.ensures.err))
 
 pub answer-requires-clause-idle : goal.answer-requires-clause-idle
 answer-requires-clause-idle g c = commanded_idle (take c.loop-command.command-index c.args.commands.now) (g.C.CommandSteps.mine c.args.steps.now) (g.C.CommandSteps.mine c.loop-command.steps) c.loop-command.invariant.done
@@ -31,8 +32,7 @@ loop-command-preserved g c =
     }
 
 pub returns-in_err-rooms-clause-err : goal.returns-in_err-rooms-clause-err
-returns-in_err-rooms-clause-err g c =
-    on_err c.from_residual.result (commanded_some c.args.commands.now 0 (g.C.CommandSteps.mine c.args.steps.now) (g.C.CommandSteps.mine c.args.steps.now) (g.C.CommandSteps.mine c.args.steps.now) (commanded_none (g.C.CommandSteps.mine c.args.steps.now) c.requires.idle) (gave_none (g.C.CommandSteps.mine c.args.steps.now) (g.C.CommandSteps.mine c.args.steps.now) c.requires.idle refl))
+returns-in_err-rooms-clause-err g c = on_err c.from_residual.result (commanded_stopped c.args.commands.now (g.C.CommandSteps.mine c.args.steps.now) c.requires.idle)
 
 pub loop-command-init : goal.loop-command-init
 loop-command-init g c = record {

@@ -1,5 +1,9 @@
-use Rattle.std.proofs.Common.{rules, refl, true}
-use Rattle.command_worker.proofs.PartLemmas.{keeps_same, keeps_then, whole_kept}
+use Rattle.std.proofs.lemmas.Grind.{common_steps}
+use Rattle.std.proofs.Common.{◌<◌, ◌≡◌, rules, arith, refl, true, inl, inr, ⊎_elim, ◌∙◌}
+use Rattle.volume_model.specs.declared.mode.Mode.TheVariants.{Err as Failed}
+use Rattle.volume_model.specs.Modes.{mode_of}
+use Rattle.command_worker.specs.Whole.{OwesNone}
+use Rattle.command_worker.proofs.PartLemmas.{asked_next, keeps_same, keeps_then, owes_none_on, whole_kept}
 use Rattle.command_worker.proofs.parts.ask_all.Goals as goal
 
 pub loop-r-init : goal.loop-r-init
@@ -12,6 +16,7 @@ loop-r-init g c = record {
   asks = c.requires.asks;
   shown = c.requires.shown;
   goes = keeps_same c.args.t (g.C.CommandSteps.mine c.args.steps.now) (g.C.CommandSteps.mine c.args.steps.now) refl;
+  asked = λ r below. absurd (omega (arith, below));
 }
 
 pub ask_part-requires-clause-started : goal.ask_part-requires-clause-started
@@ -27,4 +32,16 @@ loop-r-preserved g c = record {
   asks = search rules;
   shown = search rules;
   goes = keeps_then c.args.t (g.C.CommandSteps.mine c.args.steps.now) (g.C.CommandSteps.mine c.loop-r.steps) (g.C.CommandSteps.mine c.ask_part.new.steps) c.loop-r.invariant.goes c.ask_part.ensures.goes;
+  asked = asked_next
+      (λ r. OwesNone c.args.t c.args.op.now r (g.C.CommandSteps.mine c.loop-r.steps)) (λ r. OwesNone c.args.t c.args.op.now r (g.C.CommandSteps.mine c.ask_part.new.steps))
+      (λ r. (seen : g.row.C.Denot) × (g.C.CommandSteps.home seen ≡ g.C.CommandSteps.home c.args.steps.now) × (mode_of (g.C.CommandSteps.modes seen) r ≡ Failed)) c.loop-r.r
+      c.loop-r.invariant.asked
+      (λ r. owes_none_on c.args.t r true c.args.op.now (g.C.CommandSteps.mine c.loop-r.steps) (g.C.CommandSteps.mine c.ask_part.new.steps)
+      (whole_kept c.args.t true c.args.op.now (g.C.CommandSteps.mine c.args.steps.now) (g.C.CommandSteps.mine c.loop-r.steps) c.loop-r.invariant.goes c.requires.started) c.ask_part.ensures.goes)
+      (⊎_elim (λ owes. inl owes) (λ failed. inr (c.ask_part.new.steps, c.ask_part.ensures.home ∙ c.loop-r.invariant.home, failed)) c.ask_part.ensures.asked);
 }
+
+pub returns-clause-asked : goal.returns-clause-asked
+returns-clause-asked g c = λ r below.
+    let low : r < c.loop-r.r = grind (arith, common_steps) in
+    c.loop-r.invariant.asked r low

@@ -1,6 +1,8 @@
-use Rattle.std.proofs.Common.{◌≡◌, ◌≤◌, length, map, vec_capacity}
-use Rattle.command_worker.specs.Frames.{AsksBy, part_text}
-use Rattle.command_worker.specs.Whole.{KeepsWhole, WholeShown}
+use Rattle.std.proofs.Common.{◌≡◌, ◌⊎◌, ℕ, ◌<◌, ◌≤◌, length, map, vec_capacity}
+use Rattle.volume_model.specs.declared.mode.Mode.TheVariants.{Err as Failed}
+use Rattle.volume_model.specs.Modes.{mode_of}
+use Rattle.command_worker.specs.Frames.{AsksPart}
+use Rattle.command_worker.specs.Whole.{KeepsWhole, OwesNone, WholeShown}
 use Rattle.command_worker.proofs.parts.ask_all.Given as goal
 
 -- the operation goes on
@@ -11,7 +13,9 @@ invariant-loop-r g l = record {
   count : length l.channels ≡ length l.initial.channels;
   ends : map (λ x. g.L.Line.ends x.line) l.channels ≡ map (λ x. g.L.Line.ends x.line) l.initial.channels;
   room : vec_capacity l.initial.room ≤ vec_capacity l.room;
-  asks : AsksBy (part_text l.fn.op) l.request;
+  asks : AsksPart l.fn.op l.request;
   shown : WholeShown l.fn.t (g.C.CommandSteps.mine l.steps) (map (λ x. g.L.Line.count x.line) l.channels) (map (λ x. g.L.Line.carried x.line) l.channels);
   goes : KeepsWhole l.fn.t (g.C.CommandSteps.mine l.initial.steps) (g.C.CommandSteps.mine l.steps);
+  asked : (r : ℕ) → r < l.r → OwesNone l.fn.t l.fn.op r (g.C.CommandSteps.mine l.steps)
+      ⊎ ((seen : g.row.C.Denot) × (g.C.CommandSteps.home seen ≡ g.C.CommandSteps.home l.initial.steps) × (mode_of (g.C.CommandSteps.modes seen) r ≡ Failed));
 }

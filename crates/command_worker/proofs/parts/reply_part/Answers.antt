@@ -1,6 +1,6 @@
-use Rattle.std.proofs.Common.{map, true, pos}
+use Rattle.std.proofs.Common.{inl, inr, map, true, pos}
 use Rattle.command_worker.proofs.FrameLemmas.{replies_now}
-use Rattle.command_worker.proofs.PartLemmas.{keeps_on, keeps_then, keeps_acks, whole_kept, shown_on, shown_acks}
+use Rattle.command_worker.proofs.PartLemmas.{keeps_on, keeps_then, keeps_acks, whole_kept, part_replied, shown_on, shown_acks}
 use Rattle.command_worker.proofs.parts.reply_part.Goals as goal
 
 pub returns-then-pass-clause-shown : goal.returns-then-pass-clause-shown
@@ -18,3 +18,12 @@ returns-then-pass-clause-goes g c =
 
 pub returns-else-pass-clause-shown : goal.returns-else-pass-clause-shown
 returns-else-pass-clause-shown g c = shown_on c.args.t (g.C.CommandSteps.mine c.args.steps.now) (g.C.CommandSteps.mine c.pass.new.steps) (map (λ x. g.L.Line.count x.line) c.args.channels.now) (map (λ x. g.L.Line.count x.line) c.pass.new.channels) (map (λ x. g.L.Line.carried x.line) c.args.channels.now) (map (λ x. g.L.Line.carried x.line) c.pass.new.channels) c.pass.ensures.goes c.pass.ensures.told c.requires.shown c.pass.ensures.shown
+
+pub returns-then-pass-clause-replied : goal.returns-then-pass-clause-replied
+returns-then-pass-clause-replied g c =
+    inl (part_replied c.ack_whole.result c.args.t c.args.replica c.args.op.now (g.C.CommandSteps.mine c.pass.new.steps) (g.C.CommandSteps.mine c.ack_whole.new.self)
+    (whole_kept c.args.t true c.args.op.now (g.C.CommandSteps.mine c.args.steps.now) (g.C.CommandSteps.mine c.pass.new.steps) (keeps_on c.args.t (g.C.CommandSteps.mine c.args.steps.now) (g.C.CommandSteps.mine c.pass.new.steps) c.pass.ensures.goes) c.requires.started)
+    c.ack_whole.ensures.ok c.ack_whole.ensures.why c.ack_whole.ensures.err)
+
+pub returns-else-pass-clause-replied : goal.returns-else-pass-clause-replied
+returns-else-pass-clause-replied g c = inr (c.pass.ensures.failed c.if-pass.false)

@@ -1,7 +1,5 @@
-use Rattle.std.proofs.Common.{rules, ◌≡◌, [], map, slice_index_or, arith}
-use Rattle.stream_steps.specs.Mine.{with_running}
+use Rattle.std.proofs.Common.{rules, ◌≡◌, map, slice_index_or, arith}
 use Rattle.client_worker.proofs.Counts.{at_map}
-use Rattle.client_worker.proofs.Shown.{shown_told}
 use Rattle.client_worker.proofs.Asked.{fault_why}
 use Rattle.command_worker.proofs.Goes.{goes_told}
 use Rattle.command_worker.proofs.ShownLemmas.{idle_told}
@@ -11,9 +9,8 @@ pub returns-clause-shown : goal.returns-clause-shown
 returns-clause-shown g c =
     let at = at_map (λ x. g.L.Line.count x.line) c.args.channels.now c.args.replica c.index-channels-replica.result c.requires.line in
     let is : c.faults.result ≡ g.L.Line.count (slice_index_or c.args.channels.now c.args.replica c.index-channels-replica.result).line = search rules in
-    let told = idle_told c.line_failed.result c.args.replica c.faults.result (g.C.CommandSteps.mine c.args.steps.now) (g.C.CommandSteps.mine c.line_failed.new.self) c.line_failed.ensures.ok c.line_failed.ensures.err in
-    shown_told c.line_failed.result c.args.replica c.faults.result (with_running (g.C.CommandSteps.mine c.args.steps.now) []) (with_running (g.C.CommandSteps.mine c.line_failed.new.self) [])
-    (map (λ x. g.L.Line.count x.line) c.args.channels.now) (map (λ x. g.L.Line.carried x.line) c.args.channels.now) told.0 told.1 (omega (arith, at, is)) c.requires.shown
+    idle_told c.line_failed.result c.args.replica c.faults.result (g.C.CommandSteps.mine c.args.steps.now) (g.C.CommandSteps.mine c.line_failed.new.self)
+    (map (λ x. g.L.Line.count x.line) c.args.channels.now) (map (λ x. g.L.Line.carried x.line) c.args.channels.now) c.line_failed.ensures.ok c.line_failed.ensures.err (omega (arith, at, is)) c.requires.shown
 
 pub returns-clause-goes : goal.returns-clause-goes
 returns-clause-goes g c = goes_told c.line_failed.result c.args.replica c.faults.result (g.C.CommandSteps.mine c.args.steps.now) (g.C.CommandSteps.mine c.line_failed.new.self) c.line_failed.ensures.ok c.line_failed.ensures.err

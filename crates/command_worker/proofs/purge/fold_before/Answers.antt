@@ -1,3 +1,4 @@
+use Rattle.std.proofs.Common.{refl}
 use Rattle.command_text.specs.declared.command.Command.TheVariants as command
 use Rattle.command_worker.proofs.Goes.{goes_same, turn_kept}
 use Rattle.command_worker.proofs.purge.fold_before.Goals as goal
@@ -6,3 +7,6 @@ pub fold_pages-requires-clause-turn : goal.fold_pages-requires-clause-turn
 fold_pages-requires-clause-turn g c =
     turn_kept c.args.t command.Purge (g.C.CommandSteps.mine c.args.steps.now) (g.C.CommandSteps.mine c.page_count-pages.new.self)
     (goes_same (g.C.CommandSteps.mine c.args.steps.now) (g.C.CommandSteps.mine c.page_count-pages.new.self) c.page_count-pages.ensures.same) c.requires.turn
+
+pub returns-in_default-clause-goes : goal.returns-in_default-clause-goes
+returns-in_default-clause-goes g c = goes_same (g.C.CommandSteps.mine c.args.steps.now) (g.C.CommandSteps.mine c.args.steps.now) refl

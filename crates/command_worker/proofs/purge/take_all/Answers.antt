@@ -43,7 +43,7 @@ pub abandon-requires-clause-turn : goal.abandon-requires-clause-turn
 abandon-requires-clause-turn g c =
     let op = c.requires.turn in
     let here = on_turn c.args.t op.0 (g.C.CommandSteps.mine c.args.steps.now) (g.C.CommandSteps.mine c.loop.steps) op.1 (c.loop.invariant.on op.0 op.1) in
-    (command.Purge, op.0, on_turn c.args.t op.0 (g.C.CommandSteps.mine c.loop.steps) (g.C.CommandSteps.mine c.round.new.steps) here (c.in-Err.ensures.err op.0 here))
+    (command.Purge, op.0, on_turn c.args.t op.0 (g.C.CommandSteps.mine c.loop.steps) (g.C.CommandSteps.mine c.round.new.steps) here (c.in-Err.ensures.err op.0 here), tt)
 
 pub returns-in-Err-clause-err : goal.returns-in-Err-clause-err
 returns-in-Err-clause-err g c =

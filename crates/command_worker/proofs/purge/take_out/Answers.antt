@@ -48,7 +48,7 @@ pub returns-then-not-branch-clause-ok : goal.returns-then-not-branch-clause-ok
 returns-then-not-branch-clause-ok g c = λ o h.
     let w = some_of c.in_ok-whole.field-0 c.in-Some.whole (λ k. (x : OwnCall) → HasTurn c.args.t command.Purge x (g.C.CommandSteps.mine c.fold_before.new.steps) → EnrolsUnder k (whole.Purge c.args.part) x (g.C.CommandSteps.mine c.fold_before.new.steps) (g.C.CommandSteps.mine c.enrol_whole.new.self)) c.in-Some.is c.in_ok-whole.ensures.ok o (turn_there c.args.t o (g.C.CommandSteps.mine c.args.steps.now) (g.C.CommandSteps.mine c.fold_before.new.steps) c.args.part h c.fold_before.ensures.goes) in
     let no : c.in_ok-start.field-0 ≡ false = search rules in
-    out_refused c.args.t o (g.C.CommandSteps.mine c.args.steps.now) (g.C.CommandSteps.mine c.fold_before.new.steps) c.args.part h c.fold_before.ensures.goes c.in-Some.whole (g.C.CommandSteps.mine c.enrol_whole.new.self) w (g.C.CommandSteps.mine c.start.new.steps) (subst (λ x. StartsOr x (o ∷ []) w.whole.own (g.C.CommandSteps.mine c.enrol_whole.new.self) (g.C.CommandSteps.mine c.start.new.steps)) no (c.in_ok-start.ensures.ok (whole.Purge c.args.part) (o ∷ []) w.whole.own (under_has c.args.t o (g.C.CommandSteps.mine c.args.steps.now) (g.C.CommandSteps.mine c.fold_before.new.steps) c.args.part h c.fold_before.ensures.goes c.in-Some.whole (g.C.CommandSteps.mine c.enrol_whole.new.self) w)))
+    out_refused c.args.t o (g.C.CommandSteps.mine c.args.steps.now) (g.C.CommandSteps.mine c.fold_before.new.steps) c.args.part h c.fold_before.ensures.goes c.in-Some.whole (g.C.CommandSteps.mine c.enrol_whole.new.self) w (g.C.CommandSteps.mine c.start.new.steps) (subst (λ x. StartsOr x (whole.Purge c.args.part) (o ∷ []) w.whole.own (g.C.CommandSteps.mine c.enrol_whole.new.self) (g.C.CommandSteps.mine c.start.new.steps)) no (c.in_ok-start.ensures.ok (whole.Purge c.args.part) (o ∷ []) w.whole.own (under_has c.args.t o (g.C.CommandSteps.mine c.args.steps.now) (g.C.CommandSteps.mine c.fold_before.new.steps) c.args.part h c.fold_before.ensures.goes c.in-Some.whole (g.C.CommandSteps.mine c.enrol_whole.new.self) w)))
 
 pub carry_whole-requires-clause-started : goal.carry_whole-requires-clause-started
 carry_whole-requires-clause-started g c =
@@ -70,5 +70,5 @@ pub returns-clause-ok : goal.returns-clause-ok
 returns-clause-ok g c = λ o h.
     let w = some_of c.in_ok-whole.field-0 c.in-Some.whole (λ k. (x : OwnCall) → HasTurn c.args.t command.Purge x (g.C.CommandSteps.mine c.fold_before.new.steps) → EnrolsUnder k (whole.Purge c.args.part) x (g.C.CommandSteps.mine c.fold_before.new.steps) (g.C.CommandSteps.mine c.enrol_whole.new.self)) c.in-Some.is c.in_ok-whole.ensures.ok o (turn_there c.args.t o (g.C.CommandSteps.mine c.args.steps.now) (g.C.CommandSteps.mine c.fold_before.new.steps) c.args.part h c.fold_before.ensures.goes) in
     let yes : c.in_ok-start.field-0 ≡ true = search rules in
-    let s = subst (λ x. StartsOr x (o ∷ []) w.whole.own (g.C.CommandSteps.mine c.enrol_whole.new.self) (g.C.CommandSteps.mine c.start.new.steps)) yes (c.in_ok-start.ensures.ok (whole.Purge c.args.part) (o ∷ []) w.whole.own (under_has c.args.t o (g.C.CommandSteps.mine c.args.steps.now) (g.C.CommandSteps.mine c.fold_before.new.steps) c.args.part h c.fold_before.ensures.goes c.in-Some.whole (g.C.CommandSteps.mine c.enrol_whole.new.self) w)) in
+    let s = subst (λ x. StartsOr x (whole.Purge c.args.part) (o ∷ []) w.whole.own (g.C.CommandSteps.mine c.enrol_whole.new.self) (g.C.CommandSteps.mine c.start.new.steps)) yes (c.in_ok-start.ensures.ok (whole.Purge c.args.part) (o ∷ []) w.whole.own (under_has c.args.t o (g.C.CommandSteps.mine c.args.steps.now) (g.C.CommandSteps.mine c.fold_before.new.steps) c.args.part h c.fold_before.ensures.goes c.in-Some.whole (g.C.CommandSteps.mine c.enrol_whole.new.self) w)) in
     out_done c.args.t o (g.C.CommandSteps.mine c.args.steps.now) (g.C.CommandSteps.mine c.fold_before.new.steps) c.args.part h c.fold_before.ensures.goes c.in-Some.whole (g.C.CommandSteps.mine c.enrol_whole.new.self) w (g.C.CommandSteps.mine c.start.new.steps) (g.C.CommandSteps.mine c.carry_whole.new.steps) s (c.carry_whole.ensures.done (o ∷ []) s.own (started_whole c.in-Some.whole (whole.Purge c.args.part) (o ∷ []) w.whole.own (g.C.CommandSteps.mine c.enrol_whole.new.self) (g.C.CommandSteps.mine c.start.new.steps) (under_has c.args.t o (g.C.CommandSteps.mine c.args.steps.now) (g.C.CommandSteps.mine c.fold_before.new.steps) c.args.part h c.fold_before.ensures.goes c.in-Some.whole (g.C.CommandSteps.mine c.enrol_whole.new.self) w) s)) c.requires.next
