@@ -1,0 +1,2 @@
+mod AddLemmas
+mod CopierLemmas

@@ -1,0 +1,14 @@
+use Rattle.std.proofs.Common.{rules, refl, map}
+use Rattle.command_worker.proofs.Goes.{goes_same}
+use Rattle.add_worker.proofs.CopierLemmas.{shown_moved}
+use Rattle.add_worker.proofs.copier.copy_over.Goals as goal
+
+pub returns-clause-shown : goal.returns-clause-shown
+returns-clause-shown g c =
+    shown_moved (g.C.CommandSteps.mine c.copy_all.new.steps.steps.now) (g.C.CommandSteps.mine c.steps-1.given.0) (map (λ x. g.L.Line.count x.line) c.copy_all.new.steps.channels.now) (map (λ x. g.L.Line.count x.line) c.channels-1.given.0) (map (λ x. g.L.Line.carried x.line) c.copy_all.new.steps.channels.now) (map (λ x. g.L.Line.carried x.line) c.channels-1.given.0)
+    (search rules) (search rules) (search rules) c.copy_all.ensures.ready.1.shown
+
+pub returns-clause-goes : goal.returns-clause-goes
+returns-clause-goes g c =
+    let goes = c.copy_all.ensures.stays (g.C.CommandSteps.mine c.args.steps.now) (goes_same (g.C.CommandSteps.mine c.args.steps.now) (g.C.CommandSteps.mine c.args.steps.now) refl) in
+    search rules

@@ -1,0 +1,3 @@
+pub mod Copier
+pub mod Adding
+pub mod Serving
