@@ -84,6 +84,7 @@ faults_shown n r count s s2 (Failed e) may is = tt
 hide_refuses : (modes : List Mode) (m : Mine) (r count : ℕ) (why : NotThis) → RefusesFault modes m r count why → RefusesFault modes (without_log m) r count why
 hide_refuses modes m r count against.Ticket h = h
 hide_refuses modes m r count (against.Mode mode) h = h
+hide_refuses modes m r count against.Page h = h
 hide_refuses modes m r count (against.Pending q) h = h
 hide_refuses modes m r count (against.Count last) h = h
 

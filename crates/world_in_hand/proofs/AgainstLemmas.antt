@@ -102,12 +102,14 @@ module _ (n t : ℕ) (o : OwnCall) (s : State) (ok : IsSound s) (own : IsOwn t o
   against_take : (r : ℕ) → IsStartedWrite o → (why : NotThis) → core.AgainstWrite s t r why → AgainstTake (modes_in s) r why
   against_take r w against.Ticket a = let p = write_place w in absurd (a p.0 p.1)
   against_take r w (against.Mode m) a = a
+  against_take r w against.Page a = a
   against_take r w (against.Pending q) a = a
   against_take r w (against.Count c) a = a
 
   against_give : (r : ℕ) → IsStartedRead o → (why : NotThis) → core.AgainstRead s t r why → AgainstGive (modes_in s) r why
   against_give r b against.Ticket a = let p = read_place b in absurd (a p.0 p.1)
   against_give r b (against.Mode m) a = a
+  against_give r b against.Page a = a
   against_give r b (against.Pending q) a = a
   against_give r b (against.Count c) a = a
 
@@ -117,6 +119,7 @@ module _ (n t : ℕ) (o : OwnCall) (s : State) (ok : IsSound s) (own : IsOwn t o
   against_ack : (r : ℕ) → HasStarted o → (why : NotThis) → core.AgainstAck s t r why → RefusesAck (modes_in s) o r why
   against_ack r b against.Ticket a = let p = call_place b in absurd (a p.0 p.1)
   against_ack r b (against.Mode m) a = (a.0, a.1, not_taken r a.2)
+  against_ack r b against.Page a = a
   against_ack r b (against.Pending q) a = (a.0, not_taken r a.2)
   against_ack r b (against.Count c) a = a
 
@@ -147,6 +150,7 @@ module _ (n t : ℕ) (o : OwnCall) (s : State) (ok : IsSound s) (own : IsOwn t o
       (λ d. awaits r d.0 d.1.stands (awaits_read (ticket_at s.tickets d.0).kind (open_at s.calls d.0) (modes_in s) (open_at s.calls d.0).parts r d.1.reads.reads d.2))
       a
   against_end b (against.Mode m) a = a
+  against_end b against.Page a = a
   against_end b (against.Count c) a = a
 
 -- the stream has one call open, so it is this one that has started
@@ -184,5 +188,6 @@ module _ {A : Type 0} (n t r : ℕ) (s s2 : State) (ok : IsSound s) where
       by : (why : NotThis) → core.AgainstFault s n r count why → RefusesFault (modes_in s) (mine_in n s) r count why
       by against.Ticket a = a
       by (against.Mode m) a = a
+      by against.Page a = a
       by (against.Pending q) a = a
       by (against.Count last) a = (a.0 ∙ sym (own_last n r s.book.opening.modes s.book.entries), a.1)

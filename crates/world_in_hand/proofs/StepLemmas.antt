@@ -34,11 +34,11 @@ use Rattle.volume_core.specs.Steps.{marked, aborted, acked, wrote, has_read, end
 use Rattle.volume_core.specs.Sound.{IsSound, IsCalm}
 use Rattle.volume_core.specs.Places.{IsWriteAt}
 use Rattle.volume_core.specs.Answers.{EndsWrite, EndsRead, IsWriteReply, Completes}
-use Rattle.volume_core.specs.Streams.{running, opens, open_of, calls_in, MayGo, IsAnsweredTo}
+use Rattle.volume_core.specs.Streams.{running, turning, opens, open_of, calls_in, MayGo, IsAnsweredTo}
 use Rattle.volume_core.proofs.CallLemmas.{calls-set_own}
 use Rattle.volume_core.proofs.Keep.{calm_at}
 use Rattle.stream_steps.specs.Mine.{OwnCall, IsOwn, with_entries, with_running, answer_placed, fault_placed}
-use Rattle.stream_steps.specs.Steps.{Answers, FaultsTo, TakesTo, AcksTo}
+use Rattle.stream_steps.specs.Steps.{AreAborts, Answers, FaultsTo, TakesTo, AcksTo}
 use Rattle.world_in_hand.specs.Hand.{own_call, own_entries, mine_in}
 use Rattle.world_in_hand.proofs.OwnLemmas.{own_answer, own_fault, IsAt, own_stands, only_open, grown, grown_by}
 
@@ -209,6 +209,9 @@ pub record ShowsFault (n r count : ℕ) (s s2 : State) : Type 0 where
   pub alone : s.rebuild ≡ None → ends ≡ []
   pub own : own_entries n (modes_in s) (entry.Mark (mark.Fault n r count) ∷ ends) ≡ fault_placed (modes_in s) n r count ∷ []
   pub running : running s2 n ≡ running s n
+  pub turning : turning s2 n ≡ turning s n
+  pub whole : s2.whole ≡ s.whole
+  pub are : AreAborts ends
   pub modes : mode_of (modes_in s2) r ≡ Err
 
 failed_mode : (modes : List Mode) (r : ℕ) → mode_of (set modes r Err) r ≡ Err
@@ -235,6 +238,9 @@ module _ (n r count : ℕ) (s : State) where
     alone = λ e. refl;
     own = own_fault n r count (modes_in s);
     running = refl;
+    turning = refl;
+    whole = refl;
+    are = inl refl;
     modes = ap (λ (ms : List Mode). mode_of ms r) (modes_after-append s.book.opening.modes s.book.entries (entry.Mark its_mark ∷ [])) ∙ failed_mode (modes_in s) r;
   }
 
@@ -245,6 +251,9 @@ module _ (n r count : ℕ) (s : State) where
     alone = λ none. absurd (some_begun (sym begun ∙ none));
     own = own_fault n r count (modes_in s);
     running = refl;
+    turning = refl;
+    whole = refl;
+    are = inr (b.target, refl);
     modes = ap (λ (ms : List Mode). mode_of ms r) (modes_after-append s.book.opening.modes (s.book.entries ++ entry.Mark its_mark ∷ []) (entry.Mark (mark.Aborted b.target) ∷ []))
         ∙ still_failed (modes_after s.book.opening.modes (s.book.entries ++ entry.Mark its_mark ∷ [])) b.target r goes_on.modes;
   }
