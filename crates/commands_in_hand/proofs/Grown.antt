@@ -1,5 +1,5 @@
 -- How what a stream's worker sees grows.
-use Rattle.std.proofs.Common.{◌≡◌, ℕ, ◌<◌, Bool, List, ◌++◌, length, Option, None, Some, subst, sym, ap, ◌∙◌}
+use Rattle.std.proofs.Common.{◌≡◌, ℕ, ◌<◌, Bool, List, ◌++◌, length, Some, subst, sym, ap, ◌∙◌}
 use Rattle.range_turns.specs.declared.ticket.Ticket.{Ticket}
 use Rattle.volume_model.specs.declared.entry.Entry.{Entry}
 use Rattle.volume_model.specs.Names.{names_in}
@@ -9,13 +9,13 @@ use Rattle.replica_state.specs.Volume.{volume_of_node}
 use Rattle.open_calls.specs.declared.open_call.OpenCall.{OpenCall}
 use Rattle.whole_calls.specs.declared.maint.MaintCall.{MaintCall}
 use Rattle.volume_core.specs.State.{State, opening_of, modes_in}
-use Rattle.open_rebuild.specs.declared.rebuilding.Rebuilding.{Rebuilding}
 use Rattle.volume_core.specs.Sound.{IsSound, NoneGaveUp}
 use Rattle.volume_core.specs.Streams.{Origin, origin_of, MayGo}
 use Rattle.volume_maint.specs.Answers.{spot_of}
 use Rattle.stream_steps.specs.Mine.{OwnCall, Placed, Log, with_entries, with_more, with_running, entries_in}
 use Rattle.world_in_hand.specs.Hand.{own_entries}
 use Rattle.world_in_hand.proofs.OwnLemmas.{own-append}
+use Rattle.world_in_hand.proofs.Turns.{Rest, rest_of}
 use Rattle.commands_in_hand.specs.Hand.{mine_in, IsReady}
 use Rattle.commands_in_hand.proofs.Shapes.{Has, has_alone}
 
@@ -25,19 +25,9 @@ pub record Kept (n : ℕ) (s s2 : State) : Type 0 where
   pub ready : IsReady n s2
   pub origin : origin_of s2 ≡ origin_of s
 
--- what is known of rebuilds, which no step here changes
-pub record Rebuilds : Type 0 where
-  pub begun : Option Rebuilding
-  pub gave_up : List Bool
-
-abbrev pub rebuilds_of : State → Rebuilds
-rebuilds_of s = record { begun = s.rebuild; gave_up = s.gave_up }
-
-still_settled : (s s2 : State) → rebuilds_of s2 ≡ rebuilds_of s → s.rebuild ≡ None → s2.rebuild ≡ None
-still_settled s s2 same none = ap (λ (x : Rebuilds). x.begun) same ∙ none
-
-still_none : (s s2 : State) → rebuilds_of s2 ≡ rebuilds_of s → NoneGaveUp s.gave_up → NoneGaveUp s2.gave_up
-still_none s s2 same none = subst NoneGaveUp (sym (ap (λ (x : Rebuilds). x.gave_up) same)) none
+-- which streams gave a rebuild up, which no step here changes
+abbrev pub gave_up_of : State → List Bool
+gave_up_of s = s.gave_up
 
 pub kept_same : (n : ℕ) (s s2 : State) → IsReady n s → s2 ≡ s → Kept n s s2
 kept_same n s s2 r e = record { ready = subst (IsReady n) (sym e) r; origin = ap origin_of e }
@@ -45,26 +35,24 @@ kept_same n s s2 r e = record { ready = subst (IsReady n) (sym e) r; origin = ap
 same_streams : (s s2 : State) → origin_of s2 ≡ origin_of s → length s2.indices ≡ length s.indices
 same_streams s s2 e = ap (λ (o : Origin). o.streams) e
 
-pub kept_has : (n : ℕ) (s s2 : State) → IsReady n s → IsSound s2 → origin_of s2 ≡ origin_of s → rebuilds_of s2 ≡ rebuilds_of s → (ms : List (Ticket × MaintCall)) (cs : List (Ticket × OpenCall)) → Has n s2 ms cs → Kept n s s2
-kept_has n s s2 r ok origin rebuilds ms cs h = record {
+pub kept_has : (n : ℕ) (s s2 : State) → IsReady n s → IsSound s2 → origin_of s2 ≡ origin_of s → gave_up_of s2 ≡ gave_up_of s → (ms : List (Ticket × MaintCall)) (cs : List (Ticket × OpenCall)) → Has n s2 ms cs → Kept n s s2
+kept_has n s s2 r ok origin gave_up ms cs h = record {
   ready = record {
     sound = ok;
     there = subst (λ k. n < k) (sym (same_streams s s2 origin)) r.there;
     alone = has_alone n s2 ms cs h;
-    settled = still_settled s s2 rebuilds r.settled;
-    gave_up = still_none s s2 rebuilds r.gave_up;
+    gave_up = subst NoneGaveUp (sym gave_up) r.gave_up;
   };
   origin = origin;
 }
 
-pub kept_by : (n : ℕ) (s s2 : State) → IsReady n s → MayGo n s s2 → rebuilds_of s2 ≡ rebuilds_of s → Kept n s s2
-kept_by n s s2 r may rebuilds = record {
+pub kept_by : (n : ℕ) (s s2 : State) → IsReady n s → MayGo n s s2 → rest_of s2 ≡ rest_of s → Kept n s s2
+kept_by n s s2 r may same = record {
   ready = record {
     sound = may.sound;
     there = subst (λ k. n < k) (sym (same_streams s s2 may.origin)) r.there;
     alone = record { calls = λ m other. may.others m other ∙ r.alone.calls m other; turns = λ m other. may.turns m other ∙ r.alone.turns m other };
-    settled = still_settled s s2 rebuilds r.settled;
-    gave_up = still_none s s2 rebuilds r.gave_up;
+    gave_up = subst NoneGaveUp (sym (ap (λ (x : Rest). x.gave_up) same)) r.gave_up;
   };
   origin = may.origin;
 }

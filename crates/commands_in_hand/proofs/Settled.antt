@@ -1,29 +1,30 @@
 -- While no rebuild is open, the mark of a replica that fails stands alone.
-use Rattle.std.proofs.Common.{◌≡◌, ℕ, [], ◌∷◌, ◌++◌, ◌<◌, length, Result, Ok, Err as Failed, OnOk, OnErr, IfOk, Option, None, Some, refl, ap, ◌∙◌, append_assoc}
+use Rattle.std.proofs.Common.{◌≡◌, ℕ, List, [], ◌∷◌, ◌++◌, ◌<◌, length, Option, None, Some, refl, sym, ap, subst, ◌∙◌, append_assoc}
 use Rattle.volume_model.specs.declared.call.Call.{Call}
 use Rattle.volume_model.specs.declared.call.Reply.{Reply}
 use Rattle.volume_model.specs.declared.entry.Entry.TheVariants as entry
 use Rattle.volume_model.specs.declared.mark.Mark.TheVariants as mark
 use Rattle.volume_model.specs.declared.mode.Mode.{Mode}
 use Rattle.volume_model.specs.declared.mode.Mode.TheVariants.{Rw, Wo, Err}
-use Rattle.volume_model.specs.Modes.{mode_of}
 use Rattle.volume_model.specs.OneWorker.{fail_marks}
 use Rattle.open_rebuild.specs.declared.rebuilding.Rebuilding.{Rebuilding}
-use Rattle.volume_core.specs.Answers.{IsAnsweredNow, failed_by, failed_in, after_fail}
-use Rattle.volume_core.specs.State.{State, modes_in, index_at}
-use Rattle.volume_core.specs.Sound.{IsSound, NoneGaveUp}
+use Rattle.volume_core.specs.Answers.{failed_in}
+use Rattle.volume_core.specs.State.{State, index_at}
+use Rattle.volume_core.specs.Sound.{IsSound, NoneGaveUp, AreAdds, HasAdd}
 use Rattle.volume_core.specs.Streams.{calls_in, commands_in}
-use Rattle.volume_core.specs.Steps.{with_place, answered, marked, aborted_with, behind_fall, faulted}
-use Rattle.world_in_hand.proofs.Turns.{no_rebuild}
+use Rattle.volume_core.specs.Steps.{answered, marked, aborted_with, behind_fall}
+use Rattle.volume_core.specs.declared.world.EndedRebuild.{EndedRebuild}
+use Rattle.range_turns.specs.declared.ticket.Ticket.{Ticket}
+use Rattle.whole_calls.specs.declared.maint.MaintCall.{MaintCall}
+use Rattle.volume_maint.specs.Steps.{without_command, abandoned_with, turn_abandoned}
+use Rattle.command_text.specs.declared.command.Command.{Command}
+use Rattle.whole_calls.specs.Maint as core
+use Rattle.stream_steps.specs.Maint.{IsNoAdd}
 use Rattle.commands_in_hand.specs.Hand.{IsReady}
 use Rattle.commands_in_hand.proofs.Shapes.{no_commands}
-use Rattle.commands_in_hand.proofs.Grown.{rebuilds_of}
 
 fall_alone : (s : State) (r : ℕ) → s.rebuild ≡ None → behind_fall s r ≡ s
 fall_alone s r none = ap (λ (b : Option Rebuilding). aborted_with b s r) none
-
-pub fault_alone : (s : State) (n r count : ℕ) → s.rebuild ≡ None → faulted s n r count ≡ marked s (mark.Fault n r count)
-fault_alone s n r count none = fall_alone (marked s (mark.Fault n r count)) r none
 
 -- told to fail, unless it had
 abbrev marked_in : Mode → State → ℕ → State
@@ -46,29 +47,27 @@ fail_entries m s n r saw c y none = ap (λ (x : State). (answered x n saw c y).b
     by Wo = append_assoc s.book.entries (entry.Mark (mark.Failed r) ∷ []) (entry.Answer (record { call = c; reply = y; index = index_at s.indices n; saw = saw; stream = n }) ∷ [])
     by Err = refl
 
--- ---- no rebuild begins or is given up
+-- ---- while no add has the turn, no rebuild is open or was aborted
 
-failed_rebuilds : (m : Mode) (s : State) (r : ℕ) → s.rebuild ≡ None → rebuilds_of (failed_in m s r) ≡ rebuilds_of s
-failed_rebuilds m s r none = ap rebuilds_of (failed_alone m s r none) ∙ by m
-  where
-    by : (m : Mode) → rebuilds_of (marked_in m s r) ≡ rebuilds_of s
-    by Rw = refl
-    by Wo = refl
-    by Err = refl
+not_add : (n r : ℕ) (c : Command) (maint : List Ticket) (commands : List MaintCall) → IsNoAdd c → core.HasTurn maint commands n c → HasAdd maint commands r → ⊥
+not_add n r c maint commands other turn add = subst IsNoAdd (sym turn.command ∙ add.turn.command) other
 
-after_rebuilds : (s : State) (f : Option ℕ) → s.rebuild ≡ None → rebuilds_of (after_fail s f) ≡ rebuilds_of s
-after_rebuilds s None none = refl
-after_rebuilds s (Some r) none = failed_rebuilds (mode_of (modes_in s) r) s r none
+no_begun : (n : ℕ) (c : Command) (maint : List Ticket) (commands : List MaintCall) (b : Option Rebuilding) (g : Option EndedRebuild) → AreAdds maint commands b g → IsNoAdd c → core.HasTurn maint commands n c → b ≡ None
+no_begun n c maint commands None g adds other turn = refl
+no_begun n c maint commands (Some b) g adds other turn = absurd (not_add n b.target c maint commands other turn adds.of_begun)
 
-pub answered_rebuilds : {E : Type 0} (n : ℕ) (c : Call) (s s2 : State) (res : Result ℕ E) → s.rebuild ≡ None → IfOk res (λ place. IsAnsweredNow s n c place s2) → OnErr res (s2 ≡ s) → rebuilds_of s2 ≡ rebuilds_of s
-answered_rebuilds n c s s2 (Ok place) none is err = ap rebuilds_of is.state ∙ after_rebuilds (with_place s) (failed_by c) none
-answered_rebuilds n c s s2 (Failed e) none is err = ap rebuilds_of err
+no_ended : (n : ℕ) (c : Command) (maint : List Ticket) (commands : List MaintCall) (b : Option Rebuilding) (g : Option EndedRebuild) → AreAdds maint commands b g → IsNoAdd c → core.HasTurn maint commands n c → g ≡ None
+no_ended n c maint commands b None adds other turn = refl
+no_ended n c maint commands b (Some e) adds other turn = absurd (not_add n e.target c maint commands other turn adds.of_ended)
 
-pub faulted_rebuilds : {E : Type 0} (n r count : ℕ) (s s2 : State) (res : Result (Unit {0}) E) → s.rebuild ≡ None → OnOk res (s2 ≡ faulted s n r count) → OnErr res (s2 ≡ s) → rebuilds_of s2 ≡ rebuilds_of s
-faulted_rebuilds n r count s s2 (Ok u) none is err = ap rebuilds_of (is ∙ fault_alone s n r count none)
-faulted_rebuilds n r count s s2 (Failed e) none is err = ap rebuilds_of err
+-- so the turn is given back without an answer
+pub given_back : (n : ℕ) (c : Command) (s : State) → IsSound s → IsNoAdd c → core.HasTurn s.maint s.commands n c → turn_abandoned s ≡ without_command s 0
+given_back n c s ok other turn =
+    let begun = no_begun n c s.maint s.commands s.rebuild s.ended ok.adds other turn in
+    let ended = no_ended n c s.maint s.commands s.rebuild s.ended ok.adds other turn in
+    λ i. abandoned_with (begun i) (ended i) s
 
--- ---- where no command has the turn, no rebuild is open
+-- ---- where nothing is open, any stream can be served
 
 pub rested : (n : ℕ) (s : State) → IsSound s → n < length s.indices → s.tickets ≡ [] → s.commands ≡ [] → NoneGaveUp s.gave_up → IsReady n s
 rested n s sound there rest turns gave_up = record {
@@ -78,6 +77,5 @@ rested n s sound there rest turns gave_up = record {
     calls = λ m other. ap (λ ts. calls_in m ts s.calls) rest;
     turns = λ m other. ap (λ cs. commands_in m s.maint cs) turns ∙ no_commands m s.maint;
   };
-  settled = no_rebuild s sound turns;
   gave_up = gave_up;
 }

@@ -177,6 +177,7 @@ not_of_turn (whole.Snapshot name) n maint commands asked none wants = wants
 not_of_turn (whole.Remove name) n maint commands asked none wants = omega (arith, asked.some, ap length none)
 not_of_turn (whole.Revert name) n maint commands asked none wants = omega (arith, asked.some, ap length none)
 not_of_turn (whole.Purge f) n maint commands asked none wants = omega (arith, asked.some, ap length none)
+not_of_turn (whole.Barrier r) n maint commands asked none wants = omega (arith, asked.some, ap length none)
 
 one_head : (x y : OwnCall) → x ∷ [] ≡ y ∷ [] → x ≡ y
 one_head x y e = cc

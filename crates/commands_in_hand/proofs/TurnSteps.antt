@@ -30,16 +30,16 @@ use Rattle.volume_maint.specs.Answers as world
 use Rattle.volume_maint.specs.Places as place
 use Rattle.stream_steps.specs.Against.{RefusesFault}
 use Rattle.stream_steps.specs.Mine.{Mine, OwnCall, answer_placed, fault_placed, with_running}
-use Rattle.stream_steps.specs.Steps.{EnrolsAt, CommandsTo, FaultsTo, IsAtOnce}
+use Rattle.stream_steps.specs.Steps.{EnrolsAt, CommandsTo, FallsTo, IsAtOnce}
 use Rattle.stream_steps.specs.Maint.{IsMaint, HasTurn, AwaitsTurn, TurnsTo, IsYes, AnswersWhole}
 use Rattle.world_in_hand.specs.Hand as hand
-use Rattle.world_in_hand.proofs.OwnLemmas.{own_answer, own_fault}
-use Rattle.commands_in_hand.proofs.Settled.{fault_alone}
+use Rattle.world_in_hand.proofs.OwnLemmas.{own_answer}
+use Rattle.world_in_hand.proofs.StepLemmas.{ShowsFault, shows_fault}
 use Rattle.commands_in_hand.proofs.AtOnce.{at_once_mine}
 use Rattle.world_in_hand.proofs.Turns.{turns_answered, Rest}
 use Rattle.commands_in_hand.specs.Hand.{own_turn, own_whole, mine_in, IsReady}
 use Rattle.commands_in_hand.proofs.Shapes.{Has, has_running, has_turn, HasOneTurn, no_commands}
-use Rattle.commands_in_hand.proofs.Grown.{Kept, rebuilds_of, kept_same, kept_has, only_open, grown}
+use Rattle.commands_in_hand.proofs.Grown.{Kept, gave_up_of, kept_same, kept_has, only_open, grown, grown_by}
 
 -- ---- where nothing is open
 
@@ -59,7 +59,7 @@ wants_maint command.Purge w = tt
 wants_maint command.Status w = absurd w
 wants_maint (command.Snapshot name) w = absurd w
 wants_maint (command.Fail r) w = absurd w
-wants_maint (command.Add r) w = absurd w
+wants_maint (command.Add r) w = tt
 
 -- ---- answered at once
 
@@ -96,19 +96,23 @@ at_once n c s s2 res h settled once goes is sees err = by res (at_once_mine n c 
 
 -- ---- a line fails
 
-pub faults : {E : Type 0} (n r count : ℕ) (s s2 : State) (res : Result (Unit {0}) E) → s.rebuild ≡ None → MayGo n s s2 → OnOk res (s2 ≡ faulted s n r count) → OnOk res (FaultsTo r count (mine_in n s) (mine_in n s2))
-faults n r count s s2 (Ok u) settled goes e =
-    let is = e ∙ fault_alone s n r count settled in
-    record {
-      modes = modes_in s;
-      is = grown n s s2 goes.origin (fault_placed (modes_in s) n r count ∷ []) (mine_in n s).running (entry.Mark (mark.Fault n r count) ∷ []) (ap (λ (x : State). x.book.entries) is) (own_fault n r count (modes_in s)) refl
-          (ap (λ (x : State). (mine_in n x).running) is);
-    }
-faults n r count s s2 (Failed x) settled goes e = tt
+fault_seen : (n r count : ℕ) (s s2 : State) → MayGo n s s2 → ShowsFault n r count s s2 → FallsTo r count (mine_in n s) (mine_in n s2)
+fault_seen n r count s s2 goes f = record {
+  modes = modes_in s;
+  aborted = f.ends;
+  is = grown_by n s s2 goes.origin (fault_placed (modes_in s) n r count ∷ []) (mine_in n s).running (entry.Mark (mark.Fault n r count) ∷ f.ends) f.entries f.own
+      (λ i. map own_turn (f.turning i) ++ map (own_whole (f.whole i)) (f.running i));
+  are = f.are;
+}
+
+pub faults : {E : Type 0} (n r count : ℕ) (s s2 : State) (res : Result (Unit {0}) E) → MayGo n s s2 → OnOk res (s2 ≡ faulted s n r count) → OnOk res (FallsTo r count (mine_in n s) (mine_in n s2))
+faults n r count s s2 (Ok u) goes e = fault_seen n r count s s2 goes (shows_fault n r count s s2 e)
+faults n r count s s2 (Failed x) goes e = tt
 
 refuses_same : (modes : List Mode) (n r count : ℕ) (s : State) (why : NotThis) → RefusesFault modes (hand.mine_in n s) r count why → RefusesFault modes (mine_in n s) r count why
 refuses_same modes n r count s against.Ticket a = a
 refuses_same modes n r count s (against.Mode m) a = a
+refuses_same modes n r count s against.Page a = a
 refuses_same modes n r count s (against.Pending q) a = a
 refuses_same modes n r count s (against.Count last) a = a
 
@@ -138,7 +142,7 @@ module _ (n : ℕ) (s s2 : State) (r : IsReady n s) (ok : IsSound s2) where
     enrolled_origin = ap origin_of e
 
     enrolled_kept : Kept n s s2
-    enrolled_kept = kept_has n s s2 r ok enrolled_origin (ap rebuilds_of e) ((whole_ticket number, d) ∷ []) [] enrolled_has
+    enrolled_kept = kept_has n s s2 r ok enrolled_origin (ap gave_up_of e) ((whole_ticket number, d) ∷ []) [] enrolled_has
 
     enrolled_mine : EnrolsAt number (call.Command c) (mine_in n s) (mine_in n s2)
     enrolled_mine = record {
@@ -163,7 +167,7 @@ module _ (n : ℕ) (s s2 : State) (r : IsReady n s) (ok : IsSound s2) where
     }
 
     begun_kept : Kept n s s2
-    begun_kept = kept_has n s s2 r ok (ap origin_of e) (ap rebuilds_of e) ((record p.0 { started = true }, p.1) ∷ []) [] begun_has
+    begun_kept = kept_has n s s2 r ok (ap origin_of e) (ap gave_up_of e) ((record p.0 { started = true }, p.1) ∷ []) [] begun_has
 
     begun_mine : (o : OwnCall) → own_turn p ≡ o → mine_in n s2 ≡ with_running (mine_in n s) (record o { started = true } ∷ [])
     begun_mine o is =
@@ -183,7 +187,7 @@ module _ (n : ℕ) (s s2 : State) (r : IsReady n s) (ok : IsSound s2) where
     }
 
     pub gone_kept : Kept n s s2
-    gone_kept = kept_has n s s2 r ok (ap origin_of e) (ap rebuilds_of e) [] [] gone_has
+    gone_kept = kept_has n s s2 r ok (ap origin_of e) (ap gave_up_of e) [] [] gone_has
 
     pub gone_mine : mine_in n s2 ≡ with_running (mine_in n s) []
     gone_mine = only_open n s s2 (ap origin_of e) [] (ap (λ (x : State). x.book.entries) e) (has_running n s2 [] [] gone_has)
@@ -211,7 +215,7 @@ module _ (n : ℕ) (s s2 : State) (r : IsReady n s) (ok : IsSound s2) where
         ∙ ap (λ k. record { first = s.first; opening = s.book.opening; size = s.size; streams = k; replicas = length s.nodes }) (length-set s.indices c.stream (index_at s.indices c.stream + 1))
 
     ended_kept : Kept n s s2
-    ended_kept = kept_has n s s2 r ok ended_origin (ap rebuilds_of e) [] [] ended_has
+    ended_kept = kept_has n s s2 r ok ended_origin (ap gave_up_of e) [] [] ended_has
 
     abbrev ended_answer : Answer
     ended_answer = record { call = call.Command c.command; reply = y; index = index_at s.indices c.stream; saw = c.saw; stream = c.stream }

@@ -1,8 +1,9 @@
 -- The steps on the whole volume, as the one worker that there is sees them.
-use Rattle.std.proofs.Common.{◌≡◌, ◌≢◌, ℕ, ◌+◌, ◌<◌, true, false, List, [], ◌∷◌, ◌++◌, length, length-set, map, set, inl, inr, Result, Ok, Err as Failed, OnOk, OnErr, IfOk, IfErr, IfSome, Option, Some, None, subst, sym, refl, ap, ◌∙◌, arith, append-nil}
+use Rattle.std.proofs.Common.{◌≡◌, ◌≢◌, ℕ, ◌+◌, ◌<◌, ◌≤◌, ⊎_elim, true, false, List, [], ◌∷◌, ◌++◌, length, length-set, map, set, inl, inr, Result, Ok, Err as Failed, OnOk, OnErr, IfOk, IfErr, IfSome, Option, Some, None, subst, sym, refl, ap, ◌∙◌, arith, append-nil}
 use Rattle.std.specs.List.{remove}
+use Rattle.std.proofs.lemmas.Bool.{cases_lt}
 use Rattle.sparse_image.specs.Image.{Tables}
-use Rattle.vol_units.specs.Name.{begins_sys}
+use Rattle.vol_units.specs.Name.{begins_sys, sys_name}
 use Rattle.command_text.specs.declared.command.Command.{Command}
 use Rattle.command_text.specs.declared.command.Command.TheVariants as command
 use Rattle.range_turns.specs.declared.ticket.Ticket.{Ticket}
@@ -17,17 +18,19 @@ use Rattle.volume_model.specs.declared.entry.Entry.TheVariants as entry
 use Rattle.volume_model.specs.declared.mark.Mark.TheVariants as mark
 use Rattle.volume_model.specs.declared.mode.Mode.{Mode}
 use Rattle.volume_model.specs.declared.mode.Mode.TheVariants.{Rw, Wo, Err}
-use Rattle.volume_model.specs.Modes.{mode_of, source_of, HasSource, HasNoSource}
+use Rattle.volume_model.specs.Modes.{mode_of, source_of, HasSource, HasNoSource, IsSource}
 use Rattle.volume_model.specs.OneWorker.{refused_at}
-use Rattle.volume_model.proofs.SpotLemmas.{has_source, no_source}
+use Rattle.volume_model.specs.PlainState.{Volume}
+use Rattle.volume_model.proofs.SpotLemmas.{has_source, no_source, source_is}
 use Rattle.volume_model.proofs.StepLemmas.{has_no_source}
 use Rattle.replica_node.specs.Fold.{page_folded}
+use Rattle.replica_node.specs.Held.{emptied}
 use Rattle.open_calls.specs.declared.open_call.OpenCall.{OpenCall}
 use Rattle.open_calls.specs.declared.parts.Part.{Part}
 use Rattle.open_calls.specs.declared.parts.Part.TheVariants.{Taken, Acked}
 use Rattle.open_calls.specs.declared.whole_op.WholeOp.{WholeOp}
 use Rattle.open_calls.specs.declared.whole_op.WholeOp.TheVariants as whole
-use Rattle.open_calls.specs.Parts.{part_at, part_for}
+use Rattle.open_calls.specs.Parts.{part_at, part_for, IsTaken}
 use Rattle.open_calls.specs.Calls.{open_at, node_at, command_of, whole_call}
 use Rattle.open_calls.proofs.PartLemmas.{part_of}
 use Rattle.whole_calls.specs.declared.maint.MaintCall.{MaintCall}
@@ -38,7 +41,7 @@ use Rattle.whole_calls.specs.Maint as core
 use Rattle.whole_calls.specs.Maint.{command_at, IsAskedBy, HasNoCommand}
 use Rattle.volume_core.specs.declared.world.NotThis.{NotThis}
 use Rattle.volume_core.specs.declared.world.NotThis.TheVariants as against
-use Rattle.volume_core.specs.State.{State, modes_in, index_at}
+use Rattle.volume_core.specs.State.{State, modes_in, told_of, index_at}
 use Rattle.volume_core.specs.Steps.{with_place, without_call}
 use Rattle.volume_core.specs.Sound.{IsSound}
 use Rattle.volume_core.specs.Streams.{origin_of}
@@ -46,19 +49,43 @@ use Rattle.volume_maint.specs.declared.answers.AdmitWhole.{AdmitWhole}
 use Rattle.volume_maint.specs.declared.answers.AdmitWhole.TheVariants as admit
 use Rattle.volume_maint.specs.declared.answers.NextPart.{NextPart}
 use Rattle.volume_maint.specs.declared.answers.NextPart.TheVariants as next
-use Rattle.volume_maint.specs.Steps.{whole_ticket, whole_enrolled, begun_of, whole_begun, whole_parted, whole_acked, whole_ended, without_whole, turn_over, folded_on}
+use Rattle.volume_maint.specs.Steps.{whole_ticket, whole_enrolled, begun_of, whole_begun, barrier_name, barrier_modes, barrier_of, barrier_ended, whole_parted, whole_acked, whole_ended, without_whole, turn_over, folded_on}
 use Rattle.volume_maint.specs.Answers as world
 use Rattle.volume_maint.specs.Answers.{spot_of, whole_done, whole_lost, seen_by, MayAsk}
 use Rattle.volume_maint.specs.Places as place
+use Rattle.volume_maint.proofs.Begins.{its_volume}
 use Rattle.stream_steps.specs.Mine.{OwnCall, answer_placed, with_running, with_entries}
 use Rattle.stream_steps.specs.Steps.{EnrolsAt}
-use Rattle.stream_steps.specs.Maint.{IsMaint, HasTurn, HasWhole, EnrolsWhole, EnrolsUnder, AnswersWhole, StartsWhole, AdmitsWhole, IsNotLater, PartsTo, AcksWhole, AgainstPart, IsWholeReply, EndsWhole, WholeEnds, IsNext}
+use Rattle.stream_steps.specs.Maint.{IsMaint, HasTurn, HasWhole, EnrolsWhole, EnrolsUnder, AnswersWhole, StartsWhole, StartsBarrier, StartsAs, AdmitsWhole, IsNotLater, PartsTo, AcksWhole, AgainstPart, AgainstAckWhole, IsWholeReply, EndsWhole, WholeEnds, IsNext}
 use Rattle.world_in_hand.proofs.OwnLemmas.{own_answer}
 use Rattle.commands_in_hand.specs.Hand.{own_turn, own_whole, parts_in, mine_in, IsReady}
 use Rattle.commands_in_hand.proofs.Shapes.{Has, OwnTurns, has_running, has_call, HasCall, HasOneTurn, shape_of}
 use Rattle.world_in_hand.specs.Hand.{own_entries}
-use Rattle.commands_in_hand.proofs.Grown.{Kept, rebuilds_of, kept_same, kept_has, only_open, grown, grown_by}
+use Rattle.commands_in_hand.proofs.Grown.{Kept, gave_up_of, kept_same, kept_has, only_open, grown, grown_by}
 use Rattle.commands_in_hand.proofs.TurnSteps.{idle_turns, turn_one}
+
+-- no replica has acknowledged its part at the start
+not_acked : (m : Mode) → part_for m ≢ Acked
+not_acked Rw e = absurd cc
+not_acked Wo e = absurd cc
+not_acked Err e = absurd cc
+
+-- the first replica that is read is the one that is told
+same_source : (ms : List Mode) (a b : ℕ) → IsSource ms a → IsSource ms b → a ≡ b
+same_source ms a b f g = ⊎_elim
+    (λ (low : a < b). absurd (g.first a low f.read))
+    (λ (high : b ≤ a). ⊎_elim
+    (λ (low : b < a). absurd (f.first b low g.read))
+    (λ (same : a ≤ b). omega (arith, high, same))
+    (cases_lt b a))
+    (cases_lt a b)
+
+source_found : (ms : List Mode) (k : ℕ) → IsSource ms k → source_of ms ≡ Some k
+source_found ms k is = by (source_of ms) refl
+  where
+    by : (v : Option ℕ) → source_of ms ≡ v → source_of ms ≡ Some k
+    by (Some q) e = e ∙ ap Some (same_source ms q k (source_is ms q e) is)
+    by None e = absurd (no_source ms e k is.read)
 
 -- ---- where the operation stands
 
@@ -155,7 +182,7 @@ module _ (n : ℕ) (s : State) (t : ℕ) (op : WholeOp) (turn : List OwnCall) (o
       }
 
       left_kept : Kept n s s2
-      left_kept = kept_has n s s2 r ok (ap origin_of e) (ap rebuilds_of e) x.ms [] left_has
+      left_kept = kept_has n s s2 r ok (ap origin_of e) (ap gave_up_of e) x.ms [] left_has
 
       left_mine : mine_in n s2 ≡ with_running (mine_in n s) turn
       left_mine = only_open n s s2 (ap origin_of e) turn (ap (λ (z : State). z.book.entries) e) (running_left s2 left_has)
@@ -176,18 +203,13 @@ module _ (n : ℕ) (s : State) (t : ℕ) (op : WholeOp) (turn : List OwnCall) (o
       }
 
       begun_kept : Kept n s s2
-      begun_kept = kept_has n s s2 r ok (ap origin_of e) (ap rebuilds_of e) x.ms (q2 ∷ []) begun_has
+      begun_kept = kept_has n s s2 r ok (ap origin_of e) (ap gave_up_of e) x.ms (q2 ∷ []) begun_has
 
       begun_own : own_whole s2.whole q2 ≡ record o { started = true; parts = map part_for (modes_in s) }
       begun_own =
           ap (λ (z : State). own_whole z.whole q2) e
           ∙ ap (λ k. record (own_whole s.whole x.q) { started = true; parts = parts_in (Some (begun_of s i p spares)) k x.q.1.parts }) x.kind
           ∙ ap (λ (y : OwnCall). record y { started = true; parts = map part_for (modes_in s) }) x.is
-
-      not_acked : (m : Mode) → part_for m ≢ Acked
-      not_acked Rw e = absurd cc
-      not_acked Wo e = absurd cc
-      not_acked Err e = absurd cc
 
       begun_mine : refused_at (spot_of s) (call.Command (command_of p)) ≡ None → p ≡ op → o.call ≡ call.Command (command_of op) → StartsWhole turn o (mine_in n s) (mine_in n s2)
       begun_mine free same asked = record {
@@ -199,10 +221,56 @@ module _ (n : ℕ) (s : State) (t : ℕ) (op : WholeOp) (turn : List OwnCall) (o
         free = subst (λ c. refused_at (spot_of s) c ≡ None) (ap (λ v. call.Command (command_of v)) same ∙ sym asked) free;
       }
 
+    -- the barrier of an add starts, and with it a rebuild
+    module _ (i k : ℕ) (within : i < length s.tickets) (w : world.BeginsBarrier s i k s2) where
+      abbrev q3 : Ticket × OpenCall
+      q3 = (record x.q.0 { started = true }, x.q.1)
+
+      abbrev put_parts : List Part
+      put_parts = map part_for (barrier_modes s w.b.target)
+
+      put_has : Has n s2 x.ms (q3 ∷ [])
+      put_has = record {
+        maint = ap (λ (z : State). z.maint) w.state ∙ x.has.maint;
+        commands = ap (λ (z : State). z.commands) w.state ∙ x.has.commands;
+        tickets = ap (λ (z : State). z.tickets) w.state ∙ ap (with_started s.tickets) (only_place i within) ∙ ap (λ ts. with_started ts 0) x.has.tickets;
+        calls = ap (λ (z : State). z.calls) w.state ∙ x.has.calls;
+        turns_own = x.has.turns_own;
+        calls_own = x.has.calls_own;
+      }
+
+      put_origin : origin_of s2 ≡ origin_of s
+      put_origin = ap origin_of w.state
+          ∙ ap (λ j. record { first = s.first; opening = s.book.opening; size = s.size; streams = length s.indices; replicas = j }) (length-set s.nodes w.b.target (emptied (node_at s.nodes w.b.source)))
+
+      put_kept : Kept n s s2
+      put_kept = kept_has n s s2 r ok put_origin (ap gave_up_of w.state) x.ms (q3 ∷ []) put_has
+
+      put_own : own_whole s2.whole q3 ≡ record o { started = true; parts = put_parts }
+      put_own =
+          ap (λ (z : State). own_whole z.whole q3) w.state
+          ∙ ap (λ j. record (own_whole s.whole x.q) { started = true; parts = parts_in (Some (barrier_of s i w.b w.spares)) j x.q.1.parts }) x.kind
+          ∙ ap (λ (y : OwnCall). record y { started = true; parts = put_parts }) x.is
+
+      put_mine : refused_at (spot_of s) o.call ≡ None → barrier_name s w.b.source ≡ sys_name (told_of s).volume.snapshots.number → StartsBarrier k turn o (mine_in n s) (mine_in n s2)
+      put_mine free under = record {
+        own = record o { started = true; parts = put_parts };
+        source = w.b.source;
+        name = barrier_name s w.b.source;
+        is = grown_by n s s2 put_origin [] (turn ++ record o { started = true; parts = put_parts } ∷ []) (entry.Mark (mark.Added k w.b.source (barrier_name s w.b.source)) ∷ [])
+            (ap (λ (z : State). z.book.entries) w.state ∙ ap (λ j. s.book.entries ++ entry.Mark (mark.Added j w.b.source (barrier_name s w.b.source)) ∷ []) w.target) refl
+            (running_as s2 q3 (record o { started = true; parts = put_parts }) put_has put_own);
+        same = refl;
+        none = λ j acked. not_acked (mode_of (barrier_modes s w.b.target) j) (sym (part_of (barrier_modes s w.b.target) j) ∙ acked);
+        free = free;
+        from = source_found (modes_in s) w.b.source w.source;
+        under = under;
+      }
+
     -- a replica's part
-    module _ (w v : Whole) (ps : List Part) (is : s.whole ≡ Some w) (of : v.parts ≡ ps) (origin : origin_of s2 ≡ origin_of s) (rebuilds : rebuilds_of s2 ≡ rebuilds_of s) (kept : s2.whole ≡ Some v) (entries : s2.book.entries ≡ s.book.entries) (h : Has n s2 x.ms (x.q ∷ [])) where
+    module _ (w v : Whole) (ps : List Part) (is : s.whole ≡ Some w) (of : v.parts ≡ ps) (origin : origin_of s2 ≡ origin_of s) (gave_up : gave_up_of s2 ≡ gave_up_of s) (kept : s2.whole ≡ Some v) (entries : s2.book.entries ≡ s.book.entries) (h : Has n s2 x.ms (x.q ∷ [])) where
       part_kept : Kept n s s2
-      part_kept = kept_has n s s2 r ok origin rebuilds x.ms (x.q ∷ []) h
+      part_kept = kept_has n s s2 r ok origin gave_up x.ms (x.q ∷ []) h
 
       part_mine : mine_in n s2 ≡ with_running (mine_in n s) (turn ++ record o { parts = ps } ∷ [])
       part_mine = only_open n s s2 origin (turn ++ record o { parts = ps } ∷ []) entries
@@ -224,6 +292,9 @@ over_turn n (whole.Revert name) z (u ∷ v ∷ ms) own m c asked = absurd own
 over_turn n (whole.Purge f) z [] own m c asked = (ap (λ ts. remove ts 0) m, ap (λ cs. remove cs 0) c)
 over_turn n (whole.Purge f) z (u ∷ []) own m c asked = (ap (λ ts. remove ts 0) m, ap (λ cs. remove cs 0) c)
 over_turn n (whole.Purge f) z (u ∷ v ∷ ms) own m c asked = absurd own
+over_turn n (whole.Barrier r) z [] own m c asked = (ap (λ ts. remove ts 0) m, ap (λ cs. remove cs 0) c)
+over_turn n (whole.Barrier r) z (u ∷ []) own m c asked = (ap (λ ts. remove ts 0) m, ap (λ cs. remove cs 0) c)
+over_turn n (whole.Barrier r) z (u ∷ v ∷ ms) own m c asked = absurd own
 
 -- and nothing else changes
 record SameButTurn (z z2 : State) : Type 0 where
@@ -231,13 +302,14 @@ record SameButTurn (z z2 : State) : Type 0 where
   calls : z2.calls ≡ z.calls
   entries : z2.book.entries ≡ z.book.entries
   origin : origin_of z2 ≡ origin_of z
-  rebuilds : rebuilds_of z2 ≡ rebuilds_of z
+  gave_up : gave_up_of z2 ≡ gave_up_of z
 
 over_same : (p : WholeOp) (z : State) → SameButTurn z (turn_over p z)
-over_same (whole.Snapshot name) z = record { tickets = refl; calls = refl; entries = refl; origin = refl; rebuilds = refl }
-over_same (whole.Remove name) z = record { tickets = refl; calls = refl; entries = refl; origin = refl; rebuilds = refl }
-over_same (whole.Revert name) z = record { tickets = refl; calls = refl; entries = refl; origin = refl; rebuilds = refl }
-over_same (whole.Purge f) z = record { tickets = refl; calls = refl; entries = refl; origin = refl; rebuilds = refl }
+over_same (whole.Snapshot name) z = record { tickets = refl; calls = refl; entries = refl; origin = refl; gave_up = refl }
+over_same (whole.Remove name) z = record { tickets = refl; calls = refl; entries = refl; origin = refl; gave_up = refl }
+over_same (whole.Revert name) z = record { tickets = refl; calls = refl; entries = refl; origin = refl; gave_up = refl }
+over_same (whole.Purge f) z = record { tickets = refl; calls = refl; entries = refl; origin = refl; gave_up = refl }
+over_same (whole.Barrier r) z = record { tickets = refl; calls = refl; entries = refl; origin = refl; gave_up = refl }
 
 module _ (n : ℕ) (s s2 : State) (t : ℕ) (op : WholeOp) (turn : List OwnCall) (o : OwnCall) (x : HasCall n s t op turn o) (r : IsReady n s) (ok : IsSound s2) (i : ℕ) (within : i < length s.tickets) where
   -- it ends with an answer
@@ -277,7 +349,7 @@ module _ (n : ℕ) (s s2 : State) (t : ℕ) (op : WholeOp) (turn : List OwnCall)
         ∙ same.origin
 
     ended_kept : Kept n s s2
-    ended_kept = kept_has n s s2 r ok ended_origin (ap rebuilds_of e ∙ same.rebuilds) [] [] ended_has
+    ended_kept = kept_has n s s2 r ok ended_origin (ap gave_up_of e ∙ same.gave_up) [] [] ended_has
 
     ended_mine : o.call ≡ call.Command (command_of op) → AnswersWhole o y (mine_in n s) (mine_in n s2)
     ended_mine asked =
@@ -296,7 +368,7 @@ module _ (n : ℕ) (s s2 : State) (t : ℕ) (op : WholeOp) (turn : List OwnCall)
 
   -- a part of a purge ends, with its mark or without
   module _ (marks : List Entry) (own : own_entries n (modes_in s) marks ≡ []) (maint : s2.maint ≡ s.maint) (commands : s2.commands ≡ s.commands) (tickets : s2.tickets ≡ remove s.tickets i) (calls : s2.calls ≡ remove s.calls i)
-      (origin : origin_of s2 ≡ origin_of s) (rebuilds : rebuilds_of s2 ≡ rebuilds_of s) (entries : s2.book.entries ≡ s.book.entries ++ marks) where
+      (origin : origin_of s2 ≡ origin_of s) (gave_up : gave_up_of s2 ≡ gave_up_of s) (entries : s2.book.entries ≡ s.book.entries ++ marks) where
     marked_has : Has n s2 x.ms []
     marked_has = record {
       maint = maint ∙ x.has.maint;
@@ -308,7 +380,7 @@ module _ (n : ℕ) (s s2 : State) (t : ℕ) (op : WholeOp) (turn : List OwnCall)
     }
 
     marked_kept : Kept n s s2
-    marked_kept = kept_has n s s2 r ok origin rebuilds x.ms [] marked_has
+    marked_kept = kept_has n s s2 r ok origin gave_up x.ms [] marked_has
 
     marked_mine : mine_in n s2 ≡ with_entries (mine_in n s) [] marks turn
     marked_mine = grown_by n s s2 origin [] turn marks entries own (running_left n s t op turn o x s2 marked_has)
@@ -330,7 +402,7 @@ module _ (n : ℕ) (s s2 : State) (r : IsReady n s) (ok : IsSound s2) (ms : List
   }
 
   enrolled_kept : Kept n s s2
-  enrolled_kept = kept_has n s s2 r ok (ap origin_of e) (ap rebuilds_of e) ms (q ∷ []) enrolled_has
+  enrolled_kept = kept_has n s s2 r ok (ap origin_of e) (ap gave_up_of e) ms (q ∷ []) enrolled_has
 
   enrolled_mine : EnrolsWhole number op (map own_turn ms) (mine_in n s) (mine_in n s2)
   enrolled_mine = record {
@@ -386,7 +458,7 @@ module _ (n : ℕ) (s s2 : State) (r : IsReady n s) (ok : IsSound s2) (h : Has n
 same_command : (c d : Command) → call.Command c ≡ call.Command d → c ≡ d
 same_command c d e = cc
 
-core_turn : (n t : ℕ) (s : State) (c : Command) (o : OwnCall) → HasTurn t c o (mine_in n s) → HasOneTurn n s o → core.HasTurn s.maint s.commands n c
+pub core_turn : (n t : ℕ) (s : State) (c : Command) (o : OwnCall) → HasTurn t c o (mine_in n s) → HasOneTurn n s o → core.HasTurn s.maint s.commands n c
 core_turn n t s c o h one = record {
   some = omega (arith, ap length one.has.commands);
   started = ap (λ ts. (ticket_at ts 0).started) one.has.maint ∙ ap (λ (x : OwnCall). x.started) one.is ∙ h.started;
@@ -399,6 +471,7 @@ ask_by n s (whole.Snapshot name) wants h = absurd wants
 ask_by n s (whole.Remove name) wants h = h
 ask_by n s (whole.Revert name) wants h = h
 ask_by n s (whole.Purge f) wants h = h
+ask_by n s (whole.Barrier r) wants h = h
 
 pub turn_asks : (n t : ℕ) (s : State) (op : WholeOp) → IsReady n s → ((o : OwnCall) × HasTurn t (command_of op) o (mine_in n s)) → MayAsk s n op
 turn_asks n t s op r x = ask_by n s op x.1.wants (core_turn n t s (command_of op) x.0 x.1 (turn_one n t (command_of op) x.0 s r x.1))
@@ -408,6 +481,7 @@ saw_by n s (whole.Snapshot name) o wants one = absurd wants
 saw_by n s (whole.Remove name) o wants one = ap (λ cs. (command_at cs 0).saw) one.has.commands ∙ ap (λ (x : OwnCall). x.saw) one.is
 saw_by n s (whole.Revert name) o wants one = ap (λ cs. (command_at cs 0).saw) one.has.commands ∙ ap (λ (x : OwnCall). x.saw) one.is
 saw_by n s (whole.Purge f) o wants one = ap (λ cs. (command_at cs 0).saw) one.has.commands ∙ ap (λ (x : OwnCall). x.saw) one.is
+saw_by n s (whole.Barrier r) o wants one = ap (λ cs. (command_at cs 0).saw) one.has.commands ∙ ap (λ (x : OwnCall). x.saw) one.is
 
 module _ (n t : ℕ) (s s2 : State) (r : IsReady n s) (ok : IsSound s2) (op : WholeOp) where
   under_one : (k : ℕ) (o : OwnCall) → s2 ≡ whole_enrolled s k n (seen_by s op) op → IsMaint (command_of op) → HasOneTurn n s o → EnrolsUnder k op o (mine_in n s) (mine_in n s2)
@@ -454,31 +528,53 @@ pub whole_waits : (n t : ℕ) (s : State) → IsReady n s → (op : WholeOp) × 
 whole_waits n t s r w = awaits_here n s t w.0 w.1 w.2 (has_call n s t w.0 w.1 w.2 r w.3) w.4
 
 module _ (n t : ℕ) (s s2 : State) (r : IsReady n s) (ok : IsSound s2) where
-  admit_one : (a : AdmitWhole) → world.AdmitsWhole s t a s2 → (op : WholeOp) (turn : List OwnCall) (o : OwnCall) → HasWhole t op turn o (mine_in n s) → AdmitsWhole turn o a (mine_in n s) (mine_in n s2)
+  -- it starts, and with a barrier a rebuild
+  go_on : (op : WholeOp) (turn : List OwnCall) (o : OwnCall) → HasCall n s t op turn o → o.call ≡ call.Command (command_of op) → (i : ℕ) → world.IsWaiting s t i op → refused_at (spot_of s) (call.Command (command_of op)) ≡ None → world.BeginsWhole s i op s2
+      → StartsAs op turn o (mine_in n s) (mine_in n s2)
+  go_on (whole.Snapshot name) turn o x asked i w free b = begun_mine n s t (whole.Snapshot name) turn o x s2 r ok i (whole.Snapshot name) b.0 w.awaits.stands.within b.2 free refl asked
+  go_on (whole.Remove name) turn o x asked i w free b = begun_mine n s t (whole.Remove name) turn o x s2 r ok i (whole.Remove name) b.0 w.awaits.stands.within b.2 free refl asked
+  go_on (whole.Revert name) turn o x asked i w free b = begun_mine n s t (whole.Revert name) turn o x s2 r ok i (whole.Revert name) b.0 w.awaits.stands.within b.2 free refl asked
+  go_on (whole.Purge f) turn o x asked i w free b = begun_mine n s t (whole.Purge f) turn o x s2 r ok i (whole.Purge f) b.0 w.awaits.stands.within b.2 free refl asked
+  go_on (whole.Barrier k) turn o x asked i w free b = put_mine n s t (whole.Barrier k) turn o x s2 r ok i k w.awaits.stands.within b (subst (λ c. refused_at (spot_of s) c ≡ None) (sym asked) free)
+      (ap (λ (v : Volume). sys_name v.snapshots.number) (its_volume s i r.sound w.awaits.stands.within w.awaits.kind w.awaits.waits w.clear b.b.source b.source.read))
+
+  go_kept : (op : WholeOp) (turn : List OwnCall) (o : OwnCall) → HasCall n s t op turn o → (i : ℕ) → i < length s.tickets → world.BeginsWhole s i op s2 → Kept n s s2
+  go_kept (whole.Snapshot name) turn o x i within b = begun_kept n s t (whole.Snapshot name) turn o x s2 r ok i (whole.Snapshot name) b.0 within b.2
+  go_kept (whole.Remove name) turn o x i within b = begun_kept n s t (whole.Remove name) turn o x s2 r ok i (whole.Remove name) b.0 within b.2
+  go_kept (whole.Revert name) turn o x i within b = begun_kept n s t (whole.Revert name) turn o x s2 r ok i (whole.Revert name) b.0 within b.2
+  go_kept (whole.Purge f) turn o x i within b = begun_kept n s t (whole.Purge f) turn o x s2 r ok i (whole.Purge f) b.0 within b.2
+  go_kept (whole.Barrier k) turn o x i within b = put_kept n s t (whole.Barrier k) turn o x s2 r ok i k within b
+
+  admit_one : (a : AdmitWhole) → world.AdmitsWhole s t a s2 → (op : WholeOp) (turn : List OwnCall) (o : OwnCall) → HasWhole t op turn o (mine_in n s) → AdmitsWhole op turn o a (mine_in n s) (mine_in n s2)
   admit_one admit.Go y op turn o w =
       let x = has_call n s t op turn o r w in
-      let within = y.3.stands.within in
-      begun_mine n s t op turn o x s2 r ok y.0 y.1 y.2 within y.8 y.6 (same_op n s t op turn o x y.0 y.1 within y.4) w.call
+      let same = same_op n s t op turn o x y.0 y.1 y.2.awaits.stands.within y.2.asks in
+      go_on op turn o x w.call y.0 (subst (world.IsWaiting s t y.0) same y.2) (subst (λ p. refused_at (spot_of s) (call.Command (command_of p)) ≡ None) same y.4) (subst (λ p. world.BeginsWhole s y.0 p s2) same y.5)
   admit_one (admit.After number) y op turn o w = ap (mine_in n) y.3
+  admit_one admit.Never y op turn o w = ap (mine_in n) y.4
   admit_one (admit.Refused why at) y op turn o w =
       let x = has_call n s t op turn o r w in
-      let within = y.2.stands.within in
-      let same = same_op n s t op turn o x y.0 y.1 within y.3 in (
-        ended_mine n s s2 t op turn o x r ok y.0 within (s.book.spare + 1) (reply.Refused why) (subst (λ p. s2 ≡ whole_ended (with_place s) y.0 p (reply.Refused why)) same y.7) w.call,
-        subst (λ c. refused_at (spot_of s) c ≡ Some why) (ap (λ p. call.Command (command_of p)) same ∙ sym w.call) y.5,
+      let within = y.2.awaits.stands.within in
+      let same = same_op n s t op turn o x y.0 y.1 within y.2.asks in (
+        ended_mine n s s2 t op turn o x r ok y.0 within (s.book.spare + 1) (reply.Refused why) (subst (λ p. s2 ≡ whole_ended (with_place s) y.0 p (reply.Refused why)) same y.6) w.call,
+        subst (λ c. refused_at (spot_of s) c ≡ Some why) (ap (λ p. call.Command (command_of p)) same ∙ sym w.call) y.4,
       )
 
-  pub admit_mine : {E : Type 0} (res : Result AdmitWhole E) → IfOk res (λ a. world.AdmitsWhole s t a s2) → IfOk res (λ a. (op : WholeOp) (turn : List OwnCall) (o : OwnCall) → HasWhole t op turn o (mine_in n s) → AdmitsWhole turn o a (mine_in n s) (mine_in n s2))
+  pub admit_mine : {E : Type 0} (res : Result AdmitWhole E) → IfOk res (λ a. world.AdmitsWhole s t a s2) → IfOk res (λ a. (op : WholeOp) (turn : List OwnCall) (o : OwnCall) → HasWhole t op turn o (mine_in n s) → AdmitsWhole op turn o a (mine_in n s) (mine_in n s2))
   admit_mine (Ok a) y = admit_one a y
   admit_mine (Failed e) y = tt
 
   admit_on : (a : AdmitWhole) → world.AdmitsWhole s t a s2 → (op : WholeOp) (turn : List OwnCall) (o : OwnCall) → HasWhole t op turn o (mine_in n s) → Kept n s s2
-  admit_on admit.Go y op turn o w = begun_kept n s t op turn o (has_call n s t op turn o r w) s2 r ok y.0 y.1 y.2 y.3.stands.within y.8
+  admit_on admit.Go y op turn o w =
+      let x = has_call n s t op turn o r w in
+      let same = same_op n s t op turn o x y.0 y.1 y.2.awaits.stands.within y.2.asks in
+      go_kept op turn o x y.0 y.2.awaits.stands.within (subst (λ p. world.BeginsWhole s y.0 p s2) same y.5)
   admit_on (admit.After number) y op turn o w = kept_same n s s2 r y.3
+  admit_on admit.Never y op turn o w = kept_same n s s2 r y.4
   admit_on (admit.Refused why at) y op turn o w =
       let x = has_call n s t op turn o r w in
-      let within = y.2.stands.within in
-      ended_kept n s s2 t op turn o x r ok y.0 within (s.book.spare + 1) (reply.Refused why) (subst (λ p. s2 ≡ whole_ended (with_place s) y.0 p (reply.Refused why)) (same_op n s t op turn o x y.0 y.1 within y.3) y.7)
+      let within = y.2.awaits.stands.within in
+      ended_kept n s s2 t op turn o x r ok y.0 within (s.book.spare + 1) (reply.Refused why) (subst (λ p. s2 ≡ whole_ended (with_place s) y.0 p (reply.Refused why)) (same_op n s t op turn o x y.0 y.1 within y.2.asks) y.6)
 
   pub admit_kept : {E : Type 0} (res : Result AdmitWhole E) → IfOk res (λ a. world.AdmitsWhole s t a s2) → OnErr res (s2 ≡ s) → HasSome n s t → Kept n s s2
   admit_kept (Ok a) y err w = admit_on a y w.0 w.1 w.2 w.3
@@ -489,6 +585,7 @@ module _ (n t : ℕ) (s s2 : State) (r : IsReady n s) (ok : IsSound s2) where
   admit_not (admit.After number) y w =
       let x = has_call n s t w.0 w.1 w.2 r w.3 in
       absurd (omega (arith, y.2.1.earlier, y.1.stands.within, ap length x.has.tickets))
+  admit_not admit.Never y w = tt
   admit_not (admit.Refused why at) y w = tt
 
   pub admit_free : {E : Type 0} (res : Result AdmitWhole E) → IfOk res (λ a. world.AdmitsWhole s t a s2) → HasSome n s t → IfOk res IsNotLater
@@ -515,22 +612,22 @@ module _ (n t : ℕ) (s s2 : State) (r : IsReady n s) (ok : IsSound s2) where
     takes_has w e = same_has n s t op turn o here s2 (ap (λ (z : State). z.maint) e) (ap (λ (z : State). z.commands) e) (ap (λ (z : State). z.tickets) e) (ap (λ (z : State). z.calls) e)
 
     takes_one : world.TakesPart s t q s2 → PartsTo turn o q (mine_in n s) (mine_in n s2)
-    takes_one y = part_mine n s t op turn o here s2 r ok y.w (parted y.w q) (set o.parts q Taken) y.at.is (ap (λ ps. set ps q Taken) (parts_are n s t op turn o here y.w y.at.is)) (parted_origin y.w q y.state) (ap rebuilds_of y.state)
+    takes_one y = part_mine n s t op turn o here s2 r ok y.w (parted y.w q) (set o.parts q Taken) y.at.is (ap (λ ps. set ps q Taken) (parts_are n s t op turn o here y.w y.at.is)) (parted_origin y.w q y.state) (ap gave_up_of y.state)
         (ap (λ (z : State). z.whole) y.state) (ap (λ (z : State). z.book.entries) y.state) (takes_has y.w y.state)
 
     takes_on : world.TakesPart s t q s2 → Kept n s s2
-    takes_on y = part_kept n s t op turn o here s2 r ok y.w (parted y.w q) (set o.parts q Taken) y.at.is (ap (λ ps. set ps q Taken) (parts_are n s t op turn o here y.w y.at.is)) (parted_origin y.w q y.state) (ap rebuilds_of y.state)
+    takes_on y = part_kept n s t op turn o here s2 r ok y.w (parted y.w q) (set o.parts q Taken) y.at.is (ap (λ ps. set ps q Taken) (parts_are n s t op turn o here y.w y.at.is)) (parted_origin y.w q y.state) (ap gave_up_of y.state)
         (ap (λ (z : State). z.whole) y.state) (ap (λ (z : State). z.book.entries) y.state) (takes_has y.w y.state)
 
     acks_has : (w : Whole) → s2 ≡ whole_acked s w q → Has n s2 here.ms (here.q ∷ [])
     acks_has w e = same_has n s t op turn o here s2 (ap (λ (z : State). z.maint) e) (ap (λ (z : State). z.commands) e) (ap (λ (z : State). z.tickets) e) (ap (λ (z : State). z.calls) e)
 
     acks_one : world.AcksPart s t q s2 → AcksWhole turn o q (mine_in n s) (mine_in n s2)
-    acks_one y = part_mine n s t op turn o here s2 r ok y.w (part_acked y.w q) (set o.parts q Acked) y.at.is (ap (λ ps. set ps q Acked) (parts_are n s t op turn o here y.w y.at.is)) (ap origin_of y.state) (ap rebuilds_of y.state)
+    acks_one y = part_mine n s t op turn o here s2 r ok y.w (part_acked y.w q) (set o.parts q Acked) y.at.is (ap (λ ps. set ps q Acked) (parts_are n s t op turn o here y.w y.at.is)) (ap origin_of y.state) (ap gave_up_of y.state)
         (ap (λ (z : State). z.whole) y.state) (ap (λ (z : State). z.book.entries) y.state) (acks_has y.w y.state)
 
     acks_on : world.AcksPart s t q s2 → Kept n s s2
-    acks_on y = part_kept n s t op turn o here s2 r ok y.w (part_acked y.w q) (set o.parts q Acked) y.at.is (ap (λ ps. set ps q Acked) (parts_are n s t op turn o here y.w y.at.is)) (ap origin_of y.state) (ap rebuilds_of y.state)
+    acks_on y = part_kept n s t op turn o here s2 r ok y.w (part_acked y.w q) (set o.parts q Acked) y.at.is (ap (λ ps. set ps q Acked) (parts_are n s t op turn o here y.w y.at.is)) (ap origin_of y.state) (ap gave_up_of y.state)
         (ap (λ (z : State). z.whole) y.state) (ap (λ (z : State). z.book.entries) y.state) (acks_has y.w y.state)
 
     begun_whole : (ticket_at s.tickets 0).started ≡ true → (w : Whole) × (s.whole ≡ Some w)
@@ -551,8 +648,18 @@ module _ (n t : ℕ) (s s2 : State) (r : IsReady n s) (ok : IsSound s2) where
         let w = begun_whole begun in
         λ owed. a w.0 0 (whole_on n s t op turn o here w.0 w.1 r.sound) (ap (λ ps. part_at ps q) (parts_are n s t op turn o here w.0 w.1) ∙ owed)
     against_one begun (against.Mode m) a = a
+    against_one begun against.Page a = absurd a
     against_one begun (against.Pending p) a = absurd a
     against_one begun (against.Count c) a = absurd a
+
+    unacked_one : (ticket_at s.tickets 0).started ≡ true → (why : NotThis) → world.AgainstAckPart s t q why → AgainstAckWhole o q why
+    unacked_one begun against.Ticket a = let w = begun_whole begun in a w.0 0 (whole_on n s t op turn o here w.0 w.1 r.sound)
+    unacked_one begun (against.Mode m) a = absurd a
+    unacked_one begun against.Page a = absurd a
+    unacked_one begun (against.Pending p) a =
+        let w = begun_whole begun in
+        (a.0, λ taken. a.1 w.0 0 (whole_on n s t op turn o here w.0 w.1 r.sound) (subst (λ ps. IsTaken (part_at ps q)) (sym (parts_are n s t op turn o here w.0 w.1)) taken))
+    unacked_one begun (against.Count c) a = absurd a
 
   pub takes : {E : Type 0} (q : ℕ) (res : Result (Unit {0}) E) → OnOk res (world.TakesPart s t q s2) → OnOk res ((op : WholeOp) (turn : List OwnCall) (o : OwnCall) → HasWhole t op turn o (mine_in n s) → PartsTo turn o q (mine_in n s) (mine_in n s2))
   takes q (Ok u) y = λ op turn o h. takes_one q op turn o h y
@@ -576,6 +683,11 @@ module _ (n t : ℕ) (s s2 : State) (r : IsReady n s) (ok : IsSound s2) where
   acks q (Ok u) y = λ op turn o h. acks_one q op turn o h y
   acks q (Failed e) y = tt
 
+  pub acks_why : (q : ℕ) (res : Result (Unit {0}) NotThis) → IfErr res (world.AgainstAckPart s t q) → (op : WholeOp) × (turn : List OwnCall) × (o : OwnCall) × HasWhole t op turn o (mine_in n s) × (o.started ≡ true)
+      → IfErr res (λ why. (op : WholeOp) (turn : List OwnCall) (o : OwnCall) → HasWhole t op turn o (mine_in n s) → AgainstAckWhole o q why)
+  acks_why q (Ok u) a w = tt
+  acks_why q (Failed why) a w = λ op turn o h. unacked_one q op turn o h (begun_there w) why a
+
   pub acks_kept : {E : Type 0} (q : ℕ) (res : Result (Unit {0}) E) → OnOk res (world.AcksPart s t q s2) → OnErr res (s2 ≡ s) → HasSome n s t → Kept n s s2
   acks_kept q (Ok u) y err w = acks_on q w.0 w.1 w.2 w.3 y
   acks_kept q (Failed e) y err w = kept_same n s s2 r err
@@ -588,10 +700,24 @@ module _ (n t : ℕ) (s s2 : State) (r : IsReady n s) (ok : IsSound s2) where
       record { reply = y; answers = ended_mine n s s2 t op turn o x r ok i within s.book.spare y e asked; right = right },
     )
 
+    -- a barrier ends without an answer, and its command has the turn still
+    barrier_end : (op : WholeOp) → HasCall n s t op turn o → s2 ≡ barrier_ended s i → Kept n s s2 × (mine_in n s2 ≡ with_running (mine_in n s) turn)
+    barrier_end op x e =
+        let maint = ap (λ (z : State). z.maint) e in
+        let commands = ap (λ (z : State). z.commands) e in
+        let tickets = ap (λ (z : State). z.tickets) e in
+        let calls = ap (λ (z : State). z.calls) e in
+        let same = ap (λ (z : State). z.book.entries) e in
+        let entries = same ∙ sym (append-nil s.book.entries) in (
+          marked_kept n s s2 t op turn o x r ok i within [] refl maint commands tickets calls (ap origin_of e) (ap gave_up_of e) entries,
+          only_open n s s2 (ap origin_of e) turn same (running_left n s t op turn o x s2 (marked_has n s s2 t op turn o x r ok i within [] refl maint commands tickets calls (ap origin_of e) (ap gave_up_of e) entries)),
+        )
+
     done_end : (op : WholeOp) → HasCall n s t op turn o → o.call ≡ call.Command (command_of op) → HasSource (modes_in s) → s2 ≡ whole_done s i op → Kept n s s2 × WholeEnds op turn o (mine_in n s) (mine_in n s2)
     done_end (whole.Snapshot name) x asked source e = answers_end (whole.Snapshot name) x asked reply.Done source e
     done_end (whole.Remove name) x asked source e = answers_end (whole.Remove name) x asked reply.Done source e
     done_end (whole.Revert name) x asked source e = answers_end (whole.Revert name) x asked reply.Done source e
+    done_end (whole.Barrier k) x asked source e = barrier_end (whole.Barrier k) x e
     done_end (whole.Purge f) x asked source e =
         let marks : List Entry = entry.Mark (mark.Purged f) ∷ [] in
         let maint = ap (λ (z : State). z.maint) e in
@@ -599,10 +725,10 @@ module _ (n t : ℕ) (s s2 : State) (r : IsReady n s) (ok : IsSound s2) where
         let tickets = ap (λ (z : State). z.tickets) e in
         let calls = ap (λ (z : State). z.calls) e in
         let entries = ap (λ (z : State). z.book.entries) e in (
-          marked_kept n s s2 t (whole.Purge f) turn o x r ok i within marks refl maint commands tickets calls (ap origin_of e) (ap rebuilds_of e) entries,
+          marked_kept n s s2 t (whole.Purge f) turn o x r ok i within marks refl maint commands tickets calls (ap origin_of e) (ap gave_up_of e) entries,
           record {
             marks = marks;
-            is = marked_mine n s s2 t (whole.Purge f) turn o x r ok i within marks refl maint commands tickets calls (ap origin_of e) (ap rebuilds_of e) entries;
+            is = marked_mine n s s2 t (whole.Purge f) turn o x r ok i within marks refl maint commands tickets calls (ap origin_of e) (ap gave_up_of e) entries;
             are = inl refl;
             done = λ _. refl;
             none = λ none. absurd (has_no_source (modes_in s) source none);
@@ -613,16 +739,17 @@ module _ (n t : ℕ) (s s2 : State) (r : IsReady n s) (ok : IsSound s2) where
     lost_end (whole.Snapshot name) x asked none e = answers_end (whole.Snapshot name) x asked (reply.Refused NoReplica) (refl, none) e
     lost_end (whole.Remove name) x asked none e = answers_end (whole.Remove name) x asked (reply.Refused NoReplica) (refl, none) e
     lost_end (whole.Revert name) x asked none e = answers_end (whole.Revert name) x asked (reply.Refused NoReplica) (refl, none) e
+    lost_end (whole.Barrier k) x asked none e = barrier_end (whole.Barrier k) x e
     lost_end (whole.Purge f) x asked none e =
         let maint = ap (λ (z : State). z.maint) e in
         let commands = ap (λ (z : State). z.commands) e in
         let tickets = ap (λ (z : State). z.tickets) e in
         let calls = ap (λ (z : State). z.calls) e in
         let entries = ap (λ (z : State). z.book.entries) e ∙ sym (append-nil s.book.entries) in (
-          marked_kept n s s2 t (whole.Purge f) turn o x r ok i within [] refl maint commands tickets calls (ap origin_of e) (ap rebuilds_of e) entries,
+          marked_kept n s s2 t (whole.Purge f) turn o x r ok i within [] refl maint commands tickets calls (ap origin_of e) (ap gave_up_of e) entries,
           record {
             marks = [];
-            is = marked_mine n s s2 t (whole.Purge f) turn o x r ok i within [] refl maint commands tickets calls (ap origin_of e) (ap rebuilds_of e) entries;
+            is = marked_mine n s s2 t (whole.Purge f) turn o x r ok i within [] refl maint commands tickets calls (ap origin_of e) (ap gave_up_of e) entries;
             are = inr refl;
             done = λ source. absurd (has_no_source (modes_in s) source none);
             none = λ _. refl;
@@ -666,7 +793,7 @@ module _ (n : ℕ) (s s2 : State) (r : IsReady n s) (ok : IsSound s2) (q page : 
   folded_kept : (c : List ℕ) → s2 ≡ folded_on s q p c page → Kept n s s2
   folded_kept c e =
       let h = shape_of n s r in
-      kept_has n s s2 r ok (folded_origin c e) (ap rebuilds_of e) h.ms h.cs (record {
+      kept_has n s s2 r ok (folded_origin c e) (ap gave_up_of e) h.ms h.cs (record {
         maint = ap (λ (z : State). z.maint) e ∙ h.has.maint;
         commands = ap (λ (z : State). z.commands) e ∙ h.has.commands;
         tickets = ap (λ (z : State). z.tickets) e ∙ h.has.tickets;

@@ -55,11 +55,10 @@ pub record IsAlone (stream : ℕ) (s : State) : Type 0 where
   pub calls : (other : ℕ) → other ≢ stream → running s other ≡ []
   pub turns : (other : ℕ) → other ≢ stream → turning s other ≡ []
 
--- A step of the stream can be taken: the World is sound, the stream is one of its streams, and it is alone. No rebuild
--- is open, since no command here is an add, and no stream gave one up.
+-- A step of the stream can be taken: the World is sound, the stream is one of its streams, and it is alone. No stream
+-- gave a rebuild up.
 pub record IsReady (stream : ℕ) (s : State) : Type 0 where
   pub sound : IsSound s
   pub there : stream < length s.indices
   pub alone : IsAlone stream s
-  pub settled : s.rebuild ≡ None
   pub gave_up : NoneGaveUp s.gave_up

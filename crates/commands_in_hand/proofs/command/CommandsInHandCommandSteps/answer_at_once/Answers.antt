@@ -1,7 +1,7 @@
 use Rattle.volume_model.specs.declared.call.Call.TheVariants as call
 use Rattle.volume_core.specs.State.{state_of}
 use Rattle.commands_in_hand.proofs.Grown.{kept_by}
-use Rattle.commands_in_hand.proofs.Settled.{answered_rebuilds}
+use Rattle.world_in_hand.proofs.Turns.{no_rebuild, turns_answered}
 use Rattle.commands_in_hand.proofs.Shapes.{has_none}
 use Rattle.commands_in_hand.proofs.TurnSteps.{idle_calls, idle_turns, at_once}
 use Rattle.commands_in_hand.proofs.command.CommandsInHandCommandSteps.answer_at_once.Goals as goal
@@ -16,9 +16,9 @@ answer_now-requires-clause-free g c =
 
 pub returns-clause-ok : goal.returns-clause-ok
 returns-clause-ok g c =
-    at_once c.args.self.now.stream c.args.command.now (state_of c.args.self.now.world) (state_of c.answer_now.new.self) c.answer_now.result (has_none c.args.self.now.stream (state_of c.args.self.now.world) c.requires.ready c.requires.idle) c.requires.ready.settled c.requires.once c.answer_now.ensures.may c.answer_now.ensures.ok c.answer_now.ensures.sees c.answer_now.ensures.err
+    at_once c.args.self.now.stream c.args.command.now (state_of c.args.self.now.world) (state_of c.answer_now.new.self) c.answer_now.result (has_none c.args.self.now.stream (state_of c.args.self.now.world) c.requires.ready c.requires.idle) (no_rebuild (state_of c.args.self.now.world) c.requires.ready.sound (has_none c.args.self.now.stream (state_of c.args.self.now.world) c.requires.ready c.requires.idle).commands) c.requires.once c.answer_now.ensures.may c.answer_now.ensures.ok c.answer_now.ensures.sees c.answer_now.ensures.err
 
 pub returns-clause-ready : goal.returns-clause-ready
 returns-clause-ready g c =
     (kept_by c.args.self.now.stream (state_of c.args.self.now.world) (state_of c.answer_now.new.self) c.requires.ready c.answer_now.ensures.may
-    (answered_rebuilds c.args.self.now.stream (call.Command c.args.command.now) (state_of c.args.self.now.world) (state_of c.answer_now.new.self) c.answer_now.result c.requires.ready.settled c.answer_now.ensures.ok c.answer_now.ensures.err)).ready
+    (turns_answered c.args.self.now.stream (call.Command c.args.command.now) (state_of c.args.self.now.world) (state_of c.answer_now.new.self) c.answer_now.result c.answer_now.ensures.ok c.answer_now.ensures.err)).ready

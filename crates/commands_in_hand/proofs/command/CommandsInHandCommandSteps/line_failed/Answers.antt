@@ -4,12 +4,12 @@ use Rattle.world_in_hand.proofs.Answered.{fault_fails}
 use Rattle.world_in_hand.proofs.AgainstLemmas as other
 use Rattle.commands_in_hand.proofs.TurnSteps.{faults, faults_why}
 use Rattle.commands_in_hand.proofs.Grown.{kept_by}
-use Rattle.commands_in_hand.proofs.Settled.{faulted_rebuilds}
+use Rattle.world_in_hand.proofs.Turns.{turns_faulted}
 use Rattle.commands_in_hand.proofs.command.CommandsInHandCommandSteps.line_failed.Goals as goal
 
 pub returns-clause-ok : goal.returns-clause-ok
 returns-clause-ok g c =
-    faults c.args.self.now.stream c.args.replica c.args.count (state_of c.args.self.now.world) (state_of c.fault.new.self) c.fault.result c.requires.ready.settled c.fault.ensures.may c.fault.ensures.ok
+    faults c.args.self.now.stream c.args.replica c.args.count (state_of c.args.self.now.world) (state_of c.fault.new.self) c.fault.result c.fault.ensures.may c.fault.ensures.ok
 
 pub returns-clause-failed : goal.returns-clause-failed
 returns-clause-failed g c =
@@ -22,4 +22,4 @@ returns-clause-why g c =
 pub returns-clause-ready : goal.returns-clause-ready
 returns-clause-ready g c =
     (kept_by c.args.self.now.stream (state_of c.args.self.now.world) (state_of c.fault.new.self) c.requires.ready c.fault.ensures.may
-    (faulted_rebuilds c.args.self.now.stream c.args.replica c.args.count (state_of c.args.self.now.world) (state_of c.fault.new.self) c.fault.result c.requires.ready.settled c.fault.ensures.ok c.fault.ensures.err)).ready
+    (turns_faulted c.args.self.now.stream c.args.replica c.args.count (state_of c.args.self.now.world) (state_of c.fault.new.self) c.fault.result c.fault.ensures.ok c.fault.ensures.err)).ready
