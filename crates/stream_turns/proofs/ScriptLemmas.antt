@@ -25,7 +25,7 @@ for_commands replicas (command.Revert name) good = tt
 for_commands replicas command.Purge good = tt
 for_commands replicas command.Status good = tt
 for_commands replicas (command.Fail r) good = tt
-for_commands replicas (command.Add r) good = good.named
+for_commands replicas (command.Add r) good = good.there
 
 stream_taken : (replicas : ℕ) (h : StreamHead) (bytes : List ℕ) (s : Stream) → IsStreamOf h bytes s → IsGoodStream replicas s → IsTaken s
 stream_taken replicas (head.Frames count) bytes (stream.Frames frames) is good = All-weaker IsCall IsAsked asked_call frames is.1.calls
