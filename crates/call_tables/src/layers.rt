@@ -7,7 +7,7 @@ use std::test::Fail;
 use vol_units::{BlockRange, LayerName, MOST_LAYERS};
 
 /// Lays the head down as the layer of this number.
-fn snap(tree: &mut LayerTree, alloc: Global, number: u32) -> Result<(), Fail> {
+fn snap(tree: &mut LayerTree, alloc: Global, number: u64) -> Result<(), Fail> {
     let (name, spare) = (LayerName::sys(number), Image::with_pages(alloc, 1)?);
     if tree.count() >= MOST_LAYERS || tree.head_number() >= 100 || tree.index_of(&name).is_some() {
         return Err(Fail::new("no room"));
@@ -17,7 +17,7 @@ fn snap(tree: &mut LayerTree, alloc: Global, number: u32) -> Result<(), Fail> {
 }
 
 /// Puts a new head onto the layer of this number.
-fn go_back(tree: &mut LayerTree, alloc: Global, number: u32) -> Result<(), Fail> {
+fn go_back(tree: &mut LayerTree, alloc: Global, number: u64) -> Result<(), Fail> {
     let (name, spare) = (LayerName::sys(number), Image::with_pages(alloc, 1)?);
     if tree.head_number() >= 100 || tree.index_of(&name).is_none() {
         return Err(Fail::new("no layer"));
@@ -42,7 +42,7 @@ fn three(alloc: Global) -> Result<LayerTree, Fail> {
 fn stands(
     rt: &(impl AllocGlobal + Abort),
     tree: &LayerTree,
-    number: u32,
+    number: u64,
     chain: &[(LayerName, bool)],
     children: &[LayerName],
 ) -> Result<(), Fail> {

@@ -90,12 +90,13 @@ fn command_of(item: &Value, replicas: u8) -> Result<Command, HeadError>
     }
 }
 
-/// Whether the command is of no replica, or of one that is there.
+/// Whether the command is of no replica, or of one that is there. No script asks for an addition yet.
 fn names_replica(command: &Command, replicas: u8) -> bool
     ensures { IsTrue result ↔ NamesReplica replicas command.now }
 {
     match command {
-        Command::Fail(replica) | Command::Add(replica) => *replica < replicas,
+        Command::Fail(replica) => *replica < replicas,
+        Command::Add(_) => false,
         _ => true,
     }
 }
