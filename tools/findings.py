@@ -1,12 +1,12 @@
 """What is odd in a report."""
 import re
 
-from replay import ERR, RW, WO, Replay
+import rebuilds
+from replay import ERR, MOST_LAYERS, RW, Replay
 from report import (FRAME_CALLS, LAYER_MARKS, Entry, FrameReply, Mark, OfReplica, bytes_count, is_shortest, replica_number,
                     runs_of, shorten)
 
 MOST_LENGTH = 1 << 20
-MOST_LAYERS = 250
 GROUPS = ('open', 'journal', 'reply', 'mode', 'chain', 'head')
 # The refusals of each call.
 REFUSALS = {
@@ -44,8 +44,9 @@ class Checker:
         self.findings = []
         self.replay = Replay(report)
         self.entries = {entry.place: entry for entry in report.entries}
-        journal = report.journal
-        self.following = dict(zip((line.line for line in journal), journal[1:]))
+        self.journal = report.journal
+        # Which line of the journal each is, by its number.
+        self.ranks = {line.line: rank for rank, line in enumerate(self.journal)}
         # A prefix of a report, as a fault of its sink leaves it, lacks lines and says nothing by that.
         self.is_front = not report.of_replicas('mode')
         # Whether every line of the journal so far was there; else nothing is said of what follows from all of them.
@@ -59,12 +60,17 @@ class Checker:
         """Keeps a finding of a line, which is None or anything that has a line's number."""
         self.findings.append((line and line.line, sentence % words))
 
+    def say_all(self, line, sentences):
+        """Keeps findings of a line."""
+        for sentence in sentences:
+            self.say(line, '%s', sentence)
+
     def check(self):
         """All checks."""
         for number, line in self.report.unread:
             self.findings.append((number, 'is no line of a report: `%s`' % shorten(line, 60)))
         self.check_groups()
-        for line in self.report.journal:
+        for line in self.journal:
             self.check_place(line)
             if isinstance(line, Entry):
                 self.check_order(line)
@@ -135,14 +141,17 @@ class Checker:
     def check_modes(self, entry):
         """The answer fits the replicas' modes."""
         source = self.replay.source()
-        if entry.refusal == 'no replica' and source is not None:
+        if entry.refusal == 'no replica' and source is not None and entry.kind != 'add':
             self.say(entry, 'is refused as `no replica`, but r%d is RW', source)
         if not entry.refusal and source is None and entry.kind in NEEDS_REPLICA:
             self.say(entry, 'is `ok`, but no replica is RW')
         if entry.kind in ('add', 'fail', 'salvage') and replica_number(entry.call[1]) >= len(self.replay.modes):
-            self.say(entry, 'names %s, which the report has no mode of', entry.call[1])
+            if not self.is_front:
+                self.say(entry, 'names %s, which the report has no mode of', entry.call[1])
         elif entry.kind == 'fail' and self.replay.modes[replica_number(entry.call[1])] != ERR:
             self.say(entry, 'is `ok`, but %s is %s', entry.call[1], self.replay.modes[replica_number(entry.call[1])])
+        elif entry.kind == 'add':
+            self.say_all(entry, rebuilds.odd_answer(entry, self.replay))
         if entry.kind == 'status' and entry.answer.split(' ')[-1] != ','.join(self.replay.modes):
             self.say(entry, 'tells the modes %s, which are %s', entry.answer.split(' ')[-1], ','.join(self.replay.modes))
 
@@ -152,7 +161,7 @@ class Checker:
         if entry.kind == 'snapshot' and (name in replay.used) != (entry.refusal == 'name used'):
             self.say(entry, 'is answered `%s`, but the name %s', entry.answer,
                      'was taken before' if name in replay.used else 'is free')
-        if entry.kind in ('snapshot', 'add') and entry.refusal == 'chain full' and replay.layer_count != MOST_LAYERS:
+        if entry.kind == 'snapshot' and entry.refusal == 'chain full' and replay.layer_count != MOST_LAYERS:
             self.say(entry, 'is refused as `chain full`, but there are %d layers', replay.layer_count)
         if entry.kind in ('remove', 'revert', 'backup') and replay.is_live(name) == (entry.refusal == 'no such snapshot'):
             self.say(entry, 'is answered `%s`, but there is %s snapshot of the name', entry.answer,
@@ -186,24 +195,23 @@ class Checker:
         self.counts[line] = count
 
     def check_replica_mark(self, mark):
-        """The mark fits the mode of its replica, and what comes next."""
-        name = mark.words[2] if mark.kind == 'fault' else mark.words[1]
-        mode, after = self.replay.modes[replica_number(name)], self.following.get(mark.line)
-        if mark.kind in ('fault', 'failed') and mode == ERR:
-            self.say(mark, 'takes %s to ERR, which is ERR already', name)
-        if mark.kind in ('added', 'salvaged') and mode != ERR:
-            self.say(mark, 'begins with %s as %s, and not as ERR', name, mode)
-        if mark.kind == 'added' and replica_number(mark.words[2]) != self.replay.source():
-            self.say(mark, 'takes %s as the source, which is not the lowest replica in mode RW', mark.words[2])
-        if mark.kind in ('promoted', 'aborted') and (self.replay.rebuild or [None])[0] != replica_number(name):
-            self.say(mark, 'ends a rebuild of %s, and none has begun', name)
-        if mark.kind == 'promoted' and mode != WO:
-            self.say(mark, 'takes %s to RW, which is %s and not WO', name, mode)
-        wanted = {'promoted': ('add', name), 'failed': ('fail', name), 'salvaged': ('salvage', name)}.get(mark.kind)
-        while isinstance(after, Mark) and mark.kind != 'promoted':
-            after = self.following.get(after.line)
-        if wanted and not (isinstance(after, Entry) and after.call == wanted and not after.refusal):
-            self.say(mark, 'has no `%s ok` behind it', ' '.join(wanted))
+        """The mark fits the mode of its replica, the rebuild that is open, and the lines around it."""
+        if mark.kind == 'added':
+            self.say_all(mark, rebuilds.odd_rebuild(mark, self.replay))
+        elif mark.kind in rebuilds.FALLS:
+            self.say_all(mark, rebuilds.odd_fall(mark, self.replay))
+        elif mark.kind in ('promoted', 'aborted'):
+            self.say_all(mark, rebuilds.odd_end(mark, self.replay, self.neighbour(mark, -1)))
+        else:
+            self.say_all(mark, rebuilds.odd_start(mark, self.replay))
+        following = [self.neighbour(mark, 1), self.neighbour(mark, 2)]
+        if not (self.is_front and None in following):
+            self.say_all(mark, rebuilds.odd_behind(mark, self.replay, following))
+
+    def neighbour(self, line, step):
+        """The line of the journal so many behind one, or before it, or None."""
+        rank, journal = self.ranks[line.line] + step, self.journal
+        return journal[rank] if 0 <= rank < len(journal) else None
 
     def check_layer_mark(self, mark):
         """The layer may be folded or dropped."""
@@ -263,6 +271,8 @@ class Checker:
             self.say(modes[0], 'begins modes of %s, where each replica has one, in order',
                      replicas_text([line.replica for line in modes]))
         self.check_last_modes(modes)
+        for target in self.replay.unanswered if self.is_whole else ():
+            self.say(None, 'has a rebuild of r%d, and no `add r%d` behind it', target, target)
         wanted = [line.replica for line in modes if line.value == RW]
         for group in ('chain', 'head'):
             self.check_sameness([line for line in lines if line.group == group], group, wanted)

@@ -13,9 +13,9 @@ Prints one line for each thing that is odd, as `line 7: has place 5, where 4 com
 status is then 1 or 0. Odd are: a line that is none of a report, groups out of order, places and indices that skip, a call that
 saw its own future or ended before the call before it, bytes that do not fit their range, a call without its reply line, a reply
 line without its call or of other contents, answers that do not fit the names, layers and modes that the journal has made, marks
-that may not stand where they do, and modes, chains and heads at the end that are missing or do not agree. Where a line of the
-journal is missing, nothing is said of what would follow from all lines. No bytes are replayed: whether a read gives what was
-written is proved of longhorn, and not checked here.
+that may not stand where they do, rebuilds that begin, end or are answered as they may not be, and modes, chains and heads at
+the end that are missing or do not agree. Where a line of the journal is missing, nothing is said of what would follow from all
+lines. No bytes are replayed: whether a read gives what was written is proved of longhorn, and not checked here.
 '''
 
 TABLE_HELP = '''
@@ -26,9 +26,10 @@ Columns: the place, the journal's length that the call saw when it was taken up,
 PICTURE_HELP = '''
 Writes one SVG. The places go from left to right, in bands like lines of text. Each stream has a lane with its calls, coloured by
 kind; a refused one has a red border and a cross; a thin line leads from each call back to the ring at the place that it saw.
-Each replica has a lane coloured by its mode, with its marks. Below are the chain at the end and a legend. A journal of at most
-40 lines has boxes with all that a call says; a longer one has small boxes, and its refusals in words below. What has no room
-is left out in the middle, and the picture says how much that is.
+Each replica has a lane coloured by its mode, with its marks: where it falls, and where its rebuild begins, joined to its source,
+and ends. Below are the chain at the end and a legend. A journal of at most 40 lines has boxes with all that a call says; a longer
+one has small boxes, and its refusals in words below. What has no room is left out in the middle, and the picture says how much
+that is.
 '''
 
 

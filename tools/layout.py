@@ -96,7 +96,8 @@ class Layout:
         """The column of a line of the journal."""
         if not isinstance(line, Entry):
             label = mark_label(line)
-            return Column(line, (label,), len(label) * SMALL_LETTER + 14)
+            # The label of a rebuild stands beside the line that may come up from its source.
+            return Column(line, (label,), len(label) * SMALL_LETTER + (23 if line.kind == 'added' else 14))
         labels = call_labels(line) if self.is_detailed else short_labels(line)
         return Column(line, labels, RING + max(map(len, labels)) * LETTER + 14)
 
@@ -157,7 +158,7 @@ def mark_label(mark):
     if mark.kind == 'fault':
         return 'fault w%s #%s' % (words[1], words[3])
     if mark.kind == 'added':
-        return 'from %s, %s' % (words[2], shorten(words[3], 14))
+        return 'added from %s, %s' % (words[2], shorten(words[3], 14))
     if mark.kind == 'folded':
         return '%s into %s' % (shorten(words[1], 14), shorten(words[2], 14))
     return shorten(words[1], 14) + ' dropped' if mark.kind == 'dropped' else mark.kind

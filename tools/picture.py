@@ -5,7 +5,7 @@ from collections import Counter
 from canvas import FAINT, INK, RED, Canvas
 from layout import AXIS, BAND_GAP, LEFT, LETTER, LINE_HEIGHT, RIGHT, RING, SHORT, SMALL_LETTER, WIDTH, Layout, lane_of
 from replay import ERR, RW, WO, Replay
-from report import LAYER_MARKS, Entry, shorten
+from report import LAYER_MARKS, Entry, replica_number, shorten
 
 LEAST_WIDTH = 640
 MOST_CHAIN_ROWS = 8
@@ -29,7 +29,10 @@ COLOURS = {
 }
 HEAD_FILL, LAYER_FILL, MARKED_FILL = '#fde3bd', '#cdeed9', '#f0f0f0'
 MODES = {RW: '#58a55c', WO: '#e8a800', ERR: RED}
+MODE_TEXTS = {RW: 'replica in mode RW', WO: 'replica in mode WO, being rebuilt', ERR: 'replica in mode ERR'}
 MODE_AFTER = {'fault': ERR, 'failed': ERR, 'aborted': ERR, 'added': WO, 'promoted': RW, 'salvaged': RW}
+# What is said of the sign that marks have after which a replica has a mode.
+SIGNS = {WO: 'a rebuild begins', RW: 'a replica is read again', ERR: 'a replica falls'}
 
 
 def draw(report, most=None, height=4000):
@@ -117,7 +120,7 @@ class Picture:
             if isinstance(column.line, Entry):
                 self.draw_call(column, left, tops[lane] + band.lanes[lane] / 2)
             else:
-                self.draw_mark(column, left, tops[lane])
+                self.draw_mark(column, left, tops)
 
     def draw_axis(self, band, top):
         """The places above a band, as many as have room, and a line down from each."""
@@ -169,20 +172,26 @@ class Picture:
                 mode, begin = MODE_AFTER[column.line.kind], left + 6
         self.canvas.rectangle(begin, top + 5, band.right - begin, 7, MODES[mode])
 
-    def draw_mark(self, column, left, top):
-        """A mark, in the lane of its replica or in the lane of layers."""
-        mark, middle = column.line, left + 6
+    def draw_mark(self, column, left, tops):
+        """A mark, in the lane of its replica or in the lane of layers. A rebuild hangs on its source."""
+        mark, middle, top = column.line, left + 6, tops[lane_of(column.line)]
         if mark.kind in LAYER_MARKS:
             self.canvas.rectangle(left + 3, top + 3, column.width - 6, 16, '#ffffff', FAINT, title=' '.join(mark.words))
             self.canvas.text(left + 6, top + 14, column.labels[0], 10)
             return
-        if mark.kind in ('promoted', 'salvaged'):
-            self.canvas.polygon([(middle - 6, top + 14), (middle + 6, top + 14), (middle, top + 2)])
-        elif mark.kind == 'added':
-            self.canvas.polygon([(middle - 6, top + 8.5), (middle, top + 2), (middle + 6, top + 8.5), (middle, top + 15)])
+        if mark.kind == 'added':
+            self.canvas.line(middle, tops['replica', replica_number(mark.words[2])] + 8.5, middle, top + 8.5, INK, 1.5)
+        self.draw_mark_sign(MODE_AFTER[mark.kind], middle, top + 8.5)
+        self.canvas.text(left + (12 if mark.kind == 'added' else 3), top + 25, column.labels[0], 10)
+
+    def draw_mark_sign(self, mode, middle, centre):
+        """The sign of a mark after which its replica has that mode."""
+        if mode == RW:
+            self.canvas.polygon([(middle - 6, centre + 5.5), (middle + 6, centre + 5.5), (middle, centre - 6.5)])
+        elif mode == WO:
+            self.canvas.polygon([(middle - 6, centre), (middle, centre - 6.5), (middle + 6, centre), (middle, centre + 6.5)])
         else:
-            self.canvas.cross(middle, top + 8.5, INK, 5)
-        self.canvas.text(left + 3, top + 25, column.labels[0], 10)
+            self.canvas.cross(middle, centre, INK, 5)
 
     # What stands below the bands.
 
@@ -274,7 +283,9 @@ class Picture:
         if counts:
             items.append(('saw', None, 'from the place that a call saw when it was taken up'))
         seen = {mode for modes in self.modes_before.values() for mode in modes}
-        items += [('mode', mode, 'replica in mode ' + mode) for mode in MODES if mode in seen]
+        items += [('mode', mode, text) for mode, text in MODE_TEXTS.items() if mode in seen]
+        marked = {MODE_AFTER.get(line.kind) for line in self.report.journal if not isinstance(line, Entry)}
+        items += [('mark', mode, text) for mode, text in SIGNS.items() if mode in marked]
         if any(name.endswith('*') for chain in self.report.of_replicas('chain').values() for name in chain):
             items.append(('marked', None, 'removed layer'))
         return items
@@ -291,6 +302,8 @@ class Picture:
             self.canvas.ring(left + 3, top + 9)
         elif what == 'mode':
             self.canvas.rectangle(left, top + 5, 20, 7, MODES[key])
+        elif what == 'mark':
+            self.draw_mark_sign(key, left + 12, top + 9)
         else:
             self.canvas.rectangle(left, top + 3, 20, 12, MARKED_FILL, INK, dashed=True)
 

@@ -4,6 +4,7 @@ from collections import Counter
 from report import replica_number
 
 RW, WO, ERR = 'RW', 'WO', 'ERR'
+MOST_LAYERS = 250
 LAYER_CHANGES = ('snapshot', 'remove', 'revert')
 
 
@@ -21,8 +22,11 @@ class Replay:
         self.marked = set()
         self.used = set()
         self.below_head = None
+        self.head_number = 0
         # Target and source of the rebuild that has not ended.
         self.rebuild = None
+        # Of each rebuild whose `add` has no entry yet, by its target: the mark that ended it, or None.
+        self.unanswered = {}
 
     @property
     def layer_count(self):
@@ -59,12 +63,19 @@ class Replay:
         """The head becomes a layer of that name."""
         self.used.add(name)
         self.parents[name] = self.below_head
-        self.below_head = name
+        self.put_head(name)
+
+    def put_head(self, parent):
+        """A new head stands on a layer."""
+        self.below_head = parent
+        self.head_number += 1
 
     def take_entry(self, entry):
         """Takes the changes of an entry."""
         if entry.answer == 'ok' and entry.kind in LAYER_CHANGES:
             self.change_layers(entry.kind, entry.call[1])
+        if entry.kind == 'add':
+            self.unanswered.clear()
 
     def change_layers(self, kind, name):
         """A snapshot, a mark or a revert that was done."""
@@ -73,23 +84,17 @@ class Replay:
         elif kind == 'remove':
             self.marked.add(name)
         else:
-            self.below_head = name
+            self.put_head(name)
 
     def take_mark(self, mark, entries):
         """Takes the changes of a mark; a salvage lists some of `entries`, by place."""
         words = mark.words
-        if mark.kind == 'fault':
-            self.modes[replica_number(words[2])] = ERR
-        elif mark.kind in ('failed', 'aborted'):
-            self.modes[replica_number(words[1])] = ERR
-            self.rebuild = None if mark.kind == 'aborted' else self.rebuild
+        if mark.kind in ('fault', 'failed'):
+            self.modes[replica_number(words[2 if mark.kind == 'fault' else 1])] = ERR
         elif mark.kind == 'added':
-            self.rebuild = replica_number(words[1]), replica_number(words[2])
-            self.modes[self.rebuild[0]] = WO
-            self.put_layer(words[3])
-        elif mark.kind == 'promoted':
-            self.modes[replica_number(words[1])] = RW
-            self.rebuild = None
+            self.begin_rebuild(replica_number(words[1]), replica_number(words[2]), words[3])
+        elif mark.kind in ('promoted', 'aborted'):
+            self.end_rebuild(mark, replica_number(words[1]))
         elif mark.kind == 'salvaged':
             self.modes[replica_number(words[1])] = RW
             listed = () if words[2] == '-' else [entries.get(int(place)) for place in words[2].split(',')]
@@ -98,6 +103,20 @@ class Replay:
                     self.change_layers(entry.kind, entry.call[1])
         else:
             self.take_layer_away(words)
+
+    def begin_rebuild(self, target, source, name):
+        """A replica begins to be rebuilt, over a layer of that name."""
+        self.modes[target] = WO
+        self.rebuild = target, source
+        self.unanswered[target] = None
+        self.put_layer(name)
+
+    def end_rebuild(self, mark, target):
+        """A rebuild is promoted or aborted by a mark."""
+        self.modes[target] = RW if mark.kind == 'promoted' else ERR
+        self.rebuild = None
+        if target in self.unanswered:
+            self.unanswered[target] = mark
 
     def take_layer_away(self, words):
         """A layer that was folded into its child, or dropped."""

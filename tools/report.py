@@ -28,7 +28,7 @@ FRAME_CALLS = ('read', 'write', 'unmap', 'ping', 'other')
 MARKS = {
     'fault': ' %s %s %s' % (NUMBER, REPLICA, NUMBER),
     'failed': ' ' + REPLICA,
-    'added': ' %s %s %s' % (REPLICA, REPLICA, NAME),
+    'added': ' %s %s sys-%s' % (REPLICA, REPLICA, NUMBER),
     'promoted': ' ' + REPLICA,
     'aborted': ' ' + REPLICA,
     'folded': ' %s %s' % (NAME, NAME),

@@ -68,6 +68,28 @@ mode r0 ERR
 mode r1 ERR
 '''
 
+# A rebuild is aborted since its source fails, and the next one is not; then nothing is left to rebuild from.
+ABORTED = '''0 mark failed r1
+1 0 0 0 fail r1 ok
+2 2 0 1 add r2 error in use
+3 mark added r1 r0 sys-0
+4 mark failed r0
+5 mark aborted r1
+6 3 1 0 fail r0 ok
+7 3 0 2 add r1 error aborted 5
+8 mark added r1 r2 sys-1
+9 8 1 1 status ok layers 3 modes ERR,WO,RW
+10 mark promoted r1
+11 8 0 3 add r1 ok
+12 mark fault 1 r2 1
+13 mark failed r1
+14 12 1 2 fail r1 ok
+15 12 0 4 add r1 error no replica
+mode r0 ERR
+mode r1 ERR
+mode r2 ERR
+'''
+
 SAVED = '''open r0 RW
 open r1 ERR unclean Dirty
 0 0 0 0 revert old ok
@@ -82,7 +104,7 @@ chain r0 head old
 head r0 %s
 ''' % HEAD
 
-GOOD = (ONE_STREAM, COMMANDS, REBUILD, SAVED)
+GOOD = (ONE_STREAM, COMMANDS, REBUILD, ABORTED, SAVED)
 # A report, a text of it, what stands there instead, and what is found, with the number of its line.
 BREAKS = [
     (ONE_STREAM, '2 2 0 2 ping', '3 2 0 2 ping', 'line 3: has place 3, where 2 comes next'),
@@ -135,6 +157,25 @@ BREAKS = [
     (REBUILD, 'promoted r1', 'promoted r0', 'line 6: ends a rebuild of r0, and none has begun'),
     (REBUILD, '1 mark failed r1', '1 mark promoted r1', 'line 2: takes r1 to RW, which is RW and not WO'),
     (REBUILD, '6 3 1 1 add r1 ok', '6 3 1 1 add r1 error in use', 'line 6: has no `add r1 ok` behind it'),
+    (REBUILD, '6 3 1 1 add r1 ok', '6 3 1 1 status ok layers 2 modes RW,RW', 'the report has a rebuild of r1, and no `add r1` behind it'),
+    (ABORTED, 'add r2 error in use', 'add r2 ok', 'line 3: is answered `ok`, and the journal makes it `error in use`'),
+    (ABORTED, 'added r1 r0 sys-0', 'added r2 r0 sys-0', 'line 4: begins with r2 as RW, and not as ERR'),
+    (ABORTED, 'added r1 r0 sys-0', 'added r1 r0 t', 'line 4: is no line of a report'),
+    (ABORTED, '4 mark failed r0\n5 mark aborted r1', '4 mark failed r0', 'line 5: ends the rebuild of r1 from r0, and has no mark'),
+    (ABORTED, '5 mark aborted r1', '5 mark fault 1 r2 1', 'line 5: ends the rebuild of r1 from r0, and has no mark `aborted r1`'),
+    (ABORTED, '5 mark aborted r1', '5 mark fault 1 r2 1', 'line 5: has no `fail r0 ok` behind it'),
+    (ABORTED, '4 mark failed r0', '4 mark fault 1 r2 1', 'line 6: has no mark before it by which r1 or r0 fell'),
+    (ABORTED, '4 mark failed r0', '4 2 1 0 ping ok', 'line 6: has no mark before it by which r1 or r0 fell'),
+    (ABORTED, 'error aborted 5', 'error aborted 4', 'line 8: is answered `error aborted 4`, and the'),
+    (ABORTED, 'error aborted 5', 'ok', 'line 8: is answered `ok`, and the journal makes it `error aborted 5`'),
+    (ABORTED, 'r2 sys-1', 'r2 sys-0', 'line 9: names its layer sys-0, and the head has the number 1'),
+    (ABORTED, '8 mark added r1 r2 sys-1', '8 8 0 3 add r1 ok', 'line 9: is answered `ok`, but no rebuild of r1 has begun'),
+    (ABORTED, '9 8 1 1 status ok layers 3 modes ERR,WO,RW', '9 mark added r0 r2 sys-2', 'line 10: begins a rebuild of r0, and that'),
+    (ABORTED, 'ERR,WO,RW', 'ERR,RW,RW', 'line 10: tells the modes ERR,RW,RW, which are ERR,WO,RW'),
+    (ABORTED, 'layers 3', 'layers 2', 'line 10: tells 2 layers, and there are 3'),
+    (ABORTED, '10 mark promoted r1\n11', '10', 'line 11: is answered `ok`, but the rebuild of r1 has not ended'),
+    (ABORTED, '11 8 0 3 add r1 ok', '11 8 0 3 add r1 error aborted 10', 'line 12: is answered `error aborted 10`, and the'),
+    (ABORTED, 'add r1 error no replica', 'add r1 error in use', 'line 16: is answered `error in use`, and'),
     (SAVED, 'salvaged r0 2', 'salvaged r0 -\n4 mark salvaged r0 -', 'line 7: begins with r0 as RW, and not as ERR'),
     (SAVED, 'chain r0 head old\n', 'chain r0 head old\nchain r1 head\n', 'line 11: has `chain` of r0, r1, and in mode RW is r0'),
 ]
@@ -157,6 +198,28 @@ class Check(unittest.TestCase):
         lines = ['%d %d 0 %d %s ok' % (place, place, place, call) for place, call in enumerate(calls)]
         self.assertEqual(find_odd(read_report('\n'.join([*lines, 'mode r0 RW', 'chain r0 head c* a*', 'head r0 ' + HEAD]))), [])
 
+    def full_chain(self, last):
+        """What is found in a journal in which a replica fails while there are 250 layers."""
+        lines = ['%d %d 0 %d snapshot n%d ok' % (place, place, place, place) for place in range(249)]
+        lines += ['249 mark failed r1', '250 249 0 249 fail r1 ok', *last, 'mode r0 RW', 'mode r1 ERR']
+        lines += ['chain r0 head %s' % ' '.join('n%d' % place for place in range(248, -1, -1)), 'head r0 ' + HEAD]
+        return journal.check(read_report('\n'.join(lines)))
+
+    def test_no_rebuild_begins_where_there_are_250_layers(self):
+        self.assertEqual(self.full_chain(['251 251 0 250 add r1 error chain full']), '')
+        self.assertIn('line 252: is answered `error no replica`, and the journal makes it `error chain full`\n',
+                      self.full_chain(['251 251 0 250 add r1 error no replica']))
+        self.assertIn('line 252: makes a layer more, and there are 250 already\n',
+                      self.full_chain(['251 mark added r1 r0 sys-249', '252 mark fault 0 r1 1', '253 mark aborted r1',
+                                       '254 251 0 250 add r1 error aborted 253']))
+
+    def test_layers_that_are_not_told_may_be_too_many(self):
+        lines = ['open r0 RW', 'open r1 ERR unclean Dirty', '0 0 0 0 add r1 error %s', 'mode r0 RW', 'mode r1 ERR',
+                 'chain r0 head', 'head r0 ' + HEAD]
+        self.assertEqual(journal.check(read_report('\n'.join(lines) % 'chain full')), '')
+        self.assertEqual(journal.check(read_report('\n'.join(lines) % 'in use')),
+                         'line 3: is answered `error in use`, but no rebuild of r1 has begun\n')
+
     def test_replicas_that_differ_are_found(self):
         ends = 'mode r0 RW\nmode r1 RW\nchain r0 head\nchain r1 head%s\nhead r0 %s\nhead r1 %s\n'
         self.assertEqual(find_odd(read_report(ends % ('', HEAD, HEAD))), [])
@@ -166,6 +229,8 @@ class Check(unittest.TestCase):
     def test_a_front_of_a_report_is_called_so_and_nothing_else(self):
         found = journal.check(read_report(''.join(ONE_STREAM.splitlines(True)[:7])))
         self.assertEqual(found, 'the report has no modes at its end: it is a prefix of a report\n')
+        for count in range(1, 16):
+            self.assertEqual(journal.check(read_report(''.join(ABORTED.splitlines(True)[:count]))), found, count)
 
     def test_a_missing_line_says_nothing_of_what_follows_from_it(self):
         found = journal.check(read_report(COMMANDS.replace('2 2 0 2 snapshot t ok\n', '')))

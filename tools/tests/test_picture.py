@@ -5,7 +5,7 @@ from xml.etree import ElementTree
 
 import picture
 from report import read_report
-from test_journal import COMMANDS, HEAD, ONE_STREAM, REBUILD, SAVED
+from test_journal import ABORTED, COMMANDS, HEAD, ONE_STREAM, REBUILD, SAVED
 
 SVG = '{http://www.w3.org/2000/svg}'
 
@@ -18,6 +18,11 @@ def drawn(report, **limits):
 def texts(tree):
     """The texts of a picture."""
     return [element.text for element in tree.iter(SVG + 'text')]
+
+
+def places(tree):
+    """Where each place begins, by its number as a text."""
+    return {element.text: float(element.get('x')) for element in tree.iter(SVG + 'text') if re.fullmatch('[0-9]+', element.text)}
 
 
 def boxes(tree):
@@ -53,14 +58,33 @@ class Picture(unittest.TestCase):
             self.assertIn(text, texts(drawn(COMMANDS)))
         removed = drawn(COMMANDS.replace('chain r0 head t', 'chain r0 head t s*'))
         self.assertTrue({'s*', 'removed layer'} <= set(texts(removed)))
-        for text in ('failed', 'from r0, sys-0', 'promoted', 'fault w2 #1', 'r0, r1 at the end: ERR', 'replica in mode WO'):
+        for text in ('failed', 'added from r0, sys-0', 'promoted', 'fault w2 #1', 'r0, r1 at the end: ERR', 'a replica falls'):
             self.assertIn(text, texts(drawn(REBUILD)))
         self.assertIn('salvaged', texts(drawn(SAVED)))
+
+    def test_a_rebuild_has_its_colour_from_its_beginning_to_its_end(self):
+        for report, ends in ((REBUILD, [(3, 5)]), (ABORTED, [(3, 5), (8, 10)])):
+            tree = drawn(report)
+            bars = [bar for bar in tree.iter(SVG + 'rect') if bar.get('fill') == picture.MODES[picture.WO]]
+            # The last one is that of the legend.
+            spans = [(float(bar.get('x')), float(bar.get('x')) + float(bar.get('width'))) for bar in bars[:-1]]
+            lefts = places(tree)
+            self.assertEqual([tuple(round(end, 1) for end in span) for span in spans],
+                             [tuple(round(lefts[str(place)] + 6, 1) for place in span) for span in ends])
+            self.assertTrue({'replica in mode WO, being rebuilt', 'a rebuild begins', 'a replica is read again'} <= set(texts(tree)))
+
+    def test_a_rebuild_is_joined_to_its_source(self):
+        tree = drawn(ABORTED)
+        joined = [line for line in tree.iter(SVG + 'line') if line.get('stroke-width') == '1.5']
+        self.assertEqual([round(float(line.get('x1')), 1) for line in joined], [round(places(tree)[at] + 6, 1) for at in ('3', '8')])
+        # From r0 down to r1, and from r2 up to it.
+        self.assertLess(float(joined[0].get('y1')), float(joined[0].get('y2')))
+        self.assertGreater(float(joined[1].get('y1')), float(joined[1].get('y2')))
 
     def test_a_line_leads_back_to_the_place_that_a_call_saw(self):
         tree = drawn(REBUILD)
         self.assertEqual(len(list(tree.iter(SVG + 'circle'))), 7 + 1)
-        lefts = {element.text: float(element.get('x')) for element in tree.iter(SVG + 'text') if re.fullmatch('[0-9]+', element.text)}
+        lefts = places(tree)
         rings = {round(float(ring.get('cx')) - 4, 1) for ring in tree.iter(SVG + 'circle')}
         self.assertTrue({round(lefts[place], 1) for place in ('0', '1', '3', '6', '7', '10')} <= rings)
 
@@ -85,7 +109,7 @@ class Picture(unittest.TestCase):
                             for text in texts(drawn('mode r0 RW\nchain r0 head %s\nhead r0 %s\n' % (chain, HEAD)))))
 
     def test_all_stands_within_the_picture(self):
-        for report in (ONE_STREAM, COMMANDS, REBUILD, SAVED, long_run(300, 16), ''):
+        for report in (ONE_STREAM, COMMANDS, REBUILD, ABORTED, SAVED, long_run(300, 16), ''):
             tree = drawn(report)
             width, height = float(tree.get('width')), float(tree.get('height'))
             for element in list(tree)[1:]:
