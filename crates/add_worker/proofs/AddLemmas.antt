@@ -1,7 +1,6 @@
 -- An add is answered as one worker answers it there, where no line failed.
-use Rattle.std.proofs.Common.{◌≡◌, ℕ, inl, inr, ⊎_elim, cond, eqb, is_ok, is_some, true, false, List, [], ◌∷◌, ◌++◌, Option, Some, None, IfSome, Result, Ok, Err, OnOk, OnErr, subst, sym, refl, ap, ◌∙◌, append_assoc, append-nil, length}
+use Rattle.std.proofs.Common.{◌≡◌, ℕ, inl, inr, ⊎_elim, cond, eqb, is_ok, is_some, true, false, List, [], ◌∷◌, ◌++◌, Option, Some, None, IfSome, Result, Ok, Err, OnOk, OnErr, subst, sym, refl, ap, ◌∙◌, append_assoc, append-nil}
 use Rattle.std.specs.Prelude.{All}
-use Rattle.std.specs.Option.{option_map}
 use Rattle.std.proofs.lemmas.Bool.{eq-eqb}
 use Rattle.std.proofs.lemmas.List.Elements.{All-append}
 use Rattle.vol_units.specs.Name.{sys_name}
@@ -16,29 +15,28 @@ use Rattle.volume_model.specs.declared.entry.Entry.TheVariants as entry
 use Rattle.volume_model.specs.declared.mark.Mark.TheVariants as mark
 use Rattle.volume_model.specs.declared.mark.Rebuild.{Rebuild}
 use Rattle.volume_model.specs.declared.mark.Rebuild.TheVariants as rebuild
-use Rattle.volume_model.specs.History.{Spot}
 use Rattle.volume_model.specs.Modes.{source_of}
-use Rattle.volume_model.specs.OneWorker.{refused_at, marks_unless, marks_before, add_marks, reply_for, entries_at}
+use Rattle.volume_model.specs.OneWorker.{refused_at, marks_unless, marks_before, add_marks, reply_for}
 use Rattle.volume_model.specs.Rebuilds.{rebuild_of}
 use Rattle.volume_model.proofs.RebuildLemmas.{rebuild_of-push}
 use Rattle.stream_steps.specs.Mine.{Mine, OwnCall, Log, with_entries, with_more, with_running, longer, length_of, log_length, answer_placed}
-use Rattle.stream_steps.specs.Steps.{AreMarks, AreAborts, IsCommandAt}
+use Rattle.stream_steps.specs.Steps.{AreMarks, IsCommandAt}
 use Rattle.open_calls.specs.declared.whole_op.WholeOp.TheVariants as whole
 use Rattle.stream_steps.specs.Maint.{HasWhole, StartsBarrier}
-use Rattle.stream_steps.specs.Add.{HasAdd, Promotes, EndsAborted, AbandonsAdd, LeavesAdd}
-use Rattle.stream_steps.proofs.MineLemmas.{entries_none, entries_twice, longer_none}
+use Rattle.stream_steps.specs.Add.{HasAdd, Promotes, EndsAborted, LeavesAdd}
+use Rattle.stream_steps.proofs.MineLemmas.{entries_none, entries_twice}
 use Rattle.client_worker.specs.Ends.{KeepsShown}
 use Rattle.client_worker.specs.Serving.{IsShown}
 use Rattle.client_worker.proofs.Shown.{shown_same}
 use Rattle.command_worker.proofs.ShownLemmas.{idle_of, idle_answer}
 use Rattle.command_worker.specs.Purges.{MayComeBefore, AreFalls}
-use Rattle.command_worker.specs.Serving.{IsForCommands, GrewByCommand, GaveUp, LeftUndone, IsAborted}
+use Rattle.command_worker.specs.Serving.{IsForCommands, GrewByCommand, GaveUp, LeftUndone}
 use Rattle.command_worker.proofs.InTurn.{left_of}
-use Rattle.command_worker.specs.Whole.{Goes, GoesOn, RefusedWhole, EndsBehind}
+use Rattle.command_worker.specs.Whole.{GoesOn, RefusedWhole, EndsBehind}
 use Rattle.command_worker.proofs.AnswerLemmas.{known, command_at}
-use Rattle.command_worker.proofs.Goes.{are_first, are_second, aborts_come, comes, none_come, falls_both, goes_running}
+use Rattle.command_worker.proofs.Goes.{are_first, aborts_come, comes, none_come, falls_both}
 use Rattle.add_worker.specs.Serving.{IsForWorker}
-use Rattle.add_worker.specs.Adding.{IsRebuilding, PassesTo, EndsAdd, Rebuilds, AddsTo, GoesAdding}
+use Rattle.add_worker.specs.Adding.{BeganRebuild, PassesTo, EndsRebuild, AddsTo, GoesAdding}
 
 -- ---- refused
 
@@ -80,7 +78,7 @@ module _ (r : ℕ) (o : OwnCall) (a c d : Mine) (from : c ≡ with_running a (o 
 
   -- ---- promoted
 
-  module _ (g : IsRebuilding r o c d) where
+  module _ (g : BeganRebuild r o c d) where
     added : Entry
     added = entry.Mark (mark.Added r g.source g.name)
 
@@ -239,7 +237,7 @@ pub goes_none : (o : OwnCall) (a b : Mine) → b ≡ with_running a (o ∷ []) �
 goes_none o a b e = record { own = []; marks = []; come = none_come a.stream; is = e ∙ sym (entries_none a (o ∷ [])) }
 
 -- lines failed once it is being rebuilt
-pub rebuilds_on : (r : ℕ) (o : OwnCall) (a b c : Mine) → IsRebuilding r o a b → GoesOn b c → IsRebuilding r o a c
+pub rebuilds_on : (r : ℕ) (o : OwnCall) (a b c : Mine) → BeganRebuild r o a b → GoesOn b c → BeganRebuild r o a c
 rebuilds_on r o a b c g f =
     let run : b.running ≡ o ∷ [] = ap (λ (m : Mine). m.running) g.is in
     let first = entry.Mark (mark.Added r g.source g.name) ∷ g.marks in
@@ -256,7 +254,7 @@ rebuilds_on r o a b c g f =
       under = g.under;
     }
 
-pub rebuilds_goes : (r : ℕ) (o : OwnCall) (a b : Mine) → IsRebuilding r o a b → GoesAdding o a b
+pub rebuilds_goes : (r : ℕ) (o : OwnCall) (a b : Mine) → BeganRebuild r o a b → GoesAdding o a b
 rebuilds_goes r o a b g = record {
   own = g.own;
   marks = entry.Mark (mark.Added r g.source g.name) ∷ g.marks;
@@ -281,10 +279,10 @@ for_commands (command.Add r) h other = absurd (other r refl)
 
 -- ---- past its barrier
 
-pub rebuilding_has : (t r : ℕ) (o : OwnCall) (a b : Mine) → HasAdd t r o a → IsRebuilding r o a b → HasAdd t r o b
+pub rebuilding_has : (t r : ℕ) (o : OwnCall) (a b : Mine) → HasAdd t r o a → BeganRebuild r o a b → HasAdd t r o b
 rebuilding_has t r o a b h g = record { is = ap (λ (m : Mine). m.running) g.is; number = h.number; call = h.call; wants = h.wants; started = h.started }
 
-pub passed : (s : Option ℕ) (source r : ℕ) (o : OwnCall) (a b : Mine) → s ≡ Some source → PassesTo s r o a b → IsRebuilding r o a b
+pub passed : (s : Option ℕ) (source r : ℕ) (o : OwnCall) (a b : Mine) → s ≡ Some source → PassesTo s r o a b → BeganRebuild r o a b
 passed s source r o a b e p = subst (λ x. PassesTo x r o a b) e p
 
 -- refused, as its barrier was
@@ -306,7 +304,7 @@ refused_barrier o own a b c e call saw s = record {
 }
 
 -- begun, with its barrier started and ended
-pub begun_barrier : (r : ℕ) (o own : OwnCall) (a b c d : Mine) → b ≡ with_running a (o ∷ own ∷ []) → own.call ≡ o.call → (s : StartsBarrier r (o ∷ []) own b c) → EndsBehind (whole.Barrier r) (o ∷ []) s.own c d → IsRebuilding r o a d
+pub begun_barrier : (r : ℕ) (o own : OwnCall) (a b c d : Mine) → b ≡ with_running a (o ∷ own ∷ []) → own.call ≡ o.call → (s : StartsBarrier r (o ∷ []) own b c) → EndsBehind (whole.Barrier r) (o ∷ []) s.own c d → BeganRebuild r o a d
 begun_barrier r o own a b c d e call s f =
     let os = o ∷ record s.own { parts = f.parts } ∷ [] in
     let first = entry.Mark (mark.Added r s.source s.name) ∷ [] in
@@ -344,7 +342,7 @@ pub leaves_shown : (r : ℕ) (o : OwnCall) (a b : Mine) → o.call ≡ call.Comm
 leaves_shown r o a b is (inl gone) = shown_same (with_running a []) b gone
 leaves_shown r o a b is (inr w) = idle_answer (command.Add r) w.modes w.answer (w.marks ++ entry.Answer w.answer ∷ []) a b w.is (w.call ∙ is)
 
-pub ends_shown : (t r : ℕ) (o : OwnCall) (a b : Mine) → HasAdd t r o a → EndsAdd r o a b → KeepsShown (with_running a []) (with_running b [])
+pub ends_shown : (t r : ℕ) (o : OwnCall) (a b : Mine) → HasAdd t r o a → EndsRebuild r o a b → KeepsShown (with_running a []) (with_running b [])
 ends_shown t r o a b h (inl p) = λ counts carried k.
     subst (λ (m : Mine). IsShown m counts carried) (idle_of b (ap (λ (m : Mine). m.running) p.is))
     (idle_answer (command.Add r) p.modes p.answer (entry.Mark (mark.Promoted r) ∷ entry.Answer p.answer ∷ []) a b p.is (p.call ∙ h.call) counts carried k)

@@ -1,12 +1,11 @@
 -- What is in hand while the pages of a rebuild are copied, step after step.
 use Rattle.std.proofs.Common.{◌≡◌, ◌≢◌, ◌⊎◌, inl, inr, ℕ, ◌<◌, ◌≤◌, Bool, true, false, arith, List, [], ◌∷◌, ◌++◌, length, length-append, length-set, map, set, get_or, Result, Ok, Option, Some, None, subst, sym, refl, ap, ◌∙◌}
-use Rattle.sparse_image.specs.Image.{Table, HasBlock}
-use Rattle.page_text.specs.Text.{page_text}
+use Rattle.sparse_image.specs.Image.{Table}
 use Rattle.vol_units.specs.declared.page_ref.PageRef.{PageRef}
 use Rattle.outer_traits.specs.Lines.{TellsMore}
 use Rattle.outer_traits.proofs.Lines.{TellsMore-nil}
 use Rattle.rebuild_worker.specs.Copying as copy
-use Rattle.rebuild_worker.specs.Copying.{Copying, OnLine, IsQuiet, CarriesTo, IsFrame, number_after, numbered}
+use Rattle.rebuild_worker.specs.Copying.{Copying, IsQuiet, CarriesTo, IsFrame, number_after, numbered}
 use Rattle.rebuild_worker.specs.declared.steps.Carried.TheVariants as carried
 use Rattle.rebuild_worker.specs.declared.steps.CopySide.{CopySide}
 use Rattle.rebuild_worker.specs.declared.steps.CopySide.TheVariants.{Source, Target}

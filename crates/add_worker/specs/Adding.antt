@@ -1,5 +1,5 @@
 -- How an add goes, from its barrier to its answer.
-use Rattle.std.specs.Prelude.{◌≡◌, ◌≢◌, ◌⊎◌, ℕ, ◌<◌, List, [], ◌∷◌, ◌++◌, All, Option, None, Some, IfSome, IfOk}
+use Rattle.std.specs.Prelude.{◌≡◌, ◌≢◌, ◌⊎◌, ℕ, ◌<◌, List, [], ◌∷◌, ◌++◌, All, Option, None, Some, IfSome}
 use Rattle.vol_units.specs.Name.{sys_name}
 use Rattle.volume_model.specs.declared.entry.Entry.{Entry}
 use Rattle.volume_model.specs.declared.entry.Entry.TheVariants as entry
@@ -7,7 +7,7 @@ use Rattle.volume_model.specs.declared.mark.Mark.TheVariants as mark
 use Rattle.volume_model.specs.Modes.{source_of}
 use Rattle.volume_model.specs.OneWorker.{refused_at}
 use Rattle.stream_steps.specs.Mine.{Mine, OwnCall, Placed, with_entries}
-use Rattle.stream_steps.specs.Add.{Promotes, EndsAborted, AbandonsAdd}
+use Rattle.stream_steps.specs.Add.{Promotes, EndsAborted}
 use Rattle.command_worker.specs.Purges.{AreFalls, MayComeBefore}
 use Rattle.command_worker.specs.Whole.{RefusedWhole}
 
@@ -15,7 +15,7 @@ use Rattle.command_worker.specs.Whole.{RefusedWhole}
 
 -- The rebuild of the replica has begun: its mark came, then lines of the stream failed, and the add has the turn still.
 -- Where the journal is known, nothing stood against it, and the mark is the one that one worker makes of it there.
-pub record IsRebuilding (r : ℕ) (o : OwnCall) (m m2 : Mine) : Type 0 where
+pub record BeganRebuild (r : ℕ) (o : OwnCall) (m m2 : Mine) : Type 0 where
   pub source : ℕ
   pub name : List ℕ
   pub own : List Placed
@@ -28,7 +28,7 @@ pub record IsRebuilding (r : ℕ) (o : OwnCall) (m m2 : Mine) : Type 0 where
 
 -- it is past its barrier, or refused
 abbrev pub PassesTo : Option ℕ → ℕ → OwnCall → Mine → Mine → Type 0
-PassesTo (Some source) r o m m2 = IsRebuilding r o m m2
+PassesTo (Some source) r o m m2 = BeganRebuild r o m m2
 PassesTo None r o m m2 = RefusedWhole o m m2
 
 -- the source and the replica that is rebuilt are two of so many
@@ -38,14 +38,14 @@ IsSourceOf count r s = IfSome s (λ source. (source < count) × (r < count) × (
 -- ---- its end
 
 -- it is promoted, or was aborted
-abbrev pub EndsAdd : ℕ → OwnCall → Mine → Mine → Type 0
-EndsAdd r o m m2 = Promotes r o m m2 ⊎ ((place : ℕ) × EndsAborted r place o m m2)
+abbrev pub EndsRebuild : ℕ → OwnCall → Mine → Mine → Type 0
+EndsRebuild r o m m2 = Promotes r o m m2 ⊎ ((place : ℕ) × EndsAborted r place o m m2)
 
 -- its rebuild began, and ended
 pub record Rebuilds (r : ℕ) (o : OwnCall) (m m2 : Mine) : Type 0 where
   pub mid : Mine
-  pub goes : IsRebuilding r o m mid
-  pub ends : EndsAdd r o mid m2
+  pub goes : BeganRebuild r o m mid
+  pub ends : EndsRebuild r o mid m2
 
 -- the add is answered: it is refused, or its rebuild began and ended
 abbrev pub AddsTo : ℕ → OwnCall → Mine → Mine → Type 0

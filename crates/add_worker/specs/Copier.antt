@@ -39,7 +39,7 @@ pub record HasInHand (awaits : PageRef → Type 0) (is_page : PageRef → Table 
 
 -- Of lines that tell these counts, and this of what they carried: the add of that ticket has the turn, what the lines show
 -- is shown, and the page in hand is as it should be.
-pub record IsAtWork (t source target : ℕ) (m : Mine) (counts : List ℕ) (carried : List (Option (List (List ℕ)))) (awaits : PageRef → Type 0)
+pub record IsCopying (t source target : ℕ) (m : Mine) (counts : List ℕ) (carried : List (Option (List (List ℕ)))) (awaits : PageRef → Type 0)
     (is_page : PageRef → Table → Type 0) (hand : Option PageRef) (read : Bool) (blocks : Table) : Type 0 where
   pub turn : (r : ℕ) × (o : OwnCall) × HasAdd t r o m
   pub shown : IsShown (with_running m []) counts carried

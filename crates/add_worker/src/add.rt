@@ -8,7 +8,7 @@ ghost use Rattle.client_worker.specs.Ends.{KeepsShown};
 ghost use Rattle.client_worker.specs.Serving.{IsShown};
 ghost use Rattle.command_worker.specs.Rooms.{HasRoom};
 ghost use Rattle.command_worker.specs.Serving.{GrewByCommand, LeftUndone};
-ghost use Rattle.add_worker.specs.Adding.{AddsTo, EndsAdd, GoesAdding};
+ghost use Rattle.add_worker.specs.Adding.{AddsTo, EndsRebuild, GoesAdding};
 
 use crate::barrier::pass_barrier;
 use crate::copier::copy_pages;
@@ -97,7 +97,7 @@ fn end_add<R: Wait, C: AddSteps>(rt: &R, steps: &mut C, t: TicketNumber)
     ensures home { C.home steps.new ≡ C.home steps.old }
     ensures shown { KeepsShown (with_running (C.mine steps.old) []) (with_running (C.mine steps.new) []) }
     ensures done { (r : ℕ) (o : OwnCall) → HasAdd t r o (C.mine steps.old)
-        → EndsAdd r o (C.mine steps.old) (C.mine steps.new) }
+        → EndsRebuild r o (C.mine steps.old) (C.mine steps.new) }
 {
     for _ in rt.forever() {
         if steps.promote(rt, t).is_some() {

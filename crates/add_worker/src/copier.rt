@@ -38,7 +38,7 @@ impl<'a, C: AddSteps, L: Line + Drop> CopySteps for Copier<'a, C, L> {
     ghost use Rattle.outer_traits.specs.declared.ends.Ends.{Ends};
     ghost use Rattle.stream_steps.specs.Mine.{Mine};
     ghost use Rattle.command_worker.specs.Whole.{GoesOn};
-    ghost use Rattle.add_worker.specs.Copier.{IsAtWork, IsTextOn, work_of};
+    ghost use Rattle.add_worker.specs.Copier.{IsCopying, IsTextOn, work_of};
 
     ghost copying = { λ s. work_of (C.left s.steps.now) s.hand s.read (map (λ c. L.carried c.line) s.channels.now)
         (map (λ c. c.seq) s.channels.now) s.source s.target };
@@ -63,7 +63,7 @@ impl<'a, C: AddSteps, L: Line + Drop> CopySteps for Copier<'a, C, L> {
     ) };
 
     ghost ready = { λ s. C.ready s.steps.now
-        × IsAtWork s.turn s.source s.target (C.mine s.steps.now) (map (λ c. L.count c.line) s.channels.now)
+        × IsCopying s.turn s.source s.target (C.mine s.steps.now) (map (λ c. L.count c.line) s.channels.now)
         (map (λ c. L.carried c.line) s.channels.now) (C.awaits s.steps.now) (C.is_page s.steps.now) s.hand s.read s.page.now };
 
     #[tactic(auto, using(crate::proofs::CopierLemmas::quiet_same, crate::proofs::CopierLemmas::texts_kept, crate::proofs::CopierLemmas::stays_same, crate::proofs::CopierLemmas::add_same, crate::proofs::CopierLemmas::shown_still, crate::proofs::CopierLemmas::hand_unread, crate::proofs::CopierLemmas::hand_kept))]

@@ -8,7 +8,7 @@ use Rattle.volume_model.specs.declared.entry.Entry.{Entry}
 use Rattle.stream_steps.specs.Mine.{Mine, Log, with_entries, with_running, longer}
 use Rattle.stream_steps.proofs.MineLemmas.{entries_none, entries_twice, longer_none, longer_twice}
 use Rattle.command_worker.specs.Purges.{MayComeBefore}
-use Rattle.command_worker.specs.Serving.{Commands, AreCommanded, GrewByCommand, GaveUp, IsLeft, LeftUndone, IsFirstLeft, Commanded, CommandedSome}
+use Rattle.command_worker.specs.Serving.{Commands, AreCommanded, GrewByCommand, GaveUp, EndsUndone, LeftUndone, IsFirstLeft, Commanded, CommandedSome}
 use Rattle.command_worker.proofs.Goes.{none_come}
 
 pub commanded_none : (m : Mine) → m.running ≡ [] → Commanded [] m m
@@ -62,7 +62,7 @@ none_left stream log [] = refl
 none_left stream log (c ∷ cs) = inl refl
 
 -- of a list that has that command at i
-first_left : (stream : ℕ) (log : Option Log) (cs : List Command) (i : ℕ) (c : Command) (es : List Entry) → i < length cs → IsLeft stream log (get_or cs i c) es → IsFirstLeft stream log (drop i cs) es
+first_left : (stream : ℕ) (log : Option Log) (cs : List Command) (i : ℕ) (c : Command) (es : List Entry) → i < length cs → EndsUndone stream log (get_or cs i c) es → IsFirstLeft stream log (drop i cs) es
 first_left stream log [] i c es h l = absurd (omega (arith, h))
 first_left stream log (x ∷ cs) zero c es h l = l
 first_left stream log (x ∷ cs) (suc i) c es h l = first_left stream log cs i c es (omega (arith, h)) l
@@ -80,8 +80,8 @@ commanded_some cs i c a b d h g s = record {
   done = g.done;
   more = subst (λ (n : ℕ). All (MayComeBefore n) s.marks) (ap (λ (m : Mine). m.stream) g.is) s.are;
   next = first_left a.stream (longer a.log g.all) cs i c s.last h
-      (subst (λ (l : Option Log). IsLeft a.stream l (get_or cs i c) s.last) (ap (λ (m : Mine). m.log) g.is)
-      (subst (λ (n : ℕ). IsLeft n b.log (get_or cs i c) s.last) (ap (λ (m : Mine). m.stream) g.is) s.left));
+      (subst (λ (l : Option Log). EndsUndone a.stream l (get_or cs i c) s.last) (ap (λ (m : Mine). m.log) g.is)
+      (subst (λ (n : ℕ). EndsUndone n b.log (get_or cs i c) s.last) (ap (λ (m : Mine). m.stream) g.is) s.left));
 }
 
 -- before the first

@@ -65,8 +65,8 @@ pub record IsAborted (stream : ℕ) (log : Option Log) (c : Command) (es : List 
   pub reply : answer.reply ≡ reply.Aborted place
 
 -- how a command ends for which memory ran out: with no answer, or as an add whose rebuild was aborted
-abbrev pub IsLeft : ℕ → Option Log → Command → List Entry → Type 0
-IsLeft stream log c es = (es ≡ []) ⊎ IsAborted stream log c es
+abbrev pub EndsUndone : ℕ → Option Log → Command → List Entry → Type 0
+EndsUndone stream log c es = (es ≡ []) ⊎ IsAborted stream log c es
 
 -- memory ran out: it grew by marks, and then it was left so, and none is open
 pub record LeftUndone (c : Command) (m m2 : Mine) : Type 0 where
@@ -75,7 +75,7 @@ pub record LeftUndone (c : Command) (m m2 : Mine) : Type 0 where
   pub last : List Entry
   pub is : m2 ≡ with_entries m own (marks ++ last) []
   pub are : All (MayComeBefore m.stream) marks
-  pub left : IsLeft m.stream m.log c last
+  pub left : EndsUndone m.stream m.log c last
 
 -- ---- all of them
 
@@ -89,7 +89,7 @@ pub record Commanded (cs : List Command) (m m2 : Mine) : Type 0 where
 -- the first of these was left so, if there is one
 abbrev pub IsFirstLeft : ℕ → Option Log → List Command → List Entry → Type 0
 IsFirstLeft stream log [] es = es ≡ []
-IsFirstLeft stream log (c ∷ cs) es = IsLeft stream log c es
+IsFirstLeft stream log (c ∷ cs) es = EndsUndone stream log c es
 
 -- the same of some of the first of them, as far as memory lasted, and then by marks of the next one, which was left so
 pub record CommandedSome (cs : List Command) (m m2 : Mine) : Type 0 where

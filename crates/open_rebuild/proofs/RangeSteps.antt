@@ -29,7 +29,7 @@ use Rattle.whole_calls.proofs.Kept.{each_push, each_left}
 use Rattle.rebuild_state.specs.Rebuild.{IsFreeBlock, HasPut}
 use Rattle.rebuild_state.proofs.WriteLemmas.{put_inside, put_outside}
 use Rattle.open_rebuild.specs.declared.rebuilding.Rebuilding.{Rebuilding}
-use Rattle.open_rebuild.specs.Claim.{HasRoles, HasWrite, IsKeptBy, AreKept, IsUnderWay, IsRebuilding}
+use Rattle.open_rebuild.specs.Claim.{HasRoles, HasWrite, IsKeptBy, AreWritesKept, IsUnderWay, IsRebuilding}
 use Rattle.open_rebuild.proofs.UnderWay.{each_rebuild, HasLayers, moved, IsOutside, free_outside, other_outside}
 
 -- ---- a replica takes a write
@@ -86,7 +86,7 @@ module _ (v : Volume) (size streams : ℕ) (es : List Entry) (modes : List Mode)
   free_head : (q block : ℕ) → IsFreeBlock ts block → head_block (node_at (set ns r new) q) block ≡ head_block (node_at ns q) block
   free_head q block free = each_node (λ m n. head_block n block ≡ head_block (node_at ns m) block) q (stays block (free_outside ts i block h w free)) (λ _. refl)
 
-  kept : AreKept ts cs ns → AreKept ts (set cs i x) (set ns r new)
+  kept : AreWritesKept ts cs ns → AreWritesKept ts (set cs i x) (set ns r new)
   kept k j l =
       each_set (λ n y. IsKeptBy (set ns r new) (ticket_at ts n) y) cs i j x no_call call_in
       (λ _ q tk. each_node (λ m n. IsTaken (part_at x.parts m) → HasWrite t x n) q (λ _. is_put) (λ n tk2. k i h w q (part_was c.parts r q Taken n tk2)) tk)
@@ -108,7 +108,7 @@ module _ (v : Volume) (size streams : ℕ) (es : List Entry) (modes : List Mode)
 
 module _ (size : ℕ) (modes : List Mode) (ts us : List Ticket) (cs ds : List OpenCall) (w : Option Whole) (ns : List Node) (rebuild : Option Rebuilding) where
   -- other tickets and calls, which hold the same blocks
-  pub other_calls : ((block : ℕ) → IsFreeBlock us block → IsFreeBlock ts block) → (AreKept ts cs (forms w ns) → AreKept us ds (forms w ns))
+  pub other_calls : ((block : ℕ) → IsFreeBlock us block → IsFreeBlock ts block) → (AreWritesKept ts cs (forms w ns) → AreWritesKept us ds (forms w ns))
       → IsRebuilding size modes ts cs w ns rebuild → IsRebuilding size modes us ds w ns rebuild
   other_calls free kept k =
       each_rebuild size modes ts us cs ds w w ns ns rebuild
@@ -169,7 +169,7 @@ module _ (size : ℕ) (modes : List Mode) (ts : List Ticket) (cs : List OpenCall
       (λ _ g. g)
       (f j (omega (arith, l, length-set ts i started)))
 
-  kept_begun : AreKept ts cs ns → AreKept (with_started ts i) (set cs i y) ms
+  kept_begun : AreWritesKept ts cs ns → AreWritesKept (with_started ts i) (set cs i y) ms
   kept_begun k j l =
       at_set (λ (x : Ticket). IsKeptBy ms x (open_at (set cs i y) j)) ts i j started no_ticket h
       (λ e. at_set (IsKeptBy ms started) cs i j y no_call in_calls (λ _ _ q tk. absurd (part_for_new (mode_of modes q) (subst IsTaken (part_of modes q) tk))) (λ n. absurd (n e)))

@@ -15,7 +15,7 @@ use Rattle.whole_calls.specs.declared.whole.Whole.{Whole}
 use Rattle.rebuild_state.specs.Rebuild.{IsFreeBlock}
 use Rattle.rebuild_state.proofs.RebuildLemmas.{head_keeps}
 use Rattle.open_rebuild.specs.declared.rebuilding.Rebuilding.{Rebuilding}
-use Rattle.open_rebuild.specs.Claim.{HasRoles, AreRoles, listed_of, AreKept, IsUnderWay, IsClaimed, IsClaim, IsRebuilding}
+use Rattle.open_rebuild.specs.Claim.{HasRoles, AreRoles, listed_of, AreWritesKept, IsUnderWay, IsClaimed, IsClaim, IsRebuilding}
 
 -- ---- a rebuild, if one is open
 
@@ -41,7 +41,7 @@ pub record HasLayers (old new : Node) : Type 0 where
 pub moved : (size : ℕ) (ts us : List Ticket) (cs ds : List OpenCall) (ns ms : List Node) (b : Rebuilding)
     → HasLayers (node_at ns b.source) (node_at ms b.source) → HasLayers (node_at ns b.target) (node_at ms b.target)
     → ((block : ℕ) → IsFreeBlock us block → head_block (node_at ms b.target) block ≡ head_block (node_at ms b.source) block)
-    → AreKept us ds ms → IsUnderWay size ts cs ns b → IsUnderWay size us ds ms b
+    → AreWritesKept us ds ms → IsUnderWay size ts cs ns b → IsUnderWay size us ds ms b
 moved size ts us cs ds ns ms b s t heads writes u = record {
   pages = u.pages;
   bits = u.bits;

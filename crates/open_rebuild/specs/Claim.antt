@@ -61,8 +61,8 @@ abbrev pub IsKeptBy : List Node → Ticket → OpenCall → Type 0
 IsKeptBy nodes t c = IsWriting t → (r : ℕ) → IsTaken (part_at c.parts r) → HasWrite t c (node_at nodes r)
 
 -- so it is with each started write
-abbrev pub AreKept : List Ticket → List OpenCall → List Node → Type 0
-AreKept tickets calls nodes = (i : ℕ) → i < length tickets → IsKeptBy nodes (ticket_at tickets i) (open_at calls i)
+abbrev pub AreWritesKept : List Ticket → List OpenCall → List Node → Type 0
+AreWritesKept tickets calls nodes = (i : ℕ) → i < length tickets → IsKeptBy nodes (ticket_at tickets i) (open_at calls i)
 
 -- beside a rebuild only a snapshot is taken, under a name that no frozen layer has
 abbrev pub IsBesideThese : List (List ℕ) → WholeOp → Type 0
@@ -92,7 +92,7 @@ pub record IsUnderWay (size : ℕ) (tickets : List Ticket) (calls : List OpenCal
   pub bits : HasBits b
   pub frozen : (name : List ℕ) → Contains b.frozen name → Contains (layer_names (node_at nodes b.source).layers) name
   pub rebuilt : IsRebuilt b.frozen (listed_of b) (IsFreeBlock tickets) (node_at nodes b.source) (node_at nodes b.target)
-  pub writes : AreKept tickets calls nodes
+  pub writes : AreWritesKept tickets calls nodes
 
 -- and once its barrier has ended, nothing has started that may not start beside it
 pub record IsClaimed (size : ℕ) (tickets : List Ticket) (calls : List OpenCall) (whole : Option Whole)

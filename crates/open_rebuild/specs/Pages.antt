@@ -12,7 +12,7 @@ pub record IsFrozenPage (b : Rebuilding) (p : PageRef) : Type 0 where
   pub page : p.page < b.pages
 
 -- and it is not copied yet
-pub record IsLeft (b : Rebuilding) (p : PageRef) : Type 0 where
+pub record IsPageLeft (b : Rebuilding) (p : PageRef) : Type 0 where
   pub frozen : IsFrozenPage b p
   pub left : listed_of b p.layer p.page ≡ false
 
@@ -22,5 +22,5 @@ HasNoneLeft b = (b.may_copy ≡ false) ⊎ AreListed b.listed (length b.listed)
 
 -- the page is left, and each before it is copied
 pub record IsNextLeft (b : Rebuilding) (p : PageRef) : Type 0 where
-  pub left : IsLeft b p
+  pub left : IsPageLeft b p
   pub first : IsFirstLeft b.listed (place_of b.frozen p.layer * b.pages + p.page)

@@ -2,7 +2,7 @@ ghost use Rattle.std.specs.Prelude.{◌≡◌, ◌↔◌, ◌<◌, ◌+◌, ◌*
 ghost use Rattle.vol_units.specs.Name.{sys_name};
 ghost use Rattle.rebuild_state.specs.Listed.{AreListed, place_of};
 ghost use Rattle.open_rebuild.specs.Claim.{HasBits, IsNew, with_page};
-ghost use Rattle.open_rebuild.specs.Pages.{IsFrozenPage, IsLeft, HasNoneLeft, IsNextLeft};
+ghost use Rattle.open_rebuild.specs.Pages.{IsFrozenPage, IsPageLeft, HasNoneLeft, IsNextLeft};
 
 use crate::frozen_layers::FrozenLayers;
 use rebuild_state::ListedPages;
@@ -77,7 +77,7 @@ impl Rebuilding {
     /// Whether the page is left to copy.
     pub fn is_left(&self, page: &PageRef) -> bool
         requires { HasBits self.now }
-        ensures { IsTrue result ↔ IsLeft self.now page.now }
+        ensures { IsTrue result ↔ IsPageLeft self.now page.now }
     {
         self.is_frozen(page) && !self.listed.is_listed(self.place_of(&page.layer, page.page))
     }

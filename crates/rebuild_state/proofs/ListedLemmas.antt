@@ -8,13 +8,13 @@ use Rattle.std.proofs.lemmas.List.{get_or-replicate, get_or_past, length-replica
 use Rattle.std.proofs.lemmas.Nat.{div-mul-add, mod-mul-add}
 use Rattle.std.proofs.lemmas.Slice.Eq.{bytes_eq-Decides}
 use Rattle.rebuild_state.specs.Rebuild.{HasNoPage, ListsPage, IsAllCopied}
-use Rattle.rebuild_state.specs.Listed.{bit_at, AreListed, IsSought, place_of, is_listed_in}
+use Rattle.rebuild_state.specs.Listed.{flag_at, AreListed, IsSought, place_of, is_listed_in}
 
 and_both : (a b : Bool) → (a && b) ≡ true → (a ≡ true) × (b ≡ true)
 and_both true b e = (refl, e)
 and_both false b e = absurd (false≢true e)
 
-no_bit : (n place : ℕ) → bit_at (replicate n false) place ≡ false
+no_bit : (n place : ℕ) → flag_at (replicate n false) place ≡ false
 no_bit n place = ⊎_elim
     (λ l. get_or-replicate n place false false l)
     (λ l. get_or_past (replicate n false) place false (omega (arith, length-replicate {A = Bool} n false, l)))
@@ -26,10 +26,10 @@ sought_none n = record { within = omega arith; before = λ place h. absurd (omeg
 -- none is listed at first
 pub none_listed : (frozen : List (List ℕ)) (pages n : ℕ) → HasNoPage (is_listed_in frozen pages (replicate n false))
 none_listed frozen pages n name page e =
-    false≢true (sym (no_bit n (place_of frozen name * pages + page)) ∙ (and_both (nat_lt page pages) (bit_at (replicate n false) (place_of frozen name * pages + page)) e).1)
+    false≢true (sym (no_bit n (place_of frozen name * pages + page)) ∙ (and_both (nat_lt page pages) (flag_at (replicate n false) (place_of frozen name * pages + page)) e).1)
 
 -- a bit that is there after one was set
-bit_after : (bits : List Bool) (p q : ℕ) → bit_at (set bits p true) q ≡ true → (bit_at bits q ≡ true) ⊎ (q ≡ p)
+bit_after : (bits : List Bool) (p q : ℕ) → flag_at (set bits p true) q ≡ true → (flag_at bits q ≡ true) ⊎ (q ≡ p)
 bit_after bits p q e = ⊎_elim (λ same. inr same) (λ other. inl (sym (get_or-set_other bits p q true false other) ∙ e)) (cases_eq q p)
 
 -- a name is told by its place
@@ -69,10 +69,10 @@ same_place pages a b p q h k e = (
 pub page_listed : (frozen : List (List ℕ)) (pages : ℕ) (bits : List Bool) (name : List ℕ) (page : ℕ) → Contains frozen name → page < pages
     → ListsPage (is_listed_in frozen pages bits) (is_listed_in frozen pages (set bits (place_of frozen name * pages + page) true)) name page
 page_listed frozen pages bits name page there inside other p e =
-    let both = and_both (nat_lt p pages) (bit_at (set bits (place_of frozen name * pages + page) true) (place_of frozen other * pages + p)) e in
+    let both = and_both (nat_lt p pages) (flag_at (set bits (place_of frozen name * pages + page) true) (place_of frozen other * pages + p)) e in
     let within : p < pages = grind (arith, nat_tests, both.0) in
     ⊎_elim
-    (λ was. inl (ap (λ b. b && bit_at bits (place_of frozen other * pages + p)) both.0 ∙ was))
+    (λ was. inl (ap (λ b. b && flag_at bits (place_of frozen other * pages + p)) both.0 ∙ was))
     (λ here.
     let same = same_place pages (place_of frozen other) (place_of frozen name) p page within inside here in
     inr (sym (place_told frozen name other (placed frozen name there) (sym same.0)), same.1))
@@ -95,4 +95,4 @@ all_listed frozen pages count bits size long all name block there inside =
     let page : block / 512 < pages = omega (arith, size, inside) in
     let place : place_of frozen name * pages + block / 512 < length bits = omega (arith, long, within_pages (place_of frozen name) (length frozen) pages (block / 512) (placed frozen name there) page) in
     let is : nat_lt (block / 512) pages ≡ true = grind (arith, nat_tests, page) in
-    ap (λ b. b && bit_at bits (place_of frozen name * pages + block / 512)) is ∙ all (place_of frozen name * pages + block / 512) place
+    ap (λ b. b && flag_at bits (place_of frozen name * pages + block / 512)) is ∙ all (place_of frozen name * pages + block / 512) place

@@ -1,5 +1,5 @@
 ghost use Rattle.std.specs.Prelude.{◌≡◌, ℕ, ◌<◌, length, replicate, true, false, slice_set, IfOk, MatchOption};
-ghost use Rattle.rebuild_state.specs.Listed.{bit_at, AreListed, IsFirstLeft};
+ghost use Rattle.rebuild_state.specs.Listed.{flag_at, AreListed, IsFirstLeft};
 
 use std::alloc::{AllocError, Global};
 use std::marker::Model;
@@ -43,7 +43,7 @@ impl ListedPages {
     }
 
     pub fn is_listed(&self, place: usize) -> bool
-        ensures { result ≡ bit_at self.now place }
+        ensures { result ≡ flag_at self.now place }
     {
         place < self.bits.len() && self.bits[place]
     }

@@ -2,7 +2,7 @@
 use Rattle.std.specs.Prelude.{◌≡◌, true, Some}
 use Rattle.vol_units.specs.declared.page_ref.PageRef.{PageRef}
 use Rattle.open_rebuild.specs.declared.rebuilding.Rebuilding.{Rebuilding}
-use Rattle.open_rebuild.specs.Pages.{IsFrozenPage, IsLeft}
+use Rattle.open_rebuild.specs.Pages.{IsFrozenPage, IsPageLeft}
 use Rattle.volume_core.specs.State.{State}
 
 -- the rebuild is open, and its barrier has ended
@@ -18,4 +18,4 @@ pub record IsCopied (s : State) (b : Rebuilding) (page : PageRef) : Type 0 where
 -- and that is left to copy
 pub record IsToCopy (s : State) (b : Rebuilding) (page : PageRef) : Type 0 where
   pub begun : s.rebuild ≡ Some b
-  pub left : IsLeft b page
+  pub left : IsPageLeft b page

@@ -1,7 +1,7 @@
-use Rattle.std.proofs.Common.{rules, ◌≡◌, ◌≢◌, ◌<◌, inl, inr, map, Some, None, subst, sym}
+use Rattle.std.proofs.Common.{rules, ◌≡◌, ◌≢◌, ◌<◌, inl, inr, map, None, subst, sym}
 use Rattle.command_worker.proofs.CommandLemmas.{on_err}
 use Rattle.command_worker.proofs.RoundLemmas.{some_of}
-use Rattle.add_worker.specs.Adding.{PassesTo, IsSourceOf}
+use Rattle.add_worker.specs.Adding.{PassesTo}
 use Rattle.add_worker.proofs.AddLemmas.{goes_none, rebuilds_on, rebuilds_goes, rebuilding_has, passed}
 use Rattle.add_worker.proofs.add.rebuild.Goals as goal
 

@@ -1,10 +1,10 @@
 use Rattle.std.proofs.Common.{rules, ◌≡◌, ◌∙◌, [], ◌∷◌, map, true, false, refl, subst, sym, ap}
 use Rattle.open_calls.specs.declared.whole_op.WholeOp.TheVariants as whole
-use Rattle.stream_steps.specs.Mine.{Mine, OwnCall, with_running}
+use Rattle.stream_steps.specs.Mine.{Mine, with_running}
 use Rattle.stream_steps.specs.Maint.{HasWhole, StartsBarrier}
 use Rattle.command_worker.specs.Whole.{StartsOr, EndsBehind}
 use Rattle.command_worker.proofs.CommandLemmas.{enrolled_has, enrolled_waits, on_err}
-use Rattle.command_worker.proofs.PartLemmas.{has_started, started_is, starts_shown, shown_same}
+use Rattle.command_worker.proofs.PartLemmas.{has_started, starts_shown, shown_same}
 use Rattle.command_worker.proofs.ShownLemmas.{idle_running}
 use Rattle.add_worker.proofs.AddLemmas.{refused_barrier, begun_barrier, barrier_has, turn_same}
 use Rattle.add_worker.proofs.barrier.pass_barrier.Goals as goal
