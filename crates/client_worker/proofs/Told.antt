@@ -12,7 +12,7 @@ use Rattle.volume_model.specs.declared.entry.Entry.{Entry}
 use Rattle.volume_model.specs.declared.entry.Entry.TheVariants as entry
 use Rattle.volume_model.specs.declared.mode.Mode.{Mode}
 use Rattle.frame_wire.specs.declared.head.Head.{Head}
-use Rattle.frame_wire.specs.Spelling.{header, frame}
+use Rattle.frame_wire.specs.Spelling.{header, header_length, frame}
 use Rattle.outer_traits.specs.Lines.{TellsMore, Carries}
 use Rattle.outer_traits.proofs.Lines.{TellsMore-nil}
 use Rattle.stream_steps.specs.Mine.{OwnCall, Placed}
@@ -136,13 +136,13 @@ header_alone h = sym (append-nil (header h))
 
 -- the request of a started write came through, and its reply is next
 pub write_lacks : (o p : OwnCall) (s t : Option (List (List ℕ))) (seq first n : ℕ) (before request reply : List ℕ) (asked said : Head) → CarriesWrite o first n before → p.call ≡ o.call
-    → asked ≡ write_head seq first (length before - 26) → said ≡ write_reply_head seq first (length before - 26) → request ≡ frame asked (drop 26 before) → reply ≡ header said → TellsMore s t (request ∷ []) → LacksReply p t reply
+    → asked ≡ write_head seq first (length before - header_length) → said ≡ write_reply_head seq first (length before - header_length) → request ≡ frame asked (drop header_length before) → reply ≡ header said → TellsMore s t (request ∷ []) → LacksReply p t reply
 write_lacks o p s t seq first n before request reply asked said c same a b q r h =
     lacks p s t request reply h (λ frames e. subst (λ c. HasPart c p.buffer frames) (sym same)
     (part_of_write o.call o p.buffer frames c.writes.1 c.rounded (seq, exchange_is frames e)))
   where
-    count : length before - 26 ≡ length o.whole
-    count = sym (length-drop 26 before) ∙ ap length c.whole
+    count : length before - header_length ≡ length o.whole
+    count = sym (length-drop header_length before) ∙ ap length c.whole
 
     asks : request ≡ write_request seq o.range.first o.whole
     asks = q ∙ (λ i. frame (a i) (c.whole i)) ∙ (λ i. frame (write_head seq (sym c.first i) (count i)) o.whole)
@@ -154,21 +154,21 @@ write_lacks o p s t seq first n before request reply asked said c same a b q r h
     exchange_is frames e = (e.0, e.1, e.2 ∙ (λ i. e.0 ++ asks i ∷ says i ∷ e.1))
 
 -- what was put behind a header stands there
-pub body_put : (before bytes : List ℕ) → 26 ≤ length before → length bytes ≡ length before - 26 → drop 26 (put_mid 26 (length before - 26) before bytes) ≡ bytes
+pub body_put : (before bytes : List ℕ) → header_length ≤ length before → length bytes ≡ length before - header_length → drop header_length (put_mid header_length (length before - header_length) before bytes) ≡ bytes
 body_put before bytes long same =
-    let post : length (post_of 26 (length before - 26) before) ≡ length (drop 26 before) - (length before - 26) = length-drop (length before - 26) (drop 26 before) in
-    let parts : length (put_mid 26 (length before - 26) before bytes) ≡ length (take 26 before) + (length bytes + length (post_of 26 (length before - 26) before)) =
-    length-append (take 26 before) (bytes ++ post_of 26 (length before - 26) before) ∙ ap (λ k. length (take 26 before) + k) (length-append bytes (post_of 26 (length before - 26) before)) in
-    let all : length (put_mid 26 (length before - 26) before bytes) ≤ length before = omega (arith, parts, post, length-take-le 26 before long, length-drop 26 before, same, long) in
-    sym (between_to_end (put_mid 26 (length before - 26) before bytes) 26 (length before) all) ∙ between-put_mid 26 (length before - 26) before bytes (length before) long same
+    let post : length (post_of header_length (length before - header_length) before) ≡ length (drop header_length before) - (length before - header_length) = length-drop (length before - header_length) (drop header_length before) in
+    let parts : length (put_mid header_length (length before - header_length) before bytes) ≡ length (take header_length before) + (length bytes + length (post_of header_length (length before - header_length) before)) =
+    length-append (take header_length before) (bytes ++ post_of header_length (length before - header_length) before) ∙ ap (λ k. length (take header_length before) + k) (length-append bytes (post_of header_length (length before - header_length) before)) in
+    let all : length (put_mid header_length (length before - header_length) before bytes) ≤ length before = omega (arith, parts, post, length-take-le header_length before long, length-drop header_length before, same, long) in
+    sym (between_to_end (put_mid header_length (length before - header_length) before bytes) header_length (length before) all) ∙ between-put_mid header_length (length before - header_length) before bytes (length before) long same
 
 -- the same of a read, with the bytes that the replica gave
 pub read_lacks : (o p : OwnCall) (s t : Option (List (List ℕ))) (seq : ℕ) (offset : ℤ) (before request reply : List ℕ) (asked said : Head) → CarriesRead o offset before → p.call ≡ o.call → length p.buffer ≡ length o.buffer
-    → asked ≡ read_head seq offset (length before - 26) → said ≡ read_reply_head seq offset (length before - 26) → request ≡ header asked → reply ≡ frame said p.buffer → TellsMore s t (request ∷ []) → LacksReply p t reply
+    → asked ≡ read_head seq offset (length before - header_length) → said ≡ read_reply_head seq offset (length before - header_length) → request ≡ header asked → reply ≡ frame said p.buffer → TellsMore s t (request ∷ []) → LacksReply p t reply
 read_lacks o p s t seq offset before request reply asked said c same long a b q r h =
     lacks p s t request reply h (λ frames e. subst (λ c. HasPart c p.buffer frames) (sym (same ∙ c.call)) (seq, exchange_is frames e))
   where
-    count : length before - 26 ≡ length p.buffer
+    count : length before - header_length ≡ length p.buffer
     count = omega (arith, c.count, long)
 
     asks : request ≡ read_request seq offset (length p.buffer)

@@ -26,14 +26,14 @@ use Rattle.client_worker.proofs.Starting.{begins, begun_own}
 
 -- the bytes of the blocks, as a replica takes them in boxes
 module _ (o : OwnCall) (block n : ℕ) (request : List ℕ) (boxes : List (Option (List ℕ))) (carries : CarriesWrite o block n request) (are : AreBoxes n boxes) where
-  pub fills : length (take (length request - 26) (drop 26 request)) ≡ length boxes * BLOCK_BYTES
-  fills = ap length (take_rest request 26 ∙ carries.whole) ∙ carries.size ∙ ap (λ k. k * BLOCK_BYTES) (sym are.count)
+  pub fills : length (take (length request - header_length) (drop header_length request)) ≡ length boxes * BLOCK_BYTES
+  fills = ap length (take_rest request header_length ∙ carries.whole) ∙ carries.size ∙ ap (λ k. k * BLOCK_BYTES) (sym are.count)
 
-  pub filled_boxes : (filled : List (Option (List ℕ))) → bytes_in filled ≡ take (length request - 26) (drop 26 request) → All (λ b. is_some b ≡ true) filled → length filled ≡ length boxes → AreBlocksOfCall o filled
+  pub filled_boxes : (filled : List (Option (List ℕ))) → bytes_in filled ≡ take (length request - header_length) (drop header_length request) → All (λ b. is_some b ≡ true) filled → length filled ≡ length boxes → AreBlocksOfCall o filled
   filled_boxes filled bytes full count = record {
     full = full;
     count = omega (arith, carries.count, are.count, count);
-    bytes = bytes ∙ take_rest request 26 ∙ carries.whole;
+    bytes = bytes ∙ take_rest request header_length ∙ carries.whole;
   }
 
 -- what counts of a request is all but its header

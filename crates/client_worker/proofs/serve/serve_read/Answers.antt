@@ -42,9 +42,9 @@ carry_read-requires-clause-own g c =
     let s : ReadsIn op.0 c.args.offset c.args.count (g.C.ClientSteps.mine c.args.steps.now) (g.C.ClientSteps.mine c.begin_read.new.steps) =
     reads_some op.0 c.args.offset c.args.count (g.C.ClientSteps.mine c.args.steps.now) (g.C.ClientSteps.mine c.begin_read.new.steps) c.in_ok-begin_read.field-0 (c.in_ok-begin_read.ensures.ok op.0 c.args.offset op.1 op.3) yes in
     let z : to_z w64 (of_z w64 c.args.offset) ≡ c.args.offset = search rules in
-    let long : length (take (26 + c.args.count) c.deref_mut.result.now) ≡ header_length + c.args.count = search (rules, length-take-le) in
-    subst (λ z. (x : OwnCall) × IsOwn c.args.t x (g.C.ClientSteps.mine c.begin_read.new.steps) × CarriesRead x z (take (26 + c.args.count) c.deref_mut.result.now)) (sym z)
-    (reads_own c.args.t c.args.offset c.args.count (g.C.ClientSteps.mine c.args.steps.now) (g.C.ClientSteps.mine c.begin_read.new.steps) (take (26 + c.args.count) c.deref_mut.result.now) op.0 op.1 c.requires.short long s)
+    let long : length (take (header_length + c.args.count) c.deref_mut.result.now) ≡ header_length + c.args.count = search (rules, length-take-le) in
+    subst (λ z. (x : OwnCall) × IsOwn c.args.t x (g.C.ClientSteps.mine c.begin_read.new.steps) × CarriesRead x z (take (header_length + c.args.count) c.deref_mut.result.now)) (sym z)
+    (reads_own c.args.t c.args.offset c.args.count (g.C.ClientSteps.mine c.args.steps.now) (g.C.ClientSteps.mine c.begin_read.new.steps) (take (header_length + c.args.count) c.deref_mut.result.now) op.0 op.1 c.requires.short long s)
 
 pub returns-clause-ok : goal.returns-clause-ok
 returns-clause-ok g c =
