@@ -37,7 +37,7 @@ own_marks n modes (entry.Mark (mark.Added r source name) ∷ es) are = own_marks
 own_marks n modes (entry.Mark (mark.Promoted r) ∷ es) are = own_marks n (modes_after_entry modes (entry.Mark (mark.Promoted r))) es are.1
 own_marks n modes (entry.Mark (mark.Aborted r) ∷ es) are = own_marks n (modes_after_entry modes (entry.Mark (mark.Aborted r))) es are.1
 
-own_behind : (n : ℕ) (modes : List Mode) (marks : List Entry) (a : Answer) → AreMarks marks → a.stream ≡ n → own_entries n modes (marks ++ entry.Answer a ∷ []) ≡ answer_placed (modes_after modes marks) a ∷ []
+pub own_behind : (n : ℕ) (modes : List Mode) (marks : List Entry) (a : Answer) → AreMarks marks → a.stream ≡ n → own_entries n modes (marks ++ entry.Answer a ∷ []) ≡ answer_placed (modes_after modes marks) a ∷ []
 own_behind n modes marks a are by =
     own-append n modes marks (entry.Answer a ∷ [])
     ∙ ap (λ (l : List Placed). l ++ own_entries n (modes_after modes marks) (entry.Answer a ∷ [])) (own_marks n modes marks are)

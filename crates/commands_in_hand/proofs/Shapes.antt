@@ -244,6 +244,7 @@ call_by n s t op turn o r w ms q h before is =
     let does : q.1.op ≡ Some op = ap (λ (x : OwnCall). x.op) is ∙ w.does in
     let fits = (r.sound.maint.fits 0 (omega (arith, ap length h.tickets))).whole (ap (λ (x : Ticket). x.kind) ticket ∙ of_whole) in
     let same : fits.op ≡ op = same_some fits.op op (sym fits.is ∙ ap (λ (x : OpenCall). x.op) open' ∙ does) in
+    let asked : IsAskedBy s.maint s.commands n op = subst (λ x. IsAskedBy s.maint s.commands n x) same (subst (λ k. IsAskedBy s.maint s.commands k fits.op) (ap (λ (x : OpenCall). x.stream) open' ∙ h.calls_own) fits.asked) in
     record {
       q = q;
       ms = ms;
@@ -253,7 +254,7 @@ call_by n s t op turn o r w ms q h before is =
       number = ap (λ (x : OwnCall). x.number) is ∙ w.number;
       kind = of_whole;
       does = does;
-      asked = subst (λ x. IsAskedBy s.maint s.commands n x) same (subst (λ k. IsAskedBy s.maint s.commands k fits.op) (ap (λ (x : OpenCall). x.stream) open' ∙ h.calls_own) fits.asked);
+      asked = asked;
     }
 
 whole_by : (n : ℕ) (s : State) (t : ℕ) (op : WholeOp) (turn : List OwnCall) (o : OwnCall) → IsReady n s → HasWhole t op turn o (mine_in n s) → (ms : List (Ticket × MaintCall)) (cs : List (Ticket × OpenCall)) → Has n s ms cs

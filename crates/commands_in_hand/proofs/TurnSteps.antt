@@ -1,5 +1,5 @@
 -- The steps of the maintenance turn, as the one worker that there is sees them.
-use Rattle.std.proofs.Common.{◌≡◌, ℕ, ◌+◌, true, List, [], ◌∷◌, ◌++◌, length, length-set, map, None, Result, Ok, Err as Failed, OnOk, OnErr, IfOk, IfErr, refl, ap, ◌∙◌, arith}
+use Rattle.std.proofs.Common.{◌≡◌, ℕ, ◌+◌, true, List, [], ◌∷◌, ◌++◌, length, length-set, map, None, Result, Ok, Err as Failed, OnOk, OnErr, IfOk, IfErr, refl, sym, ap, subst, ◌∙◌, arith}
 use Rattle.command_text.specs.declared.command.Command.{Command}
 use Rattle.command_text.specs.declared.command.Command.TheVariants as command
 use Rattle.range_turns.specs.declared.turns.MayStart.{MayStart}
@@ -25,21 +25,22 @@ use Rattle.volume_core.specs.Steps.{faulted}
 use Rattle.volume_core.specs.Sound.{IsSound}
 use Rattle.volume_core.specs.Answers.{IsAnsweredNow}
 use Rattle.volume_core.specs.Streams.{origin_of, MayGo, IsAnsweredTo, opens, open_of, running, turning, commands_in}
-use Rattle.volume_maint.specs.Steps.{whole_ticket, maint_enrolled, turn_begun, turn_ended, without_command}
+use Rattle.volume_maint.specs.Steps.{whole_ticket, maint_enrolled, turn_begun, turn_ended, turn_abandoned, without_command}
 use Rattle.volume_maint.specs.Answers as world
 use Rattle.volume_maint.specs.Places as place
 use Rattle.stream_steps.specs.Against.{RefusesFault}
 use Rattle.stream_steps.specs.Mine.{Mine, OwnCall, answer_placed, fault_placed, with_running}
 use Rattle.stream_steps.specs.Steps.{EnrolsAt, CommandsTo, FallsTo, IsAtOnce}
-use Rattle.stream_steps.specs.Maint.{IsMaint, HasTurn, AwaitsTurn, TurnsTo, IsYes, AnswersWhole}
+use Rattle.stream_steps.specs.Maint.{IsMaint, IsNoAdd, HasTurn, AwaitsTurn, TurnsTo, IsYes, AnswersWhole}
 use Rattle.world_in_hand.specs.Hand as hand
 use Rattle.world_in_hand.proofs.OwnLemmas.{own_answer}
 use Rattle.world_in_hand.proofs.StepLemmas.{ShowsFault, shows_fault}
 use Rattle.commands_in_hand.proofs.AtOnce.{at_once_mine}
+use Rattle.commands_in_hand.proofs.Settled.{given_back}
 use Rattle.world_in_hand.proofs.Turns.{turns_answered, Rest}
 use Rattle.commands_in_hand.specs.Hand.{own_turn, own_whole, mine_in, IsReady}
 use Rattle.commands_in_hand.proofs.Shapes.{Has, has_running, has_turn, HasOneTurn, no_commands}
-use Rattle.commands_in_hand.proofs.Grown.{Kept, gave_up_of, kept_same, kept_has, only_open, grown, grown_by}
+use Rattle.commands_in_hand.proofs.Grown.{Kept, gave_up_of, kept_same, kept_has, begins_none, only_open, grown, grown_by}
 
 -- ---- where nothing is open
 
@@ -142,7 +143,7 @@ module _ (n : ℕ) (s s2 : State) (r : IsReady n s) (ok : IsSound s2) where
     enrolled_origin = ap origin_of e
 
     enrolled_kept : Kept n s s2
-    enrolled_kept = kept_has n s s2 r ok enrolled_origin (ap gave_up_of e) ((whole_ticket number, d) ∷ []) [] enrolled_has
+    enrolled_kept = kept_has n s s2 r ok enrolled_origin (ap gave_up_of e) ((whole_ticket number, d) ∷ []) [] enrolled_has (begins_none n s2 ((whole_ticket number, d) ∷ []) enrolled_has)
 
     enrolled_mine : EnrolsAt number (call.Command c) (mine_in n s) (mine_in n s2)
     enrolled_mine = record {
@@ -167,7 +168,7 @@ module _ (n : ℕ) (s s2 : State) (r : IsReady n s) (ok : IsSound s2) where
     }
 
     begun_kept : Kept n s s2
-    begun_kept = kept_has n s s2 r ok (ap origin_of e) (ap gave_up_of e) ((record p.0 { started = true }, p.1) ∷ []) [] begun_has
+    begun_kept = kept_has n s s2 r ok (ap origin_of e) (ap gave_up_of e) ((record p.0 { started = true }, p.1) ∷ []) [] begun_has (begins_none n s2 ((record p.0 { started = true }, p.1) ∷ []) begun_has)
 
     begun_mine : (o : OwnCall) → own_turn p ≡ o → mine_in n s2 ≡ with_running (mine_in n s) (record o { started = true } ∷ [])
     begun_mine o is =
@@ -187,7 +188,7 @@ module _ (n : ℕ) (s s2 : State) (r : IsReady n s) (ok : IsSound s2) where
     }
 
     pub gone_kept : Kept n s s2
-    gone_kept = kept_has n s s2 r ok (ap origin_of e) (ap gave_up_of e) [] [] gone_has
+    gone_kept = kept_has n s s2 r ok (ap origin_of e) (ap gave_up_of e) [] [] gone_has (begins_none n s2 [] gone_has)
 
     pub gone_mine : mine_in n s2 ≡ with_running (mine_in n s) []
     gone_mine = only_open n s s2 (ap origin_of e) [] (ap (λ (x : State). x.book.entries) e) (has_running n s2 [] [] gone_has)
@@ -214,13 +215,13 @@ module _ (n : ℕ) (s s2 : State) (r : IsReady n s) (ok : IsSound s2) where
     ended_origin = ap origin_of e
         ∙ ap (λ k. record { first = s.first; opening = s.book.opening; size = s.size; streams = k; replicas = length s.nodes }) (length-set s.indices c.stream (index_at s.indices c.stream + 1))
 
-    ended_kept : Kept n s s2
-    ended_kept = kept_has n s s2 r ok ended_origin (ap gave_up_of e) [] [] ended_has
+    pub ended_kept : Kept n s s2
+    ended_kept = kept_has n s s2 r ok ended_origin (ap gave_up_of e) [] [] ended_has (begins_none n s2 [] ended_has)
 
     abbrev ended_answer : Answer
     ended_answer = record { call = call.Command c.command; reply = y; index = index_at s.indices c.stream; saw = c.saw; stream = c.stream }
 
-    ended_mine : (o : OwnCall) → own_turn p ≡ o → AnswersWhole o y (mine_in n s) (mine_in n s2)
+    pub ended_mine : (o : OwnCall) → own_turn p ≡ o → AnswersWhole o y (mine_in n s) (mine_in n s2)
     ended_mine o is =
         let by : c.stream ≡ n = ap (λ (x : MaintCall). x.stream) is_c ∙ h.turns_own in
         record {
@@ -236,15 +237,18 @@ module _ (n : ℕ) (s s2 : State) (r : IsReady n s) (ok : IsSound s2) where
 
 -- ---- by what each step answers
 
-pub enrols : {E : Type 0} (n : ℕ) (c : Command) (s s2 : State) (res : Result ℕ E) → IsReady n s → IsSound s2 → Has n s [] [] → IfOk res (λ number. s2 ≡ maint_enrolled s number (record { stream = n; saw = length s.book.entries; command = c }))
+pub enrols : {E : Type 0} (n : ℕ) (c : Command) (s s2 : State) (res : Result ℕ E) → IsMaint c → IsReady n s → IsSound s2 → Has n s [] [] → IfOk res (λ number. s2 ≡ maint_enrolled s number (record { stream = n; saw = length s.book.entries; command = c }))
     → IfOk res (λ t. EnrolsAt t (call.Command c) (mine_in n s) (mine_in n s2))
-enrols n c s s2 (Ok number) r ok h e = enrolled_mine n s s2 r ok h number c e
-enrols n c s s2 (Failed x) r ok h e = tt
+enrols n c s s2 (Ok number) wants r ok h e = enrolled_mine n s s2 r ok h number c e
+enrols n c s s2 (Failed x) wants r ok h e = tt
 
-pub enrols_kept : {E : Type 0} (n : ℕ) (c : Command) (s s2 : State) (res : Result ℕ E) → IsReady n s → IsSound s2 → Has n s [] [] → IfOk res (λ number. s2 ≡ maint_enrolled s number (record { stream = n; saw = length s.book.entries; command = c }))
+pub enrols_kept : {E : Type 0} (n : ℕ) (c : Command) (s s2 : State) (res : Result ℕ E) → IsMaint c → IsReady n s → IsSound s2 → Has n s [] [] → IfOk res (λ number. s2 ≡ maint_enrolled s number (record { stream = n; saw = length s.book.entries; command = c }))
     → OnErr res (s2 ≡ s) → Kept n s s2
-enrols_kept n c s s2 (Ok number) r ok h e err = enrolled_kept n s s2 r ok h number c e
-enrols_kept n c s s2 (Failed x) r ok h e err = kept_same n s s2 r err
+enrols_kept n c s s2 (Ok number) wants r ok h e err = enrolled_kept n s s2 r ok h number c e
+enrols_kept n c s s2 (Failed x) wants r ok h e err = kept_same n s s2 r err
+
+same_command : (c d : Command) → call.Command c ≡ call.Command d → c ≡ d
+same_command c d e = cc
 
 -- where the ticket stands
 same_head : (x y : OwnCall) → x ∷ [] ≡ y ∷ [] → x ≡ y
@@ -300,3 +304,13 @@ ends_kept n t y s s2 (Failed e) r ok x err h = kept_same n s s2 r err
 pub mine_err : {A E : Type 0} (n : ℕ) (s s2 : State) (res : Result A E) → OnErr res (s2 ≡ s) → OnErr res (mine_in n s2 ≡ mine_in n s)
 mine_err n s s2 (Ok a) e = tt
 mine_err n s s2 (Failed x) e = ap (mine_in n) e
+
+-- ---- of a command that is no add
+
+pub turn_is : (n t : ℕ) (c : Command) (o : OwnCall) (s : State) → IsReady n s → HasTurn t c o (mine_in n s) → (command_at s.commands 0).command ≡ c
+turn_is n t c o s r h =
+    let one = turn_one n t c o s r h in
+    same_command (command_at s.commands 0).command c (ap (λ cs. call.Command (command_at cs 0).command) one.has.commands ∙ ap (λ (x : OwnCall). x.call) one.is ∙ h.call)
+
+pub gives_back : (n t : ℕ) (c : Command) (o : OwnCall) (s s2 : State) → IsReady n s → HasTurn t c o (mine_in n s) → IsNoAdd c → s2 ≡ turn_abandoned s → s2 ≡ without_command s 0
+gives_back n t c o s s2 r h other e = e ∙ given_back s r.sound (subst IsNoAdd (sym (turn_is n t c o s r h)) other)

@@ -1,7 +1,7 @@
 -- The steps on the whole volume, as the one worker that there is sees them.
-use Rattle.std.proofs.Common.{◌≡◌, ◌≢◌, ℕ, ◌+◌, ◌<◌, ◌≤◌, ⊎_elim, true, false, List, [], ◌∷◌, ◌++◌, length, length-set, map, set, inl, inr, Result, Ok, Err as Failed, OnOk, OnErr, IfOk, IfErr, IfSome, Option, Some, None, subst, sym, refl, ap, ◌∙◌, arith, append-nil}
+use Rattle.std.proofs.Common.{◌≡◌, ◌≢◌, ℕ, ◌+◌, ◌<◌, true, false, List, [], ◌∷◌, ◌++◌, length, length-set, map, set, inl, inr, ⊎_elim, Result, Ok, Err as Failed, OnOk, OnErr, IfOk, IfErr, IfSome, Option, Some, None, subst, sym, refl, ap, ◌∙◌, arith, append-nil}
 use Rattle.std.specs.List.{remove}
-use Rattle.std.proofs.lemmas.Bool.{cases_lt}
+use Rattle.std.proofs.lemmas.Bool.{cases_order}
 use Rattle.sparse_image.specs.Image.{Tables}
 use Rattle.vol_units.specs.Name.{begins_sys, sys_name}
 use Rattle.command_text.specs.declared.command.Command.{Command}
@@ -18,13 +18,15 @@ use Rattle.volume_model.specs.declared.entry.Entry.TheVariants as entry
 use Rattle.volume_model.specs.declared.mark.Mark.TheVariants as mark
 use Rattle.volume_model.specs.declared.mode.Mode.{Mode}
 use Rattle.volume_model.specs.declared.mode.Mode.TheVariants.{Rw, Wo, Err}
-use Rattle.volume_model.specs.Modes.{mode_of, source_of, HasSource, HasNoSource, IsSource}
+use Rattle.volume_model.specs.Modes.{mode_of, source_of, IsSource, HasSource, HasNoSource}
 use Rattle.volume_model.specs.OneWorker.{refused_at}
-use Rattle.volume_model.specs.PlainState.{Volume}
 use Rattle.volume_model.proofs.SpotLemmas.{has_source, no_source, source_is}
 use Rattle.volume_model.proofs.StepLemmas.{has_no_source}
 use Rattle.replica_node.specs.Fold.{page_folded}
 use Rattle.replica_node.specs.Held.{emptied}
+use Rattle.open_rebuild.specs.declared.rebuilding.Rebuilding.{Rebuilding}
+use Rattle.volume_maint.proofs.Begins.{its_volume}
+use Rattle.volume_model.specs.PlainState.{Volume}
 use Rattle.open_calls.specs.declared.open_call.OpenCall.{OpenCall}
 use Rattle.open_calls.specs.declared.parts.Part.{Part}
 use Rattle.open_calls.specs.declared.parts.Part.TheVariants.{Taken, Acked}
@@ -38,10 +40,10 @@ use Rattle.whole_calls.specs.declared.whole.Whole.{Whole}
 use Rattle.whole_calls.specs.Due.{part_on}
 use Rattle.whole_calls.specs.Whole.{IsWhole, parted, part_acked}
 use Rattle.whole_calls.specs.Maint as core
-use Rattle.whole_calls.specs.Maint.{command_at, IsAskedBy, HasNoCommand}
+use Rattle.whole_calls.specs.Maint.{command_at, IsAskedBy}
 use Rattle.volume_core.specs.declared.world.NotThis.{NotThis}
 use Rattle.volume_core.specs.declared.world.NotThis.TheVariants as against
-use Rattle.volume_core.specs.State.{State, modes_in, told_of, index_at}
+use Rattle.volume_core.specs.State.{State, told_of, modes_in, index_at}
 use Rattle.volume_core.specs.Steps.{with_place, without_call}
 use Rattle.volume_core.specs.Sound.{IsSound}
 use Rattle.volume_core.specs.Streams.{origin_of}
@@ -49,43 +51,29 @@ use Rattle.volume_maint.specs.declared.answers.AdmitWhole.{AdmitWhole}
 use Rattle.volume_maint.specs.declared.answers.AdmitWhole.TheVariants as admit
 use Rattle.volume_maint.specs.declared.answers.NextPart.{NextPart}
 use Rattle.volume_maint.specs.declared.answers.NextPart.TheVariants as next
-use Rattle.volume_maint.specs.Steps.{whole_ticket, whole_enrolled, begun_of, whole_begun, barrier_name, barrier_modes, barrier_of, barrier_ended, whole_parted, whole_acked, whole_ended, without_whole, turn_over, folded_on}
+use Rattle.volume_maint.specs.Steps.{whole_ticket, whole_enrolled, begun_of, whole_begun, barrier_name, barrier_modes, barrier_of, barrier_begun, barrier_ended, with_places, whole_parted, whole_acked, whole_ended, without_whole, turn_over, folded_on}
 use Rattle.volume_maint.specs.Answers as world
-use Rattle.volume_maint.specs.Answers.{spot_of, whole_done, whole_lost, seen_by, MayAsk}
+use Rattle.volume_maint.specs.Answers.{spot_of, refused_in, whole_done, whole_lost, seen_by, MayAsk, MayBegin}
 use Rattle.volume_maint.specs.Places as place
-use Rattle.volume_maint.proofs.Begins.{its_volume}
 use Rattle.stream_steps.specs.Mine.{OwnCall, answer_placed, with_running, with_entries}
 use Rattle.stream_steps.specs.Steps.{EnrolsAt}
 use Rattle.stream_steps.specs.Maint.{IsMaint, HasTurn, HasWhole, EnrolsWhole, EnrolsUnder, AnswersWhole, StartsWhole, StartsBarrier, StartsAs, AdmitsWhole, IsNotLater, PartsTo, AcksWhole, AgainstPart, AgainstAckWhole, IsWholeReply, EndsWhole, WholeEnds, IsNext}
 use Rattle.world_in_hand.proofs.OwnLemmas.{own_answer}
-use Rattle.commands_in_hand.specs.Hand.{own_turn, own_whole, parts_in, mine_in, IsReady}
+use Rattle.commands_in_hand.specs.Hand.{own_turn, own_whole, parts_in, mine_in, CanBegin, IsReady}
 use Rattle.commands_in_hand.proofs.Shapes.{Has, OwnTurns, has_running, has_call, HasCall, HasOneTurn, shape_of}
 use Rattle.world_in_hand.specs.Hand.{own_entries}
-use Rattle.commands_in_hand.proofs.Grown.{Kept, gave_up_of, kept_same, kept_has, only_open, grown, grown_by}
+use Rattle.commands_in_hand.proofs.Grown.{Kept, gave_up_of, kept_same, kept_has, begins_none, begins_one, begins_started, begins_same, only_open, grown, grown_by}
 use Rattle.commands_in_hand.proofs.TurnSteps.{idle_turns, turn_one}
 
--- no replica has acknowledged its part at the start
-not_acked : (m : Mode) → part_for m ≢ Acked
-not_acked Rw e = absurd cc
-not_acked Wo e = absurd cc
-not_acked Err e = absurd cc
-
--- the first replica that is read is the one that is told
-same_source : (ms : List Mode) (a b : ℕ) → IsSource ms a → IsSource ms b → a ≡ b
-same_source ms a b f g = ⊎_elim
-    (λ (low : a < b). absurd (g.first a low f.read))
-    (λ (high : b ≤ a). ⊎_elim
-    (λ (low : b < a). absurd (f.first b low g.read))
-    (λ (same : a ≤ b). omega (arith, high, same))
-    (cases_lt b a))
-    (cases_lt a b)
-
-source_found : (ms : List Mode) (k : ℕ) → IsSource ms k → source_of ms ≡ Some k
-source_found ms k is = by (source_of ms) refl
+-- the first replica that is read
+source_one : (ms : List Mode) (q : ℕ) → IsSource ms q → source_of ms ≡ Some q
+source_one ms q is = by (source_of ms) refl
   where
-    by : (v : Option ℕ) → source_of ms ≡ v → source_of ms ≡ Some k
-    by (Some q) e = e ∙ ap Some (same_source ms q k (source_is ms q e) is)
-    by None e = absurd (no_source ms e k is.read)
+    by : (v : Option ℕ) → source_of ms ≡ v → source_of ms ≡ Some q
+    by None e = absurd (no_source ms e q is.read)
+    by (Some k) e =
+        let other = source_is ms k e in
+        ⊎_elim (λ same. e ∙ ap Some same) (λ rest. ⊎_elim (λ below. absurd (is.first k below other.read)) (λ above. absurd (other.first q above is.read)) rest) (cases_order k q)
 
 -- ---- where the operation stands
 
@@ -144,6 +132,11 @@ module _ (n : ℕ) (s : State) (t : ℕ) (op : WholeOp) (turn : List OwnCall) (o
         let st = subst (IsWhole _ (modes_in s) s.tickets s.calls s.nodes) is ok.whole in
         same_op st.place w.op st.stands.within st.op
 
+    whole_started : IsSound s → x.q.0.started ≡ true
+    whole_started ok =
+        let st = subst (IsWhole _ (modes_in s) s.tickets s.calls s.nodes) is ok.whole in
+        sym (ap (λ (u : Ticket). u.started) (ticket_there st.place st.stands.within)) ∙ st.started
+
   -- what the own call is with other parts
   parted_as : (w : Whole) (ps : List Part) (v : Whole) → s.whole ≡ Some w → v.parts ≡ ps → own_whole (Some v) x.q ≡ record o { parts = ps }
   parted_as w ps v is e =
@@ -182,7 +175,7 @@ module _ (n : ℕ) (s : State) (t : ℕ) (op : WholeOp) (turn : List OwnCall) (o
       }
 
       left_kept : Kept n s s2
-      left_kept = kept_has n s s2 r ok (ap origin_of e) (ap gave_up_of e) x.ms [] left_has
+      left_kept = kept_has n s s2 r ok (ap origin_of e) (ap gave_up_of e) x.ms [] left_has (begins_none n s2 x.ms left_has)
 
       left_mine : mine_in n s2 ≡ with_running (mine_in n s) turn
       left_mine = only_open n s s2 (ap origin_of e) turn (ap (λ (z : State). z.book.entries) e) (running_left s2 left_has)
@@ -203,13 +196,18 @@ module _ (n : ℕ) (s : State) (t : ℕ) (op : WholeOp) (turn : List OwnCall) (o
       }
 
       begun_kept : Kept n s s2
-      begun_kept = kept_has n s s2 r ok (ap origin_of e) (ap gave_up_of e) x.ms (q2 ∷ []) begun_has
+      begun_kept = kept_has n s s2 r ok (ap origin_of e) (ap gave_up_of e) x.ms (q2 ∷ []) begun_has (begins_started n s2 x.ms q2 begun_has refl)
 
       begun_own : own_whole s2.whole q2 ≡ record o { started = true; parts = map part_for (modes_in s) }
       begun_own =
           ap (λ (z : State). own_whole z.whole q2) e
           ∙ ap (λ k. record (own_whole s.whole x.q) { started = true; parts = parts_in (Some (begun_of s i p spares)) k x.q.1.parts }) x.kind
           ∙ ap (λ (y : OwnCall). record y { started = true; parts = map part_for (modes_in s) }) x.is
+
+      not_acked : (m : Mode) → part_for m ≢ Acked
+      not_acked Rw e = absurd cc
+      not_acked Wo e = absurd cc
+      not_acked Err e = absurd cc
 
       begun_mine : refused_at (spot_of s) (call.Command (command_of p)) ≡ None → p ≡ op → o.call ≡ call.Command (command_of op) → StartsWhole turn o (mine_in n s) (mine_in n s2)
       begun_mine free same asked = record {
@@ -221,56 +219,63 @@ module _ (n : ℕ) (s : State) (t : ℕ) (op : WholeOp) (turn : List OwnCall) (o
         free = subst (λ c. refused_at (spot_of s) c ≡ None) (ap (λ v. call.Command (command_of v)) same ∙ sym asked) free;
       }
 
-    -- the barrier of an add starts, and with it a rebuild
-    module _ (i k : ℕ) (within : i < length s.tickets) (w : world.BeginsBarrier s i k s2) where
+    -- it is a barrier, and starts
+    module _ (i : ℕ) (b : Rebuilding) (spares : List (Option Tables)) (within : i < length s.tickets) (e : s2 ≡ barrier_begun s i b spares) where
       abbrev q3 : Ticket × OpenCall
       q3 = (record x.q.0 { started = true }, x.q.1)
 
-      abbrev put_parts : List Part
-      put_parts = map part_for (barrier_modes s w.b.target)
+      abbrev barrier_parts : List Part
+      barrier_parts = map part_for (barrier_modes s b.target)
 
-      put_has : Has n s2 x.ms (q3 ∷ [])
-      put_has = record {
-        maint = ap (λ (z : State). z.maint) w.state ∙ x.has.maint;
-        commands = ap (λ (z : State). z.commands) w.state ∙ x.has.commands;
-        tickets = ap (λ (z : State). z.tickets) w.state ∙ ap (with_started s.tickets) (only_place i within) ∙ ap (λ ts. with_started ts 0) x.has.tickets;
-        calls = ap (λ (z : State). z.calls) w.state ∙ x.has.calls;
+      abbrev barrier_mark : Entry
+      barrier_mark = entry.Mark (mark.Added b.target b.source (barrier_name s b.source))
+
+      barrier_has : Has n s2 x.ms (q3 ∷ [])
+      barrier_has = record {
+        maint = ap (λ (z : State). z.maint) e ∙ x.has.maint;
+        commands = ap (λ (z : State). z.commands) e ∙ x.has.commands;
+        tickets = ap (λ (z : State). z.tickets) e ∙ ap (with_started s.tickets) (only_place i within) ∙ ap (λ ts. with_started ts 0) x.has.tickets;
+        calls = ap (λ (z : State). z.calls) e ∙ x.has.calls;
         turns_own = x.has.turns_own;
         calls_own = x.has.calls_own;
       }
 
-      put_origin : origin_of s2 ≡ origin_of s
-      put_origin = ap origin_of w.state
-          ∙ ap (λ j. record { first = s.first; opening = s.book.opening; size = s.size; streams = length s.indices; replicas = j }) (length-set s.nodes w.b.target (emptied (node_at s.nodes w.b.source)))
+      barrier_origin : origin_of s2 ≡ origin_of s
+      barrier_origin = ap origin_of e
+          ∙ ap (λ k. record { first = s.first; opening = s.book.opening; size = s.size; streams = length s.indices; replicas = k }) (length-set s.nodes b.target (emptied (node_at s.nodes b.source)))
 
-      put_kept : Kept n s s2
-      put_kept = kept_has n s s2 r ok put_origin (ap gave_up_of w.state) x.ms (q3 ∷ []) put_has
+      barrier_kept : Kept n s s2
+      barrier_kept = kept_has n s s2 r ok barrier_origin (ap gave_up_of e) x.ms (q3 ∷ []) barrier_has (begins_started n s2 x.ms q3 barrier_has refl)
 
-      put_own : own_whole s2.whole q3 ≡ record o { started = true; parts = put_parts }
-      put_own =
-          ap (λ (z : State). own_whole z.whole q3) w.state
-          ∙ ap (λ j. record (own_whole s.whole x.q) { started = true; parts = parts_in (Some (barrier_of s i w.b w.spares)) j x.q.1.parts }) x.kind
-          ∙ ap (λ (y : OwnCall). record y { started = true; parts = put_parts }) x.is
+      barrier_own : own_whole s2.whole q3 ≡ record o { started = true; parts = barrier_parts }
+      barrier_own =
+          ap (λ (z : State). own_whole z.whole q3) e
+          ∙ ap (λ k. record (own_whole s.whole x.q) { started = true; parts = parts_in (Some (barrier_of (with_places s) i b spares)) k x.q.1.parts }) x.kind
+          ∙ ap (λ (y : OwnCall). record y { started = true; parts = barrier_parts }) x.is
 
-      put_mine : refused_at (spot_of s) o.call ≡ None → barrier_name s w.b.source ≡ sys_name (told_of s).volume.snapshots.number → StartsBarrier k turn o (mine_in n s) (mine_in n s2)
-      put_mine free under = record {
-        own = record o { started = true; parts = put_parts };
-        source = w.b.source;
-        name = barrier_name s w.b.source;
-        is = grown_by n s s2 put_origin [] (turn ++ record o { started = true; parts = put_parts } ∷ []) (entry.Mark (mark.Added k w.b.source (barrier_name s w.b.source)) ∷ [])
-            (ap (λ (z : State). z.book.entries) w.state ∙ ap (λ j. s.book.entries ++ entry.Mark (mark.Added j w.b.source (barrier_name s w.b.source)) ∷ []) w.target) refl
-            (running_as s2 q3 (record o { started = true; parts = put_parts }) put_has put_own);
+      unacked : (m : Mode) → part_for m ≢ Acked
+      unacked Rw e = absurd cc
+      unacked Wo e = absurd cc
+      unacked Err e = absurd cc
+
+      barrier_mine : refused_at (spot_of s) o.call ≡ None → source_of (modes_in s) ≡ Some b.source → barrier_name s b.source ≡ sys_name (told_of s).volume.snapshots.number → StartsBarrier b.target turn o (mine_in n s) (mine_in n s2)
+      barrier_mine free from under = record {
+        own = record o { started = true; parts = barrier_parts };
+        source = b.source;
+        name = barrier_name s b.source;
+        is = grown_by n s s2 barrier_origin [] (turn ++ record o { started = true; parts = barrier_parts } ∷ []) (barrier_mark ∷ []) (ap (λ (z : State). z.book.entries) e) refl
+            (running_as s2 q3 (record o { started = true; parts = barrier_parts }) barrier_has barrier_own);
         same = refl;
-        none = λ j acked. not_acked (mode_of (barrier_modes s w.b.target) j) (sym (part_of (barrier_modes s w.b.target) j) ∙ acked);
+        none = λ k acked. unacked (mode_of (barrier_modes s b.target) k) (sym (part_of (barrier_modes s b.target) k) ∙ acked);
         free = free;
-        from = source_found (modes_in s) w.b.source w.source;
+        from = from;
         under = under;
       }
 
     -- a replica's part
     module _ (w v : Whole) (ps : List Part) (is : s.whole ≡ Some w) (of : v.parts ≡ ps) (origin : origin_of s2 ≡ origin_of s) (gave_up : gave_up_of s2 ≡ gave_up_of s) (kept : s2.whole ≡ Some v) (entries : s2.book.entries ≡ s.book.entries) (h : Has n s2 x.ms (x.q ∷ [])) where
       part_kept : Kept n s s2
-      part_kept = kept_has n s s2 r ok origin gave_up x.ms (x.q ∷ []) h
+      part_kept = kept_has n s s2 r ok origin gave_up x.ms (x.q ∷ []) h (begins_started n s2 x.ms x.q h (whole_started w is r.sound))
 
       part_mine : mine_in n s2 ≡ with_running (mine_in n s) (turn ++ record o { parts = ps } ∷ [])
       part_mine = only_open n s s2 origin (turn ++ record o { parts = ps } ∷ []) entries
@@ -349,7 +354,7 @@ module _ (n : ℕ) (s s2 : State) (t : ℕ) (op : WholeOp) (turn : List OwnCall)
         ∙ same.origin
 
     ended_kept : Kept n s s2
-    ended_kept = kept_has n s s2 r ok ended_origin (ap gave_up_of e ∙ same.gave_up) [] [] ended_has
+    ended_kept = kept_has n s s2 r ok ended_origin (ap gave_up_of e ∙ same.gave_up) [] [] ended_has (begins_none n s2 [] ended_has)
 
     ended_mine : o.call ≡ call.Command (command_of op) → AnswersWhole o y (mine_in n s) (mine_in n s2)
     ended_mine asked =
@@ -380,10 +385,14 @@ module _ (n : ℕ) (s s2 : State) (t : ℕ) (op : WholeOp) (turn : List OwnCall)
     }
 
     marked_kept : Kept n s s2
-    marked_kept = kept_has n s s2 r ok origin gave_up x.ms [] marked_has
+    marked_kept = kept_has n s s2 r ok origin gave_up x.ms [] marked_has (begins_none n s2 x.ms marked_has)
 
     marked_mine : mine_in n s2 ≡ with_entries (mine_in n s) [] marks turn
     marked_mine = grown_by n s s2 origin [] turn marks entries own (running_left n s t op turn o x s2 marked_has)
+
+    -- no entry came
+    unmarked_mine : s2.book.entries ≡ s.book.entries → mine_in n s2 ≡ with_running (mine_in n s) turn
+    unmarked_mine same = only_open n s s2 origin turn same (running_left n s t op turn o x s2 marked_has)
 
 -- ---- enrolled
 
@@ -401,8 +410,20 @@ module _ (n : ℕ) (s s2 : State) (r : IsReady n s) (ok : IsSound s2) (ms : List
     calls_own = refl;
   }
 
-  enrolled_kept : Kept n s s2
-  enrolled_kept = kept_has n s s2 r ok (ap origin_of e) (ap gave_up_of e) ms (q ∷ []) enrolled_has
+  same_asked : (a b : WholeOp) → Some a ≡ Some b → a ≡ b
+  same_asked a b e = cc
+
+  enrolled_begins : MayBegin s op → CanBegin s2
+  enrolled_begins may = begins_one n s2 ms q enrolled_has (λ k is _.
+      let was = subst (MayBegin s) (same_asked op (whole.Barrier k) is) may in
+      record {
+        closed = ap (λ (z : State). z.rebuild) e ∙ was.closed;
+        first = ap (λ (z : State). z.ended) e ∙ was.first;
+        there = subst (λ m. k < m) (sym (ap (λ (z : State). length z.nodes) e)) was.there;
+      })
+
+  enrolled_kept : MayBegin s op → Kept n s s2
+  enrolled_kept may = kept_has n s s2 r ok (ap origin_of e) (ap gave_up_of e) ms (q ∷ []) enrolled_has (enrolled_begins may)
 
   enrolled_mine : EnrolsWhole number op (map own_turn ms) (mine_in n s) (mine_in n s2)
   enrolled_mine = record {
@@ -451,14 +472,14 @@ module _ (n : ℕ) (s s2 : State) (r : IsReady n s) (ok : IsSound s2) (h : Has n
   snap_some None x e = subst (world.CannotGo s) snap.1 x.0
 
   pub snap_kept : (t : Option ℕ) → world.EnrolsWhole s n op t s2 → Kept n s s2
-  snap_kept (Some k) x = enrolled_kept n s s2 r ok [] h k (seen_by s op) op x.1
+  snap_kept (Some k) x = enrolled_kept n s s2 r ok [] h k (seen_by s op) op x.1 (subst (MayBegin s) (sym snap.1) tt)
   snap_kept None x = kept_same n s s2 r x.1
 
 -- what the command does that has the turn
 same_command : (c d : Command) → call.Command c ≡ call.Command d → c ≡ d
 same_command c d e = cc
 
-pub core_turn : (n t : ℕ) (s : State) (c : Command) (o : OwnCall) → HasTurn t c o (mine_in n s) → HasOneTurn n s o → core.HasTurn s.maint s.commands n c
+core_turn : (n t : ℕ) (s : State) (c : Command) (o : OwnCall) → HasTurn t c o (mine_in n s) → HasOneTurn n s o → core.HasTurn s.maint s.commands n c
 core_turn n t s c o h one = record {
   some = omega (arith, ap length one.has.commands);
   started = ap (λ ts. (ticket_at ts 0).started) one.has.maint ∙ ap (λ (x : OwnCall). x.started) one.is ∙ h.started;
@@ -512,13 +533,20 @@ module _ (n t : ℕ) (s s2 : State) (r : IsReady n s) (ok : IsSound s2) (op : Wh
   under_none (Ok w) x e = none_then w (ok_same w None e) x
   under_none (Failed y) x e = absurd cc
 
-  kept_then : (w : Option ℕ) → world.EnrolsWhole s n op w s2 → ((o : OwnCall) × HasTurn t (command_of op) o (mine_in n s)) → Kept n s s2
-  kept_then (Some k) x h = let one = turn_one n t (command_of op) h.0 s r h.1 in enrolled_kept n s s2 r ok (one.p ∷ []) one.has k (seen_by s op) op x.1
-  kept_then None x h = kept_same n s s2 r x.1
+  kept_then : (w : Option ℕ) → MayBegin s op → world.EnrolsWhole s n op w s2 → ((o : OwnCall) × HasTurn t (command_of op) o (mine_in n s)) → Kept n s s2
+  kept_then (Some k) may x h = let one = turn_one n t (command_of op) h.0 s r h.1 in enrolled_kept n s s2 r ok (one.p ∷ []) one.has k (seen_by s op) op x.1 may
+  kept_then None may x h = kept_same n s s2 r x.1
 
-  pub under_kept : {E : Type 0} (res : Result (Option ℕ) E) → IfOk res (λ w. world.EnrolsWhole s n op w s2) → OnErr res (s2 ≡ s) → ((o : OwnCall) × HasTurn t (command_of op) o (mine_in n s)) → Kept n s s2
-  under_kept (Ok w) x err h = kept_then w x h
-  under_kept (Failed e) x err h = kept_same n s s2 r err
+  pub under_kept : {E : Type 0} (res : Result (Option ℕ) E) → MayBegin s op → IfOk res (λ w. world.EnrolsWhole s n op w s2) → OnErr res (s2 ≡ s) → ((o : OwnCall) × HasTurn t (command_of op) o (mine_in n s)) → Kept n s s2
+  under_kept (Ok w) may x err h = kept_then w may x h
+  under_kept (Failed e) may x err h = kept_same n s s2 r err
+
+-- what is true of a barrier's place in the World is so of the stream's own
+pub barrier_told : (n t : ℕ) (s : State) → IsReady n s → (P : ℕ → Type 0) → ((i k : ℕ) → StandsAt s.tickets t i → (open_at s.calls i).op ≡ Some (whole.Barrier k) → P k)
+    → (k : ℕ) (turn : List OwnCall) (o : OwnCall) → HasWhole t (whole.Barrier k) turn o (mine_in n s) → P k
+barrier_told n t s r P told k turn o w =
+    let x = has_call n s t (whole.Barrier k) turn o r w in
+    told 0 k (stands n s t (whole.Barrier k) turn o x) (ap (λ (y : OpenCall). y.op) (call_here n s t (whole.Barrier k) turn o x) ∙ x.does)
 
 -- asked to start
 abbrev pub HasSome : ℕ → State → ℕ → Type 0
@@ -528,28 +556,48 @@ pub whole_waits : (n t : ℕ) (s : State) → IsReady n s → (op : WholeOp) × 
 whole_waits n t s r w = awaits_here n s t w.0 w.1 w.2 (has_call n s t w.0 w.1 w.2 r w.3) w.4
 
 module _ (n t : ℕ) (s s2 : State) (r : IsReady n s) (ok : IsSound s2) where
-  -- it starts, and with a barrier a rebuild
-  go_on : (op : WholeOp) (turn : List OwnCall) (o : OwnCall) → HasCall n s t op turn o → o.call ≡ call.Command (command_of op) → (i : ℕ) → world.IsWaiting s t i op → refused_at (spot_of s) (call.Command (command_of op)) ≡ None → world.BeginsWhole s i op s2
-      → StartsAs op turn o (mine_in n s) (mine_in n s2)
-  go_on (whole.Snapshot name) turn o x asked i w free b = begun_mine n s t (whole.Snapshot name) turn o x s2 r ok i (whole.Snapshot name) b.0 w.awaits.stands.within b.2 free refl asked
-  go_on (whole.Remove name) turn o x asked i w free b = begun_mine n s t (whole.Remove name) turn o x s2 r ok i (whole.Remove name) b.0 w.awaits.stands.within b.2 free refl asked
-  go_on (whole.Revert name) turn o x asked i w free b = begun_mine n s t (whole.Revert name) turn o x s2 r ok i (whole.Revert name) b.0 w.awaits.stands.within b.2 free refl asked
-  go_on (whole.Purge f) turn o x asked i w free b = begun_mine n s t (whole.Purge f) turn o x s2 r ok i (whole.Purge f) b.0 w.awaits.stands.within b.2 free refl asked
-  go_on (whole.Barrier k) turn o x asked i w free b = put_mine n s t (whole.Barrier k) turn o x s2 r ok i k w.awaits.stands.within b (subst (λ c. refused_at (spot_of s) c ≡ None) (sym asked) free)
-      (ap (λ (v : Volume). sys_name v.snapshots.number) (its_volume s i r.sound w.awaits.stands.within w.awaits.kind w.awaits.waits w.clear b.b.source b.source.read))
+  -- it starts
+  module _ (op : WholeOp) (turn : List OwnCall) (o : OwnCall) (x : HasCall n s t op turn o) (asked : o.call ≡ call.Command (command_of op)) (i : ℕ) where
+    starts_other : (p : WholeOp) → p ≡ op → i < length s.tickets → refused_in s (command_of p) ≡ None → world.BeginsWith s i p s2 → StartsWhole turn o (mine_in n s) (mine_in n s2)
+    starts_other p same within free y = begun_mine n s t op turn o x s2 r ok i p y.0 within y.2 free same asked
 
-  go_kept : (op : WholeOp) (turn : List OwnCall) (o : OwnCall) → HasCall n s t op turn o → (i : ℕ) → i < length s.tickets → world.BeginsWhole s i op s2 → Kept n s s2
-  go_kept (whole.Snapshot name) turn o x i within b = begun_kept n s t (whole.Snapshot name) turn o x s2 r ok i (whole.Snapshot name) b.0 within b.2
-  go_kept (whole.Remove name) turn o x i within b = begun_kept n s t (whole.Remove name) turn o x s2 r ok i (whole.Remove name) b.0 within b.2
-  go_kept (whole.Revert name) turn o x i within b = begun_kept n s t (whole.Revert name) turn o x s2 r ok i (whole.Revert name) b.0 within b.2
-  go_kept (whole.Purge f) turn o x i within b = begun_kept n s t (whole.Purge f) turn o x s2 r ok i (whole.Purge f) b.0 within b.2
-  go_kept (whole.Barrier k) turn o x i within b = put_kept n s t (whole.Barrier k) turn o x s2 r ok i k within b
+    starts_barrier : (k : ℕ) → whole.Barrier k ≡ op → world.IsWaiting s t i (whole.Barrier k) → refused_in s (command.Add k) ≡ None → world.BeginsBarrier s i k s2 → StartsBarrier k turn o (mine_in n s) (mine_in n s2)
+    starts_barrier k same w free y =
+        let named : barrier_name s y.b.source ≡ sys_name (told_of s).volume.snapshots.number =
+        ap (λ (v : Volume). sys_name v.snapshots.number) (its_volume s i r.sound w.awaits.stands.within w.awaits.kind w.awaits.waits w.clear y.b.source y.source.read) in
+        subst (λ q. StartsBarrier q turn o (mine_in n s) (mine_in n s2)) y.target
+        (barrier_mine n s t op turn o x s2 r ok i y.b y.spares w.awaits.stands.within y.state (subst (λ c. refused_at (spot_of s) c ≡ None) (ap (λ v. call.Command (command_of v)) same ∙ sym asked) free)
+        (source_one (modes_in s) y.b.source y.source) named)
+
+    starts_as : (p : WholeOp) → p ≡ op → world.IsWaiting s t i p → refused_in s (command_of p) ≡ None → world.BeginsWhole s i p s2 → StartsAs p turn o (mine_in n s) (mine_in n s2)
+    starts_as (whole.Snapshot name) same w free y = starts_other (whole.Snapshot name) same w.awaits.stands.within free y
+    starts_as (whole.Remove name) same w free y = starts_other (whole.Remove name) same w.awaits.stands.within free y
+    starts_as (whole.Revert name) same w free y = starts_other (whole.Revert name) same w.awaits.stands.within free y
+    starts_as (whole.Purge f) same w free y = starts_other (whole.Purge f) same w.awaits.stands.within free y
+    starts_as (whole.Barrier k) same w free y = starts_barrier k same w free y
+
+    starts_on : (p : WholeOp) → world.IsWaiting s t i p → world.BeginsWhole s i p s2 → Kept n s s2
+    starts_on (whole.Snapshot name) w y = begun_kept n s t op turn o x s2 r ok i (whole.Snapshot name) y.0 w.awaits.stands.within y.2
+    starts_on (whole.Remove name) w y = begun_kept n s t op turn o x s2 r ok i (whole.Remove name) y.0 w.awaits.stands.within y.2
+    starts_on (whole.Revert name) w y = begun_kept n s t op turn o x s2 r ok i (whole.Revert name) y.0 w.awaits.stands.within y.2
+    starts_on (whole.Purge f) w y = begun_kept n s t op turn o x s2 r ok i (whole.Purge f) y.0 w.awaits.stands.within y.2
+    starts_on (whole.Barrier k) w y = barrier_kept n s t op turn o x s2 r ok i y.b y.spares w.awaits.stands.within y.state
+
+  -- it may always
+  begins_always : (i : ℕ) (p : WholeOp) → world.IsWaiting s t i p → world.MayNotBegin s p → ⊥
+  begins_always i (whole.Snapshot name) w y = y
+  begins_always i (whole.Remove name) w y = y
+  begins_always i (whole.Revert name) w y = y
+  begins_always i (whole.Purge f) w y = y
+  begins_always i (whole.Barrier k) w y =
+      let may = r.begins i k w.awaits.stands.within w.asks w.awaits.waits in
+      ⊎_elim (λ open'. open' may.closed) (λ rest. ⊎_elim (λ ended. ended may.first) (λ few. omega (arith, few, may.there)) rest) y
 
   admit_one : (a : AdmitWhole) → world.AdmitsWhole s t a s2 → (op : WholeOp) (turn : List OwnCall) (o : OwnCall) → HasWhole t op turn o (mine_in n s) → AdmitsWhole op turn o a (mine_in n s) (mine_in n s2)
   admit_one admit.Go y op turn o w =
       let x = has_call n s t op turn o r w in
       let same = same_op n s t op turn o x y.0 y.1 y.2.awaits.stands.within y.2.asks in
-      go_on op turn o x w.call y.0 (subst (world.IsWaiting s t y.0) same y.2) (subst (λ p. refused_at (spot_of s) (call.Command (command_of p)) ≡ None) same y.4) (subst (λ p. world.BeginsWhole s y.0 p s2) same y.5)
+      subst (λ p. StartsAs p turn o (mine_in n s) (mine_in n s2)) same (starts_as op turn o x w.call y.0 y.1 same y.2 y.4 y.5)
   admit_one (admit.After number) y op turn o w = ap (mine_in n) y.3
   admit_one admit.Never y op turn o w = ap (mine_in n) y.4
   admit_one (admit.Refused why at) y op turn o w =
@@ -565,10 +613,7 @@ module _ (n t : ℕ) (s s2 : State) (r : IsReady n s) (ok : IsSound s2) where
   admit_mine (Failed e) y = tt
 
   admit_on : (a : AdmitWhole) → world.AdmitsWhole s t a s2 → (op : WholeOp) (turn : List OwnCall) (o : OwnCall) → HasWhole t op turn o (mine_in n s) → Kept n s s2
-  admit_on admit.Go y op turn o w =
-      let x = has_call n s t op turn o r w in
-      let same = same_op n s t op turn o x y.0 y.1 y.2.awaits.stands.within y.2.asks in
-      go_kept op turn o x y.0 y.2.awaits.stands.within (subst (λ p. world.BeginsWhole s y.0 p s2) same y.5)
+  admit_on admit.Go y op turn o w = starts_on op turn o (has_call n s t op turn o r w) w.call y.0 y.1 y.2 y.5
   admit_on (admit.After number) y op turn o w = kept_same n s s2 r y.3
   admit_on admit.Never y op turn o w = kept_same n s s2 r y.4
   admit_on (admit.Refused why at) y op turn o w =
@@ -585,7 +630,7 @@ module _ (n t : ℕ) (s s2 : State) (r : IsReady n s) (ok : IsSound s2) where
   admit_not (admit.After number) y w =
       let x = has_call n s t w.0 w.1 w.2 r w.3 in
       absurd (omega (arith, y.2.1.earlier, y.1.stands.within, ap length x.has.tickets))
-  admit_not admit.Never y w = tt
+  admit_not admit.Never y w = absurd (begins_always y.0 y.1 y.2 y.3)
   admit_not (admit.Refused why at) y w = tt
 
   pub admit_free : {E : Type 0} (res : Result AdmitWhole E) → IfOk res (λ a. world.AdmitsWhole s t a s2) → HasSome n s t → IfOk res IsNotLater
@@ -700,24 +745,23 @@ module _ (n t : ℕ) (s s2 : State) (r : IsReady n s) (ok : IsSound s2) where
       record { reply = y; answers = ended_mine n s s2 t op turn o x r ok i within s.book.spare y e asked; right = right },
     )
 
-    -- a barrier ends without an answer, and its command has the turn still
-    barrier_end : (op : WholeOp) → HasCall n s t op turn o → s2 ≡ barrier_ended s i → Kept n s s2 × (mine_in n s2 ≡ with_running (mine_in n s) turn)
-    barrier_end op x e =
+    barrier_end : (k : ℕ) → HasCall n s t (whole.Barrier k) turn o → s2 ≡ barrier_ended s i → Kept n s s2 × (mine_in n s2 ≡ with_running (mine_in n s) turn)
+    barrier_end k x e =
         let maint = ap (λ (z : State). z.maint) e in
         let commands = ap (λ (z : State). z.commands) e in
         let tickets = ap (λ (z : State). z.tickets) e in
         let calls = ap (λ (z : State). z.calls) e in
         let same = ap (λ (z : State). z.book.entries) e in
         let entries = same ∙ sym (append-nil s.book.entries) in (
-          marked_kept n s s2 t op turn o x r ok i within [] refl maint commands tickets calls (ap origin_of e) (ap gave_up_of e) entries,
-          only_open n s s2 (ap origin_of e) turn same (running_left n s t op turn o x s2 (marked_has n s s2 t op turn o x r ok i within [] refl maint commands tickets calls (ap origin_of e) (ap gave_up_of e) entries)),
+          marked_kept n s s2 t (whole.Barrier k) turn o x r ok i within [] refl maint commands tickets calls (ap origin_of e) (ap gave_up_of e) entries,
+          unmarked_mine n s s2 t (whole.Barrier k) turn o x r ok i within [] refl maint commands tickets calls (ap origin_of e) (ap gave_up_of e) entries same,
         )
 
     done_end : (op : WholeOp) → HasCall n s t op turn o → o.call ≡ call.Command (command_of op) → HasSource (modes_in s) → s2 ≡ whole_done s i op → Kept n s s2 × WholeEnds op turn o (mine_in n s) (mine_in n s2)
     done_end (whole.Snapshot name) x asked source e = answers_end (whole.Snapshot name) x asked reply.Done source e
     done_end (whole.Remove name) x asked source e = answers_end (whole.Remove name) x asked reply.Done source e
     done_end (whole.Revert name) x asked source e = answers_end (whole.Revert name) x asked reply.Done source e
-    done_end (whole.Barrier k) x asked source e = barrier_end (whole.Barrier k) x e
+    done_end (whole.Barrier k) x asked source e = barrier_end k x e
     done_end (whole.Purge f) x asked source e =
         let marks : List Entry = entry.Mark (mark.Purged f) ∷ [] in
         let maint = ap (λ (z : State). z.maint) e in
@@ -739,7 +783,7 @@ module _ (n t : ℕ) (s s2 : State) (r : IsReady n s) (ok : IsSound s2) where
     lost_end (whole.Snapshot name) x asked none e = answers_end (whole.Snapshot name) x asked (reply.Refused NoReplica) (refl, none) e
     lost_end (whole.Remove name) x asked none e = answers_end (whole.Remove name) x asked (reply.Refused NoReplica) (refl, none) e
     lost_end (whole.Revert name) x asked none e = answers_end (whole.Revert name) x asked (reply.Refused NoReplica) (refl, none) e
-    lost_end (whole.Barrier k) x asked none e = barrier_end (whole.Barrier k) x e
+    lost_end (whole.Barrier k) x asked none e = barrier_end k x e
     lost_end (whole.Purge f) x asked none e =
         let maint = ap (λ (z : State). z.maint) e in
         let commands = ap (λ (z : State). z.commands) e in
@@ -790,6 +834,9 @@ module _ (n : ℕ) (s s2 : State) (r : IsReady n s) (ok : IsSound s2) (q page : 
   folded_origin c e = ap origin_of e
       ∙ ap (λ k. record { first = s.first; opening = s.book.opening; size = s.size; streams = length s.indices; replicas = k }) (length-set s.nodes q (page_folded (node_at s.nodes q) p c page))
 
+  folded_count : (c : List ℕ) → s2 ≡ folded_on s q p c page → length s2.nodes ≡ length s.nodes
+  folded_count c e = ap (λ (z : State). length z.nodes) e ∙ length-set s.nodes q (page_folded (node_at s.nodes q) p c page)
+
   folded_kept : (c : List ℕ) → s2 ≡ folded_on s q p c page → Kept n s s2
   folded_kept c e =
       let h = shape_of n s r in
@@ -800,7 +847,7 @@ module _ (n : ℕ) (s s2 : State) (r : IsReady n s) (ok : IsSound s2) (q page : 
         calls = ap (λ (z : State). z.calls) e ∙ h.has.calls;
         turns_own = h.has.turns_own;
         calls_own = h.has.calls_own;
-      })
+      }) (begins_same s s2 (λ i. record { tickets = (e i).tickets; calls = (e i).calls; rebuild = (e i).rebuild; ended = (e i).ended; count = folded_count c e i }) r.begins)
 
   pub folds_kept : {E : Type 0} (res : Result (Unit {0}) E) → OnOk res (world.FoldsPage s q p page s2) → OnErr res (s2 ≡ s) → Kept n s s2
   folds_kept (Ok u) y err = folded_kept y.c y.state

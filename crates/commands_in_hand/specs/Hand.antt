@@ -1,17 +1,20 @@
 -- What the one worker of a World knows of its stream of commands.
-use Rattle.std.specs.Prelude.{◌≡◌, ◌≢◌, ℕ, ◌<◌, List, [], ◌++◌, length, map, Option, None, Some}
+use Rattle.std.specs.Prelude.{◌≡◌, ◌≢◌, ℕ, ◌<◌, false, List, [], ◌++◌, length, map, Option, None, Some}
 use Rattle.range_turns.specs.declared.ticket.Ticket.{Ticket}
 use Rattle.range_turns.specs.declared.ticket.Kind.{Kind}
 use Rattle.range_turns.specs.declared.ticket.Kind.TheVariants as kind
+use Rattle.range_turns.specs.Order.{ticket_at}
 use Rattle.volume_model.specs.declared.call.Call.TheVariants as call
 use Rattle.open_calls.specs.declared.open_call.OpenCall.{OpenCall}
 use Rattle.open_calls.specs.declared.parts.Part.{Part}
+use Rattle.open_calls.specs.declared.whole_op.WholeOp.TheVariants as whole
+use Rattle.open_calls.specs.Calls.{open_at}
 use Rattle.whole_calls.specs.declared.maint.MaintCall.{MaintCall}
 use Rattle.whole_calls.specs.declared.whole.Whole.{Whole}
-use Rattle.volume_core.specs.State.{State}
-use Rattle.volume_core.specs.Sound.{IsSound, NoneGaveUp}
+use Rattle.volume_core.specs.State.{State, gave_up_at}
+use Rattle.volume_core.specs.Sound.{IsSound}
 use Rattle.volume_core.specs.Streams.{running, turning}
-use Rattle.volume_maint.specs.Answers.{spot_of}
+use Rattle.volume_maint.specs.Answers.{spot_of, MayBeginOf}
 use Rattle.stream_steps.specs.Mine.{Mine, OwnCall}
 use Rattle.world_in_hand.specs.Hand.{own_call, own_entries}
 
@@ -55,10 +58,20 @@ pub record IsAlone (stream : ℕ) (s : State) : Type 0 where
   pub calls : (other : ℕ) → other ≢ stream → running s other ≡ []
   pub turns : (other : ℕ) → other ≢ stream → turning s other ≡ []
 
--- A step of the stream can be taken: the World is sound, the stream is one of its streams, and it is alone. No stream
--- gave a rebuild up.
+-- a barrier that waits for its start may begin its rebuild then: none is open or was aborted, and the replica is there
+abbrev pub CanBegin : State → Type 0
+CanBegin s = (i r : ℕ) → i < length s.tickets → (open_at s.calls i).op ≡ Some (whole.Barrier r)
+    → (ticket_at s.tickets i).started ≡ false → MayBeginOf s r
+
+-- no other stream gave a rebuild up
+abbrev pub NoOtherGaveUp : ℕ → State → Type 0
+NoOtherGaveUp stream s = (other : ℕ) → other ≢ stream → gave_up_at s.gave_up other ≡ false
+
+-- A step of the stream can be taken: the World is sound, the stream is one of its streams, it is alone, a barrier of it
+-- that waits may begin, and no other stream gave a rebuild up.
 pub record IsReady (stream : ℕ) (s : State) : Type 0 where
   pub sound : IsSound s
   pub there : stream < length s.indices
   pub alone : IsAlone stream s
-  pub gave_up : NoneGaveUp s.gave_up
+  pub begins : CanBegin s
+  pub gave_up : NoOtherGaveUp stream s

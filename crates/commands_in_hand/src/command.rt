@@ -1,4 +1,5 @@
 use crate::hand::CommandsInHand;
+use crate::rebuild::may_begin;
 use std::alloc::{AllocError, Global};
 use std::sync::Wait;
 use stream_steps::CommandSteps;
@@ -6,8 +7,8 @@ use volume_core::{Call, Command, Mode, NotThis, Reply, TicketNumber};
 use volume_maint::{AdmitWhole, LayerName, MayStart, NextPart, WholeOp};
 
 impl CommandSteps for CommandsInHand {
-    ghost use Rattle.std.specs.Prelude.{ℕ};
-    ghost use Rattle.volume_core.specs.State.{state_of, modes_in};
+    ghost use Rattle.std.specs.Prelude.{ℕ, Bool};
+    ghost use Rattle.volume_core.specs.State.{state_of, modes_in, gave_up_at};
     ghost use Rattle.volume_core.specs.Streams.{Origin, origin_of};
     ghost use Rattle.commands_in_hand.specs.Hand.{mine_in, IsReady};
 
@@ -15,9 +16,10 @@ impl CommandSteps for CommandsInHand {
 
     ghost modes = { λ h. modes_in (state_of h.world) };
 
-    ghost Home = { Origin × ℕ };
+    // How the volume began, the stream, and whether it gave a rebuild up.
+    ghost Home = { Origin × ℕ × Bool };
 
-    ghost home = { λ h. (origin_of (state_of h.world), h.stream) };
+    ghost home = { λ h. (origin_of (state_of h.world), h.stream, gave_up_at (state_of h.world).gave_up h.stream) };
 
     ghost ready = { λ h. IsReady h.stream (state_of h.world) };
 
@@ -100,6 +102,9 @@ impl CommandSteps for CommandsInHand {
     ) -> Result<Option<TicketNumber>, AllocError> {
         let _ = rt;
         let _ = t;
+        if !may_begin(&self.world, op) {
+            return Ok(None);
+        }
         volume_maint::enrol_whole(&mut self.world, alloc, self.stream, op)
     }
 

@@ -1,5 +1,5 @@
-ghost use Rattle.std.specs.Prelude.{◌≡◌, ◌<◌, [], length};
-ghost use Rattle.volume_core.specs.State.{state_of};
+ghost use Rattle.std.specs.Prelude.{◌≡◌, ◌<◌, [], length, false};
+ghost use Rattle.volume_core.specs.State.{state_of, gave_up_at};
 ghost use Rattle.volume_core.specs.Sound.{IsSound, NoneGaveUp};
 ghost use Rattle.commands_in_hand.specs.Hand.{IsReady, mine_in};
 
@@ -10,6 +10,8 @@ use volume_core::World;
 pub struct CommandsInHand {
     pub world: World,
     pub stream: u8,
+    /// How many pages were left of a rebuild when a line of the stream aborted it.
+    pub left: usize,
 }
 
 impl CommandsInHand {
@@ -26,13 +28,18 @@ impl CommandsInHand {
         ensures world { result.world ≡ world }
         ensures stream { result.stream ≡ stream }
     {
-        CommandsInHand { world, stream }
+        CommandsInHand {
+            world,
+            stream,
+            left: 0,
+        }
     }
 
-    /// Gives the World back, of which no call is open.
+    /// Gives the World back, of which no call is open, where the stream gave no rebuild up.
     pub fn into_world(self) -> World
         requires ready { IsReady self.stream (state_of self.world) }
         requires idle { (mine_in self.stream (state_of self.world)).running ≡ [] }
+        requires kept { gave_up_at (state_of self.world).gave_up self.stream ≡ false }
         ensures sound { IsSound (state_of result) }
         ensures rest { result.turns.tickets ≡ [] }
         ensures turns { result.commands.items ≡ [] }

@@ -1,9 +1,6 @@
-use Rattle.std.proofs.Common.{◌∙◌}
 use Rattle.volume_core.specs.State.{state_of}
 use Rattle.commands_in_hand.proofs.Grown.{home_same}
-use Rattle.commands_in_hand.proofs.Settled.{given_back}
-use Rattle.commands_in_hand.proofs.WholeSteps.{core_turn}
-use Rattle.commands_in_hand.proofs.TurnSteps.{turn_one, free_turn, gone_kept, gone_mine}
+use Rattle.commands_in_hand.proofs.TurnSteps.{turn_one, free_turn, gives_back, gone_kept, gone_mine}
 use Rattle.commands_in_hand.proofs.command.CommandsInHandCommandSteps.abandon.Goals as goal
 
 pub abandon-requires-clause-turn : goal.abandon-requires-clause-turn
@@ -12,13 +9,19 @@ abandon-requires-clause-turn g c =
 
 pub returns-clause-gone : goal.returns-clause-gone
 returns-clause-gone g c =
-    let one = (turn_one c.args.self.now.stream c.args.t c.requires.turn.0 c.requires.turn.1 (state_of c.args.self.now.world) c.requires.ready c.requires.turn.2) in
-    gone_mine c.args.self.now.stream (state_of c.args.self.now.world) (state_of c.abandon.new.world) c.requires.ready c.abandon.ensures.sound one.p one.has (c.abandon.ensures.gone ∙ given_back c.args.self.now.stream c.requires.turn.0 (state_of c.args.self.now.world) c.requires.ready.sound c.requires.turn.3 (core_turn c.args.self.now.stream c.args.t (state_of c.args.self.now.world) c.requires.turn.0 c.requires.turn.1 c.requires.turn.2 one))
+    let one = turn_one c.args.self.now.stream c.args.t c.requires.turn.0 c.requires.turn.1 (state_of c.args.self.now.world) c.requires.ready c.requires.turn.2 in
+    gone_mine c.args.self.now.stream (state_of c.args.self.now.world) (state_of c.abandon.new.world) c.requires.ready c.abandon.ensures.sound one.p one.has
+    (gives_back c.args.self.now.stream c.args.t c.requires.turn.0 c.requires.turn.1 (state_of c.args.self.now.world) (state_of c.abandon.new.world) c.requires.ready c.requires.turn.2 c.requires.turn.3 c.abandon.ensures.gone)
 
 pub returns-clause-ready : goal.returns-clause-ready
 returns-clause-ready g c =
-    (let one = (turn_one c.args.self.now.stream c.args.t c.requires.turn.0 c.requires.turn.1 (state_of c.args.self.now.world) c.requires.ready c.requires.turn.2) in gone_kept c.args.self.now.stream (state_of c.args.self.now.world) (state_of c.abandon.new.world) c.requires.ready c.abandon.ensures.sound one.p one.has (c.abandon.ensures.gone ∙ given_back c.args.self.now.stream c.requires.turn.0 (state_of c.args.self.now.world) c.requires.ready.sound c.requires.turn.3 (core_turn c.args.self.now.stream c.args.t (state_of c.args.self.now.world) c.requires.turn.0 c.requires.turn.1 c.requires.turn.2 one))).ready
+    (let one = turn_one c.args.self.now.stream c.args.t c.requires.turn.0 c.requires.turn.1 (state_of c.args.self.now.world) c.requires.ready c.requires.turn.2 in
+    gone_kept c.args.self.now.stream (state_of c.args.self.now.world) (state_of c.abandon.new.world) c.requires.ready c.abandon.ensures.sound one.p one.has
+    (gives_back c.args.self.now.stream c.args.t c.requires.turn.0 c.requires.turn.1 (state_of c.args.self.now.world) (state_of c.abandon.new.world) c.requires.ready c.requires.turn.2 c.requires.turn.3 c.abandon.ensures.gone)).ready
 
 pub returns-clause-home : goal.returns-clause-home
 returns-clause-home g c =
-    home_same c.args.self.now.stream (state_of c.args.self.now.world) (state_of c.abandon.new.world) (let one = (turn_one c.args.self.now.stream c.args.t c.requires.turn.0 c.requires.turn.1 (state_of c.args.self.now.world) c.requires.ready c.requires.turn.2) in gone_kept c.args.self.now.stream (state_of c.args.self.now.world) (state_of c.abandon.new.world) c.requires.ready c.abandon.ensures.sound one.p one.has (c.abandon.ensures.gone ∙ given_back c.args.self.now.stream c.requires.turn.0 (state_of c.args.self.now.world) c.requires.ready.sound c.requires.turn.3 (core_turn c.args.self.now.stream c.args.t (state_of c.args.self.now.world) c.requires.turn.0 c.requires.turn.1 c.requires.turn.2 one)))
+    home_same c.args.self.now.stream (state_of c.args.self.now.world) (state_of c.abandon.new.world)
+    (let one = turn_one c.args.self.now.stream c.args.t c.requires.turn.0 c.requires.turn.1 (state_of c.args.self.now.world) c.requires.ready c.requires.turn.2 in
+    gone_kept c.args.self.now.stream (state_of c.args.self.now.world) (state_of c.abandon.new.world) c.requires.ready c.abandon.ensures.sound one.p one.has
+    (gives_back c.args.self.now.stream c.args.t c.requires.turn.0 c.requires.turn.1 (state_of c.args.self.now.world) (state_of c.abandon.new.world) c.requires.ready c.requires.turn.2 c.requires.turn.3 c.abandon.ensures.gone))

@@ -1,6 +1,7 @@
 use Rattle.volume_model.specs.declared.call.Call.TheVariants as call
 use Rattle.volume_core.specs.State.{state_of}
-use Rattle.commands_in_hand.proofs.Grown.{kept_by}
+use Rattle.commands_in_hand.proofs.Grown.{kept_by, home_same}
+use Rattle.commands_in_hand.proofs.Settled.{answered_begins}
 use Rattle.world_in_hand.proofs.Turns.{no_rebuild, turns_answered}
 use Rattle.commands_in_hand.proofs.Shapes.{has_none}
 use Rattle.commands_in_hand.proofs.TurnSteps.{idle_calls, idle_turns, at_once}
@@ -21,4 +22,14 @@ returns-clause-ok g c =
 pub returns-clause-ready : goal.returns-clause-ready
 returns-clause-ready g c =
     (kept_by c.args.self.now.stream (state_of c.args.self.now.world) (state_of c.answer_now.new.self) c.requires.ready c.answer_now.ensures.may
-    (turns_answered c.args.self.now.stream (call.Command c.args.command.now) (state_of c.args.self.now.world) (state_of c.answer_now.new.self) c.answer_now.result c.answer_now.ensures.ok c.answer_now.ensures.err)).ready
+    (turns_answered c.args.self.now.stream (call.Command c.args.command.now) (state_of c.args.self.now.world) (state_of c.answer_now.new.self) c.answer_now.result c.answer_now.ensures.ok c.answer_now.ensures.err)
+    (answered_begins c.args.self.now.stream (call.Command c.args.command.now) (state_of c.args.self.now.world) (state_of c.answer_now.new.self) c.answer_now.result
+    (has_none c.args.self.now.stream (state_of c.args.self.now.world) c.requires.ready c.requires.idle).tickets c.answer_now.ensures.ok c.answer_now.ensures.err)).ready
+
+pub returns-clause-home : goal.returns-clause-home
+returns-clause-home g c =
+    home_same c.args.self.now.stream (state_of c.args.self.now.world) (state_of c.answer_now.new.self)
+    (kept_by c.args.self.now.stream (state_of c.args.self.now.world) (state_of c.answer_now.new.self) c.requires.ready c.answer_now.ensures.may
+    (turns_answered c.args.self.now.stream (call.Command c.args.command.now) (state_of c.args.self.now.world) (state_of c.answer_now.new.self) c.answer_now.result c.answer_now.ensures.ok c.answer_now.ensures.err)
+    (answered_begins c.args.self.now.stream (call.Command c.args.command.now) (state_of c.args.self.now.world) (state_of c.answer_now.new.self) c.answer_now.result
+    (has_none c.args.self.now.stream (state_of c.args.self.now.world) c.requires.ready c.requires.idle).tickets c.answer_now.ensures.ok c.answer_now.ensures.err))

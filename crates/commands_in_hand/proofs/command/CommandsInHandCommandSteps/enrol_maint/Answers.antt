@@ -18,12 +18,12 @@ enrol_maint-requires-clause-wants g c =
 
 pub returns-clause-ok : goal.returns-clause-ok
 returns-clause-ok g c =
-    enrols c.args.self.now.stream c.args.command.now (state_of c.args.self.now.world) (state_of c.enrol_maint.new.world) c.enrol_maint.result c.requires.ready c.enrol_maint.ensures.sound (has_none c.args.self.now.stream (state_of c.args.self.now.world) c.requires.ready c.requires.idle) c.enrol_maint.ensures.ok
+    enrols c.args.self.now.stream c.args.command.now (state_of c.args.self.now.world) (state_of c.enrol_maint.new.world) c.enrol_maint.result c.requires.wants c.requires.ready c.enrol_maint.ensures.sound (has_none c.args.self.now.stream (state_of c.args.self.now.world) c.requires.ready c.requires.idle) c.enrol_maint.ensures.ok
 
 pub returns-clause-ready : goal.returns-clause-ready
 returns-clause-ready g c =
-    (enrols_kept c.args.self.now.stream c.args.command.now (state_of c.args.self.now.world) (state_of c.enrol_maint.new.world) c.enrol_maint.result c.requires.ready c.enrol_maint.ensures.sound (has_none c.args.self.now.stream (state_of c.args.self.now.world) c.requires.ready c.requires.idle) c.enrol_maint.ensures.ok c.enrol_maint.ensures.err).ready
+    (enrols_kept c.args.self.now.stream c.args.command.now (state_of c.args.self.now.world) (state_of c.enrol_maint.new.world) c.enrol_maint.result c.requires.wants c.requires.ready c.enrol_maint.ensures.sound (has_none c.args.self.now.stream (state_of c.args.self.now.world) c.requires.ready c.requires.idle) c.enrol_maint.ensures.ok c.enrol_maint.ensures.err).ready
 
 pub returns-clause-home : goal.returns-clause-home
 returns-clause-home g c =
-    home_same c.args.self.now.stream (state_of c.args.self.now.world) (state_of c.enrol_maint.new.world) (enrols_kept c.args.self.now.stream c.args.command.now (state_of c.args.self.now.world) (state_of c.enrol_maint.new.world) c.enrol_maint.result c.requires.ready c.enrol_maint.ensures.sound (has_none c.args.self.now.stream (state_of c.args.self.now.world) c.requires.ready c.requires.idle) c.enrol_maint.ensures.ok c.enrol_maint.ensures.err)
+    home_same c.args.self.now.stream (state_of c.args.self.now.world) (state_of c.enrol_maint.new.world) (enrols_kept c.args.self.now.stream c.args.command.now (state_of c.args.self.now.world) (state_of c.enrol_maint.new.world) c.enrol_maint.result c.requires.wants c.requires.ready c.enrol_maint.ensures.sound (has_none c.args.self.now.stream (state_of c.args.self.now.world) c.requires.ready c.requires.idle) c.enrol_maint.ensures.ok c.enrol_maint.ensures.err)

@@ -24,8 +24,8 @@ returns-clause-none g c =
 
 pub returns-clause-ready : goal.returns-clause-ready
 returns-clause-ready g c =
-    (under_kept c.args.self.now.stream c.args.t (state_of c.args.self.now.world) (state_of c.enrol_whole.new.world) c.requires.ready c.enrol_whole.ensures.sound c.args.op.now c.enrol_whole.result c.enrol_whole.ensures.ok c.enrol_whole.ensures.err c.requires.turn).ready
+    (under_kept c.args.self.now.stream c.args.t (state_of c.args.self.now.world) (state_of c.enrol_whole.new.world) c.requires.ready c.enrol_whole.ensures.sound c.args.op.now c.enrol_whole.result (c.may_begin.ensures c.if-not-may_begin.false) c.enrol_whole.ensures.ok c.enrol_whole.ensures.err c.requires.turn).ready
 
 pub returns-clause-home : goal.returns-clause-home
 returns-clause-home g c =
-    home_same c.args.self.now.stream (state_of c.args.self.now.world) (state_of c.enrol_whole.new.world) (under_kept c.args.self.now.stream c.args.t (state_of c.args.self.now.world) (state_of c.enrol_whole.new.world) c.requires.ready c.enrol_whole.ensures.sound c.args.op.now c.enrol_whole.result c.enrol_whole.ensures.ok c.enrol_whole.ensures.err c.requires.turn)
+    home_same c.args.self.now.stream (state_of c.args.self.now.world) (state_of c.enrol_whole.new.world) (under_kept c.args.self.now.stream c.args.t (state_of c.args.self.now.world) (state_of c.enrol_whole.new.world) c.requires.ready c.enrol_whole.ensures.sound c.args.op.now c.enrol_whole.result (c.may_begin.ensures c.if-not-may_begin.false) c.enrol_whole.ensures.ok c.enrol_whole.ensures.err c.requires.turn)

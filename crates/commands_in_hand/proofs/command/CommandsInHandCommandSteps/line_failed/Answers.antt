@@ -3,7 +3,8 @@ use Rattle.volume_core.specs.State.{modes_in}
 use Rattle.world_in_hand.proofs.Answered.{fault_fails}
 use Rattle.world_in_hand.proofs.AgainstLemmas as other
 use Rattle.commands_in_hand.proofs.TurnSteps.{faults, faults_why}
-use Rattle.commands_in_hand.proofs.Grown.{kept_by}
+use Rattle.commands_in_hand.proofs.Grown.{kept_by, home_same}
+use Rattle.commands_in_hand.proofs.Settled.{faults_begins}
 use Rattle.world_in_hand.proofs.Turns.{turns_faulted}
 use Rattle.commands_in_hand.proofs.command.CommandsInHandCommandSteps.line_failed.Goals as goal
 
@@ -22,4 +23,12 @@ returns-clause-why g c =
 pub returns-clause-ready : goal.returns-clause-ready
 returns-clause-ready g c =
     (kept_by c.args.self.now.stream (state_of c.args.self.now.world) (state_of c.fault.new.self) c.requires.ready c.fault.ensures.may
-    (turns_faulted c.args.self.now.stream c.args.replica c.args.count (state_of c.args.self.now.world) (state_of c.fault.new.self) c.fault.result c.fault.ensures.ok c.fault.ensures.err)).ready
+    (turns_faulted c.args.self.now.stream c.args.replica c.args.count (state_of c.args.self.now.world) (state_of c.fault.new.self) c.fault.result c.fault.ensures.ok c.fault.ensures.err)
+    (faults_begins c.args.self.now.stream c.args.replica c.args.count (state_of c.args.self.now.world) (state_of c.fault.new.self) c.fault.result c.fault.ensures.ok c.fault.ensures.err c.requires.ready.begins)).ready
+
+pub returns-clause-home : goal.returns-clause-home
+returns-clause-home g c =
+    home_same c.args.self.now.stream (state_of c.args.self.now.world) (state_of c.fault.new.self)
+    (kept_by c.args.self.now.stream (state_of c.args.self.now.world) (state_of c.fault.new.self) c.requires.ready c.fault.ensures.may
+    (turns_faulted c.args.self.now.stream c.args.replica c.args.count (state_of c.args.self.now.world) (state_of c.fault.new.self) c.fault.result c.fault.ensures.ok c.fault.ensures.err)
+    (faults_begins c.args.self.now.stream c.args.replica c.args.count (state_of c.args.self.now.world) (state_of c.fault.new.self) c.fault.result c.fault.ensures.ok c.fault.ensures.err c.requires.ready.begins))
