@@ -37,7 +37,7 @@ const BAD_ENDS: [(&[u8], Member); 16] = [
         Member::Streams,
     ),
     (
-        b",\"replicas\":8,\"streams\":[{\"control\":[\"add r1\"]}]}",
+        b",\"replicas\":1,\"streams\":[{\"control\":[\"add r1\"]}]}",
         Member::Streams,
     ),
     (

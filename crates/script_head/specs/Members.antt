@@ -39,10 +39,10 @@ HasFlag line name may flag = (member_or false as_bool name line ≡ Some flag) �
 abbrev pub HasNow : Data → List ℕ → Type 0
 HasNow line text = (member_or [] as_str (codes "now") line ≡ Some text) × IsTimeText text
 
--- a command is of no replica, or of one that is there; no script asks for an addition yet
+-- a command is of no replica, or of one that is there
 abbrev pub NamesReplica : ℕ → Command → Type 0
 NamesReplica replicas (command.Fail r) = r < replicas
-NamesReplica replicas (command.Add r) = ⊥
+NamesReplica replicas (command.Add r) = r < replicas
 NamesReplica replicas c = Unit {0}
 
 -- an item of `control`: the text of a command

@@ -90,13 +90,12 @@ fn command_of(item: &Value, replicas: u8) -> Result<Command, HeadError>
     }
 }
 
-/// Whether the command is of no replica, or of one that is there. No script asks for an addition yet.
+/// Whether the command is of no replica, or of one that is there.
 fn names_replica(command: &Command, replicas: u8) -> bool
     ensures { IsTrue result ↔ NamesReplica replicas command.now }
 {
     match command {
-        Command::Fail(replica) => *replica < replicas,
-        Command::Add(_) => false,
+        Command::Fail(replica) | Command::Add(replica) => *replica < replicas,
         _ => true,
     }
 }
