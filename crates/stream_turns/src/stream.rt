@@ -7,8 +7,8 @@ ghost use Rattle.turn_laws.specs.Turns.{TellsOthers};
 ghost use Rattle.stream_turns.specs.Volume.{stream_calls};
 
 use crate::lines::{channels_of, take_back};
+use add_worker::run_commands;
 use client_worker::{Channel, run_stream};
-use command_worker::run_commands;
 use commands_in_hand::CommandsInHand;
 use outer_traits::{Line, Wiring};
 use script_text::{LinePlan, Stream};
