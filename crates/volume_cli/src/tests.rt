@@ -3,6 +3,7 @@ mod draft;
 mod faults;
 mod purge;
 mod purge_carries;
+mod rebuild;
 mod replicas;
 mod rows;
 mod slow;
