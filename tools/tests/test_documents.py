@@ -9,7 +9,7 @@ import script
 
 TOP = os.path.dirname(os.path.dirname(os.path.abspath(script.__file__)))
 CRATES = os.path.join(TOP, 'crates')
-MOST_README_LINES = 110
+MOST_README_LINES = 120
 MOST_COLUMNS = 120
 
 HEADING = re.compile(r'#{1,6} +(.*?) *#*$')
@@ -153,6 +153,11 @@ def shown(path, example):
     return '\n\n' + ''.join('    %s\n' % line for line in lines) + '\n' in read(TOP, path)
 
 
+def blocks(text):
+    """The blocks of code of a document: lines that are four blanks in, without those."""
+    return [re.sub('^    ', '', block, flags=re.MULTILINE) for block in re.findall(r'(?<=\n\n)(?:    .*\n)+', text)]
+
+
 class Links(unittest.TestCase):
     def test_each_link_leads_somewhere(self):
         self.assertEqual([line for path in documents() for line in broken_links(TOP, path)], [])
@@ -205,15 +210,23 @@ class Texts(unittest.TestCase):
         self.assertEqual(long, [])
 
     def test_examples_are_shown_as_they_print(self):
-        for path, example in (('README.md', 'a_line_fails.output'),
+        for path, example in (('README.md', 'a_rebuild.output'),
                               ('docs/FORMATS.md', 'remove_and_purge.output')):
             self.assertTrue(shown(path, example), (path, example))
+
+    def test_reports_that_are_shown_have_nothing_odd(self):
+        import journal
+        from report import read_report
+        reports = [report for report in blocks(read(TOP, 'docs/FORMATS.md')) if '\nmode r0 ' in report]
+        self.assertEqual(len(reports), 2)
+        for report in reports:
+            self.assertEqual(journal.check(read_report(report)), '', report)
 
     def test_the_picture_is_that_of_the_example(self):
         import picture
         from report import read_report
-        drawn = picture.draw(read_report(read(TOP, 'examples/a_line_fails.output')))
-        self.assertEqual(read(TOP, 'docs/run.svg'), drawn)
+        drawn = picture.draw(read_report(read(TOP, 'examples/a_rebuild.output')))
+        self.assertEqual(read(TOP, 'docs/rebuild.svg'), drawn)
 
 
 if __name__ == '__main__':
