@@ -29,6 +29,8 @@ pub(crate) struct Copier<'a, C, L: Drop> {
     read: bool,
     /// The blocks of the page in hand, once it was read.
     page: &'a mut Page,
+    /// Boxes that the last page without blocks left.
+    spare: &'a mut Page,
     /// Where frames arrive.
     arrivals: &'a mut Vec<u8>,
 }
@@ -109,11 +111,12 @@ impl<'a, C: AddSteps, L: Line + Drop> CopySteps for Copier<'a, C, L> {
         text: &mut Vec<u8>,
     ) -> Result<CopyOut, AllocError> {
         self.read = false;
-        let mut blocks = Page::unmade(alloc).lent(alloc)?;
+        let mut blocks = mem::replace(self.spare, Page::unmade(alloc)).lent(alloc)?;
         match self.steps.copy_out(rt, self.turn, page, &mut blocks) {
             PageOut::Ended(place) => Ok(CopyOut::Ended(place)),
             PageOut::Empty => {
                 *self.page = Page::unmade(alloc);
+                *self.spare = blocks;
                 self.read = true;
                 Ok(CopyOut::Empty)
             }
@@ -184,6 +187,7 @@ pub(crate) fn copy_pages<R: Wait, C: AddSteps, L: Line + Drop>(
     ensures goes { GoesOn (C.mine steps.old) (C.mine steps.new) }
 {
     let mut page = Page::unmade(alloc);
+    let mut spare = Page::unmade(alloc);
     let mut arrivals = Vec::new(alloc);
     copy_over(
         rt,
@@ -194,11 +198,12 @@ pub(crate) fn copy_pages<R: Wait, C: AddSteps, L: Line + Drop>(
         source,
         target,
         &mut page,
+        &mut spare,
         &mut arrivals,
     )
 }
 
-/// Copies them with these rooms for a page's blocks and for what arrives.
+/// Copies them with these rooms for a page's blocks, for boxes and for what arrives.
 fn copy_over<R: Wait, C: AddSteps, L: Line + Drop>(
     rt: &R,
     alloc: Global,
@@ -208,6 +213,7 @@ fn copy_over<R: Wait, C: AddSteps, L: Line + Drop>(
     source: u8,
     target: u8,
     page: &mut Page,
+    spare: &mut Page,
     arrivals: &mut Vec<u8>,
 ) -> Result<Copied, AllocError>
     requires ready { C.ready steps.old }
@@ -232,6 +238,7 @@ fn copy_over<R: Wait, C: AddSteps, L: Line + Drop>(
         hand: None,
         read: false,
         page,
+        spare,
         arrivals,
     };
     copy_all(rt, alloc, &mut copier)
