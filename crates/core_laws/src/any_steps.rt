@@ -1,14 +1,17 @@
-//! Steps for tests: random ones of every kind, and those by which a World gets on, as workers would choose them.
+//! Random steps of every kind, for tests.
 
 ghost use Rattle.std.specs.Prelude.{◌≤◌};
+ghost use Rattle.volume_core.specs.Sound.{IsSound};
+ghost use Rattle.volume_core.specs.State.{state_of};
 
+use crate::getting_on::{Most, all_of, push_maint, push_op, push_rebuild, rebuild_on, steps_on};
 use crate::{
-    Bytes, Call, Command, FoldOrDrop, LayerName, MaintStep, Refusal, Reply, SnapName, Step,
-    TicketNumber, WholeOp, World,
+    Bytes, Call, Command, FoldOrDrop, LayerName, MaintStep, Mode, PageRef, RebuildStep, Refusal,
+    Reply, SnapName, Step, TicketNumber, WholeOp, World,
 };
 use std::alloc::{AllocError, Global};
 use std::test::Fail;
-use volume_core::Kind;
+use volume_rebuild::copy_next;
 
 /// Numbers as a linear congruence makes them.
 #[derive(Drop)]
@@ -28,13 +31,6 @@ impl Numbers {
     {
         self.below(u32::from(most)) as u8
     }
-}
-
-/// How many streams and replicas there are.
-#[derive(Clone, Copy)]
-pub(crate) struct Most {
-    pub(crate) streams: u8,
-    pub(crate) replicas: u8,
 }
 
 /// One of so many names, of eight at most.
@@ -63,26 +59,52 @@ fn any_layer(alloc: Global, world: &World, numbers: &mut Numbers) -> Result<Laye
         return Ok(name);
     };
     let chain = node.chain(alloc)?;
-    let place = numbers.below(8) as usize;
+    let place = numbers.below(5) as usize;
     Ok(chain.get(place).map_or(name, |layer| layer.0))
 }
 
+/// A replica that has failed, or now and then any.
+fn any_target(world: &World, numbers: &mut Numbers, most: Most) -> u8 {
+    for replica in 0..most.replicas {
+        if world.mode(replica) == Mode::Err && numbers.below(4) > 0 {
+            return replica;
+        }
+    }
+    numbers.byte_below(most.replicas)
+}
+
 /// A command that wants the maintenance turn, and now and then one that does not.
-fn any_command(numbers: &mut Numbers, layer: LayerName) -> Result<Command, Fail> {
-    Ok(match numbers.below(10) {
+fn any_command(numbers: &mut Numbers, layer: LayerName, replica: u8) -> Result<Command, Fail> {
+    Ok(match numbers.below(11) {
         0..=3 => Command::Remove(layer),
         4..=5 => Command::Revert(layer),
         6..=8 => Command::Purge,
+        9 => Command::Add(replica),
         _ => Command::Snapshot(any_name(numbers, 8)?),
     })
 }
 
+/// A command of any kind, and often an addition where a replica has failed.
+fn next_command(
+    alloc: Global,
+    world: &World,
+    numbers: &mut Numbers,
+    most: Most,
+) -> Result<Command, Fail> {
+    let replica = any_target(world, numbers, most);
+    if world.mode(replica) == Mode::Err && numbers.below(2) == 0 {
+        return Ok(Command::Add(replica));
+    }
+    let layer = any_layer(alloc, world, numbers)?;
+    any_command(numbers, layer, replica)
+}
+
 /// An operation on the whole volume, over few names.
-fn any_op(numbers: &mut Numbers) -> Result<WholeOp, Fail> {
+fn any_op(numbers: &mut Numbers, replica: u8) -> Result<WholeOp, Fail> {
     let name = any_name(numbers, 4)?;
     let layer = LayerName::from(name);
     let other = any_name(numbers, 4)?;
-    Ok(match numbers.below(8) {
+    Ok(match numbers.below(9) {
         0..=3 => WholeOp::Snapshot(name),
         4 => WholeOp::Revert(layer),
         5 => WholeOp::Purge(FoldOrDrop::Drop(layer)),
@@ -90,14 +112,17 @@ fn any_op(numbers: &mut Numbers) -> Result<WholeOp, Fail> {
             parent: layer,
             child: LayerName::from(other),
         }),
+        7 => WholeOp::Barrier(replica),
         _ => WholeOp::Remove(layer),
     })
 }
 
 fn any_reply(numbers: &mut Numbers) -> Reply {
-    match numbers.below(3) {
+    match numbers.below(5) {
         0 => Reply::Done,
         1 => Reply::Refused(Refusal::NoSuchSnapshot),
+        2 => Reply::Refused(Refusal::InUse),
+        3 => Reply::Aborted(u64::from(numbers.below(40))),
         _ => Reply::Refused(Refusal::NoReplica),
     }
 }
@@ -107,12 +132,21 @@ fn any_ticket(numbers: &mut Numbers, most: Most) -> TicketNumber {
     TicketNumber::of(u64::from(numbers.below(u32::from(most.streams))))
 }
 
+/// A line of any stream fails to any replica.
+fn any_fault(numbers: &mut Numbers, most: Most) -> Step {
+    Step::Fault {
+        stream: numbers.byte_below(most.streams),
+        replica: numbers.byte_below(most.replicas),
+        count: u64::from(numbers.below(4)),
+    }
+}
+
 /// A step of any kind: those by which calls get on come most.
 fn any_step(alloc: Global, numbers: &mut Numbers, most: Most) -> Result<Step, Fail> {
     let stream = numbers.byte_below(most.streams);
     let replica = numbers.byte_below(most.replicas);
     let ticket = any_ticket(numbers, most);
-    Ok(match numbers.below(36) {
+    Ok(match numbers.below(37) {
         0..=6 => Step::Enrol {
             stream,
             call: call_on_range(alloc, numbers)?,
@@ -130,16 +164,13 @@ fn any_step(alloc: Global, numbers: &mut Numbers, most: Most) -> Result<Step, Fa
         15..=19 => Step::ApplyWrite { ticket, replica },
         20..=22 => Step::ApplyRead { ticket, replica },
         23..=27 => Step::Ack { ticket, replica },
-        28 if numbers.below(6) == 0 => Step::Fault {
-            stream,
-            replica,
-            count: u64::from(numbers.below(4)),
-        },
-        29 if numbers.below(8) == 0 => Step::AnswerNow {
+        28 if numbers.below(3) == 0 => any_fault(numbers, most),
+        29 if numbers.below(4) == 0 => Step::AnswerNow {
             stream,
             call: Call::Command(Command::Fail(replica)),
         },
         30..=34 => Step::Maint(any_maint(numbers, stream, ticket, replica)?),
+        35 => Step::Rebuild(any_rebuild(numbers)?),
         _ => Step::Complete(ticket),
     })
 }
@@ -156,7 +187,7 @@ fn any_maint(
     Ok(match numbers.below(13) {
         0 => MaintStep::Enrol {
             stream,
-            command: any_command(numbers, layer)?,
+            command: any_command(numbers, layer, replica)?,
         },
         1 => MaintStep::Admit(turn),
         2 => MaintStep::Withdraw(turn),
@@ -167,7 +198,7 @@ fn any_maint(
         4 | 12 => MaintStep::Abandon(turn),
         5 => MaintStep::EnrolWhole {
             stream,
-            op: any_op(numbers)?,
+            op: any_op(numbers, replica)?,
         },
         6 => MaintStep::AdmitWhole(ticket),
         7 => MaintStep::WithdrawWhole(ticket),
@@ -182,153 +213,75 @@ fn any_maint(
     })
 }
 
-fn push_maint(steps: &mut Vec<Step>, step: MaintStep) -> Result<(), AllocError> {
-    steps.push(Step::Maint(step))?;
-    Ok(())
+/// A step of a rebuild, of a page of a layer that a barrier closed or a user, or of none.
+fn any_rebuild(numbers: &mut Numbers) -> Result<RebuildStep, Fail> {
+    let layer = match numbers.below(2) {
+        0 => LayerName::sys(u64::from(numbers.below(8))),
+        _ => LayerName::from(any_name(numbers, 4)?),
+    };
+    let page = PageRef {
+        layer,
+        page: numbers.below(2),
+    };
+    Ok(match numbers.below(3) {
+        0 => RebuildStep::CopyOut(page),
+        1 => RebuildStep::CopyIn(page),
+        _ => RebuildStep::Promote(TicketNumber::of(u64::from(numbers.below(2)))),
+    })
 }
 
-/// All steps of the call of a ticket, from its start to its end.
-fn all_of(steps: &mut Vec<Step>, ticket: TicketNumber, replicas: u8) -> Result<(), AllocError> {
-    steps.push(Step::Admit(ticket))?;
-    for replica in 0..replicas {
-        steps.push(Step::ApplyWrite { ticket, replica })?;
-        steps.push(Step::ApplyRead { ticket, replica })?;
-        steps.push(Step::Ack { ticket, replica })?;
+/// The page that is next only goes out.
+fn next_out(steps: &mut Vec<Step>, world: &World) -> Result<(), AllocError>
+    requires { IsSound (state_of world.now) }
+{
+    match copy_next(world) {
+        Some(page) => push_rebuild(steps, RebuildStep::CopyOut(page)),
+        None => Ok(()),
     }
-    steps.push(Step::Complete(ticket))?;
-    Ok(())
 }
 
-/// All steps of the operation of a ticket, from its start to its end.
-fn all_of_whole(
+/// Whether a rebuild is open, and pages may be copied.
+fn is_past_barrier(world: &World) -> bool {
+    match &world.rebuild {
+        Some(rebuild) => rebuild.may_copy,
+        None => false,
+    }
+}
+
+/// What comes next of the rebuild that is open, a fault of a line, or that its command gives the turn back.
+fn rebuild_on_or_fault(
     steps: &mut Vec<Step>,
-    ticket: TicketNumber,
-    replicas: u8,
-) -> Result<(), AllocError> {
-    push_maint(steps, MaintStep::AdmitWhole(ticket))?;
-    for replica in 0..replicas {
-        push_maint(steps, MaintStep::Part { ticket, replica })?;
-        push_maint(steps, MaintStep::AckWhole { ticket, replica })?;
-    }
-    push_maint(steps, MaintStep::CompleteWhole(ticket))
-}
-
-/// What gets each ticket of the World on, and then the command that has the maintenance turn. Asked again and again,
-/// these steps end all that is open.
-pub(crate) fn steps_on(alloc: Global, world: &World, most: Most) -> Result<Vec<Step>, AllocError> {
-    let mut steps = Vec::new(alloc);
-    for number in 0..most.streams {
-        let ticket = TicketNumber::of(u64::from(number));
-        if let Some(place) = world.turns.place(ticket) {
-            match world.turns.ticket(place).kind {
-                Kind::Whole => all_of_whole(&mut steps, ticket, most.replicas)?,
-                Kind::Read | Kind::Write => all_of(&mut steps, ticket, most.replicas)?,
-            }
-        }
-    }
-    turn_on(&mut steps, world, most.replicas)?;
-    Ok(steps)
-}
-
-/// What gets the first command of the maintenance turn on.
-fn turn_on(steps: &mut Vec<Step>, world: &World, replicas: u8) -> Result<(), AllocError> {
-    if world.maint.is_empty() || world.commands.is_empty() {
+    world: &World,
+    numbers: &mut Numbers,
+    most: Most,
+) -> Result<(), AllocError>
+    requires { IsSound (state_of world.now) }
+{
+    if world.maint.is_empty() {
         return Ok(());
     }
     let ticket = world.maint.ticket(0).number;
-    if !world.maint.ticket(0).started {
-        return push_maint(steps, MaintStep::Admit(ticket));
-    }
-    let first = &world.commands[0];
-    command_on(steps, world, ticket, first.stream, &first.command, replicas)
-}
-
-fn command_on(
-    steps: &mut Vec<Step>,
-    world: &World,
-    ticket: TicketNumber,
-    stream: u8,
-    command: &Command,
-    replicas: u8,
-) -> Result<(), AllocError> {
-    match command {
-        Command::Remove(name) => push_op(steps, stream, WholeOp::Remove(*name)),
-        Command::Revert(name) => push_op(steps, stream, WholeOp::Revert(*name)),
-        Command::Purge => purge_on(steps, world, ticket, stream, replicas),
-        Command::Snapshot(_) | Command::Status | Command::Fail(_) | Command::Add(_) => Ok(()),
-    }
-}
-
-fn push_op(steps: &mut Vec<Step>, stream: u8, op: WholeOp) -> Result<(), AllocError> {
-    push_maint(steps, MaintStep::EnrolWhole { stream, op })
-}
-
-/// What gets the purge that has the turn on: its next part, or its end.
-fn purge_on(
-    steps: &mut Vec<Step>,
-    world: &World,
-    ticket: TicketNumber,
-    stream: u8,
-    replicas: u8,
-) -> Result<(), AllocError> {
-    match next_part(world) {
-        Some(part) => {
-            fold_for(steps, &part, replicas)?;
-            push_op(steps, stream, WholeOp::Purge(part))
+    match numbers.below(16) {
+        0..=3 => {
+            steps.push(any_fault(numbers, most))?;
+            Ok(())
         }
-        None => {
-            let reply = end_of_purge(world);
-            push_maint(steps, MaintStep::End { ticket, reply })
-        }
+        4..=6 => next_out(steps, world),
+        7..=9 => push_maint(steps, MaintStep::Abandon(ticket)),
+        _ => rebuild_on(steps, world, ticket),
     }
 }
 
-/// What the first replica that is read would take out next.
-fn next_part(world: &World) -> Option<FoldOrDrop> {
-    match world.journal.source() {
-        Some(source) => match world.nodes.get(source as usize) {
-            Some(node) => node.next_fold(),
-            None => None,
-        },
-        None => None,
-    }
-}
-
-fn end_of_purge(world: &World) -> Reply {
-    match world.journal.source() {
-        Some(_) => Reply::Done,
-        None => Reply::Refused(Refusal::NoReplica),
-    }
-}
-
-/// Folds on each replica what the part asks to be folded before it. The volume is one page long.
-fn fold_for(steps: &mut Vec<Step>, part: &FoldOrDrop, replicas: u8) -> Result<(), AllocError> {
-    match part {
-        FoldOrDrop::Fold { parent, child: _ } => fold_on_each(steps, *parent, replicas),
-        FoldOrDrop::Drop(_) => Ok(()),
-    }
-}
-
-fn fold_on_each(steps: &mut Vec<Step>, parent: LayerName, replicas: u8) -> Result<(), AllocError> {
-    for replica in 0..replicas {
-        let fold = MaintStep::FoldPage {
-            replica,
-            parent,
-            page: 0,
-        };
-        push_maint(steps, fold)?;
-    }
-    Ok(())
-}
-
-/// The next steps of a random list: mostly one of any kind, else a new command, a call from its start to its end, or
-/// what gets all that is open on, of which some may be missing.
+/// The next steps of a random list: mostly one of any kind, else a new command, a call from its start to its end, what
+/// comes next of a rebuild, or what gets all that is open on, of which some may be missing.
 pub(crate) fn next_steps(
     alloc: Global,
     world: &World,
     numbers: &mut Numbers,
     most: Most,
-) -> Result<Vec<Step>, Fail> {
+) -> Result<Vec<Step>, Fail>
+    requires { IsSound (state_of world.now) }
+{
     let mut steps = Vec::new(alloc);
     match numbers.below(20) {
         0..=2 => {
@@ -337,20 +290,22 @@ pub(crate) fn next_steps(
         }
         3..=4 => {
             let stream = numbers.byte_below(most.streams);
-            let layer = any_layer(alloc, world, numbers)?;
-            let command = any_command(numbers, layer)?;
+            let command = next_command(alloc, world, numbers, most)?;
             push_maint(&mut steps, MaintStep::Enrol { stream, command })?;
         }
         5 => {
             let stream = numbers.byte_below(most.streams);
             push_op(&mut steps, stream, WholeOp::Snapshot(any_name(numbers, 8)?))?;
         }
-        6..=8 => {
+        6..=9 => {
             for step in steps_on(alloc, world, most)? {
                 if numbers.below(30) > 0 {
                     steps.push(step)?;
                 }
             }
+        }
+        10..=14 if is_past_barrier(world) => {
+            rebuild_on_or_fault(&mut steps, world, numbers, most)?;
         }
         _ => steps.push(any_step(alloc, numbers, most)?)?,
     }

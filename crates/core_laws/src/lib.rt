@@ -24,6 +24,10 @@ pub use volume_rebuild::PageRef;
 #[cfg(test)]
 mod any_steps;
 #[cfg(test)]
+mod getting_on;
+#[cfg(test)]
+mod judge;
+#[cfg(test)]
 mod tally;
 #[cfg(test)]
 mod tests;

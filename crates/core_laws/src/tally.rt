@@ -1,13 +1,15 @@
-//! How often the steps of each kind changed a World, for tests.
+//! How often the steps of each kind changed a World, and how commands and rebuilds ended, for tests.
 
 ghost use Rattle.volume_core.specs.Sound.{IsSound};
 ghost use Rattle.volume_core.specs.State.{state_of};
 
-use crate::{MaintStep, Step, World};
+use crate::{Call, Command, Entry, MaintStep, PageRef, RebuildStep, Reply, Step, World};
 use open_calls::{Part, Parts};
+use volume_model::Mark;
+use volume_rebuild::copy_next;
 
 /// The kinds of step.
-pub(crate) const KINDS: [&str; 21] = [
+pub(crate) const KINDS: [&str; 24] = [
     "enrol",
     "answer now",
     "admit",
@@ -29,20 +31,23 @@ pub(crate) const KINDS: [&str; 21] = [
     "acknowledge a part",
     "complete an operation",
     "fold a page",
+    "copy a page out",
+    "copy a page in",
+    "promote",
 ];
 
-/// How often each kind was asked, and how often it changed the World.
+/// How often each kind was asked, and how often it changed the World, or gave a page.
 #[derive(Drop)]
 pub(crate) struct Tally {
-    pub(crate) asked: [u64; 21],
-    pub(crate) changed: [u64; 21],
+    pub(crate) asked: [u64; 24],
+    pub(crate) changed: [u64; 24],
 }
 
 impl Tally {
     pub(crate) fn new() -> Tally {
         Tally {
-            asked: [0; 21],
-            changed: [0; 21],
+            asked: [0; 24],
+            changed: [0; 24],
         }
     }
 
@@ -55,7 +60,7 @@ impl Tally {
     }
 }
 
-fn count(counts: &mut [u64; 21], kind: usize) {
+fn count(counts: &mut [u64; 24], kind: usize) {
     if let Some(number) = counts.get_mut(kind) {
         *number = number.saturating_add(1);
     }
@@ -73,8 +78,7 @@ fn kind_of(step: &Step) -> usize {
         Step::Fault { .. } => 7,
         Step::Complete(_) => 8,
         Step::Maint(step) => kind_of_maint(step),
-        // No random list rebuilds a replica yet.
-        Step::Rebuild(_) => KINDS.len(),
+        Step::Rebuild(step) => kind_of_rebuild(step),
     }
 }
 
@@ -95,6 +99,22 @@ fn kind_of_maint(step: &MaintStep) -> usize {
     }
 }
 
+fn kind_of_rebuild(step: &RebuildStep) -> usize {
+    match step {
+        RebuildStep::CopyOut(_) => 21,
+        RebuildStep::CopyIn(_) => 22,
+        RebuildStep::Promote(_) => 23,
+    }
+}
+
+/// Whether the step gives a page of a rebuild, which changes nothing of the World.
+pub(crate) fn gives_page(world: &World, step: &Step) -> bool {
+    match (step, &world.rebuild) {
+        (Step::Rebuild(RebuildStep::CopyOut(page)), Some(rebuild)) => rebuild.is_frozen(page),
+        _ => false,
+    }
+}
+
 /// What of a World a step changes, in numbers.
 #[derive(Clone, Copy, PartialEq, Eq)]
 pub(crate) struct Shape {
@@ -104,6 +124,7 @@ pub(crate) struct Shape {
     started: u64,
     parts: u64,
     is_unfolded: bool,
+    next: Option<PageRef>,
 }
 
 impl Shape {
@@ -117,6 +138,7 @@ impl Shape {
             started: started(world),
             parts: parts(world),
             is_unfolded: is_unfolded(world, step),
+            next: copy_next(world),
         }
     }
 }
@@ -175,5 +197,100 @@ fn is_unfolded(world: &World, step: &Step) -> bool
             },
         ) => volume_maint::fold_wanted(world, *replica, parent, *page),
         _ => false,
+    }
+}
+
+/// How commands that are steps on the whole volume can end, a part of a purge, and a rebuild. With each, how often the
+/// test wants it at least.
+pub(crate) const ENDS: [(&str, u64); 10] = [
+    ("snapshot", 50),
+    ("remove", 50),
+    ("revert", 50),
+    ("purge", 50),
+    ("part", 50),
+    ("refused", 50),
+    ("addition", 50),
+    ("aborted by a fall", 20),
+    ("given up", 15),
+    ("refused addition", 50),
+];
+
+/// How many entries of each kind there were.
+#[derive(Drop)]
+pub(crate) struct Ended(pub(crate) [u64; 10]);
+
+impl Ended {
+    pub(crate) fn new() -> Ended {
+        Ended([0; 10])
+    }
+
+    pub(crate) fn count(&mut self, world: &World) {
+        let mut is_behind_fall = false;
+        for place in 0..world.journal.len() {
+            let entry = world.journal.entry(place);
+            let kind = match entry {
+                Entry::Mark(mark) => marked_as(mark, is_behind_fall),
+                Entry::Answer(answer) => ended_as(&answer.call, &answer.reply),
+            };
+            if let Some(kind) = kind {
+                if let Some(number) = self.0.get_mut(kind) {
+                    *number = number.saturating_add(1);
+                }
+            }
+            is_behind_fall = is_fall(entry);
+        }
+    }
+}
+
+fn is_fall(entry: &Entry) -> bool {
+    match entry {
+        Entry::Mark(Mark::Fault { .. } | Mark::Failed(_)) => true,
+        _ => false,
+    }
+}
+
+fn marked_as(mark: &Mark, is_behind_fall: bool) -> Option<usize> {
+    match mark {
+        Mark::Purged(_) => Some(4),
+        Mark::Aborted(_) if is_behind_fall => Some(7),
+        Mark::Aborted(_) => Some(8),
+        _ => None,
+    }
+}
+
+fn ended_as(call: &Call, reply: &Reply) -> Option<usize> {
+    match call {
+        Call::Command(Command::Add(_)) => added_as(reply),
+        Call::Command(command) => match reply {
+            Reply::Done => done_as(command),
+            _ => refused_as(command),
+        },
+        _ => None,
+    }
+}
+
+fn done_as(command: &Command) -> Option<usize> {
+    match command {
+        Command::Snapshot(_) => Some(0),
+        Command::Remove(_) => Some(1),
+        Command::Revert(_) => Some(2),
+        Command::Purge => Some(3),
+        Command::Status | Command::Fail(_) | Command::Add(_) => None,
+    }
+}
+
+fn refused_as(command: &Command) -> Option<usize> {
+    match command {
+        Command::Status | Command::Fail(_) => None,
+        _ => Some(5),
+    }
+}
+
+/// Of an addition whose rebuild was aborted, the mark is counted.
+fn added_as(reply: &Reply) -> Option<usize> {
+    match reply {
+        Reply::Done => Some(6),
+        Reply::Refused(_) => Some(9),
+        _ => None,
     }
 }

@@ -5,20 +5,19 @@ ghost use Rattle.volume_core.specs.Sound.{IsSound};
 ghost use Rattle.volume_core.specs.State.{state_of};
 
 use super::*;
-use crate::any_steps::{Most, Numbers, next_steps, steps_on};
-use crate::tally::{KINDS, Shape, Tally};
+use crate::any_steps::{Numbers, next_steps};
+use crate::getting_on::{Most, steps_on};
+use crate::judge::{Judge, SIZE, follow_journal};
+use crate::tally::{ENDS, Ended, KINDS, Shape, Tally, gives_page};
 use plain_disk::PlainDisk;
 use std::alloc::{AllocError, Global};
 use std::process::Abort;
 use std::test::Fail;
 use volume_core::{Kind, ReplicaNode};
-use volume_model::{Answer, Mark};
-
-const SIZE: usize = 2_097_152;
 
 const BLOCK: usize = 4_096;
 
-/// Asks the steps one after another, and counts those that changed the World.
+/// Asks the steps one after another, and counts those that changed the World or gave a page.
 fn ask(
     world: &mut World,
     alloc: Global,
@@ -32,134 +31,15 @@ fn ask(
         let step = &steps[place];
         let before = Shape::of(world, step);
         run_steps(world, alloc, &steps[place..place + 1])?;
-        tally.note(step, before != Shape::of(world, step));
+        let is_given = gives_page(world, step);
+        tally.note(step, is_given || before != Shape::of(world, step));
     }
     Ok(())
 }
 
-/// Whether nothing is open: no ticket is there, and no command of the maintenance turn.
+/// Whether nothing is open: no ticket is there, no command of the maintenance turn, and no rebuild.
 fn is_at_rest(world: &World) -> bool {
-    world.turns.is_empty() && world.commands.is_empty()
-}
-
-/// How commands that are steps on the whole volume can end, and a part of a purge.
-const ENDS: [&str; 6] = ["snapshot", "remove", "revert", "purge", "part", "refused"];
-
-/// How many entries of each kind there were.
-#[derive(Drop)]
-struct Ended([u64; 6]);
-
-impl Ended {
-    fn count(&mut self, world: &World) {
-        for place in 0..world.journal.len() {
-            let kind = match world.journal.entry(place) {
-                Entry::Mark(Mark::Purged(_)) => Some(4),
-                Entry::Mark(_) => None,
-                Entry::Answer(answer) => ended_as(&answer.call, &answer.reply),
-            };
-            if let Some(kind) = kind {
-                if let Some(number) = self.0.get_mut(kind) {
-                    *number = number.saturating_add(1);
-                }
-            }
-        }
-    }
-}
-
-fn ended_as(call: &Call, reply: &Reply) -> Option<usize> {
-    let is_done = same(reply, &Reply::Done);
-    match call {
-        Call::Command(command) => match command {
-            Command::Status | Command::Fail(_) | Command::Add(_) => None,
-            _ if !is_done => Some(5),
-            Command::Snapshot(_) => Some(0),
-            Command::Remove(_) => Some(1),
-            Command::Revert(_) => Some(2),
-            Command::Purge => Some(3),
-        },
-        _ => None,
-    }
-}
-
-/// Whether two replies are the same.
-fn same(a: &Reply, b: &Reply) -> bool {
-    match (a, b) {
-        (Reply::Done, Reply::Done) => true,
-        (Reply::Read(a), Reply::Read(b)) => a.as_slice() == b.as_slice(),
-        (
-            Reply::Status { layers, modes },
-            Reply::Status {
-                layers: others,
-                modes: those,
-            },
-        ) => layers == others && modes.as_slice() == those.as_slice(),
-        (Reply::Refused(a), Reply::Refused(b)) => a == b,
-        _ => false,
-    }
-}
-
-/// What the plain disk leaves of a journal's calls. Each is answered as the disk answers it, or that there is no
-/// replica where none is read.
-fn replayed(
-    rt: &impl Abort,
-    alloc: Global,
-    world: &World,
-    replicas: u8,
-) -> Result<PlainDisk, AllocError> {
-    let mut disk = PlainDisk::zeros(alloc, SIZE)?;
-    let mut modes = vec![in alloc; Mode::Rw; replicas as usize]?;
-    for place in 0..world.journal.len() {
-        replay(rt, alloc, &mut disk, &mut modes, world.journal.entry(place))?;
-    }
-    Ok(disk)
-}
-
-fn replay(
-    rt: &impl Abort,
-    alloc: Global,
-    disk: &mut PlainDisk,
-    modes: &mut [Mode],
-    entry: &Entry,
-) -> Result<(), AllocError> {
-    match entry {
-        Entry::Answer(answer) => follow(rt, alloc, disk, modes, answer),
-        Entry::Mark(Mark::Purged(part)) => disk.follow(alloc, &Mark::Purged(*part)),
-        Entry::Mark(mark) => {
-            fall(rt, modes, mark);
-            Ok(())
-        }
-    }
-}
-
-/// What a mark that is no part of a purge leaves: it is of a replica that fell.
-fn fall(rt: &impl Abort, modes: &mut [Mode], mark: &Mark) {
-    match mark {
-        Mark::Fault { replica, .. } | Mark::Failed(replica) => {
-            if let Some(mode) = modes.get_mut(*replica as usize) {
-                *mode = Mode::Err;
-            }
-        }
-        Mark::Purged(_) | Mark::Added { .. } | Mark::Promoted(_) | Mark::Aborted(_) => {
-            assert!(rt; false, "a mark of another kind");
-        }
-    }
-}
-
-fn follow(
-    rt: &impl Abort,
-    alloc: Global,
-    disk: &mut PlainDisk,
-    modes: &[Mode],
-    answer: &Answer,
-) -> Result<(), AllocError> {
-    if same(&answer.reply, &Reply::Refused(Refusal::NoReplica)) {
-        assert!(rt; !modes.contains(&Mode::Rw), "no replica, and one is read");
-        return Ok(());
-    }
-    assert!(rt; disk.head_number() < 1_000);
-    let reply = disk.step(alloc, modes, &answer.call)?;
-    assert!(rt; same(&reply, &answer.reply), "another answer");
-    Ok(())
+    world.turns.is_empty() && world.commands.is_empty() && world.rebuild.is_none()
 }
 
 /// Whether a started write holds the block.
@@ -247,7 +127,10 @@ fn end_all(
     requires { IsSound (state_of world.old) }
     ensures { IsSound (state_of world.new) }
 {
-    for _round in 0..60 {
+    for _round in 0..200 {
+        if is_at_rest(world) {
+            return Ok(());
+        }
         let steps = steps_on(alloc, world, most)?;
         ask(world, alloc, &steps, tally)?;
     }
@@ -255,9 +138,14 @@ fn end_all(
 }
 
 /// The replicas read as the disk that answers the journal's calls.
-fn compare(rt: &impl Abort, alloc: Global, world: &World, most: Most) -> Result<(), AllocError> {
-    let disk = replayed(rt, alloc, world, most.replicas)?;
-    agrees(rt, world, &disk);
+fn compare(
+    rt: &impl Abort,
+    alloc: Global,
+    world: &World,
+    judge: &mut Judge,
+) -> Result<(), AllocError> {
+    follow_journal(rt, alloc, world, judge)?;
+    agrees(rt, world, &judge.disk);
     Ok(())
 }
 
@@ -284,6 +172,7 @@ fn ask_twice(
     world: &mut World,
     numbers: &mut Numbers,
     most: Most,
+    judge: &mut Judge,
     tally: &mut Tally,
 ) -> Result<bool, Fail>
     requires some { 0 < most.replicas }
@@ -292,7 +181,7 @@ fn ask_twice(
     ensures { IsSound (state_of world.new) }
 {
     let all = ask_at_random(world, alloc, numbers, most, tally)?;
-    compare(rt, alloc, world, most)?;
+    compare(rt, alloc, world, judge)?;
     is_alike_in_one_piece(alloc, world, &all, most)
 }
 
@@ -302,17 +191,30 @@ fn end_and_compare(
     alloc: Global,
     world: &mut World,
     most: Most,
+    judge: &mut Judge,
     tally: &mut Tally,
 ) -> Result<bool, AllocError>
     requires { IsSound (state_of world.old) }
 {
     end_all(world, alloc, most, tally)?;
-    compare(rt, alloc, world, most)?;
+    compare(rt, alloc, world, judge)?;
     Ok(is_at_rest(world))
 }
 
 fn holds(rt: &impl Abort, fact: bool, seed: u32, what: &str) {
     assert!(rt; fact, "list {seed} {what}");
+}
+
+/// How many replicas a list has: one to three, and mostly three.
+fn any_replicas(numbers: &mut Numbers) -> u8
+    ensures some { 0 < result }
+    ensures few { result ≤ 8 }
+{
+    match numbers.below(4) {
+        0 => 1,
+        1 => 2,
+        _ => 3,
+    }
 }
 
 /// One random list on a blank World, and the same in one piece on another. Then all that is open ends.
@@ -326,13 +228,14 @@ fn try_list(
     let size = VolumeSize::new(SIZE as u64)?;
     let mut numbers = Numbers(seed);
     let most = Most {
-        replicas: 1 + numbers.byte_below(3),
+        replicas: any_replicas(&mut numbers),
         streams: 1 + numbers.byte_below(6),
     };
     let mut world = World::blank(alloc, size, most.replicas, most.streams)?;
-    let is_alike = ask_twice(rt, alloc, &mut world, &mut numbers, most, tally)?;
+    let mut judge = Judge::new(alloc, most.replicas)?;
+    let is_alike = ask_twice(rt, alloc, &mut world, &mut numbers, most, &mut judge, tally)?;
     holds(rt, is_alike, seed, "in one piece");
-    let is_ended = end_and_compare(rt, alloc, &mut world, most, tally)?;
+    let is_ended = end_and_compare(rt, alloc, &mut world, most, &mut judge, tally)?;
     holds(rt, is_ended, seed, "ends");
     ended.count(&world);
     Ok(())
@@ -341,15 +244,16 @@ fn try_list(
 #[test]
 fn random_lists_of_steps_make_legal_histories(rt: HostRuntime) -> Result<(), Fail> {
     let mut tally = Tally::new();
-    let mut ended = Ended([0; 6]);
+    let mut ended = Ended::new();
     for seed in 0..300 {
         try_list(&rt, rt.alloc(), seed, &mut tally, &mut ended)?;
     }
     for ((kind, asked), changed) in KINDS.iter().zip(&tally.asked).zip(&tally.changed) {
         assert!(rt; *changed >= 20, "{kind}: {changed} of {asked}");
     }
-    for (kind, number) in ENDS.iter().zip(&ended.0) {
-        assert!(rt; *number >= 50, "{kind}: {number}");
+    for (end, number) in ENDS.iter().zip(&ended.0) {
+        let (kind, least) = *end;
+        assert!(rt; *number >= least, "{kind}: {number}");
     }
     Ok(())
 }
