@@ -45,7 +45,7 @@ pub(crate) fn all_of(
 }
 
 /// All steps of the operation of a ticket, from its start to its end.
-fn all_of_whole(
+pub(crate) fn all_of_whole(
     steps: &mut Vec<Step>,
     ticket: TicketNumber,
     replicas: u8,

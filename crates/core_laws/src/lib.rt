@@ -31,3 +31,5 @@ mod judge;
 mod tally;
 #[cfg(test)]
 mod tests;
+#[cfg(test)]
+mod while_rebuilt;
