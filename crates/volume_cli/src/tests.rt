@@ -4,6 +4,8 @@ mod faults;
 mod purge;
 mod purge_carries;
 mod rebuild;
+mod rebuild_carries;
 mod replicas;
 mod rows;
 mod slow;
+mod slow_add;

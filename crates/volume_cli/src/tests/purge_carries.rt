@@ -61,7 +61,7 @@ fn carry_purge(alloc: Global, lines: &mut Lines, slow: &mut Slow) -> Result<(), 
     Ok(())
 }
 
-fn command_in(text: &str) -> Result<Command, Fail> {
+pub(crate) fn command_in(text: &str) -> Result<Command, Fail> {
     match Command::read(text.as_bytes()) {
         Ok(command) => Ok(command),
         Err(_) => Err(Fail::new("no command")),

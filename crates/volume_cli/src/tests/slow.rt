@@ -101,7 +101,7 @@ fn is_before(a: &LayerName, b: &LayerName) -> bool {
 /// A plain disk that answers calls slowly, and prints what a run on replicas of these modes prints.
 #[derive(Drop)]
 pub(crate) struct Slow {
-    disk: PlainDisk,
+    pub(crate) disk: PlainDisk,
     modes: Vec<Mode>,
     /// The newest first.
     taken: Vec<Taken>,
@@ -113,8 +113,13 @@ pub(crate) struct Slow {
 
 impl Slow {
     pub(crate) fn new(alloc: Global, replicas: usize) -> Result<Slow, AllocError> {
+        Slow::of_size(alloc, replicas, 2_097_152)
+    }
+
+    /// On a volume of so many bytes.
+    pub(crate) fn of_size(alloc: Global, replicas: usize, size: usize) -> Result<Slow, AllocError> {
         Ok(Slow {
-            disk: PlainDisk::zeros(alloc, 2_097_152)?,
+            disk: PlainDisk::zeros(alloc, size)?,
             modes: vec![in alloc; Mode::Rw; replicas]?,
             taken: Vec::new(alloc),
             on: None,
@@ -129,9 +134,19 @@ impl Slow {
         if self.mode(replica) == Mode::Err {
             return Ok(());
         }
+        self.change_mode(mark, replica, Mode::Err)
+    }
+
+    /// A mark behind which a replica has that mode.
+    pub(crate) fn change_mode(
+        &mut self,
+        mark: Mark,
+        replica: u8,
+        mode: Mode,
+    ) -> Result<(), AllocError> {
         self.print(&Entry::Mark(mark))?;
-        if let Some(mode) = self.modes.get_mut(usize::from(replica)) {
-            *mode = Mode::Err;
+        if let Some(at) = self.modes.get_mut(usize::from(replica)) {
+            *at = mode;
         }
         Ok(())
     }
@@ -143,6 +158,16 @@ impl Slow {
 
     pub(crate) fn mode(&self, replica: u8) -> Mode {
         *self.modes.get(usize::from(replica)).unwrap_or(&Mode::Err)
+    }
+
+    /// The first replica that is read and written.
+    pub(crate) fn source(&self) -> Option<u8> {
+        for r in 0..8 {
+            if self.mode(r) == Mode::Rw {
+                return Some(r);
+            }
+        }
+        None
     }
 
     /// Answers a call of a stream, and of which frame, where one asks it.
@@ -192,7 +217,11 @@ impl Slow {
         )
     }
 
-    fn print_answer(&mut self, answer: Answer, asked: Option<&Head>) -> Result<(), AllocError> {
+    pub(crate) fn print_answer(
+        &mut self,
+        answer: Answer,
+        asked: Option<&Head>,
+    ) -> Result<(), AllocError> {
         if let Some(asked) = asked {
             print_reply(asked, &answer, &mut self.replies)?;
         }
@@ -209,20 +238,7 @@ impl Slow {
     /// What a command that was done makes of the chain.
     fn follow(&mut self, command: Command) -> Result<(), AllocError> {
         match command {
-            Command::Snapshot(name) => {
-                let name = LayerName::from(name);
-                let parent = self.on;
-                let marked = false;
-                self.taken.insert(
-                    0,
-                    Taken {
-                        name,
-                        parent,
-                        marked,
-                    },
-                )?;
-                self.on = Some(name);
-            }
+            Command::Snapshot(name) => self.take(LayerName::from(name))?,
             Command::Remove(name) => {
                 for taken in &mut self.taken {
                     taken.marked = taken.marked || taken.name == name;
@@ -231,6 +247,22 @@ impl Slow {
             Command::Revert(name) => self.on = Some(name),
             Command::Purge | Command::Status | Command::Fail(_) | Command::Add(_) => (),
         }
+        Ok(())
+    }
+
+    /// The snapshot of the name is taken: it is the newest.
+    pub(crate) fn take(&mut self, name: LayerName) -> Result<(), AllocError> {
+        let parent = self.on;
+        let marked = false;
+        self.taken.insert(
+            0,
+            Taken {
+                name,
+                parent,
+                marked,
+            },
+        )?;
+        self.on = Some(name);
         Ok(())
     }
 
@@ -354,6 +386,9 @@ impl Slow {
 
     /// A line for each replica that is read and written: the digest of its bytes.
     fn print_heads(&mut self) -> Result<(), AllocError> {
+        if self.source().is_none() {
+            return Ok(());
+        }
         let mut digest = Digest::new();
         digest.add(self.disk.bytes());
         let digest = digest.text();
@@ -367,7 +402,7 @@ impl Slow {
 }
 
 /// Whether the text stands somewhere in what was printed.
-fn stands_in(printed: &[u8], text: &[u8]) -> bool {
+pub(crate) fn stands_in(printed: &[u8], text: &[u8]) -> bool {
     for at in 0..printed.len() {
         if printed[at..].starts_with(text) {
             return true;
