@@ -25,7 +25,7 @@ use Rattle.desk_lock.specs.Seats.{known, number_of, last_of, IsSeatOf, IsInTurn,
 use Rattle.desk_lock.proofs.Workers.{may_leave_at, finds_own}
 use Rattle.world_desk.specs.declared.kept.WorldOnDesk.{WorldOnDesk}
 use Rattle.world_desk.specs.Laid.{stream_of, turn_of, call_of, running_of, laid, world_account, IsLater}
-use Rattle.world_desk.proofs.Leaves.{may_leave}
+use Rattle.world_desk.proofs.Leaves.{may_leave, parts_stay}
 use Rattle.world_desk.proofs.Found.{found_later, none_own, has_no_command, still_none}
 use Rattle.stream_steps.specs.Mine.{Mine, OwnCall, IsOwn}
 use Rattle.world_in_hand.specs.Hand.{own_call, is_own, own_entries, mine_in}
@@ -51,7 +51,7 @@ not_own n (entry.Mark (mark.Added q source name)) h = refl
 not_own n (entry.Mark (mark.Promoted q)) h = refl
 not_own n (entry.Mark (mark.Aborted q)) h = refl
 
-none_shown : (n : ℕ) (modes : List Mode) (es : List Entry) → Each (λ e. is_stream n (stream_of e) ≡ false) es → own_entries n modes es ≡ []
+pub none_shown : (n : ℕ) (modes : List Mode) (es : List Entry) → Each (λ e. is_stream n (stream_of e) ≡ false) es → own_entries n modes es ≡ []
 none_shown n modes [] h = refl
 none_shown n modes (e ∷ es) h =
     let more = own_entries n (modes_after_entry modes e) es in
@@ -100,8 +100,9 @@ module _ (d : Desk WorldOnDesk) (s : Seat WorldOnDesk) (n : ℕ) (x : WorldOnDes
 
   -- and leaves it as y
   module _ (turn_seat : Seat WorldOnDesk) (y : WorldOnDesk) (turn : IsInTurn s x turn_seat) (may : MayGo n (laid x) (laid y)) where
-    pub may_go : MayLeave world_account (number_of turn_seat) (last_of turn_seat) y
-    may_go = may_leave_at world_account s turn_seat x y turn (subst (λ m. MayLeave world_account m x y) (sym work.number) (may_leave n x y may))
+    pub may_go : rest_of (laid y) ≡ rest_of (laid x) → MayLeave world_account (number_of turn_seat) (last_of turn_seat) y
+    may_go same = may_leave_at world_account s turn_seat x y turn
+        (subst (λ m. MayLeave world_account m x y) (sym work.number) (may_leave n x y may (parts_stay n (laid x) (laid y) may (ap (λ (r : Rest). r.whole) same))))
 
     -- then the seat is u
     module _ (u : Seat WorldOnDesk) (left : HasLeft turn_seat y u) where
@@ -143,14 +144,14 @@ mode_there s (Some k) ok h = omega (arith, h, ok.on.clients.agree.as_many, lengt
 silent_turns : (n : ℕ) (s : State) → running_of s n ≡ [] → turning s n ≡ []
 silent_turns n s e = none_first (turning s n) (running s n) e
   where
-    none_first : (ms : List (Ticket × MaintCall)) (cs : List (Ticket × OpenCall)) → map turn_of ms ++ map call_of cs ≡ [] → ms ≡ []
+    none_first : (ms : List (Ticket × MaintCall)) (cs : List (Ticket × OpenCall)) → map turn_of ms ++ map (call_of s.whole) cs ≡ [] → ms ≡ []
     none_first [] cs e = refl
     none_first (m ∷ ms) cs e = absurd cc
 
 silent_calls : (n : ℕ) (s : State) → running_of s n ≡ [] → map own_call (running s n) ≡ []
 silent_calls n s e = none_left (turning s n) (running s n) e
   where
-    none_left : (ms : List (Ticket × MaintCall)) (cs : List (Ticket × OpenCall)) → map turn_of ms ++ map call_of cs ≡ [] → map own_call cs ≡ []
+    none_left : (ms : List (Ticket × MaintCall)) (cs : List (Ticket × OpenCall)) → map turn_of ms ++ map (call_of s.whole) cs ≡ [] → map own_call cs ≡ []
     none_left ms [] e = refl
     none_left [] (c ∷ cs) e = absurd cc
     none_left (m ∷ ms) (c ∷ cs) e = absurd cc

@@ -1,10 +1,12 @@
 -- What the holder of a stream's seat finds of its own in the World, after others' steps.
-use Rattle.std.proofs.Common.{◌≡◌, ◌≢◌, ℕ, zero, suc, ◌<◌, Bool, true, false, cond, eqb, List, [], ◌∷◌, ◌++◌, length, map, filter, Some, append-nil, eq-eqb, ne_eqb, sym, refl, ap, ◌∙◌, subst, arith}
+use Rattle.std.proofs.Common.{◌≡◌, ◌≢◌, ℕ, zero, suc, ◌<◌, Bool, true, false, cond, eqb, List, [], ◌∷◌, ◌++◌, length, map, filter, Option, Some, append-nil, eq-eqb, ne_eqb, sym, refl, ap, ◌∙◌, subst, arith}
 use Rattle.std.proofs.lemmas.List.{append_cancel_left}
 use Rattle.volume_model.specs.declared.entry.Entry.{Entry}
 use Rattle.range_turns.specs.declared.ticket.Ticket.{Ticket}
 use Rattle.open_calls.specs.declared.open_call.OpenCall.{OpenCall}
+use Rattle.open_calls.specs.declared.parts.Part.{Part}
 use Rattle.whole_calls.specs.declared.maint.MaintCall.{MaintCall}
+use Rattle.whole_calls.specs.declared.whole.Whole.{Whole}
 use Rattle.whole_calls.specs.Maint.{command_at, HasNoCommand}
 use Rattle.volume_core.specs.State.{State}
 use Rattle.volume_core.specs.Sound.{IsSound}
@@ -12,41 +14,58 @@ use Rattle.volume_core.specs.Streams.{running, turning, commands_in}
 use Rattle.desk_lock.specs.Account.{Each, Finds, is_stream}
 use Rattle.desk_lock.proofs.Lists.{entries_of-append}
 use Rattle.world_desk.specs.declared.kept.WorldOnDesk.{WorldOnDesk}
-use Rattle.world_desk.specs.Laid.{Running, Turn, Call, stream_of, turn_of, call_of, running_of, laid, world_account, IsLater}
+use Rattle.world_desk.specs.Laid.{Running, Turn, Call, stream_of, parts_for, turn_of, call_of, running_of, parts_of, laid, world_account, IsLater}
 
 -- ---- what is open, by its kind
 
 abbrev turns_in : List Running → List (Ticket × MaintCall)
 turns_in [] = []
 turns_in (Turn t c ∷ rs) = (t, c) ∷ turns_in rs
-turns_in (Call t c ∷ rs) = turns_in rs
+turns_in (Call t c ps ∷ rs) = turns_in rs
 
 abbrev calls_of : List Running → List (Ticket × OpenCall)
 calls_of [] = []
 calls_of (Turn t c ∷ rs) = calls_of rs
-calls_of (Call t c ∷ rs) = (t, c) ∷ calls_of rs
+calls_of (Call t c ps ∷ rs) = (t, c) ∷ calls_of rs
 
-turns_in-calls : (cs : List (Ticket × OpenCall)) → turns_in (map call_of cs) ≡ []
-turns_in-calls [] = refl
-turns_in-calls (c ∷ cs) = turns_in-calls cs
+abbrev parts_in : List Running → List (List Part)
+parts_in [] = []
+parts_in (Turn t c ∷ rs) = parts_in rs
+parts_in (Call t c ps ∷ rs) = ps ∷ parts_in rs
 
-turns_in-both : (ms : List (Ticket × MaintCall)) (cs : List (Ticket × OpenCall)) → turns_in (map turn_of ms ++ map call_of cs) ≡ ms
-turns_in-both [] cs = turns_in-calls cs
-turns_in-both (m ∷ ms) cs = ap (λ l. m ∷ l) (turns_in-both ms cs)
+module _ (w : Option Whole) where
+  turns_in-calls : (cs : List (Ticket × OpenCall)) → turns_in (map (call_of w) cs) ≡ []
+  turns_in-calls [] = refl
+  turns_in-calls (c ∷ cs) = turns_in-calls cs
 
-calls_of-calls : (cs : List (Ticket × OpenCall)) → calls_of (map call_of cs) ≡ cs
-calls_of-calls [] = refl
-calls_of-calls (c ∷ cs) = ap (λ l. c ∷ l) (calls_of-calls cs)
+  turns_in-both : (ms : List (Ticket × MaintCall)) (cs : List (Ticket × OpenCall)) → turns_in (map turn_of ms ++ map (call_of w) cs) ≡ ms
+  turns_in-both [] cs = turns_in-calls cs
+  turns_in-both (m ∷ ms) cs = ap (λ l. m ∷ l) (turns_in-both ms cs)
 
-calls_of-both : (ms : List (Ticket × MaintCall)) (cs : List (Ticket × OpenCall)) → calls_of (map turn_of ms ++ map call_of cs) ≡ cs
-calls_of-both [] cs = calls_of-calls cs
-calls_of-both (m ∷ ms) cs = calls_of-both ms cs
+  calls_of-calls : (cs : List (Ticket × OpenCall)) → calls_of (map (call_of w) cs) ≡ cs
+  calls_of-calls [] = refl
+  calls_of-calls (c ∷ cs) = ap (λ l. c ∷ l) (calls_of-calls cs)
+
+  calls_of-both : (ms : List (Ticket × MaintCall)) (cs : List (Ticket × OpenCall)) → calls_of (map turn_of ms ++ map (call_of w) cs) ≡ cs
+  calls_of-both [] cs = calls_of-calls cs
+  calls_of-both (m ∷ ms) cs = calls_of-both ms cs
+
+  parts_in-calls : (cs : List (Ticket × OpenCall)) → parts_in (map (call_of w) cs) ≡ map (λ (p : Ticket × OpenCall). parts_for w p.0) cs
+  parts_in-calls [] = refl
+  parts_in-calls (c ∷ cs) = ap (λ l. parts_for w c.0 ∷ l) (parts_in-calls cs)
+
+  parts_in-both : (ms : List (Ticket × MaintCall)) (cs : List (Ticket × OpenCall)) → parts_in (map turn_of ms ++ map (call_of w) cs) ≡ map (λ (p : Ticket × OpenCall). parts_for w p.0) cs
+  parts_in-both [] cs = parts_in-calls cs
+  parts_in-both (m ∷ ms) cs = parts_in-both ms cs
 
 pub same_turns : (n : ℕ) (s t : State) → running_of t n ≡ running_of s n → turning t n ≡ turning s n
-same_turns n s t e = sym (turns_in-both (turning t n) (running t n)) ∙ ap turns_in e ∙ turns_in-both (turning s n) (running s n)
+same_turns n s t e = sym (turns_in-both t.whole (turning t n) (running t n)) ∙ ap turns_in e ∙ turns_in-both s.whole (turning s n) (running s n)
 
 pub same_calls : (n : ℕ) (s t : State) → running_of t n ≡ running_of s n → running t n ≡ running s n
-same_calls n s t e = sym (calls_of-both (turning t n) (running t n)) ∙ ap calls_of e ∙ calls_of-both (turning s n) (running s n)
+same_calls n s t e = sym (calls_of-both t.whole (turning t n) (running t n)) ∙ ap calls_of e ∙ calls_of-both s.whole (turning s n) (running s n)
+
+pub same_parts : (n : ℕ) (s t : State) → running_of t n ≡ running_of s n → parts_of t n ≡ parts_of s n
+same_parts n s t e = sym (parts_in-both t.whole (turning t n) (running t n)) ∙ ap parts_in e ∙ parts_in-both s.whole (turning s n) (running s n)
 
 -- ---- what came between
 
@@ -77,6 +96,7 @@ found_later n x y f = record {
   added = (f.seen.0, f.seen.1, none_own n f.seen.0 (between_none n (laid x).book.entries (laid y).book.entries f.seen.0 f.seen.1 f.mine));
   calls = same_calls n (laid y) (laid x) f.running;
   turns = same_turns n (laid y) (laid x) f.running;
+  parts = same_parts n (laid y) (laid x) f.running;
 }
 
 -- ---- a stream without a command of the turn

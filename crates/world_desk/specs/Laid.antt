@@ -1,12 +1,14 @@
 -- What a World tells a desk.
-use Rattle.std.specs.Prelude.{◌≡◌, ℕ, false, List, ◌++◌, length, map, Option, Some, None}
+use Rattle.std.specs.Prelude.{◌≡◌, ℕ, ◌==◌, false, List, [], ◌++◌, length, map, if◌then◌else◌, Option, Some, None}
 use Rattle.volume_model.specs.declared.entry.Entry.{Entry}
 use Rattle.volume_model.specs.declared.entry.Entry.TheVariants as entry
 use Rattle.volume_model.specs.declared.mark.Mark.{Mark}
 use Rattle.volume_model.specs.declared.mark.Mark.TheVariants as mark
 use Rattle.range_turns.specs.declared.ticket.Ticket.{Ticket}
 use Rattle.open_calls.specs.declared.open_call.OpenCall.{OpenCall}
+use Rattle.open_calls.specs.declared.parts.Part.{Part}
 use Rattle.whole_calls.specs.declared.maint.MaintCall.{MaintCall}
+use Rattle.whole_calls.specs.declared.whole.Whole.{Whole}
 use Rattle.volume_core.specs.State.{State, state_of}
 use Rattle.volume_core.specs.Sound.{IsSound}
 use Rattle.volume_core.specs.Streams.{running, turning, Origin, origin_of}
@@ -22,20 +24,30 @@ abbrev pub stream_of : Entry → Option ℕ
 stream_of (entry.Answer a) = Some a.stream
 stream_of (entry.Mark m) = stream_of_mark m
 
--- what a stream has open: a command that has the maintenance turn or waits for it, and a call, each with its ticket
+-- how far each replica is with the operation on the whole volume that has started, for the ticket whose it is
+abbrev pub parts_for : Option Whole → Ticket → List Part
+parts_for None t = []
+parts_for (Some w) t = if w.number == t.number then w.parts else []
+
+-- what a stream has open: a command that has the maintenance turn or waits for it, and a call, each with its ticket, and
+-- the call with how far each replica is with it, if it is that operation
 pub data Running : Type 0 where
   Turn : Ticket → MaintCall → Running
-  Call : Ticket → OpenCall → Running
+  Call : Ticket → OpenCall → List Part → Running
 
 abbrev pub turn_of : Ticket × MaintCall → Running
 turn_of p = Turn p.0 p.1
 
-abbrev pub call_of : Ticket × OpenCall → Running
-call_of p = Call p.0 p.1
+abbrev pub call_of : Option Whole → Ticket × OpenCall → Running
+call_of w p = Call p.0 p.1 (parts_for w p.0)
 
 -- all of it, its commands of the turn first
 abbrev pub running_of : State → ℕ → List Running
-running_of s stream = map turn_of (turning s stream) ++ map call_of (running s stream)
+running_of s stream = map turn_of (turning s stream) ++ map (call_of s.whole) (running s stream)
+
+-- how far each replica is with each call of the stream
+abbrev pub parts_of : State → ℕ → List (List Part)
+parts_of s stream = map (λ (p : Ticket × OpenCall). parts_for s.whole p.0) (running s stream)
 
 -- the World on a desk, as lists
 abbrev pub laid : WorldOnDesk → State
@@ -60,3 +72,4 @@ pub record IsLater (stream : ℕ) (s t : State) : Type 0 where
       × Each (λ e. is_stream stream (stream_of e) ≡ false) es
   pub calls : running t stream ≡ running s stream
   pub turns : turning t stream ≡ turning s stream
+  pub parts : parts_of t stream ≡ parts_of s stream

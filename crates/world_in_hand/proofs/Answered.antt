@@ -264,7 +264,7 @@ pub asks_range : (k : Kind) (c : OpenCall) (d : Call) → call_asked k c ≡ d �
 asks_range k c d e blocks w = whole_no_blocks c.op (subst IsOnBlocks (sym (ap (λ j. call_asked j c) (sym w) ∙ e)) blocks)
 
 -- no two have one number
-unique_number : (s : State) → IsSound s → (i j : ℕ) → i < length s.tickets → j < length s.tickets → (ticket_at s.tickets i).number ≡ (ticket_at s.tickets j).number → i ≡ j
+pub unique_number : (s : State) → IsSound s → (i j : ℕ) → i < length s.tickets → j < length s.tickets → (ticket_at s.tickets i).number ≡ (ticket_at s.tickets j).number → i ≡ j
 unique_number s ok i j a b e = ⊎_elim
     (λ (low : i < j). absurd (ok.on.clients.order.numbered i j low b e))
     (λ (high : j ≤ i). ⊎_elim

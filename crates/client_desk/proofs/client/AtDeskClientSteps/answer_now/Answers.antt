@@ -18,7 +18,7 @@ pub answer_now-answer-requires-clause-free : goal.answer_now-answer-requires-cla
 answer_now-answer-requires-clause-free g c = found_free c.args.self.now.desk.now c.args.self.now.seat c.args.self.now.stream c.enter-guard.result.state c.requires.ready c.enter-guard.ensures.state
 
 pub leave-requires-clause-may : goal.leave-requires-clause-may
-leave-requires-clause-may g c = may_go c.args.self.now.desk.now c.args.self.now.seat c.args.self.now.stream c.enter-guard.result.state c.requires.ready c.enter-guard.ensures.state c.enter-guard.result.seat.now (record { world = c.answer_now-answer.new.self }) c.enter-guard.ensures.turn.0 c.answer_now-answer.ensures.may
+leave-requires-clause-may g c = may_go c.args.self.now.desk.now c.args.self.now.seat c.args.self.now.stream c.enter-guard.result.state c.requires.ready c.enter-guard.ensures.state c.enter-guard.result.seat.now (record { world = c.answer_now-answer.new.self }) c.enter-guard.ensures.turn.0 c.answer_now-answer.ensures.may (turns_answered c.args.self.now.stream c.args.call.now (laid c.enter-guard.result.state) (state_of c.answer_now-answer.new.self) c.answer_now-answer.result c.answer_now-answer.ensures.ok c.answer_now-answer.ensures.err)
 
 pub returns-clause-ready : goal.returns-clause-ready
 returns-clause-ready g c = at_work c.args.self.now.desk.now c.args.self.now.seat c.args.self.now.stream c.enter-guard.result.state c.requires.ready c.enter-guard.ensures.state c.enter-guard.result.seat.now (record { world = c.answer_now-answer.new.self }) c.enter-guard.ensures.turn.0 c.answer_now-answer.ensures.may c.leave.new.self.0 c.leave.ensures (turns_answered c.args.self.now.stream c.args.call.now (laid c.enter-guard.result.state) (state_of c.answer_now-answer.new.self) c.answer_now-answer.result c.answer_now-answer.ensures.ok c.answer_now-answer.ensures.err)

@@ -18,7 +18,7 @@ pub apply_write-answer-requires-clause-blocks : goal.apply_write-answer-requires
 apply_write-answer-requires-clause-blocks g c = blocks_at c.args.self.now.stream c.args.t c.requires.writes.0 (laid c.enter-guard.result.state) c.args.blocks.now c.enter-guard.ensures.state.sound (found_own c.args.self.now.desk.now c.args.self.now.seat c.args.self.now.stream c.enter-guard.result.state c.requires.ready c.enter-guard.ensures.state c.args.t c.requires.writes.0 c.requires.writes.1) c.requires.writes.3
 
 pub leave-requires-clause-may : goal.leave-requires-clause-may
-leave-requires-clause-may g c = may_go c.args.self.now.desk.now c.args.self.now.seat c.args.self.now.stream c.enter-guard.result.state c.requires.ready c.enter-guard.ensures.state c.enter-guard.result.seat.now (record { world = c.apply_write-answer.new.self }) c.enter-guard.ensures.turn.0 (found_may c.args.self.now.desk.now c.args.self.now.seat c.args.self.now.stream c.enter-guard.result.state c.requires.ready c.enter-guard.ensures.state c.args.t c.requires.writes.0 (state_of c.apply_write-answer.new.self) c.requires.writes.1 c.apply_write-answer.ensures.may)
+leave-requires-clause-may g c = may_go c.args.self.now.desk.now c.args.self.now.seat c.args.self.now.stream c.enter-guard.result.state c.requires.ready c.enter-guard.ensures.state c.enter-guard.result.seat.now (record { world = c.apply_write-answer.new.self }) c.enter-guard.ensures.turn.0 (found_may c.args.self.now.desk.now c.args.self.now.seat c.args.self.now.stream c.enter-guard.result.state c.requires.ready c.enter-guard.ensures.state c.args.t c.requires.writes.0 (state_of c.apply_write-answer.new.self) c.requires.writes.1 c.apply_write-answer.ensures.may) (turns_wrote c.args.t c.args.replica (laid c.enter-guard.result.state) (state_of c.apply_write-answer.new.self) c.apply_write-answer.result c.apply_write-answer.ensures.ok c.apply_write-answer.ensures.err)
 
 pub returns-clause-ready : goal.returns-clause-ready
 returns-clause-ready g c = at_work c.args.self.now.desk.now c.args.self.now.seat c.args.self.now.stream c.enter-guard.result.state c.requires.ready c.enter-guard.ensures.state c.enter-guard.result.seat.now (record { world = c.apply_write-answer.new.self }) c.enter-guard.ensures.turn.0 (found_may c.args.self.now.desk.now c.args.self.now.seat c.args.self.now.stream c.enter-guard.result.state c.requires.ready c.enter-guard.ensures.state c.args.t c.requires.writes.0 (state_of c.apply_write-answer.new.self) c.requires.writes.1 c.apply_write-answer.ensures.may) c.leave.new.self.0 c.leave.ensures (turns_wrote c.args.t c.args.replica (laid c.enter-guard.result.state) (state_of c.apply_write-answer.new.self) c.apply_write-answer.result c.apply_write-answer.ensures.ok c.apply_write-answer.ensures.err)

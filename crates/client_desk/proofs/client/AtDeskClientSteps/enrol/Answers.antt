@@ -18,7 +18,7 @@ pub enrol-answer-requires-clause-free : goal.enrol-answer-requires-clause-free
 enrol-answer-requires-clause-free g c = found_free c.args.self.now.desk.now c.args.self.now.seat c.args.self.now.stream c.enter-guard.result.state c.requires.ready c.enter-guard.ensures.state
 
 pub leave-requires-clause-may : goal.leave-requires-clause-may
-leave-requires-clause-may g c = may_go c.args.self.now.desk.now c.args.self.now.seat c.args.self.now.stream c.enter-guard.result.state c.requires.ready c.enter-guard.ensures.state c.enter-guard.result.seat.now (record { world = c.enrol-answer.new.self }) c.enter-guard.ensures.turn.0 c.enrol-answer.ensures.may
+leave-requires-clause-may g c = may_go c.args.self.now.desk.now c.args.self.now.seat c.args.self.now.stream c.enter-guard.result.state c.requires.ready c.enter-guard.ensures.state c.enter-guard.result.seat.now (record { world = c.enrol-answer.new.self }) c.enter-guard.ensures.turn.0 c.enrol-answer.ensures.may (turns_enrolled c.args.self.now.stream c.args.call.now (laid c.enter-guard.result.state) (state_of c.enrol-answer.new.self) c.enrol-answer.result c.enrol-answer.ensures.ok c.enrol-answer.ensures.err)
 
 pub returns-clause-ready : goal.returns-clause-ready
 returns-clause-ready g c = at_work c.args.self.now.desk.now c.args.self.now.seat c.args.self.now.stream c.enter-guard.result.state c.requires.ready c.enter-guard.ensures.state c.enter-guard.result.seat.now (record { world = c.enrol-answer.new.self }) c.enter-guard.ensures.turn.0 c.enrol-answer.ensures.may c.leave.new.self.0 c.leave.ensures (turns_enrolled c.args.self.now.stream c.args.call.now (laid c.enter-guard.result.state) (state_of c.enrol-answer.new.self) c.enrol-answer.result c.enrol-answer.ensures.ok c.enrol-answer.ensures.err)

@@ -11,7 +11,7 @@ pub range_of-range-requires-clause-own : goal.range_of-range-requires-clause-own
 range_of-range-requires-clause-own g c = (c.args.self.now.stream, (c.requires.own.0, found_own c.args.self.now.desk.now c.args.self.now.seat c.args.self.now.stream c.enter-guard.result.state c.requires.ready c.enter-guard.ensures.state c.args.t c.requires.own.0 c.requires.own.1))
 
 pub leave-requires-clause-may : goal.leave-requires-clause-may
-leave-requires-clause-may g c = may_go c.args.self.now.desk.now c.args.self.now.seat c.args.self.now.stream c.enter-guard.result.state c.requires.ready c.enter-guard.ensures.state c.enter-guard.result.seat.now c.enter-guard.result.state c.enter-guard.ensures.turn.0 (may_stay c.args.self.now.stream (laid c.enter-guard.result.state) c.enter-guard.ensures.state.sound)
+leave-requires-clause-may g c = may_go c.args.self.now.desk.now c.args.self.now.seat c.args.self.now.stream c.enter-guard.result.state c.requires.ready c.enter-guard.ensures.state c.enter-guard.result.seat.now c.enter-guard.result.state c.enter-guard.ensures.turn.0 (may_stay c.args.self.now.stream (laid c.enter-guard.result.state) c.enter-guard.ensures.state.sound) (refl)
 
 pub returns-clause-ready : goal.returns-clause-ready
 returns-clause-ready g c = at_work c.args.self.now.desk.now c.args.self.now.seat c.args.self.now.stream c.enter-guard.result.state c.requires.ready c.enter-guard.ensures.state c.enter-guard.result.seat.now c.enter-guard.result.state c.enter-guard.ensures.turn.0 (may_stay c.args.self.now.stream (laid c.enter-guard.result.state) c.enter-guard.ensures.state.sound) c.leave.new.self.0 c.leave.ensures (refl)
