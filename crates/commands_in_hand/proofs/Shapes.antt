@@ -25,13 +25,13 @@ use Rattle.commands_in_hand.specs.Hand.{own_turn, own_whole, mine_in, IsAlone, I
 some_none : (x : Ticket × MaintCall) (xs : List (Ticket × MaintCall)) → x ∷ xs ≡ [] → ⊥
 some_none x xs e = cc
 
-with_head : (n : ℕ) (t : Ticket) (c : MaintCall) (ts : List Ticket) (cs : List MaintCall) → c.stream ≡ n → commands_in n (t ∷ ts) (c ∷ cs) ≡ (t, c) ∷ commands_in n ts cs
+pub with_head : (n : ℕ) (t : Ticket) (c : MaintCall) (ts : List Ticket) (cs : List MaintCall) → c.stream ≡ n → commands_in n (t ∷ ts) (c ∷ cs) ≡ (t, c) ∷ commands_in n ts cs
 with_head n t c ts cs e = ap (λ (b : Bool). cond b ((t, c) ∷ commands_in n ts cs) (commands_in n ts cs)) (eq-eqb c.stream n e)
 
-without_head : (n : ℕ) (t : Ticket) (c : MaintCall) (ts : List Ticket) (cs : List MaintCall) → c.stream ≢ n → commands_in n (t ∷ ts) (c ∷ cs) ≡ commands_in n ts cs
+pub without_head : (n : ℕ) (t : Ticket) (c : MaintCall) (ts : List Ticket) (cs : List MaintCall) → c.stream ≢ n → commands_in n (t ∷ ts) (c ∷ cs) ≡ commands_in n ts cs
 without_head n t c ts cs e = ap (λ (b : Bool). cond b ((t, c) ∷ commands_in n ts cs) (commands_in n ts cs)) (ne_eqb c.stream n e)
 
-commands-none : (n : ℕ) (ts : List Ticket) (cs : List MaintCall) (i : ℕ) → commands_in n ts cs ≡ [] → i < length ts → i < length cs → (command_at cs i).stream ≢ n
+pub commands-none : (n : ℕ) (ts : List Ticket) (cs : List MaintCall) (i : ℕ) → commands_in n ts cs ≡ [] → i < length ts → i < length cs → (command_at cs i).stream ≢ n
 commands-none n [] cs i e h k = absurd (omega arith)
 commands-none n (u ∷ ts) [] i e h k = absurd (omega arith)
 commands-none n (u ∷ ts) (c ∷ cs) zero e h k = λ is. some_none (u, c) (commands_in n ts cs) (sym (with_head n u c ts cs is) ∙ e)
@@ -160,15 +160,15 @@ pub record HasOneTurn (n : ℕ) (s : State) (o : OwnCall) : Type 0 where
   pub has : Has n s (p ∷ []) []
   pub is : own_turn p ≡ o
 
-asks_whole : (k : Kind) (c : OpenCall) (d : Command) → call_asked k c ≡ call.Command d → k ≡ kind.Whole
+pub asks_whole : (k : Kind) (c : OpenCall) (d : Command) → call_asked k c ≡ call.Command d → k ≡ kind.Whole
 asks_whole kind.Read c d e = absurd cc
 asks_whole kind.Write c d e = absurd cc
 asks_whole kind.Whole c d e = refl
 
-same_command : (c d : Command) → call.Command c ≡ call.Command d → c ≡ d
+pub same_command : (c d : Command) → call.Command c ≡ call.Command d → c ≡ d
 same_command c d e = cc
 
-asks_op : (k : Kind) (c : OpenCall) (op : WholeOp) → k ≡ kind.Whole → c.op ≡ Some op → call_asked k c ≡ call.Command (command_of op)
+pub asks_op : (k : Kind) (c : OpenCall) (op : WholeOp) → k ≡ kind.Whole → c.op ≡ Some op → call_asked k c ≡ call.Command (command_of op)
 asks_op k c op e is = ap (λ x. call_asked x c) e ∙ ap whole_asked is
 
 -- without a command of the turn no call on the whole volume is of one
@@ -179,7 +179,7 @@ not_of_turn (whole.Revert name) n maint commands asked none wants = omega (arith
 not_of_turn (whole.Purge f) n maint commands asked none wants = omega (arith, asked.some, ap length none)
 not_of_turn (whole.Barrier r) n maint commands asked none wants = omega (arith, asked.some, ap length none)
 
-one_head : (x y : OwnCall) → x ∷ [] ≡ y ∷ [] → x ≡ y
+pub one_head : (x y : OwnCall) → x ∷ [] ≡ y ∷ [] → x ≡ y
 one_head x y e = cc
 
 turn_by : (n : ℕ) (s : State) (o : OwnCall) (c : Command) → IsReady n s → o.call ≡ call.Command c → IsMaint c → (ms : List (Ticket × MaintCall)) (cs : List (Ticket × OpenCall)) → Has n s ms cs
@@ -214,25 +214,25 @@ pub record HasCall (n : ℕ) (s : State) (t : ℕ) (op : WholeOp) (turn : List O
   pub does : q.1.op ≡ Some op
   pub asked : IsAskedBy s.maint s.commands n op
 
-last_one : (turn : List OwnCall) (x o : OwnCall) → x ∷ [] ≡ turn ++ o ∷ [] → ([] ≡ turn) × (x ≡ o)
+pub last_one : (turn : List OwnCall) (x o : OwnCall) → x ∷ [] ≡ turn ++ o ∷ [] → ([] ≡ turn) × (x ≡ o)
 last_one [] x o e = (refl, cc)
 last_one (y ∷ []) x o e = absurd cc
 last_one (y ∷ z ∷ ys) x o e = absurd cc
 
-last_two : (turn : List OwnCall) (w x o : OwnCall) → w ∷ x ∷ [] ≡ turn ++ o ∷ [] → (w ∷ [] ≡ turn) × (x ≡ o)
+pub last_two : (turn : List OwnCall) (w x o : OwnCall) → w ∷ x ∷ [] ≡ turn ++ o ∷ [] → (w ∷ [] ≡ turn) × (x ≡ o)
 last_two [] w x o e = absurd cc
 last_two (y ∷ []) w x o e = (cc, cc)
 last_two (y ∷ z ∷ []) w x o e = absurd cc
 last_two (y ∷ z ∷ v ∷ ys) w x o e = absurd cc
 
-last_some : (turn : List OwnCall) (o : OwnCall) → [] ≡ turn ++ o ∷ [] → ⊥
+pub last_some : (turn : List OwnCall) (o : OwnCall) → [] ≡ turn ++ o ∷ [] → ⊥
 last_some [] o e = cc
 last_some (y ∷ ys) o e = cc
 
-no_op : (op : WholeOp) (x : Option WholeOp) → x ≡ None → x ≡ Some op → ⊥
+pub no_op : (op : WholeOp) (x : Option WholeOp) → x ≡ None → x ≡ Some op → ⊥
 no_op op x e f = cc
 
-same_some : (a b : WholeOp) → Some a ≡ Some b → a ≡ b
+pub same_some : (a b : WholeOp) → Some a ≡ Some b → a ≡ b
 same_some a b e = cc
 
 call_by : (n : ℕ) (s : State) (t : ℕ) (op : WholeOp) (turn : List OwnCall) (o : OwnCall) → IsReady n s → HasWhole t op turn o (mine_in n s) → (ms : List (Ticket × MaintCall)) (q : Ticket × OpenCall) → Has n s ms (q ∷ [])

@@ -302,14 +302,14 @@ over_turn n (whole.Barrier r) z (u ∷ []) own m c asked = (ap (λ ts. remove ts
 over_turn n (whole.Barrier r) z (u ∷ v ∷ ms) own m c asked = absurd own
 
 -- and nothing else changes
-record SameButTurn (z z2 : State) : Type 0 where
-  tickets : z2.tickets ≡ z.tickets
-  calls : z2.calls ≡ z.calls
-  entries : z2.book.entries ≡ z.book.entries
-  origin : origin_of z2 ≡ origin_of z
-  gave_up : gave_up_of z2 ≡ gave_up_of z
+pub record SameButTurn (z z2 : State) : Type 0 where
+  pub tickets : z2.tickets ≡ z.tickets
+  pub calls : z2.calls ≡ z.calls
+  pub entries : z2.book.entries ≡ z.book.entries
+  pub origin : origin_of z2 ≡ origin_of z
+  pub gave_up : gave_up_of z2 ≡ gave_up_of z
 
-over_same : (p : WholeOp) (z : State) → SameButTurn z (turn_over p z)
+pub over_same : (p : WholeOp) (z : State) → SameButTurn z (turn_over p z)
 over_same (whole.Snapshot name) z = record { tickets = refl; calls = refl; entries = refl; origin = refl; gave_up = refl }
 over_same (whole.Remove name) z = record { tickets = refl; calls = refl; entries = refl; origin = refl; gave_up = refl }
 over_same (whole.Revert name) z = record { tickets = refl; calls = refl; entries = refl; origin = refl; gave_up = refl }

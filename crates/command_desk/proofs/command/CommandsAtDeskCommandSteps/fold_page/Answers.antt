@@ -1,0 +1,26 @@
+use Rattle.volume_core.specs.State.{State, state_of}
+use Rattle.world_desk.specs.Laid.{laid}
+use Rattle.stream_steps.specs.Mine.{Mine, OwnCall}
+use Rattle.command_desk.specs.AtDesk.{mine_at}
+use Rattle.command_desk.proofs.AtTurn.{found_in, may_go, at_desk, over}
+use Rattle.std.proofs.Common.{◌≡◌, subst}
+use Rattle.command_text.specs.declared.command.Command.TheVariants as command
+use Rattle.volume_core.specs.Streams.{MayGo}
+use Rattle.stream_steps.specs.Maint.{HasTurn}
+use Rattle.command_desk.proofs.Turns.{turn_stream}
+use Rattle.command_desk.proofs.Wholes.{folds_mine, folds_parts}
+use Rattle.command_desk.proofs.command.CommandsAtDeskCommandSteps.fold_page.Goals as goal
+
+pub leave-requires-clause-may : goal.leave-requires-clause-may
+leave-requires-clause-may g c =
+    may_go c.args.self.now.desk.now c.args.self.now.seat c.args.self.now.stream c.enter-guard.result.state c.requires.ready c.enter-guard.ensures.state c.enter-guard.result.seat.now (record { world = c.fold_in-answer.new.world }) c.enter-guard.ensures.turn.0 (subst (λ k. MayGo k (laid c.enter-guard.result.state) (state_of c.fold_in-answer.new.world)) (turn_stream c.args.self.now.stream c.args.t (laid c.enter-guard.result.state) c.enter-guard.ensures.state.sound command.Purge (found_in c.args.self.now.desk.now c.args.self.now.seat c.args.self.now.stream c.enter-guard.result.state c.requires.ready c.enter-guard.ensures.state (λ (m : Mine). (o : OwnCall) × HasTurn c.args.t command.Purge o m) c.requires.turn).0 (found_in c.args.self.now.desk.now c.args.self.now.seat c.args.self.now.stream c.enter-guard.result.state c.requires.ready c.enter-guard.ensures.state (λ (m : Mine). (o : OwnCall) × HasTurn c.args.t command.Purge o m) c.requires.turn).1) c.fold_in-answer.ensures.may) (folds_parts c.args.self.now.stream c.args.t (laid c.enter-guard.result.state) (state_of c.fold_in-answer.new.world) c.enter-guard.ensures.state.sound (subst (λ k. MayGo k (laid c.enter-guard.result.state) (state_of c.fold_in-answer.new.world)) (turn_stream c.args.self.now.stream c.args.t (laid c.enter-guard.result.state) c.enter-guard.ensures.state.sound command.Purge (found_in c.args.self.now.desk.now c.args.self.now.seat c.args.self.now.stream c.enter-guard.result.state c.requires.ready c.enter-guard.ensures.state (λ (m : Mine). (o : OwnCall) × HasTurn c.args.t command.Purge o m) c.requires.turn).0 (found_in c.args.self.now.desk.now c.args.self.now.seat c.args.self.now.stream c.enter-guard.result.state c.requires.ready c.enter-guard.ensures.state (λ (m : Mine). (o : OwnCall) × HasTurn c.args.t command.Purge o m) c.requires.turn).1) c.fold_in-answer.ensures.may) c.args.replica c.args.page c.args.parent.now c.fold_in-answer.result c.fold_in-answer.ensures.ok c.fold_in-answer.ensures.err)
+
+pub returns-clause-ready : goal.returns-clause-ready
+returns-clause-ready g c =
+    at_desk c.args.self.now.desk.now c.args.self.now.seat c.args.self.now.stream c.enter-guard.result.state c.requires.ready c.enter-guard.ensures.state c.enter-guard.result.seat.now (record { world = c.fold_in-answer.new.world }) c.enter-guard.ensures.turn.0 (subst (λ k. MayGo k (laid c.enter-guard.result.state) (state_of c.fold_in-answer.new.world)) (turn_stream c.args.self.now.stream c.args.t (laid c.enter-guard.result.state) c.enter-guard.ensures.state.sound command.Purge (found_in c.args.self.now.desk.now c.args.self.now.seat c.args.self.now.stream c.enter-guard.result.state c.requires.ready c.enter-guard.ensures.state (λ (m : Mine). (o : OwnCall) × HasTurn c.args.t command.Purge o m) c.requires.turn).0 (found_in c.args.self.now.desk.now c.args.self.now.seat c.args.self.now.stream c.enter-guard.result.state c.requires.ready c.enter-guard.ensures.state (λ (m : Mine). (o : OwnCall) × HasTurn c.args.t command.Purge o m) c.requires.turn).1) c.fold_in-answer.ensures.may) c.leave.new.self.0 c.leave.ensures
+
+pub returns-clause-same : goal.returns-clause-same
+returns-clause-same g c =
+    over c.args.self.now.desk.now c.args.self.now.seat c.args.self.now.stream c.enter-guard.result.state c.requires.ready c.enter-guard.ensures.state c.enter-guard.result.seat.now (record { world = c.fold_in-answer.new.world }) c.enter-guard.ensures.turn.0 (subst (λ k. MayGo k (laid c.enter-guard.result.state) (state_of c.fold_in-answer.new.world)) (turn_stream c.args.self.now.stream c.args.t (laid c.enter-guard.result.state) c.enter-guard.ensures.state.sound command.Purge (found_in c.args.self.now.desk.now c.args.self.now.seat c.args.self.now.stream c.enter-guard.result.state c.requires.ready c.enter-guard.ensures.state (λ (m : Mine). (o : OwnCall) × HasTurn c.args.t command.Purge o m) c.requires.turn).0 (found_in c.args.self.now.desk.now c.args.self.now.seat c.args.self.now.stream c.enter-guard.result.state c.requires.ready c.enter-guard.ensures.state (λ (m : Mine). (o : OwnCall) × HasTurn c.args.t command.Purge o m) c.requires.turn).1) c.fold_in-answer.ensures.may) c.leave.new.self.0 c.leave.ensures
+    (λ (m : Mine) (z : State). mine_at c.args.self.now.stream z ≡ m)
+    (folds_mine c.args.self.now.stream c.args.t (laid c.enter-guard.result.state) (state_of c.fold_in-answer.new.world) c.enter-guard.ensures.state.sound (subst (λ k. MayGo k (laid c.enter-guard.result.state) (state_of c.fold_in-answer.new.world)) (turn_stream c.args.self.now.stream c.args.t (laid c.enter-guard.result.state) c.enter-guard.ensures.state.sound command.Purge (found_in c.args.self.now.desk.now c.args.self.now.seat c.args.self.now.stream c.enter-guard.result.state c.requires.ready c.enter-guard.ensures.state (λ (m : Mine). (o : OwnCall) × HasTurn c.args.t command.Purge o m) c.requires.turn).0 (found_in c.args.self.now.desk.now c.args.self.now.seat c.args.self.now.stream c.enter-guard.result.state c.requires.ready c.enter-guard.ensures.state (λ (m : Mine). (o : OwnCall) × HasTurn c.args.t command.Purge o m) c.requires.turn).1) c.fold_in-answer.ensures.may) c.args.replica c.args.page c.args.parent.now c.fold_in-answer.result c.fold_in-answer.ensures.ok c.fold_in-answer.ensures.err)
