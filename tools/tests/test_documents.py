@@ -9,7 +9,7 @@ import script
 
 TOP = os.path.dirname(os.path.dirname(os.path.abspath(script.__file__)))
 CRATES = os.path.join(TOP, 'crates')
-MOST_README_LINES = 120
+MOST_README_LINES = 110
 MOST_COLUMNS = 120
 
 HEADING = re.compile(r'#{1,6} +(.*?) *#*$')
