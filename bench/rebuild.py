@@ -9,17 +9,17 @@ half. And the most memory that each run has, in MiB.
 """
 import json
 import os
-import statistics
 import struct
 import subprocess
 import sys
 import tempfile
 
+from purge import RUN, middle, printed
+
 MIB = 1 << 20
 BLOCK = 4096
 PAGE = 512 * BLOCK
 PAGES = 32
-RUN = ['run', '--workers', 'one']
 # What is written, in a volume of which size; the first is raced against the peer.
 INPUTS = (('64 MiB of 64 MiB', 64, True), ('64 MiB of 1 GiB', 1024, True),
           ('a block a page, 64 MiB', 64, False), ('a block a page, 1 GiB', 1024, False))
@@ -50,12 +50,6 @@ def keep_script(path, mib, whole, added):
         file.writelines(frames(whole))
 
 
-def printed(program, path):
-    """What a run of a script prints."""
-    with open(path, 'rb') as given:
-        return subprocess.run([program, *RUN], stdin=given, stdout=subprocess.PIPE, check=True).stdout
-
-
 def timed(program, path):
     """How many milliseconds a run of a script keeps a processor busy, and the most MiB that it has."""
     with open(path, 'rb') as given:
@@ -65,12 +59,6 @@ def timed(program, path):
     if run.returncode != 0:
         sys.exit('%s ended with %d' % (program, run.returncode))
     return (usage.ru_utime + usage.ru_stime) * 1e3, usage.ru_maxrss / 1024
-
-
-def middle(values):
-    """The median, with the borders of the middle half."""
-    low, median, high = statistics.quantiles(values, n=4)
-    return '%.2f (%.2f to %.2f)' % (median, low, high)
 
 
 def race(programs, paths, repeats):
