@@ -40,6 +40,10 @@ pub Each-map : {A : Type 0} (P Q : A → Type 0) → ((x : A) → P x → Q x) �
 Each-map P Q f [] h = tt
 Each-map P Q f (x ∷ xs) h = (f x h.0, Each-map P Q f xs h.1)
 
+pub Each-all : {A : Type 0} (P : A → Type 0) → ((x : A) → P x) → (xs : List A) → Each P xs
+Each-all P f [] = tt
+Each-all P f (x ∷ xs) = (f x, Each-all P f xs)
+
 pub Each-zip : {A : Type 0} (P Q T : A → Type 0) → ((x : A) → P x → Q x → T x) → (xs : List A) → Each P xs → Each Q xs → Each T xs
 Each-zip P Q T f [] h g = tt
 Each-zip P Q T f (x ∷ xs) h g = (f x h.0 g.0, Each-zip P Q T f xs h.1 g.1)

@@ -10,7 +10,7 @@ use Rattle.desk_lock.specs.declared.views.Known.{Known}
 use Rattle.desk_lock.specs.declared.views.View.{View}
 use Rattle.desk_lock.specs.declared.views.View.TheVariants.{Spent, Knows}
 use Rattle.desk_lock.specs.declared.views.Stage.TheVariants.{Idle}
-use Rattle.desk_lock.specs.Account.{Account, Finds, IsSilent}
+use Rattle.desk_lock.specs.Account.{Account, Each, Finds, IsSilent}
 use Rattle.desk_lock.specs.Known.{known_with}
 use Rattle.desk_lock.specs.Rule.{number_or, ticket, has_ticket, holds_it, out_of, first_after, newcomer, both_of, Placed}
 use Rattle.desk_lock.proofs.Lists.{Each-map, outs-set, outs-snoc, seats_stay, apart_stays, at_below, at_end, apart_snoc}
@@ -101,6 +101,7 @@ module _ {S Entry OpenCall Origin : Type 0} (account : Account S Entry OpenCall 
         seen = f.seen;
         mine = was.entries ∙ sym before.entries;
         running = was.running ∙ sym before.running;
+        counted = subst (Each (λ c. account.counts_on c v.last r.now)) (sym before.running) tt;
       }
 
       placed_other : (j : ℕ) (u : Known S) → j ≢ id → id ≡ 0 → (m : Option ℕ) → Placed account r.made r.seat_of r.now j u m

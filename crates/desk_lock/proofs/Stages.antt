@@ -13,10 +13,10 @@ use Rattle.desk_lock.specs.declared.views.View.{View}
 use Rattle.desk_lock.specs.declared.views.View.TheVariants.{Spent, Knows}
 use Rattle.desk_lock.specs.declared.views.Stage.{Stage}
 use Rattle.desk_lock.specs.declared.views.Stage.TheVariants.{Idle, Waits, Holds}
-use Rattle.desk_lock.specs.Account.{Account, Finds, IsSilent}
+use Rattle.desk_lock.specs.Account.{Account, running_in, Finds, IsSilent}
 use Rattle.desk_lock.specs.Known.{known_with, FindsEach, Fits}
 use Rattle.desk_lock.specs.Rule.{ticket, holds_it, OnStage, Placed, Seated, Lies, Ruled}
-use Rattle.desk_lock.proofs.Lists.{begins_self}
+use Rattle.desk_lock.proofs.Lists.{begins_self, Each-all}
 
 pub wraps : (n : ℕ) → (n % 2 ^ 64 + 1) % 2 ^ 64 ≡ (n + 1) % 2 ^ 64
 wraps n = omega arith
@@ -95,7 +95,13 @@ module _ {S Entry OpenCall Origin : Type 0} (account : Account S Entry OpenCall 
   Sits = Seated account
 
   pub finds_self : (number : Option ℕ) (x : S) → Finds account number x x
-  finds_self number x = record { same_origin = refl; seen = begins_self (account.journal x); mine = refl; running = refl }
+  finds_self number x = record {
+    same_origin = refl;
+    seen = begins_self (account.journal x);
+    mine = refl;
+    running = refl;
+    counted = Each-all (λ c. account.counts_on c x x) (λ c. account.counts_same c x) (running_in account number x);
+  }
 
   -- what the view of a seat shows of a state that it takes, or that is closed
   pub finds : (served drawn made : ℕ) (seat_of : ℕ → ℕ) (now : S) (homes : List (maybe.Option (Option S))) (j : ℕ) (v : Known S) → Sits served drawn made seat_of now homes j v

@@ -5,7 +5,7 @@ use Rattle.desk_lock.specs.declared.seats.Seat.{Seat}
 use Rattle.desk_lock.specs.Account.{Account, MayAdd, Each, BeginsWith, entries_of, Finds, MayLeave}
 use Rattle.desk_lock.specs.Known.{Fits}
 use Rattle.desk_lock.specs.Seats.{known, number_of, last_of, seen, IsInTurn, HasLeft}
-use Rattle.desk_lock.proofs.Lists.{begins_trans, entries_of-append}
+use Rattle.desk_lock.proofs.Lists.{begins_trans, Each-zip, entries_of-append}
 
 Each-append : {A : Type 0} (P : A → Type 0) (xs ys : List A) → Each P xs → Each P ys → Each P (xs ++ ys)
 Each-append P [] ys a b = b
@@ -53,4 +53,12 @@ module _ {S Entry OpenCall Origin : Type 0} (account : Account S Entry OpenCall 
       Each-append (λ e. MayAdd number (account.stream_of e)) a.added.0 b.added.0 a.added.2 b.added.2,
     );
     others = λ stream other. b.others stream other ∙ a.others stream other;
+    counted = λ stream other. Each-zip
+        (λ c. account.counts_on c x y)
+        (λ c. account.counts_on c y z)
+        (λ c. account.counts_on c x z)
+        (λ c. account.counts_later c x y z)
+        (account.running x stream)
+        (a.counted stream other)
+        (subst (Each (λ c. account.counts_on c y z)) (a.others stream other) (b.counted stream other));
   }

@@ -2,8 +2,9 @@
 use Rattle.std.specs.Prelude.{◌≡◌, ◌≢◌, ℕ, ◌==◌, Bool, false, List, [], ◌∷◌, ◌++◌, filter, Option, Some, None}
 
 -- Of a state: its journal; of which stream an entry is, that whose call it answers or whose line's fault it tells, where
--- other entries are of none; how many streams there are; the calls that a stream has open; what no step changes; and its
--- invariant.
+-- other entries are of none; how many streams there are; the calls that a stream has open; what no step changes; its
+-- invariant; and what an open call may count on, between the state that its stream saw and a later one, whatever others
+-- do: a relation that each state has to itself, and that goes on from state to state.
 pub record Account (S Entry OpenCall Origin : Type 0) : Type 1 where
   pub journal : S → List Entry
   pub stream_of : Entry → Option ℕ
@@ -11,6 +12,10 @@ pub record Account (S Entry OpenCall Origin : Type 0) : Type 1 where
   pub running : S → ℕ → List OpenCall
   pub origin : S → Origin
   pub sound : S → Type 0
+  -- the earlier state first
+  pub counts_on : OpenCall → S → S → Type 0
+  pub counts_same : (c : OpenCall) (x : S) → counts_on c x x
+  pub counts_later : (c : OpenCall) (x y z : S) → counts_on c x y → counts_on c y z → counts_on c x z
 
 -- whether it is that stream
 abbrev pub is_stream : ℕ → Option ℕ → Bool
@@ -47,12 +52,13 @@ module _ {S Entry OpenCall Origin : Type 0} (account : Account S Entry OpenCall 
   running_in (Some stream) x = account.running x stream
 
   -- The seat with this number, which saw the state y, finds x later: with the same origin, all of y's journal in front,
-  -- and of its own just the entries and the open calls that y had.
+  -- of its own just the entries and the open calls that y had, and what each of those calls counts on.
   pub record Finds (number : Option ℕ) (x y : S) : Type 0 where
     pub same_origin : account.origin x ≡ account.origin y
     pub seen : BeginsWith (account.journal x) (account.journal y)
     pub mine : mine_in number x ≡ mine_in number y
     pub running : running_in number x ≡ running_in number y
+    pub counted : Each (λ c. account.counts_on c y x) (running_in number y)
 
   -- the stream has neither entries nor open calls
   pub record IsSilent (stream : ℕ) (x : S) : Type 0 where
@@ -60,10 +66,11 @@ module _ {S Entry OpenCall Origin : Type 0} (account : Account S Entry OpenCall 
     pub running : account.running x stream ≡ []
 
   -- What the holder of the seat with this number may make of the state x: a sound one of the same origin, with entries
-  -- more that are its own or no stream's. Each other stream's open calls stay.
+  -- more that are its own or no stream's. Each other stream's open calls stay, and so does what they count on.
   pub record MayLeave (number : Option ℕ) (x y : S) : Type 0 where
     pub sound : account.sound y
     pub same_origin : account.origin y ≡ account.origin x
     pub added : (es : List Entry) × (account.journal y ≡ account.journal x ++ es)
         × Each (λ e. MayAdd number (account.stream_of e)) es
     pub others : (stream : ℕ) → number ≢ Some stream → account.running y stream ≡ account.running x stream
+    pub counted : (stream : ℕ) → number ≢ Some stream → Each (λ c. account.counts_on c x y) (account.running x stream)
