@@ -1,11 +1,11 @@
 -- What a call of `finish` leaves, for a seat of the stream.
-use Rattle.std.proofs.Common.{◌≡◌, ℕ, List, [], ◌∷◌, ◌++◌, length, get_or, set, Option, Some, None, Result, Ok, Err, OnOk, OnErr, refl, sym, ap, ◌∙◌, subst, append-nil, length-set, get_or-set_other, cond, Bool, eq-eqb}
-use Rattle.desk_lock.specs.Account.{entries_of, Finds, MayLeave}
+use Rattle.std.proofs.Common.{◌≡◌, ◌≢◌, ℕ, List, [], ◌∷◌, ◌++◌, length, get_or, set, Option, Some, None, Result, Ok, Err, OnOk, OnErr, refl, sym, ap, ◌∙◌, subst, append-nil, length-set, get_or-set_other, cond, Bool, eq-eqb}
+use Rattle.desk_lock.specs.Account.{Each, entries_of, Finds, MayLeave}
 use Rattle.desk_lock.specs.Known.{Fits}
 use Rattle.desk_lock.specs.declared.views.Known.{Known}
 use Rattle.desk_lock.specs.declared.seats.Seat.{Seat}
 use Rattle.desk_lock.specs.Seats.{known, number_of, last_of, IsInTurn, HasLeft}
-use Rattle.desk_lock.proofs.Lists.{entries_of-append}
+use Rattle.desk_lock.proofs.Lists.{entries_of-append, Each-all}
 use Rattle.desk_lock.proofs.Workers.{may_leave_at, finds_own}
 use Rattle.desk_trial.specs.declared.book.Book.{Book}
 use Rattle.desk_trial.specs.Books.{book_account, note_of, notes_in, streams_of, calls_in, call_of}
@@ -19,6 +19,9 @@ pub record Finished {E : Type 0} (x y : Book) (n v : ℕ) (r : Result (Unit {0})
 own-one : (n v : ℕ) → entries_of book_account n (note_of n v ∷ []) ≡ note_of n v ∷ []
 own-one n v = ap (λ (b : Bool). cond b (note_of n v ∷ []) []) (eq-eqb n n refl)
 
+counts_on_nothing : (x y : Book) (n : ℕ) → (m : ℕ) → Some n ≢ Some m → Each (λ c. book_account.counts_on c x y) (book_account.running x m)
+counts_on_nothing x y n m other = Each-all (λ c. book_account.counts_on c x y) (λ c. tt) (book_account.running x m)
+
 pub finished : {E : Type 0} (x y : Book) (n v : ℕ) (r : Result (Unit {0}) E) → book_account.sound y → call_of x n ≡ Some v
     → OnOk r ((z : ℕ) → call_of x n ≡ Some z → (y.notes.items ≡ x.notes.items ++ note_of n z ∷ []) × (y.begun.items ≡ set x.begun.items n None))
     → OnErr r ((y.notes.items ≡ x.notes.items) × (y.begun.items ≡ x.begun.items)) → Finished x y n v r
@@ -29,6 +32,7 @@ finished x y n v (Ok u) ok is done err = let t = done v is in record {
     added = (note_of n v ∷ [], t.0, (refl, tt));
     others = λ m other. ap (λ (cs : List (Option ℕ)). calls_in (get_or cs m None)) t.1
         ∙ ap calls_in (get_or-set_other x.begun.items n m None None (λ e. other (ap Some (sym e))));
+    counted = counts_on_nothing x y n;
   };
   inside = ap length t.1 ∙ length-set x.begun.items n None;
   mine = ap (entries_of book_account n) t.0 ∙ (entries_of-append book_account n x.notes.items (note_of n v ∷ []) ∙ ap (λ es. notes_in n x ++ es) (own-one n v));
@@ -40,6 +44,7 @@ finished x y n v (Err e) ok is done err = record {
     same_origin = ap length err.1;
     added = ([], err.0 ∙ sym (append-nil x.notes.items), tt);
     others = λ m other. ap (λ (cs : List (Option ℕ)). calls_in (get_or cs m None)) err.1;
+    counted = counts_on_nothing x y n;
   };
   inside = ap length err.1;
   mine = tt;

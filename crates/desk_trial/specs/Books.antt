@@ -17,7 +17,7 @@ abbrev pub calls_in : Option ℕ → List ℕ
 calls_in None = []
 calls_in (Some value) = value ∷ []
 
--- its journal are its notes, each of one stream
+-- its journal are its notes, each of one stream; a call that was begun counts on nothing more than that it stays
 abbrev pub book_account : Account Book Note ℕ ℕ
 book_account = record {
   journal = λ b. b.notes.items;
@@ -26,6 +26,9 @@ book_account = record {
   running = λ b stream. calls_in (call_at b.begun.items stream);
   origin = λ b. length b.begun.items;
   sound = λ b. length b.notes.items < 2 ^ 64;
+  counts_on = λ value x y. Unit {0};
+  counts_same = λ value x. tt;
+  counts_later = λ value x y z a b. tt;
 }
 
 -- the notes of a stream, in order
