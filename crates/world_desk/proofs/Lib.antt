@@ -1,2 +1,4 @@
+pub mod CountedLemmas
 pub mod Leaves
 pub mod Found
+pub mod Opened

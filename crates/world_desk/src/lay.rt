@@ -4,7 +4,7 @@ ghost use Rattle.desk_lock.specs.declared.views.Stage.TheVariants.{Idle};
 ghost use Rattle.desk_lock.specs.Known.{known_with, Fits};
 ghost use Rattle.desk_lock.specs.Seats.{known, number_of, seats_of, IsSeatOf, HasAll};
 ghost use Rattle.volume_core.specs.State.{state_of};
-ghost use Rattle.volume_core.specs.Sound.{IsSound};
+ghost use Rattle.volume_core.specs.Sound.{IsSound, NoneGaveUp};
 ghost use Rattle.world_desk.specs.Laid.{world_account};
 
 use crate::kept::WorldOnDesk;
@@ -19,6 +19,7 @@ pub fn lay_down(
 ) -> Result<(Desk<WorldOnDesk>, Seat<WorldOnDesk>), AllocError>
     requires sound { IsSound (state_of world) }
     requires blank { (world.journal.entries ≡ []) × (world.turns.tickets ≡ []) × (world.maint.tickets ≡ []) }
+    requires given_up { NoneGaveUp world.gave_up.items }
     requires streams { 1 ≤ length world.indices.items }
     ensures desk { IfOk result (λ r. (seats_of r.0 ≡ length world.indices.items) × IsSeatOf r.0 r.1) }
     ensures seat { IfOk result (λ r. known r.1 ≡ known_with None (record { world = world }) Idle 0 []) }
