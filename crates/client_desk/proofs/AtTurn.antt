@@ -9,10 +9,7 @@ use Rattle.volume_model.specs.Modes.{modes_after, modes_after_entry}
 use Rattle.whole_calls.proofs.Forms.{length-forms}
 use Rattle.whole_calls.specs.Maint.{HasNoCommand}
 use Rattle.open_calls.specs.Clients.{IsIdle}
-use Rattle.range_turns.specs.declared.ticket.Ticket.{Ticket}
-use Rattle.open_calls.specs.declared.open_call.OpenCall.{OpenCall}
-use Rattle.whole_calls.specs.declared.maint.MaintCall.{MaintCall}
-use Rattle.volume_core.specs.State.{State, modes_in}
+use Rattle.volume_core.specs.State.{State, modes_in, gave_up_at}
 use Rattle.volume_core.specs.Sound.{IsSound}
 use Rattle.volume_core.specs.Streams.{Origin, MayGo, ForOwner, running, turning}
 use Rattle.volume_core.specs.Answers.{IsRoomier}
@@ -24,9 +21,11 @@ use Rattle.desk_lock.specs.Known.{Fits}
 use Rattle.desk_lock.specs.Seats.{known, number_of, last_of, IsSeatOf, IsInTurn, HasLeft}
 use Rattle.desk_lock.proofs.Workers.{may_leave_at, finds_own}
 use Rattle.world_desk.specs.declared.kept.WorldOnDesk.{WorldOnDesk}
-use Rattle.world_desk.specs.Laid.{stream_of, turn_of, call_of, running_of, laid, world_account, IsLater}
+use Rattle.world_desk.specs.Laid.{stream_of, laid, world_account, IsLater}
+use Rattle.world_desk.specs.Counted.{IsRebuildKept}
+use Rattle.world_desk.proofs.CountedLemmas.{others_kept}
 use Rattle.world_desk.proofs.Leaves.{may_leave, parts_stay}
-use Rattle.world_desk.proofs.Found.{found_later, none_own, has_no_command, still_none}
+use Rattle.world_desk.proofs.Found.{found_later, none_own, none_turning, none_running, gave_none_up, has_no_command, still_none}
 use Rattle.stream_steps.specs.Mine.{Mine, OwnCall, IsOwn}
 use Rattle.world_in_hand.specs.Hand.{own_call, is_own, own_entries, mine_in}
 use Rattle.world_in_hand.proofs.OwnLemmas.{own-append, idle_from, open_from, only_open, same_streams}
@@ -85,6 +84,9 @@ module _ (d : Desk WorldOnDesk) (s : Seat WorldOnDesk) (n : ℕ) (x : WorldOnDes
   pub found_turns : turning (laid x) n ≡ []
   found_turns = later.turns ∙ work.turns
 
+  found_kept : gave_up_at (laid x).gave_up n ≡ false
+  found_kept = later.gave_up ∙ work.gave_up
+
   pub found_free : HasNoCommand n (laid x).commands
   found_free = has_no_command n (laid x) fits.sound found_turns
 
@@ -100,9 +102,10 @@ module _ (d : Desk WorldOnDesk) (s : Seat WorldOnDesk) (n : ℕ) (x : WorldOnDes
 
   -- and leaves it as y
   module _ (turn_seat : Seat WorldOnDesk) (y : WorldOnDesk) (turn : IsInTurn s x turn_seat) (may : MayGo n (laid x) (laid y)) where
-    pub may_go : rest_of (laid y) ≡ rest_of (laid x) → MayLeave world_account (number_of turn_seat) (last_of turn_seat) y
-    may_go same = may_leave_at world_account s turn_seat x y turn
-        (subst (λ m. MayLeave world_account m x y) (sym work.number) (may_leave n x y may (parts_stay n (laid x) (laid y) may (ap (λ (r : Rest). r.whole) same))))
+    pub may_go : rest_of (laid y) ≡ rest_of (laid x) → IsRebuildKept (laid x).rebuild (laid x) (laid y) → MayLeave world_account (number_of turn_seat) (last_of turn_seat) y
+    may_go same kept = may_leave_at world_account s turn_seat x y turn
+        (subst (λ m. MayLeave world_account m x y) (sym work.number)
+        (may_leave n x y may (parts_stay n (laid x) (laid y) may (ap (λ (r : Rest). r.whole) same)) (others_kept n (laid x) (laid y) kept)))
 
     -- then the seat is u
     module _ (u : Seat WorldOnDesk) (left : HasLeft turn_seat y u) where
@@ -115,6 +118,7 @@ module _ (d : Desk WorldOnDesk) (s : Seat WorldOnDesk) (n : ℕ) (x : WorldOnDes
         number = ap (λ (k : Known WorldOnDesk). k.number) left.1 ∙ (ap (λ (k : Known WorldOnDesk). k.number) turn.1.1 ∙ work.number);
         there = subst (λ (w : WorldOnDesk). n < length (laid w).indices) (sym last_is) (subst (λ k. n < k) (sym (same_streams n (laid x) (laid y) may)) found_there);
         turns = subst (λ (w : WorldOnDesk). turning (laid w) n ≡ []) (sym last_is) (still_none n (laid x) (laid y) fits.sound (ap (λ (r : Rest). r.commands) same) found_turns);
+        gave_up = subst (λ (w : WorldOnDesk). gave_up_at (laid w).gave_up n ≡ false) (sym last_is) (ap (λ (r : Rest). gave_up_at r.gave_up n) same ∙ found_kept);
       }
 
       -- what is so of the World in the turn is so of what the seat knew and knows
@@ -141,23 +145,8 @@ mode_there s (Some k) ok h = omega (arith, h, ok.on.clients.agree.as_many, lengt
 
 -- ---- a stream that has done nothing
 
-silent_turns : (n : ℕ) (s : State) → running_of s n ≡ [] → turning s n ≡ []
-silent_turns n s e = none_first (turning s n) (running s n) e
-  where
-    none_first : (ms : List (Ticket × MaintCall)) (cs : List (Ticket × OpenCall)) → map turn_of ms ++ map (call_of s.whole) cs ≡ [] → ms ≡ []
-    none_first [] cs e = refl
-    none_first (m ∷ ms) cs e = absurd cc
-
-silent_calls : (n : ℕ) (s : State) → running_of s n ≡ [] → map own_call (running s n) ≡ []
-silent_calls n s e = none_left (turning s n) (running s n) e
-  where
-    none_left : (ms : List (Ticket × MaintCall)) (cs : List (Ticket × OpenCall)) → map turn_of ms ++ map (call_of s.whole) cs ≡ [] → map own_call cs ≡ []
-    none_left ms [] e = refl
-    none_left [] (c ∷ cs) e = absurd cc
-    none_left (m ∷ ms) (c ∷ cs) e = absurd cc
-
 pub silent_idle : (n : ℕ) (x : WorldOnDesk) → IsSilent world_account n x → (mine_at n (laid x)).running ≡ []
-silent_idle n x silent = silent_calls n (laid x) silent.running
+silent_idle n x silent = ap (map own_call) (none_running n (laid x) silent.running)
 
 pub silent_none : (n : ℕ) (x : WorldOnDesk) → IsSilent world_account n x → (mine_at n (laid x)).entries ≡ []
 silent_none n x silent = none_shown n (laid x).book.opening.modes (laid x).book.entries (none_own n (laid x).book.entries silent.entries)
@@ -167,5 +156,6 @@ silent_at d s n x seat number last there silent = record {
   seat = seat;
   number = number;
   there = subst (λ (w : WorldOnDesk). n < length (laid w).indices) (sym last) there;
-  turns = subst (λ (w : WorldOnDesk). turning (laid w) n ≡ []) (sym last) (silent_turns n (laid x) silent.running);
+  turns = subst (λ (w : WorldOnDesk). turning (laid w) n ≡ []) (sym last) (none_turning n (laid x) silent.running);
+  gave_up = subst (λ (w : WorldOnDesk). gave_up_at (laid w).gave_up n ≡ false) (sym last) (gave_none_up n (laid x) silent.running);
 }

@@ -1,2 +1,3 @@
 pub mod Unlogged
+pub mod RebuildKept
 pub mod AtTurn

@@ -5,23 +5,30 @@ ghost use Rattle.desk_lock.specs.Seats.{known, number_of, last_of, made_of, seat
 ghost use Rattle.world_desk.specs.Laid.{laid};
 ghost use Rattle.client_desk.specs.AtDesk.{mine_at, IsAtWork};
 
+use outer_traits::Gate;
 use world_desk::{Desk, Seat, WorldOnDesk};
 
 /// A stream's seat at a desk, in the hands of the worker that serves the stream.
 #[derive(Drop)]
-pub struct AtDesk<'d> {
+pub struct AtDesk<'d, G> {
     pub desk: &'d Desk<WorldOnDesk>,
     pub seat: Seat<WorldOnDesk>,
+    /// The worker has the same number.
     pub stream: u8,
+    /// What the worker passes on its way, outside of its turns.
+    pub gate: &'d G,
+    /// How many calls of the stream were answered here, modulo 2^64.
+    pub ended: u64,
 }
 
-impl<'d> AtDesk<'d> {
+impl<'d, G: Gate> AtDesk<'d, G> {
     /// Splits the seat of the next stream off the first. The stream has done nothing yet.
     pub fn split_off(
         desk: &'d Desk<WorldOnDesk>,
         first: &mut Seat<WorldOnDesk>,
         stream: u8,
-    ) -> AtDesk<'d>
+        gate: &'d G,
+    ) -> AtDesk<'d, G>
         requires seat { IsSeatOf desk.now first.old × (number_of first.old ≡ None) }
         requires room { made_of first.old < seats_of desk.now }
         requires next { stream ≡ made_of first.old }
@@ -35,6 +42,12 @@ impl<'d> AtDesk<'d> {
         ensures none { (mine_at stream (laid (last_of first.old))).entries ≡ [] }
     {
         let seat = desk.split(first);
-        AtDesk { desk, seat, stream }
+        AtDesk {
+            desk,
+            seat,
+            stream,
+            gate,
+            ended: 0,
+        }
     }
 }

@@ -6,12 +6,14 @@ ghost use Rattle.stream_steps.specs.Mine.{OwnCall, IsOwn};
 ghost use Rattle.world_in_hand.specs.Hand.{mine_in};
 
 use crate::at_desk::AtDesk;
+use crate::passing::{pass_admitted, pass_answered, pass_enrolled};
+use outer_traits::Gate;
 use std::alloc::{AllocError, Global};
 use std::sync::Wait;
 use stream_steps::ClientSteps;
 use volume_core::{Admit, BlockRange, Blocks, Call, Enrolled, Mode, NotThis, TicketNumber, World};
 
-impl<'d> ClientSteps for AtDesk<'d> {
+impl<'d, G: Gate> ClientSteps for AtDesk<'d, G> {
     ghost use Rattle.std.specs.Prelude.{ℕ};
     ghost use Rattle.volume_core.specs.State.{modes_in};
     ghost use Rattle.desk_lock.specs.declared.seats.Desk.{Desk};
@@ -39,6 +41,7 @@ impl<'d> ClientSteps for AtDesk<'d> {
         let mut guard = self.desk.enter(rt, &mut self.seat);
         let answer = guard.state.world.answer_now(alloc, self.stream, call);
         guard.leave();
+        pass_answered(self.gate, self.stream, &mut self.ended, &answer);
         answer
     }
 
@@ -51,6 +54,7 @@ impl<'d> ClientSteps for AtDesk<'d> {
         let mut guard = self.desk.enter(rt, &mut self.seat);
         let answer = guard.state.world.enrol(alloc, self.stream, call);
         guard.leave();
+        pass_enrolled(self.gate, self.stream, &mut self.ended, &answer);
         answer
     }
 
@@ -70,6 +74,7 @@ impl<'d> ClientSteps for AtDesk<'d> {
         let mut guard = self.desk.enter(rt, &mut self.seat);
         let answer = guard.state.world.admit(alloc, t);
         guard.leave();
+        pass_admitted(self.gate, self.stream, &mut self.ended, &answer);
         answer
     }
 
@@ -149,6 +154,7 @@ impl<'d> ClientSteps for AtDesk<'d> {
         let mut guard = self.desk.enter(rt, &mut self.seat);
         let answer = guard.state.world.complete(t);
         guard.leave();
+        pass_answered(self.gate, self.stream, &mut self.ended, &answer);
         answer
     }
 }

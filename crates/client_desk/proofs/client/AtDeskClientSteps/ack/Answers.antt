@@ -11,12 +11,13 @@ use Rattle.world_in_hand.proofs.Answered.{acks_mine}
 use Rattle.world_in_hand.proofs.AgainstLemmas.{acks_why}
 use Rattle.world_in_hand.proofs.Turns.{turns_acked}
 use Rattle.client_desk.specs.AtDesk.{mine_at}
+use Rattle.client_desk.proofs.RebuildKept.{kept_acked}
 use Rattle.client_desk.proofs.AtTurn.{found_own, found_may, may_go, at_work, over, unchanged}
 use Rattle.client_desk.proofs.Unlogged.{hidden_acks, hidden_why}
 use Rattle.client_desk.proofs.client.AtDeskClientSteps.ack.Goals as goal
 
 pub leave-requires-clause-may : goal.leave-requires-clause-may
-leave-requires-clause-may g c = may_go c.args.self.now.desk.now c.args.self.now.seat c.args.self.now.stream c.enter-guard.result.state c.requires.ready c.enter-guard.ensures.state c.enter-guard.result.seat.now (record { world = c.ack-answer.new.self }) c.enter-guard.ensures.turn.0 (found_may c.args.self.now.desk.now c.args.self.now.seat c.args.self.now.stream c.enter-guard.result.state c.requires.ready c.enter-guard.ensures.state c.args.t c.requires.started.0 (state_of c.ack-answer.new.self) c.requires.started.1 c.ack-answer.ensures.may) (turns_acked c.args.t c.args.replica (laid c.enter-guard.result.state) (state_of c.ack-answer.new.self) c.ack-answer.result c.ack-answer.ensures.ok c.ack-answer.ensures.err)
+leave-requires-clause-may g c = may_go c.args.self.now.desk.now c.args.self.now.seat c.args.self.now.stream c.enter-guard.result.state c.requires.ready c.enter-guard.ensures.state c.enter-guard.result.seat.now (record { world = c.ack-answer.new.self }) c.enter-guard.ensures.turn.0 (found_may c.args.self.now.desk.now c.args.self.now.seat c.args.self.now.stream c.enter-guard.result.state c.requires.ready c.enter-guard.ensures.state c.args.t c.requires.started.0 (state_of c.ack-answer.new.self) c.requires.started.1 c.ack-answer.ensures.may) (turns_acked c.args.t c.args.replica (laid c.enter-guard.result.state) (state_of c.ack-answer.new.self) c.ack-answer.result c.ack-answer.ensures.ok c.ack-answer.ensures.err) (kept_acked c.args.t c.args.replica (laid c.enter-guard.result.state) (state_of c.ack-answer.new.self) c.ack-answer.result c.ack-answer.ensures.ok c.ack-answer.ensures.err)
 
 pub returns-clause-ready : goal.returns-clause-ready
 returns-clause-ready g c = at_work c.args.self.now.desk.now c.args.self.now.seat c.args.self.now.stream c.enter-guard.result.state c.requires.ready c.enter-guard.ensures.state c.enter-guard.result.seat.now (record { world = c.ack-answer.new.self }) c.enter-guard.ensures.turn.0 (found_may c.args.self.now.desk.now c.args.self.now.seat c.args.self.now.stream c.enter-guard.result.state c.requires.ready c.enter-guard.ensures.state c.args.t c.requires.started.0 (state_of c.ack-answer.new.self) c.requires.started.1 c.ack-answer.ensures.may) c.leave.new.self.0 c.leave.ensures (turns_acked c.args.t c.args.replica (laid c.enter-guard.result.state) (state_of c.ack-answer.new.self) c.ack-answer.result c.ack-answer.ensures.ok c.ack-answer.ensures.err)

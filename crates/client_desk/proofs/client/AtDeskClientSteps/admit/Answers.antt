@@ -8,6 +8,7 @@ use Rattle.world_in_hand.proofs.OwnLemmas.{open_from}
 use Rattle.world_in_hand.proofs.Answered.{admits_mine, admit_owners, waits_at}
 use Rattle.world_in_hand.proofs.Turns.{turns_admitted}
 use Rattle.client_desk.specs.AtDesk.{mine_at}
+use Rattle.client_desk.proofs.RebuildKept.{kept_admitted}
 use Rattle.client_desk.proofs.AtTurn.{found_own, found_may, may_go, at_work, over, roomier}
 use Rattle.client_desk.proofs.Unlogged.{hidden_admits}
 use Rattle.client_desk.proofs.client.AtDeskClientSteps.admit.Goals as goal
@@ -16,7 +17,7 @@ pub admit-answer-requires-clause-waits : goal.admit-answer-requires-clause-waits
 admit-answer-requires-clause-waits g c = waits_at c.args.self.now.stream c.args.t c.requires.waits.0 (laid c.enter-guard.result.state) c.enter-guard.ensures.state.sound (found_own c.args.self.now.desk.now c.args.self.now.seat c.args.self.now.stream c.enter-guard.result.state c.requires.ready c.enter-guard.ensures.state c.args.t c.requires.waits.0 c.requires.waits.1) c.requires.waits.2
 
 pub leave-requires-clause-may : goal.leave-requires-clause-may
-leave-requires-clause-may g c = may_go c.args.self.now.desk.now c.args.self.now.seat c.args.self.now.stream c.enter-guard.result.state c.requires.ready c.enter-guard.ensures.state c.enter-guard.result.seat.now (record { world = c.admit-answer.new.self }) c.enter-guard.ensures.turn.0 (found_may c.args.self.now.desk.now c.args.self.now.seat c.args.self.now.stream c.enter-guard.result.state c.requires.ready c.enter-guard.ensures.state c.args.t c.requires.waits.0 (state_of c.admit-answer.new.self) c.requires.waits.1 c.admit-answer.ensures.may) (turns_admitted c.args.t (laid c.enter-guard.result.state) (state_of c.admit-answer.new.self) c.admit-answer.result c.admit-answer.ensures.ok c.admit-answer.ensures.err)
+leave-requires-clause-may g c = may_go c.args.self.now.desk.now c.args.self.now.seat c.args.self.now.stream c.enter-guard.result.state c.requires.ready c.enter-guard.ensures.state c.enter-guard.result.seat.now (record { world = c.admit-answer.new.self }) c.enter-guard.ensures.turn.0 (found_may c.args.self.now.desk.now c.args.self.now.seat c.args.self.now.stream c.enter-guard.result.state c.requires.ready c.enter-guard.ensures.state c.args.t c.requires.waits.0 (state_of c.admit-answer.new.self) c.requires.waits.1 c.admit-answer.ensures.may) (turns_admitted c.args.t (laid c.enter-guard.result.state) (state_of c.admit-answer.new.self) c.admit-answer.result c.admit-answer.ensures.ok c.admit-answer.ensures.err) (kept_admitted c.args.t (laid c.enter-guard.result.state) (state_of c.admit-answer.new.self) c.admit-answer.result c.admit-answer.ensures.ok c.admit-answer.ensures.err)
 
 pub returns-clause-ready : goal.returns-clause-ready
 returns-clause-ready g c = at_work c.args.self.now.desk.now c.args.self.now.seat c.args.self.now.stream c.enter-guard.result.state c.requires.ready c.enter-guard.ensures.state c.enter-guard.result.seat.now (record { world = c.admit-answer.new.self }) c.enter-guard.ensures.turn.0 (found_may c.args.self.now.desk.now c.args.self.now.seat c.args.self.now.stream c.enter-guard.result.state c.requires.ready c.enter-guard.ensures.state c.args.t c.requires.waits.0 (state_of c.admit-answer.new.self) c.requires.waits.1 c.admit-answer.ensures.may) c.leave.new.self.0 c.leave.ensures (turns_admitted c.args.t (laid c.enter-guard.result.state) (state_of c.admit-answer.new.self) c.admit-answer.result c.admit-answer.ensures.ok c.admit-answer.ensures.err)

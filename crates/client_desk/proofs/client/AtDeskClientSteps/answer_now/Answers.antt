@@ -7,6 +7,7 @@ use Rattle.world_in_hand.specs.Hand.{mine_in}
 use Rattle.world_in_hand.proofs.Answered.{nows_mine, now_uncarried}
 use Rattle.world_in_hand.proofs.Turns.{turns_answered}
 use Rattle.client_desk.specs.AtDesk.{mine_at}
+use Rattle.client_desk.proofs.RebuildKept.{kept_now}
 use Rattle.client_desk.proofs.AtTurn.{found_free, found_idle, may_go, at_work, over, unchanged}
 use Rattle.client_desk.proofs.Unlogged.{hidden_now}
 use Rattle.client_desk.proofs.client.AtDeskClientSteps.answer_now.Goals as goal
@@ -18,7 +19,7 @@ pub answer_now-answer-requires-clause-free : goal.answer_now-answer-requires-cla
 answer_now-answer-requires-clause-free g c = found_free c.args.self.now.desk.now c.args.self.now.seat c.args.self.now.stream c.enter-guard.result.state c.requires.ready c.enter-guard.ensures.state
 
 pub leave-requires-clause-may : goal.leave-requires-clause-may
-leave-requires-clause-may g c = may_go c.args.self.now.desk.now c.args.self.now.seat c.args.self.now.stream c.enter-guard.result.state c.requires.ready c.enter-guard.ensures.state c.enter-guard.result.seat.now (record { world = c.answer_now-answer.new.self }) c.enter-guard.ensures.turn.0 c.answer_now-answer.ensures.may (turns_answered c.args.self.now.stream c.args.call.now (laid c.enter-guard.result.state) (state_of c.answer_now-answer.new.self) c.answer_now-answer.result c.answer_now-answer.ensures.ok c.answer_now-answer.ensures.err)
+leave-requires-clause-may g c = may_go c.args.self.now.desk.now c.args.self.now.seat c.args.self.now.stream c.enter-guard.result.state c.requires.ready c.enter-guard.ensures.state c.enter-guard.result.seat.now (record { world = c.answer_now-answer.new.self }) c.enter-guard.ensures.turn.0 c.answer_now-answer.ensures.may (turns_answered c.args.self.now.stream c.args.call.now (laid c.enter-guard.result.state) (state_of c.answer_now-answer.new.self) c.answer_now-answer.result c.answer_now-answer.ensures.ok c.answer_now-answer.ensures.err) (kept_now c.args.self.now.stream c.args.call.now (laid c.enter-guard.result.state) (state_of c.answer_now-answer.new.self) c.answer_now-answer.result c.answer_now-answer.ensures.ok c.answer_now-answer.ensures.err)
 
 pub returns-clause-ready : goal.returns-clause-ready
 returns-clause-ready g c = at_work c.args.self.now.desk.now c.args.self.now.seat c.args.self.now.stream c.enter-guard.result.state c.requires.ready c.enter-guard.ensures.state c.enter-guard.result.seat.now (record { world = c.answer_now-answer.new.self }) c.enter-guard.ensures.turn.0 c.answer_now-answer.ensures.may c.leave.new.self.0 c.leave.ensures (turns_answered c.args.self.now.stream c.args.call.now (laid c.enter-guard.result.state) (state_of c.answer_now-answer.new.self) c.answer_now-answer.result c.answer_now-answer.ensures.ok c.answer_now-answer.ensures.err)

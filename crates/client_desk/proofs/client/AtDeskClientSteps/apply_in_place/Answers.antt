@@ -10,12 +10,13 @@ use Rattle.world_in_hand.proofs.Answered.{placed_mine, not_placed}
 use Rattle.world_in_hand.proofs.AgainstLemmas.{takes_why}
 use Rattle.world_in_hand.proofs.Turns.{turns_placed}
 use Rattle.client_desk.specs.AtDesk.{without_log, mine_at}
+use Rattle.client_desk.proofs.RebuildKept.{kept_placed}
 use Rattle.client_desk.proofs.AtTurn.{found_own, found_may, may_go, at_work, over, unchanged}
 use Rattle.client_desk.proofs.Unlogged.{own_shown}
 use Rattle.client_desk.proofs.client.AtDeskClientSteps.apply_in_place.Goals as goal
 
 pub leave-requires-clause-may : goal.leave-requires-clause-may
-leave-requires-clause-may g c = may_go c.args.self.now.desk.now c.args.self.now.seat c.args.self.now.stream c.enter-guard.result.state c.requires.ready c.enter-guard.ensures.state c.enter-guard.result.seat.now (record { world = c.apply_in_place-answer.new.self }) c.enter-guard.ensures.turn.0 (found_may c.args.self.now.desk.now c.args.self.now.seat c.args.self.now.stream c.enter-guard.result.state c.requires.ready c.enter-guard.ensures.state c.args.t c.requires.writes.0 (state_of c.apply_in_place-answer.new.self) c.requires.writes.1 c.apply_in_place-answer.ensures.may) (turns_placed c.args.t c.args.replica (laid c.enter-guard.result.state) (state_of c.apply_in_place-answer.new.self) c.apply_in_place-answer.result c.apply_in_place-answer.ensures.ok c.apply_in_place-answer.ensures.err)
+leave-requires-clause-may g c = may_go c.args.self.now.desk.now c.args.self.now.seat c.args.self.now.stream c.enter-guard.result.state c.requires.ready c.enter-guard.ensures.state c.enter-guard.result.seat.now (record { world = c.apply_in_place-answer.new.self }) c.enter-guard.ensures.turn.0 (found_may c.args.self.now.desk.now c.args.self.now.seat c.args.self.now.stream c.enter-guard.result.state c.requires.ready c.enter-guard.ensures.state c.args.t c.requires.writes.0 (state_of c.apply_in_place-answer.new.self) c.requires.writes.1 c.apply_in_place-answer.ensures.may) (turns_placed c.args.t c.args.replica (laid c.enter-guard.result.state) (state_of c.apply_in_place-answer.new.self) c.apply_in_place-answer.result c.apply_in_place-answer.ensures.ok c.apply_in_place-answer.ensures.err) (kept_placed c.args.t c.args.replica (laid c.enter-guard.result.state) (state_of c.apply_in_place-answer.new.self) c.apply_in_place-answer.result c.apply_in_place-answer.ensures.ok c.apply_in_place-answer.ensures.err)
 
 pub returns-clause-ready : goal.returns-clause-ready
 returns-clause-ready g c = at_work c.args.self.now.desk.now c.args.self.now.seat c.args.self.now.stream c.enter-guard.result.state c.requires.ready c.enter-guard.ensures.state c.enter-guard.result.seat.now (record { world = c.apply_in_place-answer.new.self }) c.enter-guard.ensures.turn.0 (found_may c.args.self.now.desk.now c.args.self.now.seat c.args.self.now.stream c.enter-guard.result.state c.requires.ready c.enter-guard.ensures.state c.args.t c.requires.writes.0 (state_of c.apply_in_place-answer.new.self) c.requires.writes.1 c.apply_in_place-answer.ensures.may) c.leave.new.self.0 c.leave.ensures (turns_placed c.args.t c.args.replica (laid c.enter-guard.result.state) (state_of c.apply_in_place-answer.new.self) c.apply_in_place-answer.result c.apply_in_place-answer.ensures.ok c.apply_in_place-answer.ensures.err)

@@ -10,6 +10,7 @@ use Rattle.world_in_hand.proofs.Answered.{reads_mine, buffer_at}
 use Rattle.world_in_hand.proofs.AgainstLemmas.{gives_why}
 use Rattle.world_in_hand.proofs.Turns.{turns_read}
 use Rattle.client_desk.specs.AtDesk.{mine_at}
+use Rattle.client_desk.proofs.RebuildKept.{kept_read}
 use Rattle.client_desk.proofs.AtTurn.{found_own, found_may, may_go, at_work, over, unchanged}
 use Rattle.client_desk.proofs.Unlogged.{hidden_gives}
 use Rattle.client_desk.proofs.client.AtDeskClientSteps.apply_read.Goals as goal
@@ -18,7 +19,7 @@ pub apply_read-answer-requires-clause-into : goal.apply_read-answer-requires-cla
 apply_read-answer-requires-clause-into g c = buffer_at c.args.self.now.stream c.args.t c.requires.reads.0 (laid c.enter-guard.result.state) c.args.into.now c.enter-guard.ensures.state.sound (found_own c.args.self.now.desk.now c.args.self.now.seat c.args.self.now.stream c.enter-guard.result.state c.requires.ready c.enter-guard.ensures.state c.args.t c.requires.reads.0 c.requires.reads.1) c.requires.reads.3
 
 pub leave-requires-clause-may : goal.leave-requires-clause-may
-leave-requires-clause-may g c = may_go c.args.self.now.desk.now c.args.self.now.seat c.args.self.now.stream c.enter-guard.result.state c.requires.ready c.enter-guard.ensures.state c.enter-guard.result.seat.now (record { world = c.apply_read-answer.new.self }) c.enter-guard.ensures.turn.0 (found_may c.args.self.now.desk.now c.args.self.now.seat c.args.self.now.stream c.enter-guard.result.state c.requires.ready c.enter-guard.ensures.state c.args.t c.requires.reads.0 (state_of c.apply_read-answer.new.self) c.requires.reads.1 c.apply_read-answer.ensures.may) (turns_read c.args.t c.args.replica c.apply_read-answer.new.into (laid c.enter-guard.result.state) (state_of c.apply_read-answer.new.self) c.apply_read-answer.result c.apply_read-answer.ensures.ok c.apply_read-answer.ensures.err)
+leave-requires-clause-may g c = may_go c.args.self.now.desk.now c.args.self.now.seat c.args.self.now.stream c.enter-guard.result.state c.requires.ready c.enter-guard.ensures.state c.enter-guard.result.seat.now (record { world = c.apply_read-answer.new.self }) c.enter-guard.ensures.turn.0 (found_may c.args.self.now.desk.now c.args.self.now.seat c.args.self.now.stream c.enter-guard.result.state c.requires.ready c.enter-guard.ensures.state c.args.t c.requires.reads.0 (state_of c.apply_read-answer.new.self) c.requires.reads.1 c.apply_read-answer.ensures.may) (turns_read c.args.t c.args.replica c.apply_read-answer.new.into (laid c.enter-guard.result.state) (state_of c.apply_read-answer.new.self) c.apply_read-answer.result c.apply_read-answer.ensures.ok c.apply_read-answer.ensures.err) (kept_read c.args.t c.args.replica c.apply_read-answer.new.into (laid c.enter-guard.result.state) (state_of c.apply_read-answer.new.self) c.apply_read-answer.result c.apply_read-answer.ensures.ok c.apply_read-answer.ensures.err)
 
 pub returns-clause-ready : goal.returns-clause-ready
 returns-clause-ready g c = at_work c.args.self.now.desk.now c.args.self.now.seat c.args.self.now.stream c.enter-guard.result.state c.requires.ready c.enter-guard.ensures.state c.enter-guard.result.seat.now (record { world = c.apply_read-answer.new.self }) c.enter-guard.ensures.turn.0 (found_may c.args.self.now.desk.now c.args.self.now.seat c.args.self.now.stream c.enter-guard.result.state c.requires.ready c.enter-guard.ensures.state c.args.t c.requires.reads.0 (state_of c.apply_read-answer.new.self) c.requires.reads.1 c.apply_read-answer.ensures.may) c.leave.new.self.0 c.leave.ensures (turns_read c.args.t c.args.replica c.apply_read-answer.new.into (laid c.enter-guard.result.state) (state_of c.apply_read-answer.new.self) c.apply_read-answer.result c.apply_read-answer.ensures.ok c.apply_read-answer.ensures.err)

@@ -10,6 +10,7 @@ use Rattle.world_in_hand.proofs.Answered.{writes_mine, blocks_at}
 use Rattle.world_in_hand.proofs.AgainstLemmas.{takes_why}
 use Rattle.world_in_hand.proofs.Turns.{turns_wrote}
 use Rattle.client_desk.specs.AtDesk.{mine_at}
+use Rattle.client_desk.proofs.RebuildKept.{kept_wrote}
 use Rattle.client_desk.proofs.AtTurn.{found_own, found_may, may_go, at_work, over, unchanged}
 use Rattle.client_desk.proofs.Unlogged.{hidden_takes}
 use Rattle.client_desk.proofs.client.AtDeskClientSteps.apply_write.Goals as goal
@@ -18,7 +19,7 @@ pub apply_write-answer-requires-clause-blocks : goal.apply_write-answer-requires
 apply_write-answer-requires-clause-blocks g c = blocks_at c.args.self.now.stream c.args.t c.requires.writes.0 (laid c.enter-guard.result.state) c.args.blocks.now c.enter-guard.ensures.state.sound (found_own c.args.self.now.desk.now c.args.self.now.seat c.args.self.now.stream c.enter-guard.result.state c.requires.ready c.enter-guard.ensures.state c.args.t c.requires.writes.0 c.requires.writes.1) c.requires.writes.3
 
 pub leave-requires-clause-may : goal.leave-requires-clause-may
-leave-requires-clause-may g c = may_go c.args.self.now.desk.now c.args.self.now.seat c.args.self.now.stream c.enter-guard.result.state c.requires.ready c.enter-guard.ensures.state c.enter-guard.result.seat.now (record { world = c.apply_write-answer.new.self }) c.enter-guard.ensures.turn.0 (found_may c.args.self.now.desk.now c.args.self.now.seat c.args.self.now.stream c.enter-guard.result.state c.requires.ready c.enter-guard.ensures.state c.args.t c.requires.writes.0 (state_of c.apply_write-answer.new.self) c.requires.writes.1 c.apply_write-answer.ensures.may) (turns_wrote c.args.t c.args.replica (laid c.enter-guard.result.state) (state_of c.apply_write-answer.new.self) c.apply_write-answer.result c.apply_write-answer.ensures.ok c.apply_write-answer.ensures.err)
+leave-requires-clause-may g c = may_go c.args.self.now.desk.now c.args.self.now.seat c.args.self.now.stream c.enter-guard.result.state c.requires.ready c.enter-guard.ensures.state c.enter-guard.result.seat.now (record { world = c.apply_write-answer.new.self }) c.enter-guard.ensures.turn.0 (found_may c.args.self.now.desk.now c.args.self.now.seat c.args.self.now.stream c.enter-guard.result.state c.requires.ready c.enter-guard.ensures.state c.args.t c.requires.writes.0 (state_of c.apply_write-answer.new.self) c.requires.writes.1 c.apply_write-answer.ensures.may) (turns_wrote c.args.t c.args.replica (laid c.enter-guard.result.state) (state_of c.apply_write-answer.new.self) c.apply_write-answer.result c.apply_write-answer.ensures.ok c.apply_write-answer.ensures.err) (kept_wrote c.args.t c.args.replica (laid c.enter-guard.result.state) (state_of c.apply_write-answer.new.self) c.apply_write-answer.result c.apply_write-answer.ensures.ok c.apply_write-answer.ensures.err)
 
 pub returns-clause-ready : goal.returns-clause-ready
 returns-clause-ready g c = at_work c.args.self.now.desk.now c.args.self.now.seat c.args.self.now.stream c.enter-guard.result.state c.requires.ready c.enter-guard.ensures.state c.enter-guard.result.seat.now (record { world = c.apply_write-answer.new.self }) c.enter-guard.ensures.turn.0 (found_may c.args.self.now.desk.now c.args.self.now.seat c.args.self.now.stream c.enter-guard.result.state c.requires.ready c.enter-guard.ensures.state c.args.t c.requires.writes.0 (state_of c.apply_write-answer.new.self) c.requires.writes.1 c.apply_write-answer.ensures.may) c.leave.new.self.0 c.leave.ensures (turns_wrote c.args.t c.args.replica (laid c.enter-guard.result.state) (state_of c.apply_write-answer.new.self) c.apply_write-answer.result c.apply_write-answer.ensures.ok c.apply_write-answer.ensures.err)

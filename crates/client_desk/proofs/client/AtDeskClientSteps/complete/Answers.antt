@@ -12,12 +12,13 @@ use Rattle.world_in_hand.proofs.Answered.{owners}
 use Rattle.world_in_hand.proofs.AgainstLemmas.{ends_why}
 use Rattle.world_in_hand.proofs.Turns.{turns_completed}
 use Rattle.client_desk.specs.AtDesk.{mine_at}
+use Rattle.client_desk.proofs.RebuildKept.{kept_completed}
 use Rattle.client_desk.proofs.AtTurn.{found_own, found_may, may_go, at_work, over, unchanged}
 use Rattle.client_desk.proofs.Unlogged.{hidden_ends, hidden_why}
 use Rattle.client_desk.proofs.client.AtDeskClientSteps.complete.Goals as goal
 
 pub leave-requires-clause-may : goal.leave-requires-clause-may
-leave-requires-clause-may g c = may_go c.args.self.now.desk.now c.args.self.now.seat c.args.self.now.stream c.enter-guard.result.state c.requires.ready c.enter-guard.ensures.state c.enter-guard.result.seat.now (record { world = c.complete-answer.new.self }) c.enter-guard.ensures.turn.0 (found_may c.args.self.now.desk.now c.args.self.now.seat c.args.self.now.stream c.enter-guard.result.state c.requires.ready c.enter-guard.ensures.state c.args.t c.requires.started.0 (state_of c.complete-answer.new.self) c.requires.started.1 c.complete-answer.ensures.may) (turns_completed c.args.t (laid c.enter-guard.result.state) (state_of c.complete-answer.new.self) c.complete-answer.result c.complete-answer.ensures.ok c.complete-answer.ensures.err)
+leave-requires-clause-may g c = may_go c.args.self.now.desk.now c.args.self.now.seat c.args.self.now.stream c.enter-guard.result.state c.requires.ready c.enter-guard.ensures.state c.enter-guard.result.seat.now (record { world = c.complete-answer.new.self }) c.enter-guard.ensures.turn.0 (found_may c.args.self.now.desk.now c.args.self.now.seat c.args.self.now.stream c.enter-guard.result.state c.requires.ready c.enter-guard.ensures.state c.args.t c.requires.started.0 (state_of c.complete-answer.new.self) c.requires.started.1 c.complete-answer.ensures.may) (turns_completed c.args.t (laid c.enter-guard.result.state) (state_of c.complete-answer.new.self) c.complete-answer.result c.complete-answer.ensures.ok c.complete-answer.ensures.err) (kept_completed c.args.t (laid c.enter-guard.result.state) (state_of c.complete-answer.new.self) c.complete-answer.result c.complete-answer.ensures.ok c.complete-answer.ensures.err)
 
 pub returns-clause-ready : goal.returns-clause-ready
 returns-clause-ready g c = at_work c.args.self.now.desk.now c.args.self.now.seat c.args.self.now.stream c.enter-guard.result.state c.requires.ready c.enter-guard.ensures.state c.enter-guard.result.seat.now (record { world = c.complete-answer.new.self }) c.enter-guard.ensures.turn.0 (found_may c.args.self.now.desk.now c.args.self.now.seat c.args.self.now.stream c.enter-guard.result.state c.requires.ready c.enter-guard.ensures.state c.args.t c.requires.started.0 (state_of c.complete-answer.new.self) c.requires.started.1 c.complete-answer.ensures.may) c.leave.new.self.0 c.leave.ensures (turns_completed c.args.t (laid c.enter-guard.result.state) (state_of c.complete-answer.new.self) c.complete-answer.result c.complete-answer.ensures.ok c.complete-answer.ensures.err)

@@ -7,6 +7,7 @@ use Rattle.world_in_hand.specs.Hand.{mine_in}
 use Rattle.world_in_hand.proofs.Answered.{enrols_mine}
 use Rattle.world_in_hand.proofs.Turns.{turns_enrolled}
 use Rattle.client_desk.specs.AtDesk.{mine_at}
+use Rattle.client_desk.proofs.RebuildKept.{kept_enrolled}
 use Rattle.client_desk.proofs.AtTurn.{found, found_free, found_idle, may_go, at_work, over, unchanged}
 use Rattle.client_desk.proofs.Unlogged.{hidden_enrols}
 use Rattle.client_desk.proofs.client.AtDeskClientSteps.enrol.Goals as goal
@@ -18,7 +19,7 @@ pub enrol-answer-requires-clause-free : goal.enrol-answer-requires-clause-free
 enrol-answer-requires-clause-free g c = found_free c.args.self.now.desk.now c.args.self.now.seat c.args.self.now.stream c.enter-guard.result.state c.requires.ready c.enter-guard.ensures.state
 
 pub leave-requires-clause-may : goal.leave-requires-clause-may
-leave-requires-clause-may g c = may_go c.args.self.now.desk.now c.args.self.now.seat c.args.self.now.stream c.enter-guard.result.state c.requires.ready c.enter-guard.ensures.state c.enter-guard.result.seat.now (record { world = c.enrol-answer.new.self }) c.enter-guard.ensures.turn.0 c.enrol-answer.ensures.may (turns_enrolled c.args.self.now.stream c.args.call.now (laid c.enter-guard.result.state) (state_of c.enrol-answer.new.self) c.enrol-answer.result c.enrol-answer.ensures.ok c.enrol-answer.ensures.err)
+leave-requires-clause-may g c = may_go c.args.self.now.desk.now c.args.self.now.seat c.args.self.now.stream c.enter-guard.result.state c.requires.ready c.enter-guard.ensures.state c.enter-guard.result.seat.now (record { world = c.enrol-answer.new.self }) c.enter-guard.ensures.turn.0 c.enrol-answer.ensures.may (turns_enrolled c.args.self.now.stream c.args.call.now (laid c.enter-guard.result.state) (state_of c.enrol-answer.new.self) c.enrol-answer.result c.enrol-answer.ensures.ok c.enrol-answer.ensures.err) (kept_enrolled c.args.self.now.stream c.args.call.now (laid c.enter-guard.result.state) (state_of c.enrol-answer.new.self) c.enrol-answer.result c.enrol-answer.ensures.ok c.enrol-answer.ensures.err)
 
 pub returns-clause-ready : goal.returns-clause-ready
 returns-clause-ready g c = at_work c.args.self.now.desk.now c.args.self.now.seat c.args.self.now.stream c.enter-guard.result.state c.requires.ready c.enter-guard.ensures.state c.enter-guard.result.seat.now (record { world = c.enrol-answer.new.self }) c.enter-guard.ensures.turn.0 c.enrol-answer.ensures.may c.leave.new.self.0 c.leave.ensures (turns_enrolled c.args.self.now.stream c.args.call.now (laid c.enter-guard.result.state) (state_of c.enrol-answer.new.self) c.enrol-answer.result c.enrol-answer.ensures.ok c.enrol-answer.ensures.err)

@@ -11,12 +11,13 @@ use Rattle.world_in_hand.proofs.Answered.{fault_fails}
 use Rattle.world_in_hand.proofs.AgainstLemmas.{faults_why}
 use Rattle.world_in_hand.proofs.Turns.{turns_faulted}
 use Rattle.client_desk.specs.AtDesk.{mine_at}
+use Rattle.client_desk.proofs.RebuildKept.{kept_faulted}
 use Rattle.client_desk.proofs.AtTurn.{may_go, at_work, over, unchanged}
 use Rattle.client_desk.proofs.Unlogged.{faults_shown, hidden_refuses}
 use Rattle.client_desk.proofs.client.AtDeskClientSteps.fault.Goals as goal
 
 pub leave-requires-clause-may : goal.leave-requires-clause-may
-leave-requires-clause-may g c = may_go c.args.self.now.desk.now c.args.self.now.seat c.args.self.now.stream c.enter-guard.result.state c.requires.ready c.enter-guard.ensures.state c.enter-guard.result.seat.now (record { world = c.fault-answer.new.self }) c.enter-guard.ensures.turn.0 c.fault-answer.ensures.may (turns_faulted c.args.self.now.stream c.args.replica c.args.count (laid c.enter-guard.result.state) (state_of c.fault-answer.new.self) c.fault-answer.result c.fault-answer.ensures.ok c.fault-answer.ensures.err)
+leave-requires-clause-may g c = may_go c.args.self.now.desk.now c.args.self.now.seat c.args.self.now.stream c.enter-guard.result.state c.requires.ready c.enter-guard.ensures.state c.enter-guard.result.seat.now (record { world = c.fault-answer.new.self }) c.enter-guard.ensures.turn.0 c.fault-answer.ensures.may (turns_faulted c.args.self.now.stream c.args.replica c.args.count (laid c.enter-guard.result.state) (state_of c.fault-answer.new.self) c.fault-answer.result c.fault-answer.ensures.ok c.fault-answer.ensures.err) (kept_faulted c.args.self.now.stream c.args.replica c.args.count (laid c.enter-guard.result.state) (state_of c.fault-answer.new.self) c.fault-answer.result c.fault-answer.ensures.ok c.fault-answer.ensures.err)
 
 pub returns-clause-ready : goal.returns-clause-ready
 returns-clause-ready g c = at_work c.args.self.now.desk.now c.args.self.now.seat c.args.self.now.stream c.enter-guard.result.state c.requires.ready c.enter-guard.ensures.state c.enter-guard.result.seat.now (record { world = c.fault-answer.new.self }) c.enter-guard.ensures.turn.0 c.fault-answer.ensures.may c.leave.new.self.0 c.leave.ensures (turns_faulted c.args.self.now.stream c.args.replica c.args.count (laid c.enter-guard.result.state) (state_of c.fault-answer.new.self) c.fault-answer.result c.fault-answer.ensures.ok c.fault-answer.ensures.err)

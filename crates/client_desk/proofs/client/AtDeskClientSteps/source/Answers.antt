@@ -4,11 +4,12 @@ use Rattle.world_desk.specs.Laid.{laid}
 use Rattle.world_desk.proofs.Leaves.{may_stay}
 use Rattle.stream_steps.specs.Mine.{Mine}
 use Rattle.client_desk.specs.AtDesk.{mine_at}
+use Rattle.client_desk.proofs.RebuildKept.{kept_itself}
 use Rattle.client_desk.proofs.AtTurn.{may_go, at_work, over, mode_there}
 use Rattle.client_desk.proofs.client.AtDeskClientSteps.source.Goals as goal
 
 pub leave-requires-clause-may : goal.leave-requires-clause-may
-leave-requires-clause-may g c = may_go c.args.self.now.desk.now c.args.self.now.seat c.args.self.now.stream c.enter-guard.result.state c.requires.ready c.enter-guard.ensures.state c.enter-guard.result.seat.now c.enter-guard.result.state c.enter-guard.ensures.turn.0 (may_stay c.args.self.now.stream (laid c.enter-guard.result.state) c.enter-guard.ensures.state.sound) (refl)
+leave-requires-clause-may g c = may_go c.args.self.now.desk.now c.args.self.now.seat c.args.self.now.stream c.enter-guard.result.state c.requires.ready c.enter-guard.ensures.state c.enter-guard.result.seat.now c.enter-guard.result.state c.enter-guard.ensures.turn.0 (may_stay c.args.self.now.stream (laid c.enter-guard.result.state) c.enter-guard.ensures.state.sound) refl (kept_itself (laid c.enter-guard.result.state))
 
 pub returns-clause-ready : goal.returns-clause-ready
 returns-clause-ready g c = at_work c.args.self.now.desk.now c.args.self.now.seat c.args.self.now.stream c.enter-guard.result.state c.requires.ready c.enter-guard.ensures.state c.enter-guard.result.seat.now c.enter-guard.result.state c.enter-guard.ensures.turn.0 (may_stay c.args.self.now.stream (laid c.enter-guard.result.state) c.enter-guard.ensures.state.sound) c.leave.new.self.0 c.leave.ensures (refl)
