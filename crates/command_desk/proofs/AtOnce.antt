@@ -3,7 +3,6 @@
 use Rattle.std.proofs.Common.{◌≡◌, ℕ, ⊎_elim, List, [], ◌∷◌, ◌++◌, length, map, Option, None, Some, Result, Ok, OnOk, IfOk, IfErr, sym, refl, ap, ◌∙◌, subst, append-nil, append_assoc}
 use Rattle.std.proofs.Common.{Err as Failed}
 use Rattle.command_text.specs.declared.command.Command.{Command}
-use Rattle.command_text.specs.declared.command.Command.TheVariants as command
 use Rattle.range_turns.specs.declared.ticket.Ticket.{Ticket}
 use Rattle.volume_model.specs.declared.call.Call.TheVariants as call
 use Rattle.volume_model.specs.declared.call.Reply.{Reply}
@@ -20,7 +19,7 @@ use Rattle.volume_core.specs.declared.world.NotThis.{NotThis}
 use Rattle.volume_core.specs.declared.world.NotThis.TheVariants as against
 use Rattle.volume_core.specs.Answers.{IsAnsweredNow, failed_in, after_fail, failed_by}
 use Rattle.volume_core.specs.State.{State, modes_in, told_of, index_at}
-use Rattle.volume_core.specs.Steps.{answered, aborted, failed, faulted, marked, with_place}
+use Rattle.volume_core.specs.Steps.{answered, failed, faulted, marked, with_place}
 use Rattle.volume_core.specs.Sound.{IsSound}
 use Rattle.volume_core.specs.Streams.{MayGo, IsAnsweredTo, open_of, running, turning}
 use Rattle.volume_core.proofs.FarLemmas.{GoesOn, Aborts, behind}

@@ -1,5 +1,5 @@
 -- How what a stream's worker knows at a desk grows by a step of its own.
-use Rattle.std.proofs.Common.{◌≡◌, ℕ, List, [], ◌∷◌, ◌++◌, map, Option, None, refl, ◌∙◌}
+use Rattle.std.proofs.Common.{◌≡◌, ℕ, List, ◌++◌, map, Option, None, refl}
 use Rattle.range_turns.specs.declared.ticket.Ticket.{Ticket}
 use Rattle.volume_model.specs.declared.entry.Entry.{Entry}
 use Rattle.open_calls.specs.declared.open_call.OpenCall.{OpenCall}

@@ -1,8 +1,15 @@
-pub mod AtTurn
 pub mod Queue
 pub mod Places
 pub mod Shapes
 pub mod Grown
+pub mod AtTurn
+pub mod GaveUp
 pub mod AtOnce
 pub mod Turns
 pub mod Wholes
+pub mod Counted
+pub mod LeftPages
+pub mod Later
+pub mod Pages
+pub mod AddEnds
+pub mod AddTurn

@@ -1,5 +1,5 @@
 -- Where the open call and the command of a stream stand in a World.
-use Rattle.std.proofs.Common.{◌≡◌, ◌≢◌, ℕ, ◌+◌, ◌<◌, ◌≤◌, ⊎_elim, Bool, cond, true, List, [], ◌∷◌, length, map, Option, None, Some, IfSome, subst, sym, refl, ap, ◌∙◌, arith, ne_eqb}
+use Rattle.std.proofs.Common.{◌≡◌, ◌≢◌, ℕ, ◌<◌, ⊎_elim, Bool, cond, true, List, [], ◌∷◌, length, map, Option, None, Some, IfSome, subst, sym, refl, ap, ◌∙◌, arith, ne_eqb}
 use Rattle.std.proofs.lemmas.Bool.{cases_order}
 use Rattle.range_turns.specs.declared.ticket.Kind.TheVariants as kind
 use Rattle.range_turns.specs.declared.ticket.Ticket.{Ticket}

@@ -1,5 +1,5 @@
 -- What a stream of commands has open in a World, by what its worker sees, where others have calls open too.
-use Rattle.std.proofs.Common.{◌≡◌, ◌≢◌, ℕ, ◌<◌, List, [], ◌∷◌, ◌++◌, map, Some, subst, sym, refl, ap, ◌∙◌}
+use Rattle.std.proofs.Common.{◌≡◌, ℕ, List, [], ◌∷◌, ◌++◌, map, Some, subst, sym, refl, ap, ◌∙◌}
 use Rattle.command_text.specs.declared.command.Command.{Command}
 use Rattle.range_turns.specs.declared.ticket.Kind.TheVariants as kind
 use Rattle.range_turns.specs.declared.ticket.Ticket.{Ticket}

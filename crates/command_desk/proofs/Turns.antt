@@ -1,5 +1,5 @@
 -- The steps of the maintenance turn, as the worker of a stream sees them at a desk.
-use Rattle.std.proofs.Common.{◌≡◌, ◌≢◌, ℕ, ◌+◌, ◌<◌, true, [], ◌∷◌, ◌++◌, length, Result, Ok, OnOk, OnErr, IfOk, refl, sym, ap, subst, ◌∙◌, arith}
+use Rattle.std.proofs.Common.{◌≡◌, ◌≢◌, ℕ, ◌<◌, true, [], ◌∷◌, length, Result, Ok, OnOk, OnErr, IfOk, refl, sym, ap, subst, ◌∙◌, arith}
 use Rattle.std.proofs.Common.{Err as Failed}
 use Rattle.command_text.specs.declared.command.Command.{Command}
 use Rattle.command_text.specs.declared.command.Command.TheVariants as command
@@ -101,7 +101,7 @@ module _ (n t : ℕ) (s : State) (ok : IsSound s) where
     some_command = omega (arith, one.at.stands.within, ok.maint.queued.paired)
 
     -- none is left of the stream where the first goes
-    none_left : 0 ≡ one.at.place → turning (without_command s 0) n ≡ []
+    pub none_left : 0 ≡ one.at.place → turning (without_command s 0) n ≡ []
     none_left e = first_gone n s.maint s.commands some_command ok.maint.queued.paired (first_stream e) ok.maint.queued.alone
 
   pub waiting : ((c : Command) × (o : OwnCall) × AwaitsTurn t c o (mine_at n s)) → (k : ℕ) × place.AwaitsTurn s t k
@@ -115,7 +115,7 @@ module _ (n t : ℕ) (s : State) (ok : IsSound s) where
   pub turn_owner : (c : Command) (o : OwnCall) → HasTurn t c o (mine_at n s) → (fact : ℕ → Type 0) → ForAsker s t fact → fact n
   turn_owner c o h fact held = its_owner o (turn_one c o h) h.number fact held
 
-  its_first : (c : Command) (o : OwnCall) (h : HasTurn t c o (mine_at n s)) → 0 ≡ (turn_one c o h).at.place
+  pub its_first : (c : Command) (o : OwnCall) (h : HasTurn t c o (mine_at n s)) → 0 ≡ (turn_one c o h).at.place
   its_first c o h =
       let one = turn_one c o h in
       sym (first n s one.p one.at ok (ap (λ (x : OwnCall). x.started) one.is ∙ h.started))
@@ -167,7 +167,7 @@ module _ (n t : ℕ) (s s2 : State) (ok : IsSound s) where
 -- ---- it ends
 
 module _ (n t : ℕ) (s s2 : State) (ok : IsSound s) (may : MayGo n s s2) where
-  abbrev ended_answer : Reply → Answer
+  abbrev pub ended_answer : Reply → Answer
   ended_answer y = record {
     call = call.Command (command_at s.commands 0).command;
     reply = y;
@@ -176,7 +176,7 @@ module _ (n t : ℕ) (s s2 : State) (ok : IsSound s) (may : MayGo n s s2) where
     stream = (command_at s.commands 0).stream;
   }
 
-  ended_mine : (y : Reply) (c : Command) (o : OwnCall) → HasTurn t c o (mine_at n s) → s2 ≡ turn_ended s y → AnswersWhole o y (mine_at n s) (mine_at n s2)
+  pub ended_mine : (y : Reply) (c : Command) (o : OwnCall) → HasTurn t c o (mine_at n s) → s2 ≡ turn_ended s y → AnswersWhole o y (mine_at n s) (mine_at n s2)
   ended_mine y c o h e =
       let one = turn_one n t s ok c o h in
       let here = its_first n t s ok c o h in
@@ -206,18 +206,24 @@ module _ (n t : ℕ) (s s2 : State) (ok : IsSound s) (may : MayGo n s s2) where
   ends_parts y (Failed e) x err = parts_stay n s s2 may (ap (λ (z : State). z.whole) err)
 
   -- it is given back
+  pub gone_without : (c : Command) (o : OwnCall) → HasTurn t c o (mine_at n s) → s2 ≡ without_command s 0 → mine_at n s2 ≡ with_running (mine_at n s) []
+  gone_without c o h e =
+      let one = turn_one n t s ok c o h in
+      only_open n s s2 may [] (ap (λ (x : State). x.book.entries) e)
+      (runs n s2 [] [] s2.whole
+      (ap (λ (x : State). turning x n) e ∙ none_left n t s ok o one h.number (its_first n t s ok c o h))
+      (ap (λ (x : State). running x n) e ∙ one.calls)
+      refl)
+
   module _ (c : Command) (o : OwnCall) (h : HasTurn t c o (mine_at n s)) (other : IsNoAdd c) (e : s2 ≡ turn_abandoned s) where
     gives_back : s2 ≡ without_command s 0
     gives_back = e ∙ given_back s ok (subst IsNoAdd (sym (turn_command n t s ok c o h)) other)
 
     pub gone_mine : mine_at n s2 ≡ with_running (mine_at n s) []
-    gone_mine =
-        let one = turn_one n t s ok c o h in
-        only_open n s s2 may [] (ap (λ (x : State). x.book.entries) gives_back)
-        (runs n s2 [] [] s2.whole
-        (ap (λ (x : State). turning x n) gives_back ∙ none_left n t s ok o one h.number (its_first n t s ok c o h))
-        (ap (λ (x : State). running x n) gives_back ∙ one.calls)
-        refl)
+    gone_mine = gone_without c o h gives_back
 
     pub gone_parts : (m : ℕ) → m ≢ n → parts_of s2 m ≡ parts_of s m
     gone_parts = parts_stay n s s2 may (ap (λ (z : State). z.whole) gives_back)
+
+    pub gone_gave_up : s2.gave_up ≡ s.gave_up
+    gone_gave_up = ap (λ (z : State). z.gave_up) gives_back

@@ -7,7 +7,6 @@ use Rattle.std.proofs.lemmas.List.{set-get_or}
 use Rattle.sparse_image.specs.Image.{Tables}
 use Rattle.vol_units.specs.Name.{begins_sys}
 use Rattle.command_text.specs.declared.command.Command.{Command}
-use Rattle.command_text.specs.declared.command.Command.TheVariants as command
 use Rattle.range_turns.specs.declared.ticket.Kind.TheVariants as kind
 use Rattle.range_turns.specs.declared.ticket.Ticket.{Ticket}
 use Rattle.range_turns.specs.Order.{ticket_at, with_started, StandsAt, Conflict, ConflictBy}
@@ -222,7 +221,7 @@ module _ (n : ℕ) (s : State) (t : ℕ) (op : WholeOp) (turn : List OwnCall) (o
   saw_at i at = ap (λ k. (open_at s.calls k).saw) (number_here i at) ∙ ap (λ (c : OpenCall). c.saw) x.at.call ∙ ap (λ (y : OwnCall). y.saw) x.is
 
   -- the operation that the World keeps there is this one
-  same_op : (i : ℕ) (p : WholeOp) → StandsAt s.tickets t i → (open_at s.calls i).op ≡ Some p → p ≡ op
+  pub same_op : (i : ℕ) (p : WholeOp) → StandsAt s.tickets t i → (open_at s.calls i).op ≡ Some p → p ≡ op
   same_op i p at is = some_same p op (sym is ∙ ap (λ k. (open_at s.calls k).op) (number_here i at) ∙ ap (λ (c : OpenCall). c.op) x.at.call ∙ x.does)
     where
       some_same : (a b : WholeOp) → Some a ≡ Some b → a ≡ b
@@ -236,7 +235,7 @@ module _ (n : ℕ) (s : State) (t : ℕ) (op : WholeOp) (turn : List OwnCall) (o
       ∙ ap (λ (y : OwnCall). record y { started = b; parts = w.parts }) x.is
 
   -- it keeps that of this ticket
-  whole_op : IsSound s → (w : Whole) → s.whole ≡ Some w → w.number ≡ t → w.op ≡ op
+  pub whole_op : IsSound s → (w : Whole) → s.whole ≡ Some w → w.number ≡ t → w.op ≡ op
   whole_op ok w is number =
       let st = subst (IsWhole (told_of s) (modes_in s) s.tickets s.calls s.nodes) is ok.whole in
       same_op st.place w.op (subst (λ k. StandsAt s.tickets k st.place) number st.stands) st.op

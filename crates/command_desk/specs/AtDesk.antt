@@ -16,6 +16,7 @@ use Rattle.world_desk.specs.Laid.{parts_for, laid}
 use Rattle.stream_steps.specs.Mine.{Mine, OwnCall}
 use Rattle.world_in_hand.specs.Hand.{own_call, own_entries}
 use Rattle.commands_in_hand.specs.Hand.{own_turn}
+use Rattle.command_desk.specs.Rebuild.{IsLeftAt}
 
 -- how far each replica is: of a read or a write as its call tells, and of an operation on the whole volume as the World
 -- keeps it of the one that has started
@@ -42,8 +43,14 @@ mine_at stream s = record {
   log = None;
 }
 
--- the seat is one of the desk, at rest, and the stream's, which is one of the World's
-pub record IsAtDesk (d : Desk WorldOnDesk) (s : Seat WorldOnDesk) (stream : ℕ) : Type 0 where
+-- the World as the seat last saw it
+abbrev pub seen_in : Seat WorldOnDesk → State
+seen_in s = laid (last_of s)
+
+-- The seat is one of the desk, at rest, and the stream's, which is one of the World's. Where the stream's command has
+-- the turn, so many pages are left of its rebuild.
+pub record IsAtDesk (d : Desk WorldOnDesk) (s : Seat WorldOnDesk) (stream pages : ℕ) : Type 0 where
   pub seat : IsSeatOf d s
   pub number : number_of s ≡ Some stream
   pub there : stream < length (laid (last_of s)).indices
+  pub left : IsLeftAt stream (laid (last_of s)) pages

@@ -1,1 +1,2 @@
 pub mod AtDesk
+pub mod Rebuild

@@ -8,23 +8,30 @@ use Rattle.command_text.specs.declared.command.Command.{Command}
 use Rattle.volume_core.specs.Streams.{MayGo}
 use Rattle.stream_steps.specs.Mine.{with_running}
 use Rattle.stream_steps.specs.Maint.{HasTurn, IsNoAdd}
-use Rattle.command_desk.proofs.Turns.{turn_owner, free_turn, gone_mine, gone_parts}
+use Rattle.command_desk.proofs.Turns.{turn_owner, free_turn, gone_mine, gone_parts, gone_gave_up}
+use Rattle.command_desk.proofs.Counted.{counted_turn}
+use Rattle.command_desk.proofs.GaveUp.{home_over}
 use Rattle.command_desk.proofs.command.CommandsAtDeskCommandSteps.abandon.Goals as goal
 
 pub abandon-requires-clause-turn : goal.abandon-requires-clause-turn
 abandon-requires-clause-turn g c =
-    free_turn c.args.self.now.stream c.args.t (laid c.enter-guard.result.state) c.enter-guard.ensures.state.sound (found_in c.args.self.now.desk.now c.args.self.now.seat c.args.self.now.stream c.enter-guard.result.state c.requires.ready c.enter-guard.ensures.state (λ (m : Mine). (d : Command) × (o : OwnCall) × HasTurn c.args.t d o m × IsNoAdd d) c.requires.turn).0 (found_in c.args.self.now.desk.now c.args.self.now.seat c.args.self.now.stream c.enter-guard.result.state c.requires.ready c.enter-guard.ensures.state (λ (m : Mine). (d : Command) × (o : OwnCall) × HasTurn c.args.t d o m × IsNoAdd d) c.requires.turn).1 (found_in c.args.self.now.desk.now c.args.self.now.seat c.args.self.now.stream c.enter-guard.result.state c.requires.ready c.enter-guard.ensures.state (λ (m : Mine). (d : Command) × (o : OwnCall) × HasTurn c.args.t d o m × IsNoAdd d) c.requires.turn).2
+    free_turn c.args.self.now.stream c.args.t (laid c.enter-guard.result.state) c.enter-guard.ensures.state.sound (found_in c.args.self.now.desk.now c.args.self.now.seat c.args.self.now.stream c.args.self.now.left c.enter-guard.result.state c.requires.ready c.enter-guard.ensures.state (λ (m : Mine). (d : Command) × (o : OwnCall) × HasTurn c.args.t d o m × IsNoAdd d) c.requires.turn).0 (found_in c.args.self.now.desk.now c.args.self.now.seat c.args.self.now.stream c.args.self.now.left c.enter-guard.result.state c.requires.ready c.enter-guard.ensures.state (λ (m : Mine). (d : Command) × (o : OwnCall) × HasTurn c.args.t d o m × IsNoAdd d) c.requires.turn).1 (found_in c.args.self.now.desk.now c.args.self.now.seat c.args.self.now.stream c.args.self.now.left c.enter-guard.result.state c.requires.ready c.enter-guard.ensures.state (λ (m : Mine). (d : Command) × (o : OwnCall) × HasTurn c.args.t d o m × IsNoAdd d) c.requires.turn).2
 
 pub leave-requires-clause-may : goal.leave-requires-clause-may
 leave-requires-clause-may g c =
-    may_go c.args.self.now.desk.now c.args.self.now.seat c.args.self.now.stream c.enter-guard.result.state c.requires.ready c.enter-guard.ensures.state c.enter-guard.result.seat.now (record { world = c.abandon.new.world }) c.enter-guard.ensures.turn.0 (turn_owner c.args.self.now.stream c.args.t (laid c.enter-guard.result.state) c.enter-guard.ensures.state.sound (found_in c.args.self.now.desk.now c.args.self.now.seat c.args.self.now.stream c.enter-guard.result.state c.requires.ready c.enter-guard.ensures.state (λ (m : Mine). (d : Command) × (o : OwnCall) × HasTurn c.args.t d o m × IsNoAdd d) c.requires.turn).0 (found_in c.args.self.now.desk.now c.args.self.now.seat c.args.self.now.stream c.enter-guard.result.state c.requires.ready c.enter-guard.ensures.state (λ (m : Mine). (d : Command) × (o : OwnCall) × HasTurn c.args.t d o m × IsNoAdd d) c.requires.turn).1 (found_in c.args.self.now.desk.now c.args.self.now.seat c.args.self.now.stream c.enter-guard.result.state c.requires.ready c.enter-guard.ensures.state (λ (m : Mine). (d : Command) × (o : OwnCall) × HasTurn c.args.t d o m × IsNoAdd d) c.requires.turn).2 (λ k. MayGo k (laid c.enter-guard.result.state) (state_of c.abandon.new.world)) c.abandon.ensures.may) (gone_parts c.args.self.now.stream c.args.t (laid c.enter-guard.result.state) (state_of c.abandon.new.world) c.enter-guard.ensures.state.sound (turn_owner c.args.self.now.stream c.args.t (laid c.enter-guard.result.state) c.enter-guard.ensures.state.sound (found_in c.args.self.now.desk.now c.args.self.now.seat c.args.self.now.stream c.enter-guard.result.state c.requires.ready c.enter-guard.ensures.state (λ (m : Mine). (d : Command) × (o : OwnCall) × HasTurn c.args.t d o m × IsNoAdd d) c.requires.turn).0 (found_in c.args.self.now.desk.now c.args.self.now.seat c.args.self.now.stream c.enter-guard.result.state c.requires.ready c.enter-guard.ensures.state (λ (m : Mine). (d : Command) × (o : OwnCall) × HasTurn c.args.t d o m × IsNoAdd d) c.requires.turn).1 (found_in c.args.self.now.desk.now c.args.self.now.seat c.args.self.now.stream c.enter-guard.result.state c.requires.ready c.enter-guard.ensures.state (λ (m : Mine). (d : Command) × (o : OwnCall) × HasTurn c.args.t d o m × IsNoAdd d) c.requires.turn).2 (λ k. MayGo k (laid c.enter-guard.result.state) (state_of c.abandon.new.world)) c.abandon.ensures.may) (found_in c.args.self.now.desk.now c.args.self.now.seat c.args.self.now.stream c.enter-guard.result.state c.requires.ready c.enter-guard.ensures.state (λ (m : Mine). (d : Command) × (o : OwnCall) × HasTurn c.args.t d o m × IsNoAdd d) c.requires.turn).0 (found_in c.args.self.now.desk.now c.args.self.now.seat c.args.self.now.stream c.enter-guard.result.state c.requires.ready c.enter-guard.ensures.state (λ (m : Mine). (d : Command) × (o : OwnCall) × HasTurn c.args.t d o m × IsNoAdd d) c.requires.turn).1 (found_in c.args.self.now.desk.now c.args.self.now.seat c.args.self.now.stream c.enter-guard.result.state c.requires.ready c.enter-guard.ensures.state (λ (m : Mine). (d : Command) × (o : OwnCall) × HasTurn c.args.t d o m × IsNoAdd d) c.requires.turn).2 (found_in c.args.self.now.desk.now c.args.self.now.seat c.args.self.now.stream c.enter-guard.result.state c.requires.ready c.enter-guard.ensures.state (λ (m : Mine). (d : Command) × (o : OwnCall) × HasTurn c.args.t d o m × IsNoAdd d) c.requires.turn).3 c.abandon.ensures.gone)
+    may_go c.args.self.now.desk.now c.args.self.now.seat c.args.self.now.stream c.args.self.now.left c.enter-guard.result.state c.requires.ready c.enter-guard.ensures.state c.enter-guard.result.seat.now (record { world = c.abandon.new.world }) c.enter-guard.ensures.turn.0 (turn_owner c.args.self.now.stream c.args.t (laid c.enter-guard.result.state) c.enter-guard.ensures.state.sound (found_in c.args.self.now.desk.now c.args.self.now.seat c.args.self.now.stream c.args.self.now.left c.enter-guard.result.state c.requires.ready c.enter-guard.ensures.state (λ (m : Mine). (d : Command) × (o : OwnCall) × HasTurn c.args.t d o m × IsNoAdd d) c.requires.turn).0 (found_in c.args.self.now.desk.now c.args.self.now.seat c.args.self.now.stream c.args.self.now.left c.enter-guard.result.state c.requires.ready c.enter-guard.ensures.state (λ (m : Mine). (d : Command) × (o : OwnCall) × HasTurn c.args.t d o m × IsNoAdd d) c.requires.turn).1 (found_in c.args.self.now.desk.now c.args.self.now.seat c.args.self.now.stream c.args.self.now.left c.enter-guard.result.state c.requires.ready c.enter-guard.ensures.state (λ (m : Mine). (d : Command) × (o : OwnCall) × HasTurn c.args.t d o m × IsNoAdd d) c.requires.turn).2 (λ k. MayGo k (laid c.enter-guard.result.state) (state_of c.abandon.new.world)) c.abandon.ensures.may) (gone_parts c.args.self.now.stream c.args.t (laid c.enter-guard.result.state) (state_of c.abandon.new.world) c.enter-guard.ensures.state.sound (turn_owner c.args.self.now.stream c.args.t (laid c.enter-guard.result.state) c.enter-guard.ensures.state.sound (found_in c.args.self.now.desk.now c.args.self.now.seat c.args.self.now.stream c.args.self.now.left c.enter-guard.result.state c.requires.ready c.enter-guard.ensures.state (λ (m : Mine). (d : Command) × (o : OwnCall) × HasTurn c.args.t d o m × IsNoAdd d) c.requires.turn).0 (found_in c.args.self.now.desk.now c.args.self.now.seat c.args.self.now.stream c.args.self.now.left c.enter-guard.result.state c.requires.ready c.enter-guard.ensures.state (λ (m : Mine). (d : Command) × (o : OwnCall) × HasTurn c.args.t d o m × IsNoAdd d) c.requires.turn).1 (found_in c.args.self.now.desk.now c.args.self.now.seat c.args.self.now.stream c.args.self.now.left c.enter-guard.result.state c.requires.ready c.enter-guard.ensures.state (λ (m : Mine). (d : Command) × (o : OwnCall) × HasTurn c.args.t d o m × IsNoAdd d) c.requires.turn).2 (λ k. MayGo k (laid c.enter-guard.result.state) (state_of c.abandon.new.world)) c.abandon.ensures.may) (found_in c.args.self.now.desk.now c.args.self.now.seat c.args.self.now.stream c.args.self.now.left c.enter-guard.result.state c.requires.ready c.enter-guard.ensures.state (λ (m : Mine). (d : Command) × (o : OwnCall) × HasTurn c.args.t d o m × IsNoAdd d) c.requires.turn).0 (found_in c.args.self.now.desk.now c.args.self.now.seat c.args.self.now.stream c.args.self.now.left c.enter-guard.result.state c.requires.ready c.enter-guard.ensures.state (λ (m : Mine). (d : Command) × (o : OwnCall) × HasTurn c.args.t d o m × IsNoAdd d) c.requires.turn).1 (found_in c.args.self.now.desk.now c.args.self.now.seat c.args.self.now.stream c.args.self.now.left c.enter-guard.result.state c.requires.ready c.enter-guard.ensures.state (λ (m : Mine). (d : Command) × (o : OwnCall) × HasTurn c.args.t d o m × IsNoAdd d) c.requires.turn).2 (found_in c.args.self.now.desk.now c.args.self.now.seat c.args.self.now.stream c.args.self.now.left c.enter-guard.result.state c.requires.ready c.enter-guard.ensures.state (λ (m : Mine). (d : Command) × (o : OwnCall) × HasTurn c.args.t d o m × IsNoAdd d) c.requires.turn).3 c.abandon.ensures.gone) (counted_turn c.args.self.now.stream c.args.t (laid c.enter-guard.result.state) (state_of c.abandon.new.world) c.enter-guard.ensures.state.sound (found_in c.args.self.now.desk.now c.args.self.now.seat c.args.self.now.stream c.args.self.now.left c.enter-guard.result.state c.requires.ready c.enter-guard.ensures.state (λ (m : Mine). (d : Command) × (o : OwnCall) × HasTurn c.args.t d o m × IsNoAdd d) c.requires.turn).0 (found_in c.args.self.now.desk.now c.args.self.now.seat c.args.self.now.stream c.args.self.now.left c.enter-guard.result.state c.requires.ready c.enter-guard.ensures.state (λ (m : Mine). (d : Command) × (o : OwnCall) × HasTurn c.args.t d o m × IsNoAdd d) c.requires.turn).1 (found_in c.args.self.now.desk.now c.args.self.now.seat c.args.self.now.stream c.args.self.now.left c.enter-guard.result.state c.requires.ready c.enter-guard.ensures.state (λ (m : Mine). (d : Command) × (o : OwnCall) × HasTurn c.args.t d o m × IsNoAdd d) c.requires.turn).2)
 
 pub returns-clause-ready : goal.returns-clause-ready
 returns-clause-ready g c =
-    at_desk c.args.self.now.desk.now c.args.self.now.seat c.args.self.now.stream c.enter-guard.result.state c.requires.ready c.enter-guard.ensures.state c.enter-guard.result.seat.now (record { world = c.abandon.new.world }) c.enter-guard.ensures.turn.0 (turn_owner c.args.self.now.stream c.args.t (laid c.enter-guard.result.state) c.enter-guard.ensures.state.sound (found_in c.args.self.now.desk.now c.args.self.now.seat c.args.self.now.stream c.enter-guard.result.state c.requires.ready c.enter-guard.ensures.state (λ (m : Mine). (d : Command) × (o : OwnCall) × HasTurn c.args.t d o m × IsNoAdd d) c.requires.turn).0 (found_in c.args.self.now.desk.now c.args.self.now.seat c.args.self.now.stream c.enter-guard.result.state c.requires.ready c.enter-guard.ensures.state (λ (m : Mine). (d : Command) × (o : OwnCall) × HasTurn c.args.t d o m × IsNoAdd d) c.requires.turn).1 (found_in c.args.self.now.desk.now c.args.self.now.seat c.args.self.now.stream c.enter-guard.result.state c.requires.ready c.enter-guard.ensures.state (λ (m : Mine). (d : Command) × (o : OwnCall) × HasTurn c.args.t d o m × IsNoAdd d) c.requires.turn).2 (λ k. MayGo k (laid c.enter-guard.result.state) (state_of c.abandon.new.world)) c.abandon.ensures.may) c.leave.new.self.0 c.leave.ensures
+    at_desk c.args.self.now.desk.now c.args.self.now.seat c.args.self.now.stream c.args.self.now.left c.enter-guard.result.state c.requires.ready c.enter-guard.ensures.state c.enter-guard.result.seat.now (record { world = c.abandon.new.world }) c.enter-guard.ensures.turn.0 (turn_owner c.args.self.now.stream c.args.t (laid c.enter-guard.result.state) c.enter-guard.ensures.state.sound (found_in c.args.self.now.desk.now c.args.self.now.seat c.args.self.now.stream c.args.self.now.left c.enter-guard.result.state c.requires.ready c.enter-guard.ensures.state (λ (m : Mine). (d : Command) × (o : OwnCall) × HasTurn c.args.t d o m × IsNoAdd d) c.requires.turn).0 (found_in c.args.self.now.desk.now c.args.self.now.seat c.args.self.now.stream c.args.self.now.left c.enter-guard.result.state c.requires.ready c.enter-guard.ensures.state (λ (m : Mine). (d : Command) × (o : OwnCall) × HasTurn c.args.t d o m × IsNoAdd d) c.requires.turn).1 (found_in c.args.self.now.desk.now c.args.self.now.seat c.args.self.now.stream c.args.self.now.left c.enter-guard.result.state c.requires.ready c.enter-guard.ensures.state (λ (m : Mine). (d : Command) × (o : OwnCall) × HasTurn c.args.t d o m × IsNoAdd d) c.requires.turn).2 (λ k. MayGo k (laid c.enter-guard.result.state) (state_of c.abandon.new.world)) c.abandon.ensures.may) c.leave.new.self.0 c.leave.ensures c.left_seen-left.result c.left_seen-left.ensures
 
 pub returns-clause-gone : goal.returns-clause-gone
 returns-clause-gone g c =
-    over c.args.self.now.desk.now c.args.self.now.seat c.args.self.now.stream c.enter-guard.result.state c.requires.ready c.enter-guard.ensures.state c.enter-guard.result.seat.now (record { world = c.abandon.new.world }) c.enter-guard.ensures.turn.0 (turn_owner c.args.self.now.stream c.args.t (laid c.enter-guard.result.state) c.enter-guard.ensures.state.sound (found_in c.args.self.now.desk.now c.args.self.now.seat c.args.self.now.stream c.enter-guard.result.state c.requires.ready c.enter-guard.ensures.state (λ (m : Mine). (d : Command) × (o : OwnCall) × HasTurn c.args.t d o m × IsNoAdd d) c.requires.turn).0 (found_in c.args.self.now.desk.now c.args.self.now.seat c.args.self.now.stream c.enter-guard.result.state c.requires.ready c.enter-guard.ensures.state (λ (m : Mine). (d : Command) × (o : OwnCall) × HasTurn c.args.t d o m × IsNoAdd d) c.requires.turn).1 (found_in c.args.self.now.desk.now c.args.self.now.seat c.args.self.now.stream c.enter-guard.result.state c.requires.ready c.enter-guard.ensures.state (λ (m : Mine). (d : Command) × (o : OwnCall) × HasTurn c.args.t d o m × IsNoAdd d) c.requires.turn).2 (λ k. MayGo k (laid c.enter-guard.result.state) (state_of c.abandon.new.world)) c.abandon.ensures.may) c.leave.new.self.0 c.leave.ensures
+    over c.args.self.now.desk.now c.args.self.now.seat c.args.self.now.stream c.args.self.now.left c.enter-guard.result.state c.requires.ready c.enter-guard.ensures.state c.enter-guard.result.seat.now (record { world = c.abandon.new.world }) c.enter-guard.ensures.turn.0 (turn_owner c.args.self.now.stream c.args.t (laid c.enter-guard.result.state) c.enter-guard.ensures.state.sound (found_in c.args.self.now.desk.now c.args.self.now.seat c.args.self.now.stream c.args.self.now.left c.enter-guard.result.state c.requires.ready c.enter-guard.ensures.state (λ (m : Mine). (d : Command) × (o : OwnCall) × HasTurn c.args.t d o m × IsNoAdd d) c.requires.turn).0 (found_in c.args.self.now.desk.now c.args.self.now.seat c.args.self.now.stream c.args.self.now.left c.enter-guard.result.state c.requires.ready c.enter-guard.ensures.state (λ (m : Mine). (d : Command) × (o : OwnCall) × HasTurn c.args.t d o m × IsNoAdd d) c.requires.turn).1 (found_in c.args.self.now.desk.now c.args.self.now.seat c.args.self.now.stream c.args.self.now.left c.enter-guard.result.state c.requires.ready c.enter-guard.ensures.state (λ (m : Mine). (d : Command) × (o : OwnCall) × HasTurn c.args.t d o m × IsNoAdd d) c.requires.turn).2 (λ k. MayGo k (laid c.enter-guard.result.state) (state_of c.abandon.new.world)) c.abandon.ensures.may) c.leave.new.self.0 c.leave.ensures
     (λ (m : Mine) (z : State). mine_at c.args.self.now.stream z ≡ with_running m [])
-    (gone_mine c.args.self.now.stream c.args.t (laid c.enter-guard.result.state) (state_of c.abandon.new.world) c.enter-guard.ensures.state.sound (turn_owner c.args.self.now.stream c.args.t (laid c.enter-guard.result.state) c.enter-guard.ensures.state.sound (found_in c.args.self.now.desk.now c.args.self.now.seat c.args.self.now.stream c.enter-guard.result.state c.requires.ready c.enter-guard.ensures.state (λ (m : Mine). (d : Command) × (o : OwnCall) × HasTurn c.args.t d o m × IsNoAdd d) c.requires.turn).0 (found_in c.args.self.now.desk.now c.args.self.now.seat c.args.self.now.stream c.enter-guard.result.state c.requires.ready c.enter-guard.ensures.state (λ (m : Mine). (d : Command) × (o : OwnCall) × HasTurn c.args.t d o m × IsNoAdd d) c.requires.turn).1 (found_in c.args.self.now.desk.now c.args.self.now.seat c.args.self.now.stream c.enter-guard.result.state c.requires.ready c.enter-guard.ensures.state (λ (m : Mine). (d : Command) × (o : OwnCall) × HasTurn c.args.t d o m × IsNoAdd d) c.requires.turn).2 (λ k. MayGo k (laid c.enter-guard.result.state) (state_of c.abandon.new.world)) c.abandon.ensures.may) (found_in c.args.self.now.desk.now c.args.self.now.seat c.args.self.now.stream c.enter-guard.result.state c.requires.ready c.enter-guard.ensures.state (λ (m : Mine). (d : Command) × (o : OwnCall) × HasTurn c.args.t d o m × IsNoAdd d) c.requires.turn).0 (found_in c.args.self.now.desk.now c.args.self.now.seat c.args.self.now.stream c.enter-guard.result.state c.requires.ready c.enter-guard.ensures.state (λ (m : Mine). (d : Command) × (o : OwnCall) × HasTurn c.args.t d o m × IsNoAdd d) c.requires.turn).1 (found_in c.args.self.now.desk.now c.args.self.now.seat c.args.self.now.stream c.enter-guard.result.state c.requires.ready c.enter-guard.ensures.state (λ (m : Mine). (d : Command) × (o : OwnCall) × HasTurn c.args.t d o m × IsNoAdd d) c.requires.turn).2 (found_in c.args.self.now.desk.now c.args.self.now.seat c.args.self.now.stream c.enter-guard.result.state c.requires.ready c.enter-guard.ensures.state (λ (m : Mine). (d : Command) × (o : OwnCall) × HasTurn c.args.t d o m × IsNoAdd d) c.requires.turn).3 c.abandon.ensures.gone)
+    (gone_mine c.args.self.now.stream c.args.t (laid c.enter-guard.result.state) (state_of c.abandon.new.world) c.enter-guard.ensures.state.sound (turn_owner c.args.self.now.stream c.args.t (laid c.enter-guard.result.state) c.enter-guard.ensures.state.sound (found_in c.args.self.now.desk.now c.args.self.now.seat c.args.self.now.stream c.args.self.now.left c.enter-guard.result.state c.requires.ready c.enter-guard.ensures.state (λ (m : Mine). (d : Command) × (o : OwnCall) × HasTurn c.args.t d o m × IsNoAdd d) c.requires.turn).0 (found_in c.args.self.now.desk.now c.args.self.now.seat c.args.self.now.stream c.args.self.now.left c.enter-guard.result.state c.requires.ready c.enter-guard.ensures.state (λ (m : Mine). (d : Command) × (o : OwnCall) × HasTurn c.args.t d o m × IsNoAdd d) c.requires.turn).1 (found_in c.args.self.now.desk.now c.args.self.now.seat c.args.self.now.stream c.args.self.now.left c.enter-guard.result.state c.requires.ready c.enter-guard.ensures.state (λ (m : Mine). (d : Command) × (o : OwnCall) × HasTurn c.args.t d o m × IsNoAdd d) c.requires.turn).2 (λ k. MayGo k (laid c.enter-guard.result.state) (state_of c.abandon.new.world)) c.abandon.ensures.may) (found_in c.args.self.now.desk.now c.args.self.now.seat c.args.self.now.stream c.args.self.now.left c.enter-guard.result.state c.requires.ready c.enter-guard.ensures.state (λ (m : Mine). (d : Command) × (o : OwnCall) × HasTurn c.args.t d o m × IsNoAdd d) c.requires.turn).0 (found_in c.args.self.now.desk.now c.args.self.now.seat c.args.self.now.stream c.args.self.now.left c.enter-guard.result.state c.requires.ready c.enter-guard.ensures.state (λ (m : Mine). (d : Command) × (o : OwnCall) × HasTurn c.args.t d o m × IsNoAdd d) c.requires.turn).1 (found_in c.args.self.now.desk.now c.args.self.now.seat c.args.self.now.stream c.args.self.now.left c.enter-guard.result.state c.requires.ready c.enter-guard.ensures.state (λ (m : Mine). (d : Command) × (o : OwnCall) × HasTurn c.args.t d o m × IsNoAdd d) c.requires.turn).2 (found_in c.args.self.now.desk.now c.args.self.now.seat c.args.self.now.stream c.args.self.now.left c.enter-guard.result.state c.requires.ready c.enter-guard.ensures.state (λ (m : Mine). (d : Command) × (o : OwnCall) × HasTurn c.args.t d o m × IsNoAdd d) c.requires.turn).3 c.abandon.ensures.gone)
+
+pub returns-clause-home : goal.returns-clause-home
+returns-clause-home g c =
+    home_over c.args.self.now.desk.now c.args.self.now.seat c.args.self.now.stream c.args.self.now.left c.enter-guard.result.state c.requires.ready c.enter-guard.ensures.state c.enter-guard.result.seat.now (record { world = c.abandon.new.world }) c.leave.new.self.0 c.leave.ensures
+    (gone_gave_up c.args.self.now.stream c.args.t (laid c.enter-guard.result.state) (state_of c.abandon.new.world) c.enter-guard.ensures.state.sound (turn_owner c.args.self.now.stream c.args.t (laid c.enter-guard.result.state) c.enter-guard.ensures.state.sound (found_in c.args.self.now.desk.now c.args.self.now.seat c.args.self.now.stream c.args.self.now.left c.enter-guard.result.state c.requires.ready c.enter-guard.ensures.state (λ (m : Mine). (d : Command) × (o : OwnCall) × HasTurn c.args.t d o m × IsNoAdd d) c.requires.turn).0 (found_in c.args.self.now.desk.now c.args.self.now.seat c.args.self.now.stream c.args.self.now.left c.enter-guard.result.state c.requires.ready c.enter-guard.ensures.state (λ (m : Mine). (d : Command) × (o : OwnCall) × HasTurn c.args.t d o m × IsNoAdd d) c.requires.turn).1 (found_in c.args.self.now.desk.now c.args.self.now.seat c.args.self.now.stream c.args.self.now.left c.enter-guard.result.state c.requires.ready c.enter-guard.ensures.state (λ (m : Mine). (d : Command) × (o : OwnCall) × HasTurn c.args.t d o m × IsNoAdd d) c.requires.turn).2 (λ k. MayGo k (laid c.enter-guard.result.state) (state_of c.abandon.new.world)) c.abandon.ensures.may) (found_in c.args.self.now.desk.now c.args.self.now.seat c.args.self.now.stream c.args.self.now.left c.enter-guard.result.state c.requires.ready c.enter-guard.ensures.state (λ (m : Mine). (d : Command) × (o : OwnCall) × HasTurn c.args.t d o m × IsNoAdd d) c.requires.turn).0 (found_in c.args.self.now.desk.now c.args.self.now.seat c.args.self.now.stream c.args.self.now.left c.enter-guard.result.state c.requires.ready c.enter-guard.ensures.state (λ (m : Mine). (d : Command) × (o : OwnCall) × HasTurn c.args.t d o m × IsNoAdd d) c.requires.turn).1 (found_in c.args.self.now.desk.now c.args.self.now.seat c.args.self.now.stream c.args.self.now.left c.enter-guard.result.state c.requires.ready c.enter-guard.ensures.state (λ (m : Mine). (d : Command) × (o : OwnCall) × HasTurn c.args.t d o m × IsNoAdd d) c.requires.turn).2 (found_in c.args.self.now.desk.now c.args.self.now.seat c.args.self.now.stream c.args.self.now.left c.enter-guard.result.state c.requires.ready c.enter-guard.ensures.state (λ (m : Mine). (d : Command) × (o : OwnCall) × HasTurn c.args.t d o m × IsNoAdd d) c.requires.turn).3 c.abandon.ensures.gone)

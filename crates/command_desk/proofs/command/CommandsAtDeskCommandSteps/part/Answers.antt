@@ -8,30 +8,37 @@ use Rattle.open_calls.specs.declared.whole_op.WholeOp.{WholeOp}
 use Rattle.volume_core.specs.Streams.{MayGo}
 use Rattle.stream_steps.specs.Maint.{HasWhole, PartsTo, AgainstPart}
 use Rattle.command_desk.proofs.Wholes.{whole_owner, takes, takes_parts, takes_why}
+use Rattle.command_desk.proofs.Counted.{counted_part}
+use Rattle.command_desk.proofs.GaveUp.{home_over, takes_gave}
 use Rattle.command_desk.proofs.command.CommandsAtDeskCommandSteps.part.Goals as goal
 
 pub leave-requires-clause-may : goal.leave-requires-clause-may
 leave-requires-clause-may g c =
-    may_go c.args.self.now.desk.now c.args.self.now.seat c.args.self.now.stream c.enter-guard.result.state c.requires.ready c.enter-guard.ensures.state c.enter-guard.result.seat.now (record { world = c.part-answer.new.world }) c.enter-guard.ensures.turn.0 (whole_owner c.args.self.now.stream c.args.t (laid c.enter-guard.result.state) c.enter-guard.ensures.state.sound ((found_in c.args.self.now.desk.now c.args.self.now.seat c.args.self.now.stream c.enter-guard.result.state c.requires.ready c.enter-guard.ensures.state (λ (m : Mine). (op : WholeOp) × (turn : List OwnCall) × (o : OwnCall) × HasWhole c.args.t op turn o m × (o.started ≡ true)) c.requires.started).0, (found_in c.args.self.now.desk.now c.args.self.now.seat c.args.self.now.stream c.enter-guard.result.state c.requires.ready c.enter-guard.ensures.state (λ (m : Mine). (op : WholeOp) × (turn : List OwnCall) × (o : OwnCall) × HasWhole c.args.t op turn o m × (o.started ≡ true)) c.requires.started).1, (found_in c.args.self.now.desk.now c.args.self.now.seat c.args.self.now.stream c.enter-guard.result.state c.requires.ready c.enter-guard.ensures.state (λ (m : Mine). (op : WholeOp) × (turn : List OwnCall) × (o : OwnCall) × HasWhole c.args.t op turn o m × (o.started ≡ true)) c.requires.started).2, (found_in c.args.self.now.desk.now c.args.self.now.seat c.args.self.now.stream c.enter-guard.result.state c.requires.ready c.enter-guard.ensures.state (λ (m : Mine). (op : WholeOp) × (turn : List OwnCall) × (o : OwnCall) × HasWhole c.args.t op turn o m × (o.started ≡ true)) c.requires.started).3) (λ k. MayGo k (laid c.enter-guard.result.state) (state_of c.part-answer.new.world)) c.part-answer.ensures.may) (takes_parts c.args.self.now.stream c.args.t (laid c.enter-guard.result.state) c.enter-guard.ensures.state.sound (state_of c.part-answer.new.world) (whole_owner c.args.self.now.stream c.args.t (laid c.enter-guard.result.state) c.enter-guard.ensures.state.sound ((found_in c.args.self.now.desk.now c.args.self.now.seat c.args.self.now.stream c.enter-guard.result.state c.requires.ready c.enter-guard.ensures.state (λ (m : Mine). (op : WholeOp) × (turn : List OwnCall) × (o : OwnCall) × HasWhole c.args.t op turn o m × (o.started ≡ true)) c.requires.started).0, (found_in c.args.self.now.desk.now c.args.self.now.seat c.args.self.now.stream c.enter-guard.result.state c.requires.ready c.enter-guard.ensures.state (λ (m : Mine). (op : WholeOp) × (turn : List OwnCall) × (o : OwnCall) × HasWhole c.args.t op turn o m × (o.started ≡ true)) c.requires.started).1, (found_in c.args.self.now.desk.now c.args.self.now.seat c.args.self.now.stream c.enter-guard.result.state c.requires.ready c.enter-guard.ensures.state (λ (m : Mine). (op : WholeOp) × (turn : List OwnCall) × (o : OwnCall) × HasWhole c.args.t op turn o m × (o.started ≡ true)) c.requires.started).2, (found_in c.args.self.now.desk.now c.args.self.now.seat c.args.self.now.stream c.enter-guard.result.state c.requires.ready c.enter-guard.ensures.state (λ (m : Mine). (op : WholeOp) × (turn : List OwnCall) × (o : OwnCall) × HasWhole c.args.t op turn o m × (o.started ≡ true)) c.requires.started).3) (λ k. MayGo k (laid c.enter-guard.result.state) (state_of c.part-answer.new.world)) c.part-answer.ensures.may) c.args.replica c.part-answer.result c.part-answer.ensures.ok c.part-answer.ensures.err ((found_in c.args.self.now.desk.now c.args.self.now.seat c.args.self.now.stream c.enter-guard.result.state c.requires.ready c.enter-guard.ensures.state (λ (m : Mine). (op : WholeOp) × (turn : List OwnCall) × (o : OwnCall) × HasWhole c.args.t op turn o m × (o.started ≡ true)) c.requires.started).0, (found_in c.args.self.now.desk.now c.args.self.now.seat c.args.self.now.stream c.enter-guard.result.state c.requires.ready c.enter-guard.ensures.state (λ (m : Mine). (op : WholeOp) × (turn : List OwnCall) × (o : OwnCall) × HasWhole c.args.t op turn o m × (o.started ≡ true)) c.requires.started).1, (found_in c.args.self.now.desk.now c.args.self.now.seat c.args.self.now.stream c.enter-guard.result.state c.requires.ready c.enter-guard.ensures.state (λ (m : Mine). (op : WholeOp) × (turn : List OwnCall) × (o : OwnCall) × HasWhole c.args.t op turn o m × (o.started ≡ true)) c.requires.started).2, (found_in c.args.self.now.desk.now c.args.self.now.seat c.args.self.now.stream c.enter-guard.result.state c.requires.ready c.enter-guard.ensures.state (λ (m : Mine). (op : WholeOp) × (turn : List OwnCall) × (o : OwnCall) × HasWhole c.args.t op turn o m × (o.started ≡ true)) c.requires.started).3))
+    may_go c.args.self.now.desk.now c.args.self.now.seat c.args.self.now.stream c.args.self.now.left c.enter-guard.result.state c.requires.ready c.enter-guard.ensures.state c.enter-guard.result.seat.now (record { world = c.part-answer.new.world }) c.enter-guard.ensures.turn.0 (whole_owner c.args.self.now.stream c.args.t (laid c.enter-guard.result.state) c.enter-guard.ensures.state.sound ((found_in c.args.self.now.desk.now c.args.self.now.seat c.args.self.now.stream c.args.self.now.left c.enter-guard.result.state c.requires.ready c.enter-guard.ensures.state (λ (m : Mine). (op : WholeOp) × (turn : List OwnCall) × (o : OwnCall) × HasWhole c.args.t op turn o m × (o.started ≡ true)) c.requires.started).0, (found_in c.args.self.now.desk.now c.args.self.now.seat c.args.self.now.stream c.args.self.now.left c.enter-guard.result.state c.requires.ready c.enter-guard.ensures.state (λ (m : Mine). (op : WholeOp) × (turn : List OwnCall) × (o : OwnCall) × HasWhole c.args.t op turn o m × (o.started ≡ true)) c.requires.started).1, (found_in c.args.self.now.desk.now c.args.self.now.seat c.args.self.now.stream c.args.self.now.left c.enter-guard.result.state c.requires.ready c.enter-guard.ensures.state (λ (m : Mine). (op : WholeOp) × (turn : List OwnCall) × (o : OwnCall) × HasWhole c.args.t op turn o m × (o.started ≡ true)) c.requires.started).2, (found_in c.args.self.now.desk.now c.args.self.now.seat c.args.self.now.stream c.args.self.now.left c.enter-guard.result.state c.requires.ready c.enter-guard.ensures.state (λ (m : Mine). (op : WholeOp) × (turn : List OwnCall) × (o : OwnCall) × HasWhole c.args.t op turn o m × (o.started ≡ true)) c.requires.started).3) (λ k. MayGo k (laid c.enter-guard.result.state) (state_of c.part-answer.new.world)) c.part-answer.ensures.may) (takes_parts c.args.self.now.stream c.args.t (laid c.enter-guard.result.state) c.enter-guard.ensures.state.sound (state_of c.part-answer.new.world) (whole_owner c.args.self.now.stream c.args.t (laid c.enter-guard.result.state) c.enter-guard.ensures.state.sound ((found_in c.args.self.now.desk.now c.args.self.now.seat c.args.self.now.stream c.args.self.now.left c.enter-guard.result.state c.requires.ready c.enter-guard.ensures.state (λ (m : Mine). (op : WholeOp) × (turn : List OwnCall) × (o : OwnCall) × HasWhole c.args.t op turn o m × (o.started ≡ true)) c.requires.started).0, (found_in c.args.self.now.desk.now c.args.self.now.seat c.args.self.now.stream c.args.self.now.left c.enter-guard.result.state c.requires.ready c.enter-guard.ensures.state (λ (m : Mine). (op : WholeOp) × (turn : List OwnCall) × (o : OwnCall) × HasWhole c.args.t op turn o m × (o.started ≡ true)) c.requires.started).1, (found_in c.args.self.now.desk.now c.args.self.now.seat c.args.self.now.stream c.args.self.now.left c.enter-guard.result.state c.requires.ready c.enter-guard.ensures.state (λ (m : Mine). (op : WholeOp) × (turn : List OwnCall) × (o : OwnCall) × HasWhole c.args.t op turn o m × (o.started ≡ true)) c.requires.started).2, (found_in c.args.self.now.desk.now c.args.self.now.seat c.args.self.now.stream c.args.self.now.left c.enter-guard.result.state c.requires.ready c.enter-guard.ensures.state (λ (m : Mine). (op : WholeOp) × (turn : List OwnCall) × (o : OwnCall) × HasWhole c.args.t op turn o m × (o.started ≡ true)) c.requires.started).3) (λ k. MayGo k (laid c.enter-guard.result.state) (state_of c.part-answer.new.world)) c.part-answer.ensures.may) c.args.replica c.part-answer.result c.part-answer.ensures.ok c.part-answer.ensures.err ((found_in c.args.self.now.desk.now c.args.self.now.seat c.args.self.now.stream c.args.self.now.left c.enter-guard.result.state c.requires.ready c.enter-guard.ensures.state (λ (m : Mine). (op : WholeOp) × (turn : List OwnCall) × (o : OwnCall) × HasWhole c.args.t op turn o m × (o.started ≡ true)) c.requires.started).0, (found_in c.args.self.now.desk.now c.args.self.now.seat c.args.self.now.stream c.args.self.now.left c.enter-guard.result.state c.requires.ready c.enter-guard.ensures.state (λ (m : Mine). (op : WholeOp) × (turn : List OwnCall) × (o : OwnCall) × HasWhole c.args.t op turn o m × (o.started ≡ true)) c.requires.started).1, (found_in c.args.self.now.desk.now c.args.self.now.seat c.args.self.now.stream c.args.self.now.left c.enter-guard.result.state c.requires.ready c.enter-guard.ensures.state (λ (m : Mine). (op : WholeOp) × (turn : List OwnCall) × (o : OwnCall) × HasWhole c.args.t op turn o m × (o.started ≡ true)) c.requires.started).2, (found_in c.args.self.now.desk.now c.args.self.now.seat c.args.self.now.stream c.args.self.now.left c.enter-guard.result.state c.requires.ready c.enter-guard.ensures.state (λ (m : Mine). (op : WholeOp) × (turn : List OwnCall) × (o : OwnCall) × HasWhole c.args.t op turn o m × (o.started ≡ true)) c.requires.started).3)) (counted_part c.args.self.now.stream c.args.t (laid c.enter-guard.result.state) (state_of c.part-answer.new.world) c.enter-guard.ensures.state.sound c.args.replica c.part-answer.result c.part-answer.ensures.ok c.part-answer.ensures.err ((found_in c.args.self.now.desk.now c.args.self.now.seat c.args.self.now.stream c.args.self.now.left c.enter-guard.result.state c.requires.ready c.enter-guard.ensures.state (λ (m : Mine). (op : WholeOp) × (turn : List OwnCall) × (o : OwnCall) × HasWhole c.args.t op turn o m × (o.started ≡ true)) c.requires.started).0, (found_in c.args.self.now.desk.now c.args.self.now.seat c.args.self.now.stream c.args.self.now.left c.enter-guard.result.state c.requires.ready c.enter-guard.ensures.state (λ (m : Mine). (op : WholeOp) × (turn : List OwnCall) × (o : OwnCall) × HasWhole c.args.t op turn o m × (o.started ≡ true)) c.requires.started).1, (found_in c.args.self.now.desk.now c.args.self.now.seat c.args.self.now.stream c.args.self.now.left c.enter-guard.result.state c.requires.ready c.enter-guard.ensures.state (λ (m : Mine). (op : WholeOp) × (turn : List OwnCall) × (o : OwnCall) × HasWhole c.args.t op turn o m × (o.started ≡ true)) c.requires.started).2, (found_in c.args.self.now.desk.now c.args.self.now.seat c.args.self.now.stream c.args.self.now.left c.enter-guard.result.state c.requires.ready c.enter-guard.ensures.state (λ (m : Mine). (op : WholeOp) × (turn : List OwnCall) × (o : OwnCall) × HasWhole c.args.t op turn o m × (o.started ≡ true)) c.requires.started).3))
 
 pub returns-clause-ready : goal.returns-clause-ready
 returns-clause-ready g c =
-    at_desk c.args.self.now.desk.now c.args.self.now.seat c.args.self.now.stream c.enter-guard.result.state c.requires.ready c.enter-guard.ensures.state c.enter-guard.result.seat.now (record { world = c.part-answer.new.world }) c.enter-guard.ensures.turn.0 (whole_owner c.args.self.now.stream c.args.t (laid c.enter-guard.result.state) c.enter-guard.ensures.state.sound ((found_in c.args.self.now.desk.now c.args.self.now.seat c.args.self.now.stream c.enter-guard.result.state c.requires.ready c.enter-guard.ensures.state (λ (m : Mine). (op : WholeOp) × (turn : List OwnCall) × (o : OwnCall) × HasWhole c.args.t op turn o m × (o.started ≡ true)) c.requires.started).0, (found_in c.args.self.now.desk.now c.args.self.now.seat c.args.self.now.stream c.enter-guard.result.state c.requires.ready c.enter-guard.ensures.state (λ (m : Mine). (op : WholeOp) × (turn : List OwnCall) × (o : OwnCall) × HasWhole c.args.t op turn o m × (o.started ≡ true)) c.requires.started).1, (found_in c.args.self.now.desk.now c.args.self.now.seat c.args.self.now.stream c.enter-guard.result.state c.requires.ready c.enter-guard.ensures.state (λ (m : Mine). (op : WholeOp) × (turn : List OwnCall) × (o : OwnCall) × HasWhole c.args.t op turn o m × (o.started ≡ true)) c.requires.started).2, (found_in c.args.self.now.desk.now c.args.self.now.seat c.args.self.now.stream c.enter-guard.result.state c.requires.ready c.enter-guard.ensures.state (λ (m : Mine). (op : WholeOp) × (turn : List OwnCall) × (o : OwnCall) × HasWhole c.args.t op turn o m × (o.started ≡ true)) c.requires.started).3) (λ k. MayGo k (laid c.enter-guard.result.state) (state_of c.part-answer.new.world)) c.part-answer.ensures.may) c.leave.new.self.0 c.leave.ensures
+    at_desk c.args.self.now.desk.now c.args.self.now.seat c.args.self.now.stream c.args.self.now.left c.enter-guard.result.state c.requires.ready c.enter-guard.ensures.state c.enter-guard.result.seat.now (record { world = c.part-answer.new.world }) c.enter-guard.ensures.turn.0 (whole_owner c.args.self.now.stream c.args.t (laid c.enter-guard.result.state) c.enter-guard.ensures.state.sound ((found_in c.args.self.now.desk.now c.args.self.now.seat c.args.self.now.stream c.args.self.now.left c.enter-guard.result.state c.requires.ready c.enter-guard.ensures.state (λ (m : Mine). (op : WholeOp) × (turn : List OwnCall) × (o : OwnCall) × HasWhole c.args.t op turn o m × (o.started ≡ true)) c.requires.started).0, (found_in c.args.self.now.desk.now c.args.self.now.seat c.args.self.now.stream c.args.self.now.left c.enter-guard.result.state c.requires.ready c.enter-guard.ensures.state (λ (m : Mine). (op : WholeOp) × (turn : List OwnCall) × (o : OwnCall) × HasWhole c.args.t op turn o m × (o.started ≡ true)) c.requires.started).1, (found_in c.args.self.now.desk.now c.args.self.now.seat c.args.self.now.stream c.args.self.now.left c.enter-guard.result.state c.requires.ready c.enter-guard.ensures.state (λ (m : Mine). (op : WholeOp) × (turn : List OwnCall) × (o : OwnCall) × HasWhole c.args.t op turn o m × (o.started ≡ true)) c.requires.started).2, (found_in c.args.self.now.desk.now c.args.self.now.seat c.args.self.now.stream c.args.self.now.left c.enter-guard.result.state c.requires.ready c.enter-guard.ensures.state (λ (m : Mine). (op : WholeOp) × (turn : List OwnCall) × (o : OwnCall) × HasWhole c.args.t op turn o m × (o.started ≡ true)) c.requires.started).3) (λ k. MayGo k (laid c.enter-guard.result.state) (state_of c.part-answer.new.world)) c.part-answer.ensures.may) c.leave.new.self.0 c.leave.ensures c.left_seen-left.result c.left_seen-left.ensures
 
 pub returns-clause-ok : goal.returns-clause-ok
 returns-clause-ok g c =
-    over c.args.self.now.desk.now c.args.self.now.seat c.args.self.now.stream c.enter-guard.result.state c.requires.ready c.enter-guard.ensures.state c.enter-guard.result.seat.now (record { world = c.part-answer.new.world }) c.enter-guard.ensures.turn.0 (whole_owner c.args.self.now.stream c.args.t (laid c.enter-guard.result.state) c.enter-guard.ensures.state.sound ((found_in c.args.self.now.desk.now c.args.self.now.seat c.args.self.now.stream c.enter-guard.result.state c.requires.ready c.enter-guard.ensures.state (λ (m : Mine). (op : WholeOp) × (turn : List OwnCall) × (o : OwnCall) × HasWhole c.args.t op turn o m × (o.started ≡ true)) c.requires.started).0, (found_in c.args.self.now.desk.now c.args.self.now.seat c.args.self.now.stream c.enter-guard.result.state c.requires.ready c.enter-guard.ensures.state (λ (m : Mine). (op : WholeOp) × (turn : List OwnCall) × (o : OwnCall) × HasWhole c.args.t op turn o m × (o.started ≡ true)) c.requires.started).1, (found_in c.args.self.now.desk.now c.args.self.now.seat c.args.self.now.stream c.enter-guard.result.state c.requires.ready c.enter-guard.ensures.state (λ (m : Mine). (op : WholeOp) × (turn : List OwnCall) × (o : OwnCall) × HasWhole c.args.t op turn o m × (o.started ≡ true)) c.requires.started).2, (found_in c.args.self.now.desk.now c.args.self.now.seat c.args.self.now.stream c.enter-guard.result.state c.requires.ready c.enter-guard.ensures.state (λ (m : Mine). (op : WholeOp) × (turn : List OwnCall) × (o : OwnCall) × HasWhole c.args.t op turn o m × (o.started ≡ true)) c.requires.started).3) (λ k. MayGo k (laid c.enter-guard.result.state) (state_of c.part-answer.new.world)) c.part-answer.ensures.may) c.leave.new.self.0 c.leave.ensures
+    over c.args.self.now.desk.now c.args.self.now.seat c.args.self.now.stream c.args.self.now.left c.enter-guard.result.state c.requires.ready c.enter-guard.ensures.state c.enter-guard.result.seat.now (record { world = c.part-answer.new.world }) c.enter-guard.ensures.turn.0 (whole_owner c.args.self.now.stream c.args.t (laid c.enter-guard.result.state) c.enter-guard.ensures.state.sound ((found_in c.args.self.now.desk.now c.args.self.now.seat c.args.self.now.stream c.args.self.now.left c.enter-guard.result.state c.requires.ready c.enter-guard.ensures.state (λ (m : Mine). (op : WholeOp) × (turn : List OwnCall) × (o : OwnCall) × HasWhole c.args.t op turn o m × (o.started ≡ true)) c.requires.started).0, (found_in c.args.self.now.desk.now c.args.self.now.seat c.args.self.now.stream c.args.self.now.left c.enter-guard.result.state c.requires.ready c.enter-guard.ensures.state (λ (m : Mine). (op : WholeOp) × (turn : List OwnCall) × (o : OwnCall) × HasWhole c.args.t op turn o m × (o.started ≡ true)) c.requires.started).1, (found_in c.args.self.now.desk.now c.args.self.now.seat c.args.self.now.stream c.args.self.now.left c.enter-guard.result.state c.requires.ready c.enter-guard.ensures.state (λ (m : Mine). (op : WholeOp) × (turn : List OwnCall) × (o : OwnCall) × HasWhole c.args.t op turn o m × (o.started ≡ true)) c.requires.started).2, (found_in c.args.self.now.desk.now c.args.self.now.seat c.args.self.now.stream c.args.self.now.left c.enter-guard.result.state c.requires.ready c.enter-guard.ensures.state (λ (m : Mine). (op : WholeOp) × (turn : List OwnCall) × (o : OwnCall) × HasWhole c.args.t op turn o m × (o.started ≡ true)) c.requires.started).3) (λ k. MayGo k (laid c.enter-guard.result.state) (state_of c.part-answer.new.world)) c.part-answer.ensures.may) c.leave.new.self.0 c.leave.ensures
     (λ (m : Mine) (z : State). OnOk c.part-answer.result ((op : WholeOp) (turn : List OwnCall) (o : OwnCall) → HasWhole c.args.t op turn o m → PartsTo turn o c.args.replica m (mine_at c.args.self.now.stream z)))
-    (takes c.args.self.now.stream c.args.t (laid c.enter-guard.result.state) c.enter-guard.ensures.state.sound (state_of c.part-answer.new.world) (whole_owner c.args.self.now.stream c.args.t (laid c.enter-guard.result.state) c.enter-guard.ensures.state.sound ((found_in c.args.self.now.desk.now c.args.self.now.seat c.args.self.now.stream c.enter-guard.result.state c.requires.ready c.enter-guard.ensures.state (λ (m : Mine). (op : WholeOp) × (turn : List OwnCall) × (o : OwnCall) × HasWhole c.args.t op turn o m × (o.started ≡ true)) c.requires.started).0, (found_in c.args.self.now.desk.now c.args.self.now.seat c.args.self.now.stream c.enter-guard.result.state c.requires.ready c.enter-guard.ensures.state (λ (m : Mine). (op : WholeOp) × (turn : List OwnCall) × (o : OwnCall) × HasWhole c.args.t op turn o m × (o.started ≡ true)) c.requires.started).1, (found_in c.args.self.now.desk.now c.args.self.now.seat c.args.self.now.stream c.enter-guard.result.state c.requires.ready c.enter-guard.ensures.state (λ (m : Mine). (op : WholeOp) × (turn : List OwnCall) × (o : OwnCall) × HasWhole c.args.t op turn o m × (o.started ≡ true)) c.requires.started).2, (found_in c.args.self.now.desk.now c.args.self.now.seat c.args.self.now.stream c.enter-guard.result.state c.requires.ready c.enter-guard.ensures.state (λ (m : Mine). (op : WholeOp) × (turn : List OwnCall) × (o : OwnCall) × HasWhole c.args.t op turn o m × (o.started ≡ true)) c.requires.started).3) (λ k. MayGo k (laid c.enter-guard.result.state) (state_of c.part-answer.new.world)) c.part-answer.ensures.may) c.args.replica c.part-answer.result c.part-answer.ensures.ok)
+    (takes c.args.self.now.stream c.args.t (laid c.enter-guard.result.state) c.enter-guard.ensures.state.sound (state_of c.part-answer.new.world) (whole_owner c.args.self.now.stream c.args.t (laid c.enter-guard.result.state) c.enter-guard.ensures.state.sound ((found_in c.args.self.now.desk.now c.args.self.now.seat c.args.self.now.stream c.args.self.now.left c.enter-guard.result.state c.requires.ready c.enter-guard.ensures.state (λ (m : Mine). (op : WholeOp) × (turn : List OwnCall) × (o : OwnCall) × HasWhole c.args.t op turn o m × (o.started ≡ true)) c.requires.started).0, (found_in c.args.self.now.desk.now c.args.self.now.seat c.args.self.now.stream c.args.self.now.left c.enter-guard.result.state c.requires.ready c.enter-guard.ensures.state (λ (m : Mine). (op : WholeOp) × (turn : List OwnCall) × (o : OwnCall) × HasWhole c.args.t op turn o m × (o.started ≡ true)) c.requires.started).1, (found_in c.args.self.now.desk.now c.args.self.now.seat c.args.self.now.stream c.args.self.now.left c.enter-guard.result.state c.requires.ready c.enter-guard.ensures.state (λ (m : Mine). (op : WholeOp) × (turn : List OwnCall) × (o : OwnCall) × HasWhole c.args.t op turn o m × (o.started ≡ true)) c.requires.started).2, (found_in c.args.self.now.desk.now c.args.self.now.seat c.args.self.now.stream c.args.self.now.left c.enter-guard.result.state c.requires.ready c.enter-guard.ensures.state (λ (m : Mine). (op : WholeOp) × (turn : List OwnCall) × (o : OwnCall) × HasWhole c.args.t op turn o m × (o.started ≡ true)) c.requires.started).3) (λ k. MayGo k (laid c.enter-guard.result.state) (state_of c.part-answer.new.world)) c.part-answer.ensures.may) c.args.replica c.part-answer.result c.part-answer.ensures.ok)
 
 pub returns-clause-why : goal.returns-clause-why
 returns-clause-why g c =
-    over c.args.self.now.desk.now c.args.self.now.seat c.args.self.now.stream c.enter-guard.result.state c.requires.ready c.enter-guard.ensures.state c.enter-guard.result.seat.now (record { world = c.part-answer.new.world }) c.enter-guard.ensures.turn.0 (whole_owner c.args.self.now.stream c.args.t (laid c.enter-guard.result.state) c.enter-guard.ensures.state.sound ((found_in c.args.self.now.desk.now c.args.self.now.seat c.args.self.now.stream c.enter-guard.result.state c.requires.ready c.enter-guard.ensures.state (λ (m : Mine). (op : WholeOp) × (turn : List OwnCall) × (o : OwnCall) × HasWhole c.args.t op turn o m × (o.started ≡ true)) c.requires.started).0, (found_in c.args.self.now.desk.now c.args.self.now.seat c.args.self.now.stream c.enter-guard.result.state c.requires.ready c.enter-guard.ensures.state (λ (m : Mine). (op : WholeOp) × (turn : List OwnCall) × (o : OwnCall) × HasWhole c.args.t op turn o m × (o.started ≡ true)) c.requires.started).1, (found_in c.args.self.now.desk.now c.args.self.now.seat c.args.self.now.stream c.enter-guard.result.state c.requires.ready c.enter-guard.ensures.state (λ (m : Mine). (op : WholeOp) × (turn : List OwnCall) × (o : OwnCall) × HasWhole c.args.t op turn o m × (o.started ≡ true)) c.requires.started).2, (found_in c.args.self.now.desk.now c.args.self.now.seat c.args.self.now.stream c.enter-guard.result.state c.requires.ready c.enter-guard.ensures.state (λ (m : Mine). (op : WholeOp) × (turn : List OwnCall) × (o : OwnCall) × HasWhole c.args.t op turn o m × (o.started ≡ true)) c.requires.started).3) (λ k. MayGo k (laid c.enter-guard.result.state) (state_of c.part-answer.new.world)) c.part-answer.ensures.may) c.leave.new.self.0 c.leave.ensures
+    over c.args.self.now.desk.now c.args.self.now.seat c.args.self.now.stream c.args.self.now.left c.enter-guard.result.state c.requires.ready c.enter-guard.ensures.state c.enter-guard.result.seat.now (record { world = c.part-answer.new.world }) c.enter-guard.ensures.turn.0 (whole_owner c.args.self.now.stream c.args.t (laid c.enter-guard.result.state) c.enter-guard.ensures.state.sound ((found_in c.args.self.now.desk.now c.args.self.now.seat c.args.self.now.stream c.args.self.now.left c.enter-guard.result.state c.requires.ready c.enter-guard.ensures.state (λ (m : Mine). (op : WholeOp) × (turn : List OwnCall) × (o : OwnCall) × HasWhole c.args.t op turn o m × (o.started ≡ true)) c.requires.started).0, (found_in c.args.self.now.desk.now c.args.self.now.seat c.args.self.now.stream c.args.self.now.left c.enter-guard.result.state c.requires.ready c.enter-guard.ensures.state (λ (m : Mine). (op : WholeOp) × (turn : List OwnCall) × (o : OwnCall) × HasWhole c.args.t op turn o m × (o.started ≡ true)) c.requires.started).1, (found_in c.args.self.now.desk.now c.args.self.now.seat c.args.self.now.stream c.args.self.now.left c.enter-guard.result.state c.requires.ready c.enter-guard.ensures.state (λ (m : Mine). (op : WholeOp) × (turn : List OwnCall) × (o : OwnCall) × HasWhole c.args.t op turn o m × (o.started ≡ true)) c.requires.started).2, (found_in c.args.self.now.desk.now c.args.self.now.seat c.args.self.now.stream c.args.self.now.left c.enter-guard.result.state c.requires.ready c.enter-guard.ensures.state (λ (m : Mine). (op : WholeOp) × (turn : List OwnCall) × (o : OwnCall) × HasWhole c.args.t op turn o m × (o.started ≡ true)) c.requires.started).3) (λ k. MayGo k (laid c.enter-guard.result.state) (state_of c.part-answer.new.world)) c.part-answer.ensures.may) c.leave.new.self.0 c.leave.ensures
     (λ (m : Mine) (z : State). IfErr c.part-answer.result (λ why. (op : WholeOp) (turn : List OwnCall) (o : OwnCall) → HasWhole c.args.t op turn o m → AgainstPart (modes_in z) o c.args.replica why))
-    (takes_why c.args.self.now.stream c.args.t (laid c.enter-guard.result.state) c.enter-guard.ensures.state.sound (state_of c.part-answer.new.world) (whole_owner c.args.self.now.stream c.args.t (laid c.enter-guard.result.state) c.enter-guard.ensures.state.sound ((found_in c.args.self.now.desk.now c.args.self.now.seat c.args.self.now.stream c.enter-guard.result.state c.requires.ready c.enter-guard.ensures.state (λ (m : Mine). (op : WholeOp) × (turn : List OwnCall) × (o : OwnCall) × HasWhole c.args.t op turn o m × (o.started ≡ true)) c.requires.started).0, (found_in c.args.self.now.desk.now c.args.self.now.seat c.args.self.now.stream c.enter-guard.result.state c.requires.ready c.enter-guard.ensures.state (λ (m : Mine). (op : WholeOp) × (turn : List OwnCall) × (o : OwnCall) × HasWhole c.args.t op turn o m × (o.started ≡ true)) c.requires.started).1, (found_in c.args.self.now.desk.now c.args.self.now.seat c.args.self.now.stream c.enter-guard.result.state c.requires.ready c.enter-guard.ensures.state (λ (m : Mine). (op : WholeOp) × (turn : List OwnCall) × (o : OwnCall) × HasWhole c.args.t op turn o m × (o.started ≡ true)) c.requires.started).2, (found_in c.args.self.now.desk.now c.args.self.now.seat c.args.self.now.stream c.enter-guard.result.state c.requires.ready c.enter-guard.ensures.state (λ (m : Mine). (op : WholeOp) × (turn : List OwnCall) × (o : OwnCall) × HasWhole c.args.t op turn o m × (o.started ≡ true)) c.requires.started).3) (λ k. MayGo k (laid c.enter-guard.result.state) (state_of c.part-answer.new.world)) c.part-answer.ensures.may) c.args.replica c.part-answer.result c.part-answer.ensures.why c.part-answer.ensures.err (found_in c.args.self.now.desk.now c.args.self.now.seat c.args.self.now.stream c.enter-guard.result.state c.requires.ready c.enter-guard.ensures.state (λ (m : Mine). (op : WholeOp) × (turn : List OwnCall) × (o : OwnCall) × HasWhole c.args.t op turn o m × (o.started ≡ true)) c.requires.started))
+    (takes_why c.args.self.now.stream c.args.t (laid c.enter-guard.result.state) c.enter-guard.ensures.state.sound (state_of c.part-answer.new.world) (whole_owner c.args.self.now.stream c.args.t (laid c.enter-guard.result.state) c.enter-guard.ensures.state.sound ((found_in c.args.self.now.desk.now c.args.self.now.seat c.args.self.now.stream c.args.self.now.left c.enter-guard.result.state c.requires.ready c.enter-guard.ensures.state (λ (m : Mine). (op : WholeOp) × (turn : List OwnCall) × (o : OwnCall) × HasWhole c.args.t op turn o m × (o.started ≡ true)) c.requires.started).0, (found_in c.args.self.now.desk.now c.args.self.now.seat c.args.self.now.stream c.args.self.now.left c.enter-guard.result.state c.requires.ready c.enter-guard.ensures.state (λ (m : Mine). (op : WholeOp) × (turn : List OwnCall) × (o : OwnCall) × HasWhole c.args.t op turn o m × (o.started ≡ true)) c.requires.started).1, (found_in c.args.self.now.desk.now c.args.self.now.seat c.args.self.now.stream c.args.self.now.left c.enter-guard.result.state c.requires.ready c.enter-guard.ensures.state (λ (m : Mine). (op : WholeOp) × (turn : List OwnCall) × (o : OwnCall) × HasWhole c.args.t op turn o m × (o.started ≡ true)) c.requires.started).2, (found_in c.args.self.now.desk.now c.args.self.now.seat c.args.self.now.stream c.args.self.now.left c.enter-guard.result.state c.requires.ready c.enter-guard.ensures.state (λ (m : Mine). (op : WholeOp) × (turn : List OwnCall) × (o : OwnCall) × HasWhole c.args.t op turn o m × (o.started ≡ true)) c.requires.started).3) (λ k. MayGo k (laid c.enter-guard.result.state) (state_of c.part-answer.new.world)) c.part-answer.ensures.may) c.args.replica c.part-answer.result c.part-answer.ensures.why c.part-answer.ensures.err (found_in c.args.self.now.desk.now c.args.self.now.seat c.args.self.now.stream c.args.self.now.left c.enter-guard.result.state c.requires.ready c.enter-guard.ensures.state (λ (m : Mine). (op : WholeOp) × (turn : List OwnCall) × (o : OwnCall) × HasWhole c.args.t op turn o m × (o.started ≡ true)) c.requires.started))
 
 pub returns-clause-err : goal.returns-clause-err
 returns-clause-err g c =
-    over c.args.self.now.desk.now c.args.self.now.seat c.args.self.now.stream c.enter-guard.result.state c.requires.ready c.enter-guard.ensures.state c.enter-guard.result.seat.now (record { world = c.part-answer.new.world }) c.enter-guard.ensures.turn.0 (whole_owner c.args.self.now.stream c.args.t (laid c.enter-guard.result.state) c.enter-guard.ensures.state.sound ((found_in c.args.self.now.desk.now c.args.self.now.seat c.args.self.now.stream c.enter-guard.result.state c.requires.ready c.enter-guard.ensures.state (λ (m : Mine). (op : WholeOp) × (turn : List OwnCall) × (o : OwnCall) × HasWhole c.args.t op turn o m × (o.started ≡ true)) c.requires.started).0, (found_in c.args.self.now.desk.now c.args.self.now.seat c.args.self.now.stream c.enter-guard.result.state c.requires.ready c.enter-guard.ensures.state (λ (m : Mine). (op : WholeOp) × (turn : List OwnCall) × (o : OwnCall) × HasWhole c.args.t op turn o m × (o.started ≡ true)) c.requires.started).1, (found_in c.args.self.now.desk.now c.args.self.now.seat c.args.self.now.stream c.enter-guard.result.state c.requires.ready c.enter-guard.ensures.state (λ (m : Mine). (op : WholeOp) × (turn : List OwnCall) × (o : OwnCall) × HasWhole c.args.t op turn o m × (o.started ≡ true)) c.requires.started).2, (found_in c.args.self.now.desk.now c.args.self.now.seat c.args.self.now.stream c.enter-guard.result.state c.requires.ready c.enter-guard.ensures.state (λ (m : Mine). (op : WholeOp) × (turn : List OwnCall) × (o : OwnCall) × HasWhole c.args.t op turn o m × (o.started ≡ true)) c.requires.started).3) (λ k. MayGo k (laid c.enter-guard.result.state) (state_of c.part-answer.new.world)) c.part-answer.ensures.may) c.leave.new.self.0 c.leave.ensures
+    over c.args.self.now.desk.now c.args.self.now.seat c.args.self.now.stream c.args.self.now.left c.enter-guard.result.state c.requires.ready c.enter-guard.ensures.state c.enter-guard.result.seat.now (record { world = c.part-answer.new.world }) c.enter-guard.ensures.turn.0 (whole_owner c.args.self.now.stream c.args.t (laid c.enter-guard.result.state) c.enter-guard.ensures.state.sound ((found_in c.args.self.now.desk.now c.args.self.now.seat c.args.self.now.stream c.args.self.now.left c.enter-guard.result.state c.requires.ready c.enter-guard.ensures.state (λ (m : Mine). (op : WholeOp) × (turn : List OwnCall) × (o : OwnCall) × HasWhole c.args.t op turn o m × (o.started ≡ true)) c.requires.started).0, (found_in c.args.self.now.desk.now c.args.self.now.seat c.args.self.now.stream c.args.self.now.left c.enter-guard.result.state c.requires.ready c.enter-guard.ensures.state (λ (m : Mine). (op : WholeOp) × (turn : List OwnCall) × (o : OwnCall) × HasWhole c.args.t op turn o m × (o.started ≡ true)) c.requires.started).1, (found_in c.args.self.now.desk.now c.args.self.now.seat c.args.self.now.stream c.args.self.now.left c.enter-guard.result.state c.requires.ready c.enter-guard.ensures.state (λ (m : Mine). (op : WholeOp) × (turn : List OwnCall) × (o : OwnCall) × HasWhole c.args.t op turn o m × (o.started ≡ true)) c.requires.started).2, (found_in c.args.self.now.desk.now c.args.self.now.seat c.args.self.now.stream c.args.self.now.left c.enter-guard.result.state c.requires.ready c.enter-guard.ensures.state (λ (m : Mine). (op : WholeOp) × (turn : List OwnCall) × (o : OwnCall) × HasWhole c.args.t op turn o m × (o.started ≡ true)) c.requires.started).3) (λ k. MayGo k (laid c.enter-guard.result.state) (state_of c.part-answer.new.world)) c.part-answer.ensures.may) c.leave.new.self.0 c.leave.ensures
     (λ (m : Mine) (z : State). OnErr c.part-answer.result (mine_at c.args.self.now.stream z ≡ m))
     (unchanged c.args.self.now.stream (laid c.enter-guard.result.state) (state_of c.part-answer.new.world) c.part-answer.result c.part-answer.ensures.err)
+
+pub returns-clause-home : goal.returns-clause-home
+returns-clause-home g c =
+    home_over c.args.self.now.desk.now c.args.self.now.seat c.args.self.now.stream c.args.self.now.left c.enter-guard.result.state c.requires.ready c.enter-guard.ensures.state c.enter-guard.result.seat.now (record { world = c.part-answer.new.world }) c.leave.new.self.0 c.leave.ensures
+    (takes_gave (laid c.enter-guard.result.state) (state_of c.part-answer.new.world) c.args.t c.args.replica c.part-answer.result c.part-answer.ensures.ok c.part-answer.ensures.err)

@@ -1,0 +1,37 @@
+use Rattle.std.proofs.Common.{◌≡◌, ℕ, None, IfSome}
+use Rattle.command_text.specs.declared.command.Command.TheVariants as command
+use Rattle.volume_core.specs.State.{State, state_of}
+use Rattle.volume_core.specs.Streams.{MayGo}
+use Rattle.world_desk.specs.Laid.{laid}
+use Rattle.stream_steps.specs.Mine.{Mine, OwnCall}
+use Rattle.command_desk.specs.AtDesk.{mine_at}
+use Rattle.command_desk.proofs.AtTurn.{may_go, at_desk, over}
+use Rattle.command_desk.proofs.AddTurn.{add_found, add_counted}
+use Rattle.stream_steps.specs.Add.{HasAdd, Promotes}
+use Rattle.command_desk.proofs.Turns.{turn_owner}
+use Rattle.command_desk.proofs.AddEnds.{promotes, promotes_parts, same_where}
+use Rattle.command_desk.proofs.GaveUp.{home_over, promotes_gave}
+use Rattle.command_desk.proofs.add.CommandsAtDeskAddSteps.promote.Goals as goal
+
+pub leave-requires-clause-may : goal.leave-requires-clause-may
+leave-requires-clause-may g c =
+    may_go c.args.self.now.desk.now c.args.self.now.seat c.args.self.now.stream c.args.self.now.left c.enter-guard.result.state c.requires.ready c.enter-guard.ensures.state c.enter-guard.result.seat.now (record { world = c.promote_in-answer.new.world }) c.enter-guard.ensures.turn.0 (turn_owner c.args.self.now.stream c.args.t (laid c.enter-guard.result.state) c.enter-guard.ensures.state.sound (command.Add (add_found c.args.self.now.desk.now c.args.self.now.seat c.args.self.now.stream c.args.self.now.left c.enter-guard.result.state c.requires.ready c.enter-guard.ensures.state c.args.t c.requires.turn).0) (add_found c.args.self.now.desk.now c.args.self.now.seat c.args.self.now.stream c.args.self.now.left c.enter-guard.result.state c.requires.ready c.enter-guard.ensures.state c.args.t c.requires.turn).1 (add_found c.args.self.now.desk.now c.args.self.now.seat c.args.self.now.stream c.args.self.now.left c.enter-guard.result.state c.requires.ready c.enter-guard.ensures.state c.args.t c.requires.turn).2 (λ k. MayGo k (laid c.enter-guard.result.state) (state_of c.promote_in-answer.new.world)) c.promote_in-answer.ensures.may) (promotes_parts c.args.self.now.stream c.args.t (laid c.enter-guard.result.state) (state_of c.promote_in-answer.new.world) c.enter-guard.ensures.state.sound (turn_owner c.args.self.now.stream c.args.t (laid c.enter-guard.result.state) c.enter-guard.ensures.state.sound (command.Add (add_found c.args.self.now.desk.now c.args.self.now.seat c.args.self.now.stream c.args.self.now.left c.enter-guard.result.state c.requires.ready c.enter-guard.ensures.state c.args.t c.requires.turn).0) (add_found c.args.self.now.desk.now c.args.self.now.seat c.args.self.now.stream c.args.self.now.left c.enter-guard.result.state c.requires.ready c.enter-guard.ensures.state c.args.t c.requires.turn).1 (add_found c.args.self.now.desk.now c.args.self.now.seat c.args.self.now.stream c.args.self.now.left c.enter-guard.result.state c.requires.ready c.enter-guard.ensures.state c.args.t c.requires.turn).2 (λ k. MayGo k (laid c.enter-guard.result.state) (state_of c.promote_in-answer.new.world)) c.promote_in-answer.ensures.may) c.promote_in-answer.result c.promote_in-answer.ensures.done c.promote_in-answer.ensures.none) (add_counted c.args.self.now.desk.now c.args.self.now.seat c.args.self.now.stream c.args.self.now.left c.enter-guard.result.state c.requires.ready c.enter-guard.ensures.state c.args.t c.requires.turn (state_of c.promote_in-answer.new.world))
+
+pub returns-clause-ready : goal.returns-clause-ready
+returns-clause-ready g c =
+    at_desk c.args.self.now.desk.now c.args.self.now.seat c.args.self.now.stream c.args.self.now.left c.enter-guard.result.state c.requires.ready c.enter-guard.ensures.state c.enter-guard.result.seat.now (record { world = c.promote_in-answer.new.world }) c.enter-guard.ensures.turn.0 (turn_owner c.args.self.now.stream c.args.t (laid c.enter-guard.result.state) c.enter-guard.ensures.state.sound (command.Add (add_found c.args.self.now.desk.now c.args.self.now.seat c.args.self.now.stream c.args.self.now.left c.enter-guard.result.state c.requires.ready c.enter-guard.ensures.state c.args.t c.requires.turn).0) (add_found c.args.self.now.desk.now c.args.self.now.seat c.args.self.now.stream c.args.self.now.left c.enter-guard.result.state c.requires.ready c.enter-guard.ensures.state c.args.t c.requires.turn).1 (add_found c.args.self.now.desk.now c.args.self.now.seat c.args.self.now.stream c.args.self.now.left c.enter-guard.result.state c.requires.ready c.enter-guard.ensures.state c.args.t c.requires.turn).2 (λ k. MayGo k (laid c.enter-guard.result.state) (state_of c.promote_in-answer.new.world)) c.promote_in-answer.ensures.may) c.leave.new.self.0 c.leave.ensures c.left_seen-left.result c.left_seen-left.ensures
+
+pub returns-clause-done : goal.returns-clause-done
+returns-clause-done g c =
+    over c.args.self.now.desk.now c.args.self.now.seat c.args.self.now.stream c.args.self.now.left c.enter-guard.result.state c.requires.ready c.enter-guard.ensures.state c.enter-guard.result.seat.now (record { world = c.promote_in-answer.new.world }) c.enter-guard.ensures.turn.0 (turn_owner c.args.self.now.stream c.args.t (laid c.enter-guard.result.state) c.enter-guard.ensures.state.sound (command.Add (add_found c.args.self.now.desk.now c.args.self.now.seat c.args.self.now.stream c.args.self.now.left c.enter-guard.result.state c.requires.ready c.enter-guard.ensures.state c.args.t c.requires.turn).0) (add_found c.args.self.now.desk.now c.args.self.now.seat c.args.self.now.stream c.args.self.now.left c.enter-guard.result.state c.requires.ready c.enter-guard.ensures.state c.args.t c.requires.turn).1 (add_found c.args.self.now.desk.now c.args.self.now.seat c.args.self.now.stream c.args.self.now.left c.enter-guard.result.state c.requires.ready c.enter-guard.ensures.state c.args.t c.requires.turn).2 (λ k. MayGo k (laid c.enter-guard.result.state) (state_of c.promote_in-answer.new.world)) c.promote_in-answer.ensures.may) c.leave.new.self.0 c.leave.ensures (λ (m : Mine) (z : State). IfSome c.promote_in-answer.result (λ place. (r : ℕ) (o : OwnCall) → HasAdd c.args.t r o m → Promotes r o m (mine_at c.args.self.now.stream z)))
+    (promotes c.args.self.now.stream c.args.t (laid c.enter-guard.result.state) (state_of c.promote_in-answer.new.world) c.enter-guard.ensures.state.sound (turn_owner c.args.self.now.stream c.args.t (laid c.enter-guard.result.state) c.enter-guard.ensures.state.sound (command.Add (add_found c.args.self.now.desk.now c.args.self.now.seat c.args.self.now.stream c.args.self.now.left c.enter-guard.result.state c.requires.ready c.enter-guard.ensures.state c.args.t c.requires.turn).0) (add_found c.args.self.now.desk.now c.args.self.now.seat c.args.self.now.stream c.args.self.now.left c.enter-guard.result.state c.requires.ready c.enter-guard.ensures.state c.args.t c.requires.turn).1 (add_found c.args.self.now.desk.now c.args.self.now.seat c.args.self.now.stream c.args.self.now.left c.enter-guard.result.state c.requires.ready c.enter-guard.ensures.state c.args.t c.requires.turn).2 (λ k. MayGo k (laid c.enter-guard.result.state) (state_of c.promote_in-answer.new.world)) c.promote_in-answer.ensures.may) c.promote_in-answer.result c.promote_in-answer.ensures.done)
+
+pub returns-clause-none : goal.returns-clause-none
+returns-clause-none g c =
+    over c.args.self.now.desk.now c.args.self.now.seat c.args.self.now.stream c.args.self.now.left c.enter-guard.result.state c.requires.ready c.enter-guard.ensures.state c.enter-guard.result.seat.now (record { world = c.promote_in-answer.new.world }) c.enter-guard.ensures.turn.0 (turn_owner c.args.self.now.stream c.args.t (laid c.enter-guard.result.state) c.enter-guard.ensures.state.sound (command.Add (add_found c.args.self.now.desk.now c.args.self.now.seat c.args.self.now.stream c.args.self.now.left c.enter-guard.result.state c.requires.ready c.enter-guard.ensures.state c.args.t c.requires.turn).0) (add_found c.args.self.now.desk.now c.args.self.now.seat c.args.self.now.stream c.args.self.now.left c.enter-guard.result.state c.requires.ready c.enter-guard.ensures.state c.args.t c.requires.turn).1 (add_found c.args.self.now.desk.now c.args.self.now.seat c.args.self.now.stream c.args.self.now.left c.enter-guard.result.state c.requires.ready c.enter-guard.ensures.state c.args.t c.requires.turn).2 (λ k. MayGo k (laid c.enter-guard.result.state) (state_of c.promote_in-answer.new.world)) c.promote_in-answer.ensures.may) c.leave.new.self.0 c.leave.ensures (λ (m : Mine) (z : State). c.promote_in-answer.result ≡ None → mine_at c.args.self.now.stream z ≡ m)
+    (same_where c.args.self.now.stream c.args.t (laid c.enter-guard.result.state) (state_of c.promote_in-answer.new.world) c.enter-guard.ensures.state.sound (turn_owner c.args.self.now.stream c.args.t (laid c.enter-guard.result.state) c.enter-guard.ensures.state.sound (command.Add (add_found c.args.self.now.desk.now c.args.self.now.seat c.args.self.now.stream c.args.self.now.left c.enter-guard.result.state c.requires.ready c.enter-guard.ensures.state c.args.t c.requires.turn).0) (add_found c.args.self.now.desk.now c.args.self.now.seat c.args.self.now.stream c.args.self.now.left c.enter-guard.result.state c.requires.ready c.enter-guard.ensures.state c.args.t c.requires.turn).1 (add_found c.args.self.now.desk.now c.args.self.now.seat c.args.self.now.stream c.args.self.now.left c.enter-guard.result.state c.requires.ready c.enter-guard.ensures.state c.args.t c.requires.turn).2 (λ k. MayGo k (laid c.enter-guard.result.state) (state_of c.promote_in-answer.new.world)) c.promote_in-answer.ensures.may) c.promote_in-answer.result c.promote_in-answer.ensures.none)
+
+pub returns-clause-home : goal.returns-clause-home
+returns-clause-home g c =
+    home_over c.args.self.now.desk.now c.args.self.now.seat c.args.self.now.stream c.args.self.now.left c.enter-guard.result.state c.requires.ready c.enter-guard.ensures.state c.enter-guard.result.seat.now (record { world = c.promote_in-answer.new.world }) c.leave.new.self.0 c.leave.ensures
+    (promotes_gave (laid c.enter-guard.result.state) (state_of c.promote_in-answer.new.world) c.args.t c.promote_in-answer.result c.promote_in-answer.ensures.done c.promote_in-answer.ensures.none)
