@@ -29,9 +29,11 @@ use Rattle.client_worker.specs.Ends.{KeepsShown}
 use Rattle.client_worker.specs.Serving.{IsShown}
 use Rattle.client_worker.proofs.Shown.{shown_same}
 use Rattle.command_worker.proofs.ShownLemmas.{idle_of, idle_answer}
+use Rattle.command_worker.specs.OwnAnswers.{answers_in}
 use Rattle.command_worker.specs.Purges.{MayComeBefore, AreFalls}
 use Rattle.command_worker.specs.Serving.{IsForCommands, GrewByCommand, GaveUp, LeftUndone}
 use Rattle.command_worker.proofs.InTurn.{left_of}
+use Rattle.command_worker.proofs.OwnAnswers.{has_both, has_last}
 use Rattle.command_worker.specs.Whole.{GoesOn, RefusedWhole, EndsBehind}
 use Rattle.command_worker.proofs.AnswerLemmas.{known, command_at}
 use Rattle.command_worker.proofs.Goes.{are_first, aborts_come, comes, none_come, falls_both}
@@ -64,6 +66,7 @@ module _ (r : ℕ) (o : OwnCall) (a c d : Mine) (from : c ≡ with_running a (o 
         own = answer_placed w.modes w.answer ∷ [];
         all = entry.Answer w.answer ∷ [];
         is = w.is ∙ ap (λ (m : Mine). with_more m (answer_placed w.modes w.answer ∷ []) []) from;
+        same = refl;
         done = record {
           marks = [];
           answer = w.answer;
@@ -128,6 +131,7 @@ module _ (r : ℕ) (o : OwnCall) (a c d : Mine) (from : c ≡ with_running a (o 
           own = g.own ++ own;
           all = first ++ last;
           is = p.is ∙ ap (λ (m : Mine). with_entries m own last []) begun ∙ entries_twice a g.own own first last (o ∷ []) [];
+          same = has_both g.own own first last g.same refl;
           done = record {
             marks = entry.Mark (mark.Added r g.source g.name) ∷ (g.marks ++ promoted ∷ []);
             answer = p.answer;
@@ -174,6 +178,7 @@ module _ (r : ℕ) (o : OwnCall) (a c d : Mine) (from : c ≡ with_running a (o 
           own = g.own ++ own;
           all = first ++ entry.Answer w.answer ∷ [];
           is = w.is ∙ ap (λ (m : Mine). with_more m own []) begun ∙ entries_twice a g.own own first (entry.Answer w.answer ∷ []) (o ∷ []) [];
+          same = has_both g.own own first (entry.Answer w.answer ∷ []) g.same refl;
           done = record {
             marks = first;
             answer = w.answer;
@@ -195,6 +200,7 @@ module _ (r : ℕ) (o : OwnCall) (a c d : Mine) (from : c ≡ with_running a (o 
     last = [];
     is = gone ∙ ap (λ (m : Mine). with_running m []) (g.is ∙ ap (λ (m : Mine). with_entries m g.own g.marks (o ∷ [])) from)
         ∙ ap (λ es. with_entries a g.own es []) (sym (append-nil g.marks));
+    same = g.same ∙ ap answers_in (sym (append-nil g.marks));
     are = subst (λ n. All (MayComeBefore n) g.marks) stream_same g.come;
     left = inl refl;
   }
@@ -209,6 +215,8 @@ module _ (r : ℕ) (o : OwnCall) (a c d : Mine) (from : c ≡ with_running a (o 
         last = last;
         is = w.is ∙ ap (λ (m : Mine). with_entries m own (w.marks ++ last) []) begun ∙ entries_twice a g.own own g.marks (w.marks ++ last) (o ∷ []) []
             ∙ ap (λ es. with_entries a (g.own ++ own) es []) (sym (append_assoc g.marks w.marks last));
+        same = has_both g.own own g.marks (w.marks ++ last) g.same (has_last a.stream w.modes w.answer w.marks (aborts_come a.stream w.marks w.are))
+            ∙ ap answers_in (sym (append_assoc g.marks w.marks last));
         are = All-append (MayComeBefore a.stream) g.marks w.marks come (aborts_come a.stream w.marks w.are);
         left = inr (record {
           replica = r;
@@ -234,7 +242,7 @@ grew_added r o a c d from is saw (inr done) =
 -- ---- marks that came, while the add has the turn
 
 pub goes_none : (o : OwnCall) (a b : Mine) → b ≡ with_running a (o ∷ []) → GoesAdding o a b
-goes_none o a b e = record { own = []; marks = []; come = none_come a.stream; is = e ∙ sym (entries_none a (o ∷ [])) }
+goes_none o a b e = record { own = []; marks = []; come = none_come a.stream; is = e ∙ sym (entries_none a (o ∷ [])); same = refl }
 
 -- lines failed once it is being rebuilt
 pub rebuilds_on : (r : ℕ) (o : OwnCall) (a b c : Mine) → BeganRebuild r o a b → GoesOn b c → BeganRebuild r o a c
@@ -249,6 +257,7 @@ rebuilds_on r o a b c g f =
       falls = falls_both a.stream g.marks f.marks g.falls (subst (λ n. AreFalls n f.marks) (ap (λ (m : Mine). m.stream) g.is) f.falls);
       is = f.is ∙ ap (λ os. with_entries b f.own f.marks os) run ∙ ap (λ (m : Mine). with_entries m f.own f.marks (o ∷ [])) g.is
           ∙ entries_twice a g.own f.own first f.marks (o ∷ []) (o ∷ []);
+      same = has_both g.own f.own g.marks f.marks g.same f.same;
       free = g.free;
       from = g.from;
       under = g.under;
@@ -260,6 +269,7 @@ rebuilds_goes r o a b g = record {
   marks = entry.Mark (mark.Added r g.source g.name) ∷ g.marks;
   come = comes a.stream (entry.Mark (mark.Added r g.source g.name)) g.marks (inr tt) g.falls.come;
   is = g.is;
+  same = g.same;
 }
 
 -- ---- other commands
@@ -318,6 +328,7 @@ begun_barrier r o own a b c d e call s f =
       falls = subst (λ n. AreFalls n f.goes.marks) (ap (λ (m : Mine). m.stream) begun) f.goes.falls;
       is = f.ends ∙ ap (λ (m : Mine). with_running m (o ∷ [])) (f.goes.is ∙ ap (λ (m : Mine). with_entries m f.goes.own f.goes.marks os) begun
           ∙ entries_twice a [] f.goes.own first f.goes.marks (o ∷ s.own ∷ []) os);
+      same = f.goes.same;
       free = subst (λ x. IfSome x (λ (l : Log). refused_at l.spot o.call ≡ None)) log (subst (λ x. IfSome b.log (λ (l : Log). refused_at l.spot x ≡ None)) call s.free);
       from = subst (λ x. IfSome x (λ (l : Log). source_of l.spot.modes ≡ Some s.source)) log s.from;
       under = subst (λ x. IfSome x (λ (l : Log). s.name ≡ sys_name l.spot.state.volume.snapshots.number)) log s.under;

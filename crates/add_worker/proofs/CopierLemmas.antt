@@ -1,5 +1,5 @@
 -- What is in hand while the pages of a rebuild are copied, step after step.
-use Rattle.std.proofs.Common.{◌≡◌, ◌≢◌, ◌⊎◌, inl, inr, ℕ, ◌<◌, ◌≤◌, Bool, true, false, arith, List, [], ◌∷◌, ◌++◌, length, length-append, length-set, map, set, get_or, Result, Ok, Option, Some, None, subst, sym, refl, ap, ◌∙◌}
+use Rattle.std.proofs.Common.{◌≡◌, ◌≢◌, ◌⊎◌, inl, inr, ℕ, ◌<◌, ◌≤◌, Bool, true, false, arith, List, [], ◌∷◌, length, length-append, length-set, map, set, get_or, Result, Ok, Option, Some, None, subst, sym, refl, ap, ◌∙◌}
 use Rattle.sparse_image.specs.Image.{Table}
 use Rattle.vol_units.specs.declared.page_ref.PageRef.{PageRef}
 use Rattle.outer_traits.specs.Lines.{TellsMore}

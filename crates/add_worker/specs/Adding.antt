@@ -1,5 +1,5 @@
 -- How an add goes, from its barrier to its answer.
-use Rattle.std.specs.Prelude.{◌≡◌, ◌≢◌, ◌⊎◌, ℕ, ◌<◌, List, [], ◌∷◌, ◌++◌, All, Option, None, Some, IfSome}
+use Rattle.std.specs.Prelude.{◌≡◌, ◌≢◌, ◌⊎◌, ℕ, ◌<◌, List, [], ◌∷◌, All, Option, None, Some, IfSome}
 use Rattle.vol_units.specs.Name.{sys_name}
 use Rattle.volume_model.specs.declared.entry.Entry.{Entry}
 use Rattle.volume_model.specs.declared.entry.Entry.TheVariants as entry
@@ -8,6 +8,7 @@ use Rattle.volume_model.specs.Modes.{source_of}
 use Rattle.volume_model.specs.OneWorker.{refused_at}
 use Rattle.stream_steps.specs.Mine.{Mine, OwnCall, Placed, with_entries}
 use Rattle.stream_steps.specs.Add.{Promotes, EndsAborted}
+use Rattle.command_worker.specs.OwnAnswers.{HasAnswers}
 use Rattle.command_worker.specs.Purges.{AreFalls, MayComeBefore}
 use Rattle.command_worker.specs.Whole.{RefusedWhole}
 
@@ -22,6 +23,7 @@ pub record BeganRebuild (r : ℕ) (o : OwnCall) (m m2 : Mine) : Type 0 where
   pub marks : List Entry
   pub falls : AreFalls m.stream marks
   pub is : m2 ≡ with_entries m own (entry.Mark (mark.Added r source name) ∷ marks) (o ∷ [])
+  pub same : HasAnswers own marks
   pub free : IfSome m.log (λ log. refused_at log.spot o.call ≡ None)
   pub from : IfSome m.log (λ log. source_of log.spot.modes ≡ Some source)
   pub under : IfSome m.log (λ log. name ≡ sys_name log.spot.state.volume.snapshots.number)
@@ -57,3 +59,4 @@ pub record GoesAdding (o : OwnCall) (m m2 : Mine) : Type 0 where
   pub marks : List Entry
   pub come : All (MayComeBefore m.stream) marks
   pub is : m2 ≡ with_entries m own marks (o ∷ [])
+  pub same : HasAnswers own marks

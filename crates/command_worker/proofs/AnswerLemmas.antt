@@ -10,7 +10,6 @@ use Rattle.volume_model.specs.declared.call.Reply.TheVariants as reply
 use Rattle.volume_model.specs.declared.entry.Answer.{Answer}
 use Rattle.volume_model.specs.declared.entry.Entry.{Entry}
 use Rattle.volume_model.specs.declared.entry.Entry.TheVariants as entry
-use Rattle.volume_model.specs.declared.mark.Mark.TheVariants as mark
 use Rattle.volume_model.specs.History.{Spot}
 use Rattle.volume_model.specs.Modes.{source_of}
 use Rattle.volume_model.specs.OneWorker.{want_of_replica, refused_at, marks_unless, marks_before, reply_for, entries_at}
@@ -28,6 +27,7 @@ use Rattle.command_worker.specs.Purges.{MayComeBefore, AreFalls}
 use Rattle.command_worker.specs.Serving.{GrewByCommand}
 use Rattle.command_worker.specs.Whole.{RefusedWhole, EndsBehind, AnswersCall, IsNoPart, reply_at}
 use Rattle.command_worker.proofs.Goes.{comes, falls_none, none_come}
+use Rattle.command_worker.proofs.OwnAnswers.{has_both, has_last}
 
 -- ---- marks
 
@@ -76,6 +76,7 @@ refused_call o a b s = record {
     own = [];
     marks = [];
     falls = falls_none a.stream;
+    same = refl;
     modes = s.answers.modes;
     answer = s.answers.answer;
     is = s.answers.is;
@@ -121,6 +122,7 @@ started_call t op n turn o a b c h s e =
         own = g.own;
         marks = g.marks;
         falls = falls;
+        same = g.same;
         modes = w.modes;
         answer = w.answer;
         is = w.is ∙ ap (λ (m : Mine). with_more m (answer_placed w.modes w.answer ∷ []) []) mid
@@ -176,6 +178,7 @@ grew_call op n p os a b c e is saw s =
       own = own;
       all = all;
       is = d.is ∙ ap (λ (m : Mine). with_entries m own all []) e;
+      same = has_both d.own (answer_placed d.modes d.answer ∷ []) d.marks (entry.Answer d.answer ∷ []) d.same refl;
       done = record {
         marks = d.marks;
         answer = d.answer;
@@ -195,6 +198,7 @@ grew_now c a b s = record {
   own = answer_placed s.modes s.answer ∷ [];
   all = s.marks ++ entry.Answer s.answer ∷ [];
   is = s.is;
+  same = has_last a.stream s.modes s.answer s.marks (marks_come a.stream s.marks s.are);
   done = record {
     marks = s.marks;
     answer = s.answer;

@@ -12,6 +12,7 @@ use Rattle.command_text.specs.declared.command.Command.{Command}
 use Rattle.stream_steps.proofs.MineLemmas.{entries_none, entries_twice}
 use Rattle.command_worker.specs.Purges.{MayComeBefore, AreFalls}
 use Rattle.command_worker.specs.Whole.{Goes, GoesOn}
+use Rattle.command_worker.proofs.OwnAnswers.{has_both, has_none}
 
 -- ---- falls
 
@@ -58,7 +59,7 @@ pub goes_running : (os : List OwnCall) (a b : Mine) → Goes os a b → b.runnin
 goes_running os a b g = ap (λ (m : Mine). m.running) g.is
 
 pub goes_to : (os : List OwnCall) (a b : Mine) → b ≡ with_running a os → Goes os a b
-goes_to os a b e = record { own = []; marks = []; falls = falls_none a.stream; is = e ∙ sym (entries_none a os) }
+goes_to os a b e = record { own = []; marks = []; falls = falls_none a.stream; same = refl; is = e ∙ sym (entries_none a os) }
 
 pub goes_same : (a b : Mine) → b ≡ a → GoesOn a b
 goes_same a b e = goes_to a.running a b e
@@ -68,6 +69,7 @@ goes_then os ps a b c f k = record {
   own = f.own ++ k.own;
   marks = f.marks ++ k.marks;
   falls = falls_both a.stream f.marks k.marks f.falls (subst (λ n. AreFalls n k.marks) (ap (λ (m : Mine). m.stream) f.is) k.falls);
+  same = has_both f.own k.own f.marks k.marks f.same k.same;
   is = k.is ∙ ap (λ (m : Mine). with_entries m k.own k.marks ps) f.is ∙ entries_twice a f.own k.own f.marks k.marks os ps;
 }
 
@@ -82,6 +84,7 @@ goes_fall r count a b f = record {
   own = fault_placed f.modes a.stream r count ∷ [];
   marks = entry.Mark (mark.Fault a.stream r count) ∷ f.aborted;
   falls = one_fall a.stream r count f.aborted f.are;
+  same = has_none a.stream f.aborted (aborts_come a.stream f.aborted f.are);
   is = f.is;
 }
 

@@ -7,12 +7,14 @@ use Rattle.command_text.specs.declared.command.Command.{Command}
 use Rattle.volume_model.specs.declared.entry.Entry.{Entry}
 use Rattle.stream_steps.specs.Mine.{Mine, Log, with_entries, with_running, longer}
 use Rattle.stream_steps.proofs.MineLemmas.{entries_none, entries_twice, longer_none, longer_twice}
+use Rattle.command_worker.specs.OwnAnswers.{answers_in}
 use Rattle.command_worker.specs.Purges.{MayComeBefore}
 use Rattle.command_worker.specs.Serving.{Commands, AreCommanded, GrewByCommand, GaveUp, EndsUndone, LeftUndone, IsFirstLeft, Commanded, CommandedSome}
 use Rattle.command_worker.proofs.Goes.{none_come}
+use Rattle.command_worker.proofs.OwnAnswers.{has_both}
 
 pub commanded_none : (m : Mine) → m.running ≡ [] → Commanded [] m m
-commanded_none m idle = record { own = []; all = []; is = ap (with_running m) idle ∙ sym (entries_none m []); done = refl }
+commanded_none m idle = record { own = []; all = []; is = ap (with_running m) idle ∙ sym (entries_none m []); same = refl; done = refl }
 
 -- none is open behind them
 pub commanded_idle : (cs : List Command) (a b : Mine) → Commanded cs a b → b.running ≡ []
@@ -36,6 +38,7 @@ commanded_next cs c a b d g s = record {
   own = g.own ++ s.own;
   all = g.all ++ s.all;
   is = s.is ∙ ap (λ (m : Mine). with_entries m s.own s.all []) g.is ∙ entries_twice a g.own s.own g.all s.all [] [];
+  same = has_both g.own s.own g.all s.all g.same s.same;
   done = commanded_push a.stream a.log cs c g.all s.all g.done
       (subst (λ l. Commands a.stream l c s.all) (ap (λ (m : Mine). m.log) g.is) (subst (λ (n : ℕ). Commands n b.log c s.all) (ap (λ (m : Mine). m.stream) g.is) s.done));
 }
@@ -53,6 +56,7 @@ left_of c a b g = record {
   marks = g.marks;
   last = [];
   is = g.is ∙ ap (λ es. with_entries a g.own es []) (sym (append-nil g.marks));
+  same = g.same ∙ ap answers_in (sym (append-nil g.marks));
   are = g.are;
   left = inl refl;
 }
@@ -77,6 +81,7 @@ commanded_some cs i c a b d h g s = record {
   marks = s.marks;
   last = s.last;
   is = s.is ∙ ap (λ (m : Mine). with_entries m s.own (s.marks ++ s.last) []) g.is ∙ entries_twice a g.own s.own g.all (s.marks ++ s.last) [] [];
+  same = has_both g.own s.own g.all (s.marks ++ s.last) g.same s.same;
   done = g.done;
   more = subst (λ (n : ℕ). All (MayComeBefore n) s.marks) (ap (λ (m : Mine). m.stream) g.is) s.are;
   next = first_left a.stream (longer a.log g.all) cs i c s.last h
@@ -95,6 +100,7 @@ commanded_stopped cs m idle = record {
   marks = [];
   last = [];
   is = ap (with_running m) idle ∙ sym (entries_none m []);
+  same = refl;
   done = refl;
   more = none_come m.stream;
   next = none_left m.stream (longer m.log []) cs;

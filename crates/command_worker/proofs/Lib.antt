@@ -1,3 +1,4 @@
+pub mod OwnAnswers
 pub mod Goes
 pub mod ShownLemmas
 pub mod PartLemmas

@@ -34,6 +34,7 @@ use Rattle.command_worker.specs.Serving.{GrewByCommand, GaveUp}
 use Rattle.command_worker.specs.Whole.{Goes, RefusedWhole}
 use Rattle.command_worker.proofs.AnswerLemmas.{known, command_at}
 use Rattle.command_worker.proofs.Goes.{are_first, are_second, none_come}
+use Rattle.command_worker.proofs.OwnAnswers.{has_both, has_none}
 
 -- ---- how far a purge is
 
@@ -71,6 +72,7 @@ on_none os a b e = record {
   own = [];
   marks = [];
   is = e ∙ sym (entries_none a os);
+  same = refl;
   are = none_come a.stream;
   far = at a.log;
 }
@@ -89,6 +91,7 @@ on_then os ps a b c f g = record {
   own = f.own ++ g.own;
   marks = f.marks ++ g.marks;
   is = g.is ∙ ap (λ (m : Mine). with_entries m g.own g.marks ps) f.is ∙ entries_twice a f.own g.own f.marks g.marks os ps;
+  same = has_both f.own g.own f.marks g.marks f.same g.same;
   are = All-append (MayComeBefore a.stream) f.marks g.marks f.are (subst (λ n. All (MayComeBefore n) g.marks) (ap (λ (m : Mine). m.stream) f.is) g.are);
   far = far_more a.log b.log f.marks g.marks (ap (λ (m : Mine). m.log) f.is) f.far g.far;
 }
@@ -99,6 +102,7 @@ on_goes os a b g = record {
   own = g.own;
   marks = g.marks;
   is = g.is;
+  same = g.same;
   are = g.falls.come;
   far = at a.log;
 }
@@ -137,6 +141,7 @@ on_part f os turn a b c g next e = record {
   own = g.own ++ [];
   marks = g.marks ++ e.marks;
   is = e.is ∙ ap (λ (m : Mine). with_entries m [] e.marks turn) g.is ∙ entries_twice a g.own [] g.marks e.marks os turn;
+  same = has_both g.own [] g.marks e.marks g.same (has_none a.stream e.marks (part_marks a.stream f e.marks e.are));
   are = All-append (MayComeBefore a.stream) g.marks e.marks g.falls.come (part_marks a.stream f e.marks e.are);
   far = part_far a.stream f a.log b.log g.marks e.marks g.falls (ap (λ (m : Mine). m.log) g.is) next e.are e.none;
 }
@@ -150,6 +155,7 @@ ends_now o p r a b c e s same saw right = record {
   marks = [];
   answer = s.answer;
   is = s.is ∙ ap (λ (m : Mine). with_more m (answer_placed s.modes s.answer ∷ []) []) e;
+  same = refl;
   are = λ k d l. absurd (omega (arith, l));
   call = s.call ∙ same;
   by = s.by ∙ ap (λ (m : Mine). m.stream) e;
@@ -187,6 +193,7 @@ ends_refused o p os a b c g s is same saw =
       answer = w.answer;
       is = w.is ∙ ap (λ (m : Mine). with_more m (answer_placed w.modes w.answer ∷ []) []) g.is
           ∙ entries_twice a g.own (answer_placed w.modes w.answer ∷ []) g.marks (entry.Answer w.answer ∷ []) os [];
+      same = has_both g.own (answer_placed w.modes w.answer ∷ []) g.marks (entry.Answer w.answer ∷ []) g.same refl;
       are = g.falls.come;
       call = w.call ∙ same;
       by = w.by ∙ ap (λ (m : Mine). m.stream) g.is;
@@ -247,6 +254,7 @@ grew_purge o os a b c f g is saw =
       own = f.own ++ g.own;
       all = f.marks ++ (g.marks ++ entry.Answer g.answer ∷ []);
       is = g.is ∙ ap (λ (m : Mine). with_entries m g.own (g.marks ++ entry.Answer g.answer ∷ []) []) f.is ∙ entries_twice a f.own g.own f.marks (g.marks ++ entry.Answer g.answer ∷ []) os [];
+      same = has_both f.own g.own f.marks (g.marks ++ entry.Answer g.answer ∷ []) f.same g.same;
       done = record {
         marks = f.marks ++ g.marks;
         answer = g.answer;
@@ -269,11 +277,12 @@ gave_up os a b c f e = record {
   own = f.own;
   marks = f.marks;
   is = e ∙ ap (λ (m : Mine). with_running m []) f.is;
+  same = f.same;
   are = f.are;
 }
 
 pub gave_none : (a b : Mine) → a.running ≡ [] → b ≡ a → GaveUp a b
-gave_none a b idle e = record { own = []; marks = []; is = e ∙ ap (with_running a) idle ∙ sym (entries_none a []); are = λ k d l. absurd (omega (arith, l)) }
+gave_none a b idle e = record { own = []; marks = []; is = e ∙ ap (with_running a) idle ∙ sym (entries_none a []); same = refl; are = λ k d l. absurd (omega (arith, l)) }
 
 pub left_none : {E : Type 0} (res : Result (Unit {0}) E) (a b : Mine) → a.running ≡ [] → OnErr res (b ≡ a) → OnErr res (GaveUp a b)
 left_none (Ok u) a b idle err = tt

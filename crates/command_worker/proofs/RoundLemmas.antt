@@ -135,6 +135,7 @@ purge_left (Err x) t a b c d e turn left =
       own = left.own;
       marks = left.marks;
       is = left.is ∙ ap (λ (m : Mine). with_entries m left.own left.marks []) from;
+      same = left.same;
       are = subst (λ n. All (MayComeBefore n) left.marks) (ap (λ (m : Mine). m.stream) from) left.are;
     }
 

@@ -1,3 +1,4 @@
+pub mod OwnAnswers
 pub mod Serving
 pub mod Frames
 pub mod Rooms

@@ -15,6 +15,7 @@ use Rattle.volume_model.specs.Purge.{next_of, parts_of}
 use Rattle.stream_steps.specs.Mine.{Mine, OwnCall, Placed, with_entries}
 use Rattle.stream_steps.specs.Steps.{IsNoFault, AreMarks}
 use Rattle.client_worker.specs.Serving.{IsFaultMark}
+use Rattle.command_worker.specs.OwnAnswers.{HasAnswers}
 
 -- a fault of the stream's own lines, or a mark that is no fault
 abbrev pub MayComeBefore : ℕ → Entry → Type 0
@@ -46,6 +47,7 @@ pub record PurgesOn (os : List OwnCall) (m m2 : Mine) : Type 0 where
   pub own : List Placed
   pub marks : List Entry
   pub is : m2 ≡ with_entries m own marks os
+  pub same : HasAnswers own marks
   pub are : All (MayComeBefore m.stream) marks
   pub far : IfSome m.log (λ l. AreMarks marks → PurgesFar l.spot marks)
 
@@ -55,6 +57,7 @@ pub record PurgeEnds (o : OwnCall) (m m2 : Mine) : Type 0 where
   pub marks : List Entry
   pub answer : Answer
   pub is : m2 ≡ with_entries m own (marks ++ entry.Answer answer ∷ []) []
+  pub same : HasAnswers own (marks ++ entry.Answer answer ∷ [])
   pub are : All (MayComeBefore m.stream) marks
   pub call : answer.call ≡ o.call
   pub by : answer.stream ≡ m.stream

@@ -1,4 +1,5 @@
--- How what a worker knows of its stream grows while it answers the stream's commands.
+-- How what a worker knows of its stream grows while it answers the stream's commands. The stream's own entries have all
+-- answers of those that came (`HasAnswers`), also where the journal is not known.
 use Rattle.std.specs.Prelude.{◌≡◌, ◌⊎◌, ℕ, List, [], ◌∷◌, ◌++◌, All, false, Option, IfSome}
 use Rattle.vol_units.specs.Name.{begins_sys}
 use Rattle.command_text.specs.declared.command.Command.{Command}
@@ -10,6 +11,7 @@ use Rattle.volume_model.specs.declared.entry.Entry.{Entry}
 use Rattle.volume_model.specs.declared.entry.Entry.TheVariants as entry
 use Rattle.stream_steps.specs.Mine.{Mine, Placed, Log, with_entries, longer, length_of}
 use Rattle.stream_steps.specs.Steps.{AreMarks, IsCommandAt}
+use Rattle.command_worker.specs.OwnAnswers.{HasAnswers}
 use Rattle.command_worker.specs.Purges.{MayComeBefore}
 
 -- A command that this worker takes: no replica is rebuilt yet, and a snapshot has a name that a user may give.
@@ -43,6 +45,7 @@ pub record GrewByCommand (c : Command) (m m2 : Mine) : Type 0 where
   pub own : List Placed
   pub all : List Entry
   pub is : m2 ≡ with_entries m own all []
+  pub same : HasAnswers own all
   pub done : Commands m.stream m.log c all
 
 -- memory ran out: it grew by marks, and none is open
@@ -50,6 +53,7 @@ pub record GaveUp (m m2 : Mine) : Type 0 where
   pub own : List Placed
   pub marks : List Entry
   pub is : m2 ≡ with_entries m own marks []
+  pub same : HasAnswers own marks
   pub are : All (MayComeBefore m.stream) marks
 
 -- the one entry answers an add, which was taken up behind that journal: its rebuild was aborted
@@ -74,6 +78,7 @@ pub record LeftUndone (c : Command) (m m2 : Mine) : Type 0 where
   pub marks : List Entry
   pub last : List Entry
   pub is : m2 ≡ with_entries m own (marks ++ last) []
+  pub same : HasAnswers own (marks ++ last)
   pub are : All (MayComeBefore m.stream) marks
   pub left : EndsUndone m.stream m.log c last
 
@@ -84,6 +89,7 @@ pub record Commanded (cs : List Command) (m m2 : Mine) : Type 0 where
   pub own : List Placed
   pub all : List Entry
   pub is : m2 ≡ with_entries m own all []
+  pub same : HasAnswers own all
   pub done : AreCommanded m.stream m.log cs all
 
 -- the first of these was left so, if there is one
@@ -101,6 +107,7 @@ pub record CommandedSome (cs : List Command) (m m2 : Mine) : Type 0 where
   pub marks : List Entry
   pub last : List Entry
   pub is : m2 ≡ with_entries m own (all ++ (marks ++ last)) []
+  pub same : HasAnswers own (all ++ (marks ++ last))
   pub done : AreCommanded m.stream m.log some all
   pub more : All (MayComeBefore m.stream) marks
   pub next : IsFirstLeft m.stream (longer m.log all) left last

@@ -21,6 +21,7 @@ use Rattle.stream_steps.specs.Maint.{HasWhole, StartsAs, AnswersWhole, WholeEnds
 use Rattle.client_worker.specs.Exchanges.{told_in}
 use Rattle.client_worker.specs.Serving.{IsShown}
 use Rattle.command_worker.specs.Frames.{part_request, IsPartText, HasPartAsked}
+use Rattle.command_worker.specs.OwnAnswers.{HasAnswers}
 use Rattle.command_worker.specs.Purges.{AreFalls}
 
 -- ---- while it is open
@@ -30,6 +31,7 @@ pub record Goes (os : List OwnCall) (m m2 : Mine) : Type 0 where
   pub own : List Placed
   pub marks : List Entry
   pub falls : AreFalls m.stream marks
+  pub same : HasAnswers own marks
   pub is : m2 ≡ with_entries m own marks os
 
 -- the same calls are open still
@@ -110,6 +112,7 @@ pub record EndsCall (o : OwnCall) (m m2 : Mine) : Type 0 where
   pub own : List Placed
   pub marks : List Entry
   pub falls : AreFalls m.stream marks
+  pub same : HasAnswers own marks
   pub modes : List Mode
   pub answer : Answer
   pub is : m2 ≡ with_entries m (own ++ answer_placed modes answer ∷ []) (marks ++ entry.Answer answer ∷ []) []

@@ -1,4 +1,4 @@
-use Rattle.std.proofs.Common.{rules, ◌≡◌, ◌≢◌, ◌<◌, inl, inr, map, None, subst, sym}
+use Rattle.std.proofs.Common.{rules, ◌≡◌, ◌<◌, inl, inr, map, None, subst, sym}
 use Rattle.command_worker.proofs.CommandLemmas.{on_err}
 use Rattle.command_worker.proofs.RoundLemmas.{some_of}
 use Rattle.add_worker.specs.Adding.{PassesTo}

@@ -1,4 +1,4 @@
-use Rattle.std.proofs.Common.{rules, arith, ◌≡◌, ◌≤◌, [], map, set, length-set}
+use Rattle.std.proofs.Common.{rules, arith, ◌≡◌, [], map, set, length-set}
 use Rattle.std.proofs.Math.Seq.{map-set_same}
 use Rattle.stream_steps.specs.Mine.{with_running}
 use Rattle.client_worker.proofs.Counts.{later_set}
