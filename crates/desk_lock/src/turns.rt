@@ -12,14 +12,18 @@ use crate::plays::{Draw, Look, PassOn};
 use crate::seats::{Desk, Pass};
 use std::hint::spin_loop;
 use std::sync::Wait;
+use std::time::Duration;
 
 // The words of the table: tickets drawn, and turns ended.
 const DRAWN: usize = 0;
 
 pub(crate) const SERVED: usize = 1;
 
-// How often the next in line looks before it sleeps, as all others do at once.
+// How often one who waits for the desk, or the next in line, looks before it sleeps.
 const LOOKS: u32 = 100;
+
+// How many microseconds one sleeps who waits for the desk, if nobody wakes it.
+const PAUSE: u64 = 50;
 
 impl<S: Kept> Desk<S> {
     // Draws a ticket, waits for its turn, and takes the state out.
@@ -29,6 +33,7 @@ impl<S: Kept> Desk<S> {
         ensures takes { Takes S.account pass.old.me result pass.new.me }
     {
         let shared = &self.table.shared;
+        self.wait_for_rest(rt);
         let ticket = shared.fetch_add::<Draw>(pass, DRAWN, 1);
         let mut looks = 0;
         for _ in rt.forever() {
@@ -42,6 +47,28 @@ impl<S: Kept> Desk<S> {
                 spin_loop();
             } else {
                 shared.park(rt, SERVED, (serving & 0xffff_ffff) as u32);
+            }
+        }
+        unreachable!()
+    }
+
+    // Waits until no ticket is out, or so it looks. Who drew one while another's turn is on would have the desk handed
+    // over, and a sleeper woken, at each turn of streams that take turn after turn.
+    fn wait_for_rest<R: Wait>(&self, rt: &R) {
+        let shared = &self.table.shared;
+        let pause = Duration::from_micros(PAUSE);
+        let mut looks = 0;
+        for _ in rt.forever() {
+            let serving = shared.peek(SERVED);
+            if shared.peek(DRAWN) == serving {
+                return;
+            }
+            if looks < LOOKS {
+                looks += 1;
+                spin_loop();
+            } else {
+                looks = 0;
+                shared.park_timeout(rt, SERVED, (serving & 0xffff_ffff) as u32, pause);
             }
         }
         unreachable!()
