@@ -71,7 +71,7 @@ pub others_stay : {T : Type 0} (f g h : ℕ → ℕ → T) (worker : ℕ) (told 
 others_stay f g h worker told same records w r apart = records.others w r (λ both. apart both.0) ∙ same w r
 
 -- a slice is put back into its vector
-back_whole : {C : Type 0} (len : ℕ) (items now new : List C) → len ≡ length items → now ≡ items → length new ≡ length now → take len (new ++ drop (length new) items) ≡ new
+pub back_whole : {C : Type 0} (len : ℕ) (items now new : List C) → len ≡ length items → now ≡ items → length new ≡ length now → take len (new ++ drop (length new) items) ≡ new
 back_whole len items now new whole same many =
     ap (λ n. take n (new ++ drop (length new) items)) (omega (arith, whole, ap length same, many)) ∙ take-append_seam new (drop (length new) items)
 

@@ -7,7 +7,9 @@ use Rattle.volume_model.specs.declared.mode.Mode.TheVariants.{Rw, Err}
 use Rattle.volume_model.specs.Disk.{zeros}
 use Rattle.volume_model.specs.PlainState.{state_of as plain_of}
 use Rattle.volume_model.specs.Replay.{replay}
-use Rattle.volume_model.specs.History.{Spot, IsLegal, IsHistory}
+use Rattle.volume_model.specs.declared.entry.Entry.{Entry}
+use Rattle.volume_model.specs.Faults.{last_count}
+use Rattle.volume_model.specs.History.{Spot, IsLegal, calls_of}
 use Rattle.volume_model.specs.OneWorker.{served, stream_of}
 use Rattle.journal_book.specs.declared.opening.Opening.{Opening}
 use Rattle.replica_node.specs.Node.{Node, blank}
@@ -17,19 +19,20 @@ use Rattle.volume_core.specs.Opened.{IsOpenedOn, blank_opening}
 use Rattle.volume_core.specs.State.{State, state_of, opening_of, gave_up_at}
 use Rattle.volume_core.specs.Sound.{IsSound, NoneGaveUp}
 use Rattle.volume_core.specs.Streams.{Origin}
-use Rattle.client_worker.specs.Exchanges.{ExchangesShown}
+use Rattle.client_worker.specs.Exchanges.{AreCarried, ExchangesShown}
 use Rattle.script_text.specs.declared.script.Script.{Script}
 use Rattle.script_text.specs.declared.script.Stream.{Stream}
 use Rattle.world_in_hand.specs.Hand.{own_entries}
 use Rattle.stream_turns.specs.declared.serving.Served.{Served}
 use Rattle.stream_turns.specs.Turn.{IsBetween, HasNoEntry, KeepsOrigin, HasTurn, HaveTurns}
-use Rattle.stream_turns.specs.Serving.{IsServed}
+use Rattle.stream_turns.specs.Serving.{IsServed, IsServedInTurn}
 use Rattle.turn_laws.specs.Turns.{IsTurn, AreTurns, TellsOthers}
 use Rattle.stream_turns.specs.Volume.{opening_of as begins, stream_calls, heads_of, calls_in}
 use Rattle.turn_laws.proofs.Exchanged.{exchanged}
 use Rattle.stream_turns.proofs.Turned.{same_opening, same_replicas}
 use Rattle.stream_turns.proofs.Replicas.{replicas_are, as_many}
-use Rattle.turn_laws.proofs.Streams.{no_turns, more_turns, is_history}
+use Rattle.turn_laws.proofs.Counted.{faults_shown}
+use Rattle.turn_laws.proofs.Streams.{no_turns, more_turns}
 
 -- ---- stream after stream
 
@@ -152,43 +155,62 @@ begins_between script w n sound begun few =
 
 -- ---- all of it
 
-pub served_is : (script : Script) (w : World) (s : Served) (streams : List Stream) (counts : ℕ → ℕ → ℕ) (told : ℕ → ℕ → Option (List (List ℕ))) (n : ℕ)
-    → IsOpenedOn script.size (blank_opening script.replicas) (replicate script.replicas (blank script.size)) n (state_of w) → IsBetween s.world → KeepsOrigin w s.world
-    → HaveTurns (map stream_calls streams) w s.world counts told → streams ≡ script.streams → s.heads.items ≡ map heads_of streams → IsServed script counts told s
-served_is script w s streams counts told n begun between origin turns same heads = record {
-  heads = heads ∙ ap (map heads_of) same;
-  opening = ap (λ (o : Opening). o.modes) opened;
-  layers = ap (λ (o : Opening). o.layers) opened;
-  names = ap (λ (o : Opening). o.names) opened;
-  history = subst (λ (o : Spot). IsHistory o counts (stream_of (calls_in script)) s.world.journal.entries) start
-      (subst (λ css. IsHistory (opening_of (state_of w)) counts (stream_of css) s.world.journal.entries) (ap (map stream_calls) same)
-      (is_history (opening_of (state_of w)) (length w.nodes.items) (map stream_calls streams) s.world.journal.entries counts told turns legal
-      (between.sound.fell between.gave_up) between.sound.on.told.ordered.order between.sound.on.told.ordered.rise));
-  turns = λ well. turns.turns (λ v low r here. well v r (omega (arith, low, length-map streams stream_calls, ap length same)) (omega (arith, here, many)))
-      ∙ (λ i. served (start i) (map stream_calls (same i)));
-  carried = subst (λ ms. ExchangesShown script.replicas told ms s.world.journal.entries) (ap (λ (o : Spot). o.modes) start)
-      (subst (λ m. ExchangesShown m told (opening_of (state_of w)).modes s.world.journal.entries) many
-      (exchanged (length w.nodes.items) told (opening_of (state_of w)).modes s.world.journal.entries turns.carried));
-  many = as_many (state_of s.world) between.sound;
-  replicas = λ r up. replicas_are (state_of s.world) between.sound between.rest r up
-      ∙ ap (λ (o : Spot). (replay o.state s.world.journal.entries).volume) (same_opening (state_of w) (state_of s.world) origin ∙ start);
-}
-  where
-    opened : s.world.journal.opening ≡ blank_opening script.replicas
-    opened = ap (λ (o : Origin). o.opening) origin ∙ ap (λ (x : State). x.book.opening) begun.state
+-- Of a World that began so: nothing is open of it any more, and each stream's own entries are what they should be.
+module _ (script : Script) (w : World) (s : Served) (streams : List Stream) (n : ℕ) (begun : IsOpenedOn script.size (blank_opening script.replicas) (replicate script.replicas (blank script.size)) n (state_of w))
+    (between : IsBetween s.world) (origin : KeepsOrigin w s.world) (same : streams ≡ script.streams) where
+  opened : s.world.journal.opening ≡ blank_opening script.replicas
+  opened = ap (λ (o : Origin). o.opening) origin ∙ ap (λ (x : State). x.book.opening) begun.state
 
-    start : opening_of (state_of w) ≡ begins script
-    start = begins_blank script.size script.replicas n (state_of w) begun
+  start : opening_of (state_of w) ≡ begins script
+  start = begins_blank script.size script.replicas n (state_of w) begun
 
-    many : length w.nodes.items ≡ script.replicas
-    many = begins_many script.size script.replicas n (state_of w) begun
+  many : length w.nodes.items ≡ script.replicas
+  many = begins_many script.size script.replicas n (state_of w) begun
 
-    legal : IsLegal (opening_of (state_of w)) s.world.journal.entries
-    legal = subst (λ o. IsLegal o s.world.journal.entries) (same_opening (state_of w) (state_of s.world) origin) between.sound.on.told.legal
+  legal : IsLegal (opening_of (state_of w)) s.world.journal.entries
+  legal = subst (λ o. IsLegal o s.world.journal.entries) (same_opening (state_of w) (state_of s.world) origin) between.sound.on.told.legal
+
+  abbrev entries : List Entry
+  entries = s.world.journal.entries
+
+  pub served_is : (counts : ℕ → ℕ → ℕ) (told : ℕ → ℕ → Option (List (List ℕ))) → ((v : ℕ) → calls_of v entries ≡ stream_of (map stream_calls streams) v)
+      → ((v r : ℕ) → last_count v r entries ≤ counts v r) → ((v : ℕ) → AreCarried (length w.nodes.items) (told v) (own_entries v (opening_of (state_of w)).modes entries))
+      → s.heads.items ≡ map heads_of streams → IsServed script counts told s
+  served_is counts told calls counted carried heads = record {
+    heads = heads ∙ ap (map heads_of) same;
+    opening = ap (λ (o : Opening). o.modes) opened;
+    layers = ap (λ (o : Opening). o.layers) opened;
+    names = ap (λ (o : Opening). o.names) opened;
+    history = record {
+      legal = subst (λ (o : Spot). IsLegal o entries) start legal;
+      fell = between.sound.fell between.gave_up;
+      order = between.sound.on.told.ordered.order;
+      each_once = subst (λ (ss : List Stream). (v : ℕ) → calls_of v entries ≡ stream_of (map stream_calls ss) v) same calls;
+      faults = faults_shown counts entries between.sound.on.told.ordered.rise counted;
+    };
+    carried = subst (λ ms. ExchangesShown script.replicas told ms entries) (ap (λ (o : Spot). o.modes) start)
+        (subst (λ m. ExchangesShown m told (opening_of (state_of w)).modes entries) many
+        (exchanged (length w.nodes.items) told (opening_of (state_of w)).modes entries carried));
+    many = as_many (state_of s.world) between.sound;
+    replicas = λ r up. replicas_are (state_of s.world) between.sound between.rest r up
+        ∙ ap (λ (o : Spot). (replay o.state entries).volume) (same_opening (state_of w) (state_of s.world) origin ∙ start);
+  }
+
+  pub served_in_turn : (counts : ℕ → ℕ → ℕ) (told : ℕ → ℕ → Option (List (List ℕ))) → HaveTurns (map stream_calls streams) w s.world counts told → IsServedInTurn script counts s
+  served_in_turn counts told turns well = turns.turns (λ v low r here. well v r (omega (arith, low, length-map streams stream_calls, ap length same)) (omega (arith, here, many)))
+      ∙ (λ i. served (start i) (map stream_calls (same i)))
 
 pub each_served : {E : Type 0} (script : Script) (w : World) (res : Result Served E) (streams : List Stream) (counts : ℕ → ℕ → ℕ) (told : ℕ → ℕ → Option (List (List ℕ))) (n : ℕ)
     → IsOpenedOn script.size (blank_opening script.replicas) (replicate script.replicas (blank script.size)) n (state_of w) → IfOk res (λ s. IsBetween s.world)
     → IfOk res (λ s. KeepsOrigin w s.world) → IfOk res (λ s. HaveTurns (map stream_calls streams) w s.world counts told) → streams ≡ script.streams
     → IfOk res (λ s. s.heads.items ≡ map heads_of streams) → IfOk res (IsServed script counts told)
-each_served script w (Ok s) streams counts told n begun between origin turns same heads = served_is script w s streams counts told n begun between origin turns same heads
+each_served script w (Ok s) streams counts told n begun between origin turns same heads =
+    served_is script w s streams n begun between origin same counts told turns.calls turns.counted turns.carried heads
 each_served script w (Failed e) streams counts told n begun between origin turns same heads = tt
+
+pub each_in_turn : {E : Type 0} (script : Script) (w : World) (res : Result Served E) (streams : List Stream) (counts : ℕ → ℕ → ℕ) (told : ℕ → ℕ → Option (List (List ℕ))) (n : ℕ)
+    → IsOpenedOn script.size (blank_opening script.replicas) (replicate script.replicas (blank script.size)) n (state_of w) → IfOk res (λ s. IsBetween s.world)
+    → IfOk res (λ s. KeepsOrigin w s.world) → IfOk res (λ s. HaveTurns (map stream_calls streams) w s.world counts told) → streams ≡ script.streams
+    → IfOk res (IsServedInTurn script counts)
+each_in_turn script w (Ok s) streams counts told n begun between origin turns same = served_in_turn script w s streams n begun between origin same counts told turns
+each_in_turn script w (Failed e) streams counts told n begun between origin turns same = tt

@@ -23,8 +23,8 @@ abbrev pub HaveNotFailed : (ℕ → ℕ → ℕ) → Script → Type 0
 HaveNotFailed counts script = (w r : ℕ) → w < length script.streams → r < script.replicas → counts w r ≡ 0
 
 -- The journal begins with the head alone, on the script's replicas, with no name taken. It is one legal history of the
--- streams' calls, over lines that counted these faults and told that they carried this; where none failed it is that of
--- one worker. Each replica that is read and written is then the volume that the journal leaves.
+-- streams' calls, over lines that counted these faults and told that they carried this. Each replica that is read and
+-- written is then the volume that the journal leaves. So it is in whatever order the streams are served, and side by side.
 pub record IsServed (script : Script) (counts : ℕ → ℕ → ℕ) (told : ℕ → ℕ → Option (List (List ℕ)))
     (s : Served) : Type 0 where
   pub heads : s.heads.items ≡ heads_in script
@@ -32,10 +32,13 @@ pub record IsServed (script : Script) (counts : ℕ → ℕ → ℕ) (told : ℕ
   pub layers : s.world.journal.opening.layers ≡ 1
   pub names : s.world.journal.opening.names ≡ []
   pub history : IsHistory (opening_of script) counts (stream_of (calls_in script)) s.world.journal.entries
-  pub turns : HaveNotFailed counts script
-      → s.world.journal.entries ≡ served (opening_of script) (calls_in script)
   pub carried : ExchangesShown script.replicas told (opening_of script).modes s.world.journal.entries
   pub many : length s.world.nodes.items ≡ length (modes_of s.world.journal)
   pub replicas : (r : ℕ) → mode_of (modes_of s.world.journal) r ≡ Rw
       → volume_of_node (node_at s.world.nodes.items r)
       ≡ (replay (opening_of script).state s.world.journal.entries).volume
+
+-- where no line failed, the journal is that of one worker
+abbrev pub IsServedInTurn : Script → (ℕ → ℕ → ℕ) → Served → Type 0
+IsServedInTurn script counts s = HaveNotFailed counts script
+    → s.world.journal.entries ≡ served (opening_of script) (calls_in script)

@@ -1,6 +1,6 @@
 ghost use Rattle.std.specs.Prelude.{◌≡◌, ◌≤◌, [], length, map, All, IfOk};
 ghost use Rattle.stream_turns.specs.Turn.{IsTaken, IsBetween, KeepsOrigin, HaveTurns};
-ghost use Rattle.stream_turns.specs.Serving.{IsRead, IsServed};
+ghost use Rattle.stream_turns.specs.Serving.{IsRead, IsServed, IsServedInTurn};
 ghost use Rattle.stream_turns.specs.Volume.{stream_calls, heads_of};
 
 use crate::stream::serve_stream;
@@ -29,7 +29,8 @@ pub fn serve<R: Wait, W: Wiring>(
     wiring: &mut W,
 ) -> Result<Served, AllocError>
     requires { IsRead script }
-    ensures { IfOk result (IsServed script (W.counts wiring.new) (W.carried wiring.new)) }
+    ensures served { IfOk result (IsServed script (W.counts wiring.new) (W.carried wiring.new)) }
+    ensures turns { IfOk result (IsServedInTurn script (W.counts wiring.new)) }
 {
     let Script {
         streams,
@@ -81,7 +82,7 @@ fn serve_streams<R: Wait, W: Wiring>(
 }
 
 /// The headers of a stream's frames. A control stream has none.
-fn heads_in(alloc: Global, stream: Stream) -> Sequence<Head>
+pub fn heads_in(alloc: Global, stream: Stream) -> Sequence<Head>
     ensures { result ≡ heads_of stream }
 {
     match stream {

@@ -3,7 +3,7 @@ use Rattle.script_text.specs.declared.script.Stream.{Stream}
 use Rattle.script_text.proofs.GoodLemmas.{few_streams, few_replicas}
 use Rattle.stream_turns.specs.Turn.{IsTaken}
 use Rattle.stream_turns.proofs.ScriptLemmas.{all_taken}
-use Rattle.stream_turns.proofs.SoFar.{each_served, begins_between}
+use Rattle.stream_turns.proofs.SoFar.{each_served, each_in_turn, begins_between}
 use Rattle.stream_turns.proofs.serving.serve.Goals as goal
 
 pub overflow_cast-len : goal.overflow_cast-len
@@ -20,7 +20,12 @@ pub serve_streams-requires-clause-between : goal.serve_streams-requires-clause-b
 serve_streams-requires-clause-between g c κs within =
     begins_between c.args.script c.in_ok-world.world c.len.result c.in_ok-world.ensures.sound c.in_ok-world.ensures.begun (few_replicas c.requires.0 c.args.script c.requires.1).1
 
-pub returns : goal.returns
-returns g c =
+pub returns-clause-served : goal.returns-clause-served
+returns-clause-served g c =
     each_served c.args.script c.in_ok-world.world c.serve_streams.result c.into_vec.result.items _ _ c.len.result c.in_ok-world.ensures.begun c.serve_streams.ensures.between
     c.serve_streams.ensures.origin c.serve_streams.ensures.turns c.into_vec.ensures c.serve_streams.ensures.heads
+
+pub returns-clause-turns : goal.returns-clause-turns
+returns-clause-turns g c =
+    each_in_turn c.args.script c.in_ok-world.world c.serve_streams.result c.into_vec.result.items _ _ c.len.result c.in_ok-world.ensures.begun c.serve_streams.ensures.between
+    c.serve_streams.ensures.origin c.serve_streams.ensures.turns c.into_vec.ensures
