@@ -1,0 +1,10 @@
+pub mod Rest
+pub mod Lists
+pub mod Own
+pub mod Wrapped
+pub mod Ends
+pub mod AtEnd
+pub mod Taking
+pub mod Dealing
+pub mod All
+pub mod Outcome

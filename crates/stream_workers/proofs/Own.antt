@@ -1,0 +1,69 @@
+-- A stream's own entries tell which of its calls a journal answers, and which faults of its lines are marked.
+use Rattle.std.proofs.Common.{◌≡◌, ℕ, suc, Bool, true, false, cond, eqb, List, [], ◌∷◌, map, refl, ap, ◌∙◌, eq-eqb}
+use Rattle.command_text.specs.declared.command.Command.{Command}
+use Rattle.volume_model.specs.declared.call.Call.{Call}
+use Rattle.volume_model.specs.declared.entry.Answer.{Answer}
+use Rattle.volume_model.specs.declared.entry.Entry.{Entry}
+use Rattle.volume_model.specs.declared.entry.Entry.TheVariants as entry
+use Rattle.volume_model.specs.declared.mark.Mark.{Mark}
+use Rattle.volume_model.specs.declared.mode.Mode.{Mode}
+use Rattle.volume_model.specs.Faults.{last_in, last_count}
+use Rattle.volume_model.specs.History.{answers_from, calls_of}
+use Rattle.volume_model.specs.Modes.{modes_after_entry}
+use Rattle.stream_steps.specs.Mine.{Placed, entries_in}
+use Rattle.command_worker.specs.OwnAnswers.{answers_in}
+use Rattle.world_in_hand.specs.Hand.{is_own_mark, own_entries}
+use Rattle.turn_laws.proofs.Own.{own_faults}
+
+-- the calls answered, which do not depend on where the answers stand
+abbrev calls_at : ℕ → ℕ → List Entry → List Call
+calls_at n place es = map (λ (p : ℕ × Answer). p.1.call) (answers_from n place es)
+
+-- of a first entry that is an answer, and one that is a mark
+answer_calls : (n p q : ℕ) (b : Bool) (modes : List Mode) (a : Answer) (more : List Placed) (es : List Entry) → eqb a.stream n ≡ b → ((i j : ℕ) → calls_at n i (entries_in more) ≡ calls_at n j es)
+    → calls_at n p (entries_in (cond b (record { modes = modes; entry = entry.Answer a } ∷ more) more)) ≡ map (λ (p : ℕ × Answer). p.1.call) (cond b ((q, a) ∷ answers_from n (suc q) es) (answers_from n (suc q) es))
+answer_calls n p q true modes a more es e rest =
+    ap (λ (b : Bool). map (λ (p : ℕ × Answer). p.1.call) (cond b ((p, a) ∷ answers_from n (suc p) (entries_in more)) (answers_from n (suc p) (entries_in more)))) e
+    ∙ ap (λ l. a.call ∷ l) (rest (suc p) (suc q))
+answer_calls n p q false modes a more es e rest = rest p (suc q)
+
+mark_calls : (n p q : ℕ) (b : Bool) (modes : List Mode) (m : Mark) (more : List Placed) (es : List Entry) → ((i j : ℕ) → calls_at n i (entries_in more) ≡ calls_at n j es)
+    → calls_at n p (entries_in (cond b (record { modes = modes; entry = entry.Mark m } ∷ more) more)) ≡ calls_at n (suc q) es
+mark_calls n p q true modes m more es rest = rest (suc p) (suc q)
+mark_calls n p q false modes m more es rest = rest p (suc q)
+
+own_calls : (n p q : ℕ) (modes : List Mode) (es : List Entry) → calls_at n p (entries_in (own_entries n modes es)) ≡ calls_at n q es
+own_calls n p q modes [] = refl
+own_calls n p q modes (entry.Answer a ∷ es) =
+    let after = modes_after_entry modes (entry.Answer a) in
+    answer_calls n p q (eqb a.stream n) modes a (own_entries n after es) es refl (λ i j. own_calls n i j after es)
+own_calls n p q modes (entry.Mark m ∷ es) =
+    let after = modes_after_entry modes (entry.Mark m) in
+    mark_calls n p q (is_own_mark n m) modes m (own_entries n after es) es (λ i j. own_calls n i j after es)
+
+pub own_asked : (n : ℕ) (modes : List Mode) (es : List Entry) → calls_of n (entries_in (own_entries n modes es)) ≡ calls_of n es
+own_asked n modes es = own_calls n 0 0 modes es
+
+pub own_last : (n r : ℕ) (modes : List Mode) (es : List Entry) → last_count n r (entries_in (own_entries n modes es)) ≡ last_count n r es
+own_last n r modes es = ap (last_in 0) (own_faults n r modes es)
+
+-- ---- of answers that all are the stream's
+
+first_same : {A : Type 0} (x y : A) (xs ys : List A) → x ∷ xs ≡ y ∷ ys → x ≡ y
+first_same x y xs ys e = cc
+
+more_same : {A : Type 0} (x y : A) (xs ys : List A) → x ∷ xs ≡ y ∷ ys → xs ≡ ys
+more_same x y xs ys e = cc
+
+answered_at : (n p : ℕ) (es : List Entry) (cs : List Command) → map (λ (a : Answer). a.stream) (answers_in es) ≡ map (λ (c : Command). n) cs → calls_at n p es ≡ map (λ (a : Answer). a.call) (answers_in es)
+answered_at n p [] cs e = refl
+answered_at n p (entry.Mark m ∷ es) cs e = answered_at n (suc p) es cs e
+answered_at n p (entry.Answer a ∷ es) [] e = absurd cc
+answered_at n p (entry.Answer a ∷ es) (c ∷ cs) e =
+    let own = first_same a.stream n (map (λ (x : Answer). x.stream) (answers_in es)) (map (λ (x : Command). n) cs) e in
+    let more = more_same a.stream n (map (λ (x : Answer). x.stream) (answers_in es)) (map (λ (x : Command). n) cs) e in
+    ap (λ (b : Bool). map (λ (p : ℕ × Answer). p.1.call) (cond b ((p, a) ∷ answers_from n (suc p) es) (answers_from n (suc p) es))) (eq-eqb a.stream n own)
+    ∙ ap (λ l. a.call ∷ l) (answered_at n (suc p) es cs more)
+
+pub answered : (n : ℕ) (es : List Entry) (cs : List Command) → map (λ (a : Answer). a.stream) (answers_in es) ≡ map (λ (c : Command). n) cs → calls_of n es ≡ map (λ (a : Answer). a.call) (answers_in es)
+answered n es cs e = answered_at n 0 es cs e

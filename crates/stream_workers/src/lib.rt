@@ -1,0 +1,13 @@
+//! The streams of a script side by side on one World: a worker for each, in a thread of its own.
+#![tactic(auto)]
+
+mod gated;
+mod lines;
+mod serving;
+mod task;
+mod tasks;
+
+pub use outer_traits::{Gate, Point, Wiring};
+pub use script_text::Script;
+pub use serving::serve;
+pub use stream_turns::{Served, World};

@@ -1,0 +1,99 @@
+ghost use Rattle.std.specs.Prelude.{◌≡◌, ◌≤◌, [], length, map, All, IfOk};
+ghost use Rattle.volume_core.specs.State.{state_of};
+ghost use Rattle.stream_turns.specs.Turn.{IsTaken, IsBetween, KeepsOrigin};
+ghost use Rattle.stream_turns.specs.Serving.{IsRead, IsServed};
+ghost use Rattle.stream_turns.specs.Volume.{stream_calls, heads_of};
+ghost use Rattle.stream_workers.specs.Ended.{HaveEnded};
+
+use crate::gated::{ByGate, Wrapping};
+use crate::tasks::{are_served, deal, do_tasks, give_back, take_all_in};
+use outer_traits::{Gate, Wiring};
+use script_text::{LinePlan, Script, Stream};
+use std::alloc::{AllocError, Global};
+use std::sync::Wait;
+use std::thread::Threads;
+use stream_turns::{Served, World};
+use world_desk::{lay_down, take_up};
+
+/// Serves the streams of a script on its replicas side by side, a worker in a thread for each. The lines come from the
+/// wiring before the first worker begins, and go back to it once all have ended. Each worker passes the gate before and
+/// behind each carry, where it waits, and when a call has ended.
+pub fn serve<R: Threads + Wait + Sync, W: Wiring, G: Gate + Sync>(
+    rt: &R,
+    alloc: Global,
+    script: Script,
+    wiring: &mut W,
+    gate: &G,
+) -> Result<Served, AllocError>
+    requires { IsRead script }
+    ensures { IfOk result (IsServed script (W.counts wiring.new) (W.carried wiring.new)) }
+{
+    let Script {
+        streams,
+        lines,
+        size,
+        replicas,
+        ..
+    } = script;
+    let world = World::blank(alloc, size, replicas, streams.len() as u8)?;
+    serve_streams(
+        rt,
+        alloc,
+        lines.as_slice(),
+        replicas,
+        streams.into_vec(),
+        world,
+        wiring,
+        &ByGate { gate },
+        gate,
+    )
+}
+
+/// Serves the streams on lines of this wiring, wrapped so.
+fn serve_streams<R: Threads + Wait + Sync, W: Wiring, V: Wrapping<W>, G: Gate + Sync>(
+    rt: &R,
+    alloc: Global,
+    plans: &[LinePlan],
+    replicas: u8,
+    streams: Vec<Stream>,
+    world: World,
+    wiring: &mut W,
+    wrapping: &V,
+    gate: &G,
+) -> Result<Served, AllocError>
+    requires some { (1 ≤ length streams.items) × (length streams.items ≤ 16) }
+    requires many { length world.indices.items ≡ length streams.items }
+    requires replicas { replicas ≡ length world.nodes.items }
+    requires taken { All IsTaken streams.items }
+    requires between { IsBetween world }
+    requires begun { world.journal.entries ≡ [] }
+    ensures between { IfOk result (λ served. IsBetween served.world) }
+    ensures origin { IfOk result (λ served. KeepsOrigin world served.world) }
+    ensures ended { IfOk result (λ served. HaveEnded (map stream_calls streams.items)
+        (W.counts wiring.new) (W.carried wiring.new) (state_of served.world)) }
+    ensures heads { IfOk result (λ served. served.heads.items ≡ map heads_of streams.items) }
+{
+    let mut tasks = Vec::with_capacity(alloc, streams.len())?;
+    let mut heads = Vec::with_capacity(alloc, streams.len())?;
+    let (desk, mut first) = lay_down(alloc, world)?;
+    let dealt = deal(
+        alloc, plans, replicas, streams, &desk, &mut first, wiring, wrapping, gate, &mut tasks,
+    );
+    if dealt.is_err() {
+        give_back(wiring, wrapping, tasks);
+        return Err(AllocError);
+    }
+    let tasks = do_tasks(rt, alloc, &desk, gate, tasks);
+    if !are_served(tasks.as_slice()) {
+        give_back(wiring, wrapping, tasks);
+        return Err(AllocError);
+    }
+    if take_all_in(
+        alloc, &desk, &mut first, wiring, wrapping, tasks, &mut heads,
+    ) {
+        let world = take_up(desk, first);
+        Ok(Served { heads, world })
+    } else {
+        Err(AllocError)
+    }
+}

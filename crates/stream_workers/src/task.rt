@@ -1,0 +1,182 @@
+//! A worker of a stream: what it is given, and how it serves the stream.
+
+ghost use Rattle.std.specs.Prelude.{◌≡◌, ◌≤◌, true, length, map, Some, All, slice_index_or};
+ghost use Rattle.desk_lock.specs.Seats.{number_of, last_of, IsSeatOf};
+ghost use Rattle.world_desk.specs.Laid.{laid};
+ghost use Rattle.client_worker.specs.Asks.{IsAsked};
+ghost use Rattle.client_worker.specs.Exchanges.{told_in};
+ghost use Rattle.add_worker.specs.Serving.{IsForWorker};
+ghost use Rattle.frame_stream.specs.Asked.{call_of};
+ghost use Rattle.volume_model.specs.declared.call.Call.TheVariants as call;
+ghost use Rattle.stream_turns.specs.Turn.{IsTaken, AreNewLines};
+ghost use Rattle.stream_turns.specs.Volume.{stream_calls};
+ghost use Rattle.stream_workers.specs.Ended.{HasEnded};
+ghost use Rattle.stream_workers.specs.Tasks.{Begins, IsTask, IsDone};
+
+use add_worker::run_commands;
+use client_desk::AtDesk;
+use client_worker::{Channel, Frames, run_stream};
+use command_desk::CommandsAtDesk;
+use outer_traits::{Gate, Line};
+use script_text::{Command, Stream};
+use std::alloc::Global;
+use std::sync::Wait;
+use world_desk::{Desk, Seat, WorldOnDesk};
+
+/// A stream, and what its worker has: a seat, and a line to each replica.
+#[derive(Drop)]
+pub(crate) struct Task<L: Drop> {
+    pub(crate) number: u8,
+    pub(crate) stream: Stream,
+    /// None while the worker has it in hand.
+    pub(crate) seat: Option<Seat<WorldOnDesk>>,
+    pub(crate) channels: Vec<Channel<L>>,
+    /// Whether the stream was served to its end.
+    pub(crate) served: bool,
+}
+
+/// Serves the stream to its end, unless memory runs out.
+pub(crate) fn work<R: Wait, L: Line + Drop, G: Gate>(
+    rt: &R,
+    alloc: Global,
+    desk: &Desk<WorldOnDesk>,
+    gate: &G,
+    task: &mut Task<L>,
+)
+    requires { IsTask L.ends L.count L.carried desk.now task.old }
+    ensures { IsDone L.ends L.count L.carried desk.now task.old task.new }
+{
+    let seat = task.seat.take().unwrap();
+    let channels = task.channels.as_mut_slice();
+    let (seat, served) = serve_stream(
+        rt,
+        alloc,
+        desk,
+        gate,
+        task.number,
+        seat,
+        &task.stream,
+        channels,
+    );
+    task.seat = Some(seat);
+    task.served = served;
+}
+
+/// Serves a stream at a seat, and says whether memory sufficed. Where it did not, no clause tells of the seat.
+fn serve_stream<R: Wait, L: Line + Drop, G: Gate>(
+    rt: &R,
+    alloc: Global,
+    desk: &Desk<WorldOnDesk>,
+    gate: &G,
+    number: u8,
+    seat: Seat<WorldOnDesk>,
+    stream: &Stream,
+    channels: &mut [Channel<L>],
+) -> (Seat<WorldOnDesk>, bool)
+    requires begins { Begins desk.now seat number }
+    requires taken { IsTaken stream.now }
+    requires few { length (laid (last_of seat)).nodes ≤ 8 }
+    requires lines { AreNewLines number (length (laid (last_of seat)).nodes)
+        (map (λ c. L.ends c.line) channels.old) (map (λ c. L.count c.line) channels.old)
+        (map (λ c. L.carried c.line) channels.old) }
+    ensures seat { result.1 ≡ true → IsSeatOf desk.now result.0 × (number_of result.0 ≡ Some number) }
+    ensures count { length channels.new ≡ length channels.old }
+    ensures ends { map (λ c. L.ends c.line) channels.new ≡ map (λ c. L.ends c.line) channels.old }
+    ensures replicas { result.1 ≡ true
+        → length (laid (last_of result.0)).nodes ≡ length (laid (last_of seat)).nodes }
+    ensures served { result.1 ≡ true → HasEnded number (stream_calls stream.now)
+        (λ r. slice_index_or (map (λ c. L.count c.line) channels.new) r 0)
+        (told_in (map (λ c. L.carried c.line) channels.new)) (laid (last_of result.0)) }
+{
+    match stream {
+        Stream::Frames(frames) => serve_frames(
+            rt, alloc, desk, gate, number, seat, frames, channels,
+        ),
+        Stream::Control(commands) => {
+            serve_commands(
+                rt,
+                alloc,
+                desk,
+                gate,
+                number,
+                seat,
+                commands.as_slice(),
+                channels,
+            )
+        }
+    }
+}
+
+/// The same of a stream of frames.
+fn serve_frames<R: Wait, L: Line + Drop, G: Gate>(
+    rt: &R,
+    alloc: Global,
+    desk: &Desk<WorldOnDesk>,
+    gate: &G,
+    number: u8,
+    seat: Seat<WorldOnDesk>,
+    frames: &Frames,
+    channels: &mut [Channel<L>],
+) -> (Seat<WorldOnDesk>, bool)
+    requires begins { Begins desk.now seat number }
+    requires asked { All IsAsked frames.now }
+    requires few { length (laid (last_of seat)).nodes ≤ 8 }
+    requires lines { AreNewLines number (length (laid (last_of seat)).nodes)
+        (map (λ c. L.ends c.line) channels.old) (map (λ c. L.count c.line) channels.old)
+        (map (λ c. L.carried c.line) channels.old) }
+    ensures seat { result.1 ≡ true → IsSeatOf desk.now result.0 × (number_of result.0 ≡ Some number) }
+    ensures count { length channels.new ≡ length channels.old }
+    ensures ends { map (λ c. L.ends c.line) channels.new ≡ map (λ c. L.ends c.line) channels.old }
+    ensures replicas { result.1 ≡ true
+        → length (laid (last_of result.0)).nodes ≡ length (laid (last_of seat)).nodes }
+    ensures served { result.1 ≡ true → HasEnded number (map call_of frames.now)
+        (λ r. slice_index_or (map (λ c. L.count c.line) channels.new) r 0)
+        (told_in (map (λ c. L.carried c.line) channels.new)) (laid (last_of result.0)) }
+{
+    let mut steps = AtDesk {
+        desk,
+        seat,
+        stream: number,
+        gate,
+        ended: 0,
+    };
+    let served = run_stream(rt, alloc, &mut steps, channels, frames).is_ok();
+    (steps.seat, served)
+}
+
+/// The same of a stream of commands.
+fn serve_commands<R: Wait, L: Line + Drop, G: Gate>(
+    rt: &R,
+    alloc: Global,
+    desk: &Desk<WorldOnDesk>,
+    gate: &G,
+    number: u8,
+    seat: Seat<WorldOnDesk>,
+    commands: &[Command],
+    channels: &mut [Channel<L>],
+) -> (Seat<WorldOnDesk>, bool)
+    requires begins { Begins desk.now seat number }
+    requires taken { All IsForWorker commands.now }
+    requires few { length (laid (last_of seat)).nodes ≤ 8 }
+    requires lines { AreNewLines number (length (laid (last_of seat)).nodes)
+        (map (λ c. L.ends c.line) channels.old) (map (λ c. L.count c.line) channels.old)
+        (map (λ c. L.carried c.line) channels.old) }
+    ensures seat { result.1 ≡ true → IsSeatOf desk.now result.0 × (number_of result.0 ≡ Some number) }
+    ensures count { length channels.new ≡ length channels.old }
+    ensures ends { map (λ c. L.ends c.line) channels.new ≡ map (λ c. L.ends c.line) channels.old }
+    ensures replicas { result.1 ≡ true
+        → length (laid (last_of result.0)).nodes ≡ length (laid (last_of seat)).nodes }
+    ensures served { result.1 ≡ true → HasEnded number (map call.Command commands.now)
+        (λ r. slice_index_or (map (λ c. L.count c.line) channels.new) r 0)
+        (told_in (map (λ c. L.carried c.line) channels.new)) (laid (last_of result.0)) }
+{
+    let mut steps = CommandsAtDesk::of(AtDesk {
+        desk,
+        seat,
+        stream: number,
+        gate,
+        ended: 0,
+    });
+    let served = run_commands(rt, alloc, &mut steps, channels, commands).is_ok();
+    (steps.seat, served)
+}

@@ -1,0 +1,203 @@
+//! The tasks of all streams: they are dealt out, done side by side, and taken in.
+
+ghost use Rattle.std.specs.Prelude.{◌≡◌, ◌≤◌, ℕ, ◌<◌, ◌++◌, ◌∷◌, [], true, length, map, slice_index_or, All, Some, None, OnOk};
+ghost use Rattle.desk_lock.specs.Known.{keeping};
+ghost use Rattle.desk_lock.specs.Seats.{known, number_of, made_of, last_of, seats_of, IsSeatOf};
+ghost use Rattle.outer_traits.specs.Lines.{RecordsOf};
+ghost use Rattle.stream_turns.specs.Turn.{IsTaken};
+ghost use Rattle.stream_turns.specs.Volume.{heads_of};
+ghost use Rattle.world_desk.specs.Laid.{laid};
+ghost use Rattle.stream_workers.specs.Tasks.{IsTask, IsBack, IsDone, IsIn, IsJoinedIn, AreNumbered, AreDone};
+
+use crate::gated::Wrapping;
+use crate::lines::{give_lines_back, wrapped_channels};
+use crate::task::{Task, work};
+use client_desk::AtDesk;
+use outer_traits::{Gate, Line, Wiring};
+use script_text::{LinePlan, Stream};
+use std::alloc::{AllocError, Global};
+use std::sync::Wait;
+use std::thread;
+use std::thread::Threads;
+use stream_turns::{Head, Sequence, heads_in};
+use world_desk::{Desk, Seat, WorldOnDesk};
+
+/// Gives each stream its seat, and its lines. Out of memory leaves the tasks of the streams before.
+pub(crate) fn deal<W: Wiring, V: Wrapping<W>, G: Gate>(
+    alloc: Global,
+    plans: &[LinePlan],
+    replicas: u8,
+    streams: Vec<Stream>,
+    desk: &Desk<WorldOnDesk>,
+    first: &mut Seat<WorldOnDesk>,
+    wiring: &mut W,
+    wrapping: &V,
+    gate: &G,
+    tasks: &mut Vec<Task<V::Wrapped>>,
+) -> Result<(), AllocError>
+    requires seat { IsSeatOf desk.now first.old × (number_of first.old ≡ None) × (made_of first.old ≡ 0) }
+    requires fresh { (known first.old).joined ≡ [] }
+    requires few { length streams.items ≤ 16 }
+    requires room { length streams.items ≤ seats_of desk.now }
+    requires many { length (laid (last_of first.old)).indices ≡ length streams.items }
+    requires replicas { (replicas ≡ length (laid (last_of first.old)).nodes) × (replicas ≤ 8) }
+    requires taken { All IsTaken streams.items }
+    requires none { tasks.old.items ≡ [] }
+    ensures seat { IsSeatOf desk.now first.new × (number_of first.new ≡ None) }
+    ensures fresh { ((known first.new).joined ≡ []) × (last_of first.new ≡ last_of first.old) }
+    ensures made { OnOk result (made_of first.new ≡ length streams.items) }
+    ensures tasks { OnOk result (All (IsTask V.Wrapped.ends V.Wrapped.count
+        V.Wrapped.carried desk.now) tasks.new.items) }
+    ensures numbered { OnOk result (AreNumbered tasks.new.items) }
+    ensures streams { OnOk result (map (λ j. j.stream) tasks.new.items ≡ streams.items) }
+{
+    let mut number = 0;
+    for stream in streams {
+        let channels = wrapped_channels(alloc, plans, number, replicas, wiring, wrapping)?;
+        let at = AtDesk::split_off(desk, first, number, gate);
+        tasks.push(Task {
+            number,
+            stream,
+            seat: Some(at.seat),
+            channels,
+            served: false,
+        })?;
+        number += 1;
+    }
+    Ok(())
+}
+
+/// A thread for each task does it; where none can be made, its caller does it.
+fn do_all<R: Threads + Wait + Sync, L: Line + Send + Drop, G: Gate + Sync>(
+    rt: &R,
+    alloc: Global,
+    desk: &Desk<WorldOnDesk>,
+    gate: &G,
+    tasks: &mut [Task<L>],
+)
+    requires { All (IsTask L.ends L.count L.carried desk.now) tasks.old }
+    ensures { AreDone L.ends L.count L.carried desk.now tasks.old tasks.new }
+{
+    let threads = tasks.len().max(1);
+    thread::for_each_mut(
+        rt,
+        tasks,
+        threads,
+        &|_, task: &mut Task<L>|
+            requires { IsTask L.ends L.count L.carried desk.now task.now }
+            ensures { IsDone L.ends L.count L.carried desk.entry.now task.entry.now task.exit.now }
+        { work(rt, alloc, desk, gate, task) },
+    );
+}
+
+/// The same of tasks in a vector.
+pub(crate) fn do_tasks<R: Threads + Wait + Sync, L: Line + Send + Drop, G: Gate + Sync>(
+    rt: &R,
+    alloc: Global,
+    desk: &Desk<WorldOnDesk>,
+    gate: &G,
+    tasks: Vec<Task<L>>,
+) -> Vec<Task<L>>
+    requires { All (IsTask L.ends L.count L.carried desk.now) tasks.items }
+    ensures { AreDone L.ends L.count L.carried desk.now tasks.items result.items }
+{
+    let mut tasks = tasks;
+    do_all(rt, alloc, desk, gate, tasks.as_mut_slice());
+    tasks
+}
+
+/// Whether each stream was served to its end.
+pub(crate) fn are_served<L: Drop>(tasks: &[Task<L>]) -> bool
+    ensures { result ≡ true → All (λ j. j.served ≡ true) tasks.now }
+{
+    for task in tasks {
+        if !task.served {
+            return false;
+        }
+    }
+    true
+}
+
+/// Takes all lines back, of tasks that are not done.
+pub(crate) fn give_back<W: Wiring, V: Wrapping<W>>(
+    wiring: &mut W,
+    wrapping: &V,
+    tasks: Vec<Task<V::Wrapped>>,
+) {
+    for task in tasks {
+        give_lines_back(wiring, wrapping, task.channels);
+    }
+}
+
+/// Takes all lines back, and joins all seats. Says whether memory sufficed for the headers.
+pub(crate) fn take_all_in<W: Wiring, V: Wrapping<W>>(
+    alloc: Global,
+    desk: &Desk<WorldOnDesk>,
+    first: &mut Seat<WorldOnDesk>,
+    wiring: &mut W,
+    wrapping: &V,
+    tasks: Vec<Task<V::Wrapped>>,
+    heads: &mut Vec<Sequence<Head>>,
+) -> bool
+    requires first { IsSeatOf desk.now first.old × (number_of first.old ≡ None) }
+    requires back { All (IsBack V.Wrapped.ends V.Wrapped.count
+        V.Wrapped.carried desk.now) tasks.items }
+    requires numbered { AreNumbered tasks.items }
+    requires none { heads.old.items ≡ [] }
+    ensures first { IsSeatOf desk.now first.new × (number_of first.new ≡ None) }
+    ensures same { (made_of first.new ≡ made_of first.old) × (last_of first.new ≡ last_of first.old) }
+    ensures joined { All (IsIn V.Wrapped.count V.Wrapped.carried (known first.new).joined
+        (W.counts wiring.new) (W.carried wiring.new)) tasks.items }
+    ensures heads { result ≡ true → heads.new.items ≡ map (λ j. heads_of j.stream) tasks.items }
+{
+    let mut well = true;
+    for task in tasks {
+        let stream = take_in(desk, first, wiring, wrapping, task);
+        let kept = keep_heads(alloc, heads, stream);
+        well = both(well, kept);
+    }
+    well
+}
+
+/// Takes one task's lines back, and joins its seat.
+fn take_in<W: Wiring, V: Wrapping<W>>(
+    desk: &Desk<WorldOnDesk>,
+    first: &mut Seat<WorldOnDesk>,
+    wiring: &mut W,
+    wrapping: &V,
+    task: Task<V::Wrapped>,
+) -> Stream
+    requires first { IsSeatOf desk.now first.old × (number_of first.old ≡ None) }
+    requires back { IsBack V.Wrapped.ends V.Wrapped.count V.Wrapped.carried desk.now task }
+    ensures first { IsSeatOf desk.now first.new }
+    ensures joined { IsJoinedIn task (known first.old) (known first.new) }
+    ensures counts { RecordsOf (W.counts wiring.old) (W.counts wiring.new) task.number
+        (map (λ c. V.Wrapped.count c.line) task.channels.items) }
+    ensures carried { RecordsOf (W.carried wiring.old) (W.carried wiring.new) task.number
+        (map (λ c. V.Wrapped.carried c.line) task.channels.items) }
+    ensures stream { result ≡ task.stream }
+{
+    let Task {
+        number: _,
+        stream,
+        seat,
+        channels,
+        served: _,
+    } = task;
+    give_lines_back(wiring, wrapping, channels);
+    desk.join(first, seat.unwrap());
+    stream
+}
+
+/// Keeps the headers of a stream's frames, and says whether memory sufficed.
+fn keep_heads(alloc: Global, heads: &mut Vec<Sequence<Head>>, stream: Stream) -> bool
+    ensures { result ≡ true → heads.new.items ≡ heads.old.items ++ heads_of stream ∷ [] }
+{
+    heads.push(heads_in(alloc, stream)).is_ok()
+}
+
+fn both(a: bool, b: bool) -> bool
+    ensures { result ≡ true → (a ≡ true) × (b ≡ true) }
+{
+    a && b
+}
