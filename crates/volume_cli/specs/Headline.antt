@@ -11,6 +11,10 @@ use Rattle.volume_cli.specs.Stops.{RunFact, HadNoScript, Prints, PrintsPrefix}
 abbrev pub AskRun : {A : Type 0} → List (String A) → Type 0
 AskRun words = (workers : Workers) × (asked_by (map string_bytes words) ≡ Some (Run workers))
 
+-- they ask for a run by these workers
+abbrev pub AskRunBy : {A : Type 0} → Workers → List (String A) → Type 0
+AskRunBy workers words = asked_by (map string_bytes words) ≡ Some (Run workers)
+
 -- the words are a usage error: they ask for nothing that there is
 abbrev pub IsUsageError : {A : Type 0} → List (String A) → Type 0
 IsUsageError words = asked_by (map string_bytes words) ≡ None

@@ -72,7 +72,7 @@ abbrev pub IsRun : (ℕ → ℕ → ℕ) → RunFact
 IsRun counted script journal = IsHistory (opening_of script) counted (stream_of (calls_in script)) journal
 
 -- Where none of these lines has failed, it is the one that a single worker makes: one stream after another, in the order
--- of their numbers.
+-- of their numbers. Of streams that are served side by side nothing of the kind is so.
 abbrev pub IsOneWorkersRun : (ℕ → ℕ → ℕ) → RunFact
 IsOneWorkersRun counted script journal =
     HaveNotFailed counted script → journal ≡ served (opening_of script) (calls_in script)

@@ -11,7 +11,7 @@ mod tests;
 mod top;
 
 use fault_lines::PlanWiring;
-use outer_real::{StdSink, StdSource};
+use outer_real::{OpenGate, StdSink, StdSource};
 use std::io;
 use std::process::ExitCode;
 
@@ -21,7 +21,15 @@ fn main(rt: HostRuntime) -> ExitCode {
             let mut source = StdSource::new(rt.reader());
             let mut sink = StdSink::new(io::writer(&rt));
             let mut wiring = PlanWiring::new(rt.alloc());
-            top::longhorn(&rt, rt.alloc(), &words, &mut source, &mut sink, &mut wiring)
+            top::longhorn(
+                &rt,
+                rt.alloc(),
+                &words,
+                &mut source,
+                &mut sink,
+                &mut wiring,
+                &OpenGate,
+            )
         }
         Err(status) => status,
     };

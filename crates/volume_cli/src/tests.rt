@@ -1,5 +1,6 @@
 mod carries;
 mod draft;
+mod each;
 mod faults;
 mod purge;
 mod purge_carries;

@@ -1,32 +1,37 @@
-ghost use Rattle.std.specs.Prelude.{◌≡◌, ◌<◌, ◌-◌, ◌^◌, ◌↔◌, ℕ, IfSome, OnOk};
+ghost use Rattle.std.specs.Prelude.{◌≡◌, ◌<◌, ◌-◌, ◌^◌, ◌↔◌, ℕ, IfOk, IfSome, OnOk};
 ghost use Rattle.std.specs.Io.KnownBytes.{IsAtEnd};
 ghost use Rattle.outer_traits.specs.Passing.{GivesAtMost};
 ghost use Rattle.script_text.specs.Script.{IsScript, IsNoScript};
 ghost use Rattle.script_text.specs.declared.script.Script.{Script};
 ghost use Rattle.script_text.specs.declared.what.What.{What};
-ghost use Rattle.volume_cli.specs.Headline.{AskRun, IsUsageError, ExactlyWhere, ScriptRefusal, Leaves, IsStatus};
+ghost use Rattle.program_words.specs.declared.words.Workers.{Workers};
+ghost use Rattle.volume_cli.specs.Headline.{AskRun, AskRunBy, IsUsageError, ExactlyWhere, ScriptRefusal, Leaves, IsStatus};
+ghost use Rattle.stream_turns.specs.Serving.{IsRead, IsServed, IsServedInTurn};
 ghost use Rattle.volume_cli.specs.Stops.{Counts, IsCarriedRun, IsOneWorkersRun, IsRun, RunLeaves};
 
 use crate::edge::{read_input, write_output};
 use crate::status::Status;
 use crate::stop::Stop;
-use outer_traits::{Sink, Source, Wiring};
-use program_words::{Words, WordsError, read_words};
-use script_text::read_script;
-use std::alloc::Global;
+use outer_traits::{Gate, Sink, Source, Wiring};
+use program_words::{Words, WordsError, Workers, read_words};
+use script_text::{Script, read_script};
+use std::alloc::{AllocError, Global};
 use std::sync::Wait;
-use stream_turns::serve;
+use std::thread::Threads;
+use stream_turns::Served;
 
 /// Does what the words of the command line ask: `run` reads a script from the source, serves its streams on replicas
 /// of zeros, over lines that the wiring makes, and writes the journal, the replies and the replicas' last lines to the
-/// sink.
-pub fn longhorn<R: Wait, S: Source, K: Sink, W: Wiring>(
+/// sink. The streams are served side by side, a worker for each, which passes the gate on its way; or one after another,
+/// by one worker, which passes none.
+pub fn longhorn<R: Threads + Wait + Sync, S: Source, K: Sink, W: Wiring, G: Gate + Sync>(
     rt: &R,
     alloc: Global,
     words: &[String],
     source: &mut S,
     sink: &mut K,
     wiring: &mut W,
+    gate: &G,
 ) -> Status
     requires source_count { S.faults source.old < 2 ^ 64 - 1 }
     requires sink_count { K.faults sink.old < 2 ^ 64 - 1 }
@@ -52,20 +57,21 @@ pub fn longhorn<R: Wait, S: Source, K: Sink, W: Wiring>(
     ensures unread { result ≡ Status.Usage → source.new ≡ source.old }
     ensures most { GivesAtMost (S.left source.old) (S.left source.new) 268435457 }
 
-    // At Done the sink has the report of one legal history of the script's calls, and its fault marks are faults that
-    // the lines counted. After a write fault it has a prefix of it, and after a refusal and a read fault it is as it was.
+    // However the workers' steps interleave, at Done the sink has the report of one legal history of the script's calls,
+    // and its fault marks are faults that the lines counted. After a write fault it has a prefix of it, and after a
+    // refusal and a read fault it is as it was.
     ensures printed { Leaves (IsRun (W.counts wiring.new)) result (sink.new ≡ sink.old) (S.left source.old) (K.contents sink.old) (K.contents sink.new) }
 
     // Where the lines tell what they carried, each write that was done was carried whole to each replica that is read
     // and written there, and the bytes of each read from one.
     ensures carried { Leaves (IsCarriedRun (W.carried wiring.new)) result (sink.new ≡ sink.old) (S.left source.old) (K.contents sink.old) (K.contents sink.new) }
 
-    // Until there are threads, and where no line has failed, that history is the one of a single worker: one stream
-    // after another, by their numbers.
-    ensures turns { Leaves (IsOneWorkersRun (W.counts wiring.new)) result (sink.new ≡ sink.old) (S.left source.old) (K.contents sink.old) (K.contents sink.new) }
+    // Where one worker was asked for, and no line has failed, that history is the one that it makes: one stream after
+    // another, by their numbers.
+    ensures turns { AskRunBy Workers.One words.now → Leaves (IsOneWorkersRun (W.counts wiring.new)) result (sink.new ≡ sink.old) (S.left source.old) (K.contents sink.old) (K.contents sink.new) }
 {
     match read_words(alloc, words) {
-        Ok(Words::Run { .. }) => match run(rt, alloc, source, sink, wiring) {
+        Ok(Words::Run { workers }) => match run(rt, alloc, workers, source, sink, wiring, gate) {
             Ok(()) => Status::Done,
             Err(Stop::BadScript { place, what }) => Status::Script { place, what },
             Err(Stop::ReadFault) => Status::ReadFault,
@@ -77,22 +83,43 @@ pub fn longhorn<R: Wait, S: Source, K: Sink, W: Wiring>(
     }
 }
 
-fn run<R: Wait, S: Source, K: Sink, W: Wiring>(
+fn run<R: Threads + Wait + Sync, S: Source, K: Sink, W: Wiring, G: Gate + Sync>(
     rt: &R,
     alloc: Global,
+    workers: Workers,
     source: &mut S,
     sink: &mut K,
     wiring: &mut W,
+    gate: &G,
 ) -> Result<(), Stop>
     ensures counts { Counts result (S.faults source.old) (S.faults source.new) (K.faults sink.old) (K.faults sink.new) }
     ensures whole { OnOk result (IsAtEnd (S.left source.new)) }
     ensures most { GivesAtMost (S.left source.old) (S.left source.new) 268435457 }
     ensures printed { RunLeaves (IsRun (W.counts wiring.new)) result (sink.new ≡ sink.old) (S.left source.old) (K.contents sink.old) (K.contents sink.new) }
     ensures carried { RunLeaves (IsCarriedRun (W.carried wiring.new)) result (sink.new ≡ sink.old) (S.left source.old) (K.contents sink.old) (K.contents sink.new) }
-    ensures turns { RunLeaves (IsOneWorkersRun (W.counts wiring.new)) result (sink.new ≡ sink.old) (S.left source.old) (K.contents sink.old) (K.contents sink.new) }
+    ensures turns { workers ≡ Workers.One → RunLeaves (IsOneWorkersRun (W.counts wiring.new)) result (sink.new ≡ sink.old) (S.left source.old) (K.contents sink.old) (K.contents sink.new) }
 {
     let input = read_input(alloc, source)?;
     let script = read_script(alloc, &input)?;
-    let served = serve(rt, alloc, script, wiring)?;
+    let served = serve_by(rt, alloc, workers, script, wiring, gate)?;
     write_output(alloc, &served, sink)
+}
+
+/// Serves the streams of a script by these workers.
+fn serve_by<R: Threads + Wait + Sync, W: Wiring, G: Gate + Sync>(
+    rt: &R,
+    alloc: Global,
+    workers: Workers,
+    script: Script,
+    wiring: &mut W,
+    gate: &G,
+) -> Result<Served, AllocError>
+    requires { IsRead script }
+    ensures served { IfOk result (IsServed script (W.counts wiring.new) (W.carried wiring.new)) }
+    ensures turns { IfOk result (λ served. workers ≡ Workers.One → IsServedInTurn script (W.counts wiring.new) served) }
+{
+    match workers {
+        Workers::One => stream_turns::serve(rt, alloc, script, wiring),
+        Workers::Each => stream_workers::serve(rt, alloc, script, wiring, gate),
+    }
 }

@@ -8,6 +8,7 @@ use std::alloc::{AllocError, Global};
 use std::process::Abort;
 use std::sync::Wait;
 use std::test::Fail;
+use std::thread::Threads;
 use volume_model::{Mark, Mode};
 
 /// A carry that fails: on the line to which replica, and which one, counted from 1.
@@ -142,13 +143,13 @@ fn input(alloc: Global, asked: &[Head], failing: Failing) -> Result<Vec<u8>, All
 
 /// Compares a run with the slow executor.
 fn runs_as_slowly(
-    rt: &(impl AllocGlobal + Abort + Wait),
+    rt: &(impl AllocGlobal + Abort + Threads + Wait + Sync),
     asked: &[Head],
     failing: Failing,
 ) -> Result<(), AllocError> {
     let wanted = slow_report(rt.alloc(), asked, failing)?;
     let input = input(rt.alloc(), asked, failing)?;
-    let (status, sink) = end_of(rt, &["run"], input, 70_000)?;
+    let (status, sink) = end_of(rt, &["run", "--workers=one"], input, 70_000)?;
     assert_eq!(rt; status, Status::Done);
     assert!(rt; sink.bytes() == wanted.as_slice(), "{failing:?}");
     Ok(())

@@ -6,10 +6,12 @@ use crate::top::longhorn;
 use fault_lines::PlanWiring;
 use frame_wire::{Head, encode_header};
 use outer_memory::{NoFaultSink, NoFaultSource};
-use outer_traits::{Sink, Source};
+use outer_real::OpenGate;
+use outer_traits::{Gate, Sink, Source};
 use std::alloc::{AllocError, Global};
 use std::process::Abort;
 use std::sync::Wait;
+use std::thread::Threads;
 
 pub(crate) const LINE: &str = "{\"volume\":\"v\",\"size\":2097152,\"replicas\":";
 
@@ -154,9 +156,9 @@ pub(crate) fn words(alloc: Global, all: &[&str]) -> Result<Vec<String>, AllocErr
     Ok(words)
 }
 
-/// How the words end over a source and a sink.
+/// How the words end over a source and a sink, with a gate that holds nobody.
 pub(crate) fn ends<S: Source, K: Sink>(
-    rt: &(impl AllocGlobal + Wait),
+    rt: &(impl AllocGlobal + Threads + Wait + Sync),
     all: &[&str],
     source: &mut S,
     sink: &mut K,
@@ -164,23 +166,50 @@ pub(crate) fn ends<S: Source, K: Sink>(
     requires source_count { S.faults source.old < 2 ^ 64 - 1 }
     requires sink_count { K.faults sink.old < 2 ^ 64 - 1 }
 {
+    gated_ends(rt, all, source, sink, &OpenGate)
+}
+
+/// How they end, with this gate.
+fn gated_ends<S: Source, K: Sink, G: Gate + Sync>(
+    rt: &(impl AllocGlobal + Threads + Wait + Sync),
+    all: &[&str],
+    source: &mut S,
+    sink: &mut K,
+    gate: &G,
+) -> Result<Status, AllocError>
+    requires source_count { S.faults source.old < 2 ^ 64 - 1 }
+    requires sink_count { K.faults sink.old < 2 ^ 64 - 1 }
+{
     let words = words(rt.alloc(), all)?;
     let mut wiring = PlanWiring::new(rt.alloc());
-    Ok(longhorn(rt, rt.alloc(), &words, source, sink, &mut wiring))
+    Ok(longhorn(rt, rt.alloc(), &words, source, sink, &mut wiring, gate))
 }
 
 /// How the words end over an input that comes in pieces of so many bytes at most, and the sink then.
 pub(crate) fn end_of(
-    rt: &(impl AllocGlobal + Wait),
+    rt: &(impl AllocGlobal + Threads + Wait + Sync),
     all: &[&str],
     input: Vec<u8>,
     piece: usize,
 ) -> Result<(Status, NoFaultSink), AllocError>
     requires some { 0 < piece }
 {
+    gated_end_of(rt, all, input, piece, &OpenGate)
+}
+
+/// The same with this gate.
+pub(crate) fn gated_end_of<G: Gate + Sync>(
+    rt: &(impl AllocGlobal + Threads + Wait + Sync),
+    all: &[&str],
+    input: Vec<u8>,
+    piece: usize,
+    gate: &G,
+) -> Result<(Status, NoFaultSink), AllocError>
+    requires some { 0 < piece }
+{
     let mut source = NoFaultSource::new(input, piece);
     let mut sink = NoFaultSink::new(rt.alloc(), piece);
-    let status = ends(rt, all, &mut source, &mut sink)?;
+    let status = gated_ends(rt, all, &mut source, &mut sink, gate)?;
     Ok((status, sink))
 }
 
@@ -208,7 +237,7 @@ fn is_told(
 
 /// Runs the words over an input, and compares the status, its note, and what the sink holds.
 pub(crate) fn runs(
-    rt: &(impl AllocGlobal + Abort + Wait),
+    rt: &(impl AllocGlobal + Abort + Threads + Wait + Sync),
     all: &[&str],
     input: Vec<u8>,
     status: Status,
@@ -222,22 +251,36 @@ pub(crate) fn runs(
 }
 
 pub(crate) fn is_done(
-    rt: &(impl AllocGlobal + Abort + Wait),
+    rt: &(impl AllocGlobal + Abort + Threads + Wait + Sync),
     heads: &[Head],
     byte: u8,
     lines: &[&str],
 ) -> Result<(), AllocError> {
     let input = script(rt.alloc(), heads, byte, b"")?;
-    runs(rt, &["run"], input, Status::Done, "", lines)
+    runs(
+        rt,
+        &["run", "--workers=one"],
+        input,
+        Status::Done,
+        "",
+        lines,
+    )
 }
 
 /// Runs a stream of commands, and compares the journal's lines and the chain.
 pub(crate) fn answers(
-    rt: &(impl AllocGlobal + Abort + Wait),
+    rt: &(impl AllocGlobal + Abort + Threads + Wait + Sync),
     texts: &[&str],
     lines: &[&str],
 ) -> Result<(), AllocError> {
     let mut draft = Draft::new(rt.alloc())?;
     draft.control(texts)?;
-    runs(rt, &["run"], draft.input()?, Status::Done, "", lines)
+    runs(
+        rt,
+        &["run", "--workers=one"],
+        draft.input()?,
+        Status::Done,
+        "",
+        lines,
+    )
 }

@@ -22,7 +22,7 @@ fn is_told(rt: &impl Abort, ended: Status, status: Status, code: u8) {
 fn a_sink_that_fails_holds_a_prefix(rt: HostRuntime) -> Result<(), Fail> {
     let mut source = NoFaultSource::new(input(rt.alloc())?, 4096);
     let mut sink = LimitedSink::new(rt.alloc(), 10);
-    let ended = ends(&rt, &["run"], &mut source, &mut sink)?;
+    let ended = ends(&rt, &["run", "--workers=one"], &mut source, &mut sink)?;
     is_told(&rt, ended, Status::WriteFault, 5);
     assert_eq!(rt; sink.bytes(), b"0 0 0 0 re".as_slice());
     Ok(())
@@ -33,7 +33,7 @@ fn a_source_that_fails_leaves_the_sink(rt: HostRuntime) -> Result<(), Fail> {
     let second = FaultPlan::new([2].to_vec(rt.alloc())?);
     let mut source = MemorySource::new(input(rt.alloc())?, 10, second);
     let mut sink = MemorySink::new(rt.alloc(), 10, FaultPlan::none(rt.alloc()));
-    let ended = ends(&rt, &["run"], &mut source, &mut sink)?;
+    let ended = ends(&rt, &["run", "--workers=one"], &mut source, &mut sink)?;
     is_told(&rt, ended, Status::ReadFault, 4);
     assert_eq!(rt; sink.bytes(), b"".as_slice());
     Ok(())

@@ -163,6 +163,13 @@ fn a_fold_leaves_what_its_child_and_the_head_read_as(rt: HostRuntime) -> Result<
         "mode r0 RW\nchain r0 head t\n",
         "head r0 c9e0c3e9d537a460567a6aeacf4b4ffbc6372532137ebfc2694cff7ab2ffbc92\n",
     ];
-    runs(&rt, &["run"], draft.input()?, Status::Done, "", &lines)?;
+    runs(
+        &rt,
+        &["run", "--workers=one"],
+        draft.input()?,
+        Status::Done,
+        "",
+        &lines,
+    )?;
     Ok(())
 }

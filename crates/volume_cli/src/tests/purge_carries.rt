@@ -10,6 +10,7 @@ use std::alloc::{AllocError, Global};
 use std::process::Abort;
 use std::sync::Wait;
 use std::test::Fail;
+use std::thread::Threads;
 use volume_model::Mode;
 
 /// The snapshots of the streams before the purge, each behind a stream of one frame. Layers `a` and `b` have the second
@@ -131,13 +132,13 @@ fn input(alloc: Global, asked: &[Head; 4], failing: Failing) -> Result<Vec<u8>, 
 
 /// Compares a run with the slow executor.
 fn runs_as_slowly(
-    rt: &(impl AllocGlobal + Abort + Wait),
+    rt: &(impl AllocGlobal + Abort + Threads + Wait + Sync),
     asked: &[Head; 4],
     failing: Failing,
 ) -> Result<(), Fail> {
     let wanted = slow_report(rt.alloc(), asked, failing)?;
     let input = input(rt.alloc(), asked, failing)?;
-    let (status, sink) = end_of(rt, &["run"], input, 70_000)?;
+    let (status, sink) = end_of(rt, &["run", "--workers=one"], input, 70_000)?;
     assert_eq!(rt; status, Status::Done);
     assert!(rt; sink.bytes() == wanted.as_slice(), "{failing:?}");
     Ok(())

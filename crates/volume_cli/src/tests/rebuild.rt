@@ -29,7 +29,14 @@ fn a_failed_replica_comes_back_and_is_read(rt: HostRuntime) -> Result<(), Fail> 
         8 8 2 0 read 0 1 ok 61*1\nreply 0 0 1 2 0 1 -\nreply 2 0 1 2 0 1 61*1\n\
         mode r0 ERR\nmode r1 RW\nchain r1 head sys-0\nhead r1 ";
     let all = [BEGUN, lines, DIGEST];
-    runs(&rt, &["run"], draft.input()?, Status::Done, "", &all)?;
+    runs(
+        &rt,
+        &["run", "--workers=one"],
+        draft.input()?,
+        Status::Done,
+        "",
+        &all,
+    )?;
     Ok(())
 }
 
@@ -53,7 +60,7 @@ fn a_rebuild_ends_where_a_line_of_it_fails(rt: HostRuntime) -> Result<(), Fail> 
         let input = rebuilt(rt.alloc(), members, &["fail r1", "add r1"])?.input()?;
         runs(
             &rt,
-            &["run"],
+            &["run", "--workers=one"],
             input,
             Status::Done,
             "",
@@ -82,7 +89,7 @@ fn an_addition_is_refused(rt: HostRuntime) -> Result<(), Fail> {
         draft.control(commands)?;
         runs(
             &rt,
-            &["run"],
+            &["run", "--workers=one"],
             draft.input()?,
             Status::Done,
             "",

@@ -12,6 +12,7 @@ use std::alloc::{AllocError, Global};
 use std::process::Abort;
 use std::sync::Wait;
 use std::test::Fail;
+use std::thread::Threads;
 
 /// The stream whose lines fail. The first rebuild copies five pages: that of `t`, both of `a`, that of `C`, and that of
 /// the layer that was the head. The second `add` finds the replica in use, or that no replica is left, or begins a
@@ -114,12 +115,12 @@ impl Both {
     /// Compares a run with the slow executor, and says whether the carry failed.
     fn fails(
         self,
-        rt: &(impl AllocGlobal + Abort + Wait),
+        rt: &(impl AllocGlobal + Abort + Threads + Wait + Sync),
         failing: Failing,
     ) -> Result<bool, AllocError> {
         let Both { draft, slow, .. } = self;
         let wanted = slow.report(rt.alloc())?;
-        let (status, sink) = end_of(rt, &["run"], draft.input()?, 70_000)?;
+        let (status, sink) = end_of(rt, &["run", "--workers=one"], draft.input()?, 70_000)?;
         assert_eq!(rt; status, Status::Done);
         assert!(rt; sink.bytes() == wanted.as_slice(), "{failing:?}");
         Ok(stands_in(&wanted, b" mark fault "))
@@ -136,7 +137,7 @@ fn rebuilt(alloc: Global, replicas: u8, failing: Failing) -> Result<Both, Fail> 
 
 /// Compares a run on these replicas, of which none is left at the end, and says whether the carry failed.
 fn fails_as_slowly(
-    rt: &(impl AllocGlobal + Abort + Wait),
+    rt: &(impl AllocGlobal + Abort + Threads + Wait + Sync),
     replicas: u8,
     failing: Failing,
     last: &[&str],
@@ -149,7 +150,7 @@ fn fails_as_slowly(
 
 /// Compares the runs in which a carry to the replica fails, each in one run, up to the first that no carry reaches.
 fn all_fail_as_slowly(
-    rt: &(impl AllocGlobal + Abort + Wait),
+    rt: &(impl AllocGlobal + Abort + Threads + Wait + Sync),
     replicas: u8,
     replica: u8,
     end: u32,

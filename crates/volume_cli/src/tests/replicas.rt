@@ -40,7 +40,7 @@ fn a_replica_whose_line_fails_is_left_out(rt: HostRuntime) -> Result<(), Fail> {
         draft.frames(alloc, &[write(1, 0, 1), read(2, 0, 1)], b'a', b"")?;
         runs(
             &rt,
-            &["run"],
+            &["run", "--workers=one"],
             draft.input()?,
             Status::Done,
             "",
@@ -56,6 +56,13 @@ fn a_replica_fails_by_command_once(rt: HostRuntime) -> Result<(), Fail> {
     draft.control(&["fail r0", "fail r0", "status"])?;
     let lines = "0 mark failed r0\n1 0 0 0 fail r0 ok\n2 2 0 1 fail r0 ok\n\
         3 3 0 2 status ok layers 1 modes ERR\nmode r0 ERR\n";
-    runs(&rt, &["run"], draft.input()?, Status::Done, "", &[lines])?;
+    runs(
+        &rt,
+        &["run", "--workers=one"],
+        draft.input()?,
+        Status::Done,
+        "",
+        &[lines],
+    )?;
     Ok(())
 }

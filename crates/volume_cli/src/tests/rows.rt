@@ -10,6 +10,7 @@ use std::alloc::{AllocError, Global};
 use std::process::Abort;
 use std::sync::Wait;
 use std::test::Fail;
+use std::thread::Threads;
 
 #[test]
 fn answers_as_the_worked_rows_say(rt: HostRuntime) -> Result<(), Fail> {
@@ -89,7 +90,7 @@ fn answers_as_the_worked_rows_say(rt: HostRuntime) -> Result<(), Fail> {
 
 /// Compares the refusal of an input.
 fn is_refused(
-    rt: &(impl AllocGlobal + Abort + Wait),
+    rt: &(impl AllocGlobal + Abort + Threads + Wait + Sync),
     input: Vec<u8>,
     place: u64,
     what: What,
@@ -159,7 +160,14 @@ fn commands_are_answered_as_the_worked_rows_say(rt: HostRuntime) -> Result<(), F
         "mode r0 RW\nchain r0 head s\n",
         "head r0 69bc26647981c5985e96d27105bad947555b0e119827f3a5a01abd09b025e08c\n",
     ];
-    runs(&rt, &["run"], draft.input()?, Status::Done, "", &lines)?;
+    runs(
+        &rt,
+        &["run", "--workers=one"],
+        draft.input()?,
+        Status::Done,
+        "",
+        &lines,
+    )?;
     Ok(())
 }
 
@@ -270,7 +278,10 @@ const NO_COMMANDS: [&str; 16] = [
 ];
 
 /// Compares the refusal of a stream of `status` and the text.
-fn is_bad_member(rt: &(impl AllocGlobal + Abort + Wait), text: &str) -> Result<(), AllocError> {
+fn is_bad_member(
+    rt: &(impl AllocGlobal + Abort + Threads + Wait + Sync),
+    text: &str,
+) -> Result<(), AllocError> {
     let mut draft = Draft::new(rt.alloc())?;
     draft.control(&["status", text])?;
     let what = What::Member(Member::Streams);

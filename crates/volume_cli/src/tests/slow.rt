@@ -10,6 +10,7 @@ use std::alloc::{AllocError, Global};
 use std::process::Abort;
 use std::sync::Wait;
 use std::test::Fail;
+use std::thread::Threads;
 use vol_units::LayerName;
 use volume_model::Mode;
 
@@ -486,9 +487,12 @@ impl Both {
     }
 
     /// Compares a run with the slow executor, and gives what both print.
-    fn report(self, rt: &(impl AllocGlobal + Abort + Wait)) -> Result<Vec<u8>, AllocError> {
+    fn report(
+        self,
+        rt: &(impl AllocGlobal + Abort + Threads + Wait + Sync),
+    ) -> Result<Vec<u8>, AllocError> {
         let Both { draft, slow, .. } = self;
-        let words = ["run", "--workers", "each"];
+        let words = ["run", "--workers", "one"];
         let (status, sink) = end_of(rt, &words, draft.input()?, 5000)?;
         assert_eq!(rt; status, Status::Done);
         let wanted = slow.report(rt.alloc())?;
@@ -498,7 +502,10 @@ impl Both {
 }
 
 /// What is printed of scripts of these numbers of streams, one after another.
-fn all_printed(rt: &(impl AllocGlobal + Abort + Wait), numbers: &[u8]) -> Result<Vec<u8>, Fail> {
+fn all_printed(
+    rt: &(impl AllocGlobal + Abort + Threads + Wait + Sync),
+    numbers: &[u8],
+) -> Result<Vec<u8>, Fail> {
     let mut seed = 1;
     let mut printed = Vec::new(rt.alloc());
     for streams in numbers {

@@ -1,0 +1,127 @@
+//! Runs in which each stream has a worker of its own.
+
+use super::draft::{Draft, gated_end_of, write};
+use crate::status::Status;
+use outer_real::OpenGate;
+use outer_traits::{Gate, Point};
+use std::sync::atomic::{AtomicU64, Ordering};
+use std::test::Fail;
+use std::thread;
+
+/// How often a worker that is held looks before it goes on alone.
+const LOOKS: u32 = 1_000_000_000;
+
+/// Whether something has come to pass.
+#[derive(Drop)]
+struct Flag {
+    raised: AtomicU64,
+}
+
+impl Flag {
+    fn new() -> Flag {
+        Flag {
+            raised: AtomicU64::new(0),
+        }
+    }
+
+    fn raise(&self) {
+        self.raised.fetch_add(1, Ordering::SeqCst);
+    }
+
+    fn is_raised(&self) -> bool {
+        self.raised.load(Ordering::SeqCst) != 0
+    }
+}
+
+/// Holds worker 1 before it carries until worker 0 has carried, and worker 0 there until a call of worker 1 was answered.
+#[derive(Drop)]
+struct Crossing {
+    carried: Flag,
+    ended: Flag,
+    ran_out: Flag,
+}
+
+impl Crossing {
+    fn new() -> Crossing {
+        Crossing {
+            carried: Flag::new(),
+            ended: Flag::new(),
+            ran_out: Flag::new(),
+        }
+    }
+
+    /// Waits for the flag, or notes that the hold ran out.
+    fn hold(&self, flag: &Flag) {
+        for _ in 0..LOOKS {
+            if flag.is_raised() {
+                return;
+            }
+            thread::yield_now();
+        }
+        self.ran_out.raise();
+    }
+}
+
+impl Gate for Crossing {
+    fn pass(&self, worker: u8, point: Point) {
+        match (worker, point) {
+            (1, Point::BeforeCarry(0)) => self.hold(&self.carried),
+            (0, Point::AfterCarry(0)) => {
+                self.carried.raise();
+                self.hold(&self.ended);
+            }
+            (1, Point::Ended(0)) => self.ended.raise(),
+            _ => {}
+        }
+    }
+}
+
+#[test]
+fn workers_run_side_by_side(rt: HostRuntime) -> Result<(), Fail> {
+    let mut draft = Draft::new(rt.alloc())?;
+    draft.frames(rt.alloc(), &[write(1, 0, 1)], b'a', b"")?;
+    draft.frames(rt.alloc(), &[write(1, 4096, 1)], b'b', b"")?;
+    let gate = Crossing::new();
+    let (status, sink) = gated_end_of(
+        &rt,
+        &["run", "--workers=each"],
+        draft.input()?,
+        70_000,
+        &gate,
+    )?;
+    assert!(rt; !gate.ran_out.is_raised());
+    assert_eq!(rt; status, Status::Done);
+    let lines = "0 0 1 0 write 4096 1 62*1 ok\n1 0 0 0 write 0 1 61*1 ok\n\
+        reply 0 0 1 2 0 1 -\nreply 1 0 1 2 4096 1 -\nmode r0 RW\nchain r0 head\n\
+        head r0 aca20ad9fa430fa21e55519ddc3f184c8837dc87d4e8fcb4d804b1e3da731662\n";
+    assert_eq!(rt; sink.bytes(), lines.as_bytes());
+    Ok(())
+}
+
+/// The last lines of two replicas with a block of one byte.
+const HEADS_OF_A: &str = "mode r0 RW\nmode r1 RW\nchain r0 head\nchain r1 head\n\
+    head r0 4a9f57490812dc05ac2f1db013433a0a7fc5341777cc237c4e00a13ffc5d449a\n\
+    head r1 4a9f57490812dc05ac2f1db013433a0a7fc5341777cc237c4e00a13ffc5d449a\n";
+
+const HEADS_OF_B: &str = "mode r0 RW\nmode r1 RW\nchain r0 head\nchain r1 head\n\
+    head r0 406e2baf20a39e8f01688f136559a5a68ae22ba71c8f5f91fb45a77921ec62b9\n\
+    head r1 406e2baf20a39e8f01688f136559a5a68ae22ba71c8f5f91fb45a77921ec62b9\n";
+
+#[test]
+fn the_later_of_two_writes_is_read(rt: HostRuntime) -> Result<(), Fail> {
+    for _ in 0..20 {
+        let mut draft = Draft::on(rt.alloc(), "2")?;
+        draft.frames(rt.alloc(), &[write(1, 0, 4096)], b'a', b"")?;
+        draft.frames(rt.alloc(), &[write(1, 0, 4096)], b'b', b"")?;
+        let (status, sink) = gated_end_of(&rt, &["run"], draft.input()?, 70_000, &OpenGate)?;
+        assert_eq!(rt; status, Status::Done);
+        let (first, heads) = if sink.bytes().starts_with(b"0 0 0 ") {
+            ("0 0 0 0 write 0 4096 61*4096 ok\n1 ", HEADS_OF_B)
+        } else {
+            ("0 0 1 0 write 0 4096 62*4096 ok\n1 ", HEADS_OF_A)
+        };
+        assert!(rt; sink.bytes().starts_with(first.as_bytes()));
+        assert!(rt; sink.bytes().ends_with(heads.as_bytes()));
+    }
+    Ok(())
+}
