@@ -1,10 +1,12 @@
 """What is odd in a report."""
 import re
 
+import asked
 import rebuilds
+from plain_disk import PlainDisk
 from replay import ERR, MOST_LAYERS, RW, Replay
 from report import (FRAME_CALLS, LAYER_MARKS, Entry, FrameReply, Mark, OfReplica, bytes_count, is_shortest, replica_number,
-                    runs_of, shorten)
+                    shorten, shorten_runs, spell_runs)
 
 MOST_LENGTH = 1 << 20
 GROUPS = ('open', 'journal', 'reply', 'mode', 'chain', 'head')
@@ -29,9 +31,12 @@ REFUSALS = {
 NEEDS_REPLICA = ('write', 'unmap', 'snapshot', 'remove', 'revert', 'purge', 'expand')
 
 
-def find_odd(report):
-    """The findings, each as the number of its line, or None for the report as a whole, and a sentence."""
-    checker = Checker(report)
+def find_odd(report, script=None):
+    """The findings, each as the number of its line, or None for the report as a whole, and a sentence.
+
+    With a script it is judged too whether the report is one of it.
+    """
+    checker = Checker(report, script)
     checker.check()
     return sorted(checker.findings, key=lambda finding: (finding[0] is None, finding[0] or 0))
 
@@ -39,10 +44,14 @@ def find_odd(report):
 class Checker:
     """Goes over a report once, and keeps what it finds."""
 
-    def __init__(self, report):
+    def __init__(self, report, script):
         self.report = report
+        self.script = script
         self.findings = []
         self.replay = Replay(report)
+        self.disk = PlainDisk()
+        # The volume's size, where it is known.
+        self.size = script and script.head.size
         self.entries = {entry.place: entry for entry in report.entries}
         self.journal = report.journal
         # Which line of the journal each is, by its number.
@@ -74,6 +83,8 @@ class Checker:
             self.check_place(line)
             if isinstance(line, Entry):
                 self.check_order(line)
+                if self.script:
+                    self.say_all(line, asked.odd_call(line, self.script))
                 self.check_entry(line)
             else:
                 self.check_mark(line)
@@ -120,7 +131,9 @@ class Checker:
             self.check_modes(entry)
             if self.replay.layers_known:
                 self.check_names(entry)
+                self.check_content(entry)
             self.replay.take_entry(entry)
+            self.take_content(entry)
 
     def check_bytes(self, entry):
         """Ranges and bytes of a read or a write fit."""
@@ -132,8 +145,12 @@ class Checker:
             self.say(entry, 'has %d bytes, and its length is %d', bytes_count(runs), length)
         if runs and not is_shortest(runs):
             self.say(entry, 'has two runs of one byte side by side')
-        if offset < 0 and not entry.refusal:
+        if self.size is not None:
+            self.say_all(entry, asked.odd_range(entry, self.size))
+        elif offset < 0 and not entry.refusal:
             self.say(entry, 'is `ok` at a negative offset')
+        if entry.kind == 'write' and length > MOST_LENGTH:
+            self.say(entry, 'writes %d bytes, and a frame has at most %d', length, MOST_LENGTH)
         if entry.kind != 'write' and (length > MOST_LENGTH) != (entry.refusal == 'too long'):
             self.say(entry, 'of %d bytes is answered `%s`; `too long` is for more than %d', length, shorten(entry.answer, 30),
                      MOST_LENGTH)
@@ -161,8 +178,9 @@ class Checker:
         if entry.kind == 'snapshot' and (name in replay.used) != (entry.refusal == 'name used'):
             self.say(entry, 'is answered `%s`, but the name %s', entry.answer,
                      'was taken before' if name in replay.used else 'is free')
-        if entry.kind == 'snapshot' and entry.refusal == 'chain full' and replay.layer_count != MOST_LAYERS:
-            self.say(entry, 'is refused as `chain full`, but there are %d layers', replay.layer_count)
+        is_full = entry.kind == 'snapshot' and name not in replay.used and replay.layer_count >= MOST_LAYERS
+        if entry.kind == 'snapshot' and is_full != (entry.refusal == 'chain full'):
+            self.say(entry, 'is answered `%s`, and there are %d layers', entry.answer, replay.layer_count)
         if entry.kind in ('remove', 'revert', 'backup') and replay.is_live(name) == (entry.refusal == 'no such snapshot'):
             self.say(entry, 'is answered `%s`, but there is %s snapshot of the name', entry.answer,
                      'a' if replay.is_live(name) else 'no')
@@ -172,10 +190,27 @@ class Checker:
         if entry.kind == 'status' and int(entry.answer.split(' ')[2]) != replay.layer_count:
             self.say(entry, 'tells %s layers, and there are %d', entry.answer.split(' ')[2], replay.layer_count)
 
+    def check_content(self, entry):
+        """A read gives what one plain disk has there."""
+        if entry.runs and is_carried(entry):
+            there = spell_runs(self.disk.read(int(entry.call[1]), int(entry.call[2])))
+            if entry.runs != there:
+                self.say(entry, 'reads `%s`, and a plain disk has `%s` there', shorten_runs(entry.runs, 40),
+                         shorten_runs(there, 40))
+
+    def take_content(self, entry):
+        """Takes the changes of an entry to bytes and size."""
+        if not entry.refusal and (entry.kind not in ('write', 'unmap') or is_carried(entry)):
+            self.disk.take_call(entry.call)
+        if self.size is not None and entry.kind == 'expand' and not entry.refusal:
+            self.size = int(entry.call[1])
+
     def check_mark(self, mark):
         """The mark may stand here."""
         if mark.kind == 'fault':
             self.check_count(mark)
+        if self.script:
+            self.say_all(mark, asked.odd_mark(mark, self.script))
         if not self.is_whole:
             return
         if mark.kind in LAYER_MARKS:
@@ -186,6 +221,7 @@ class Checker:
         else:
             self.check_replica_mark(mark)
         self.replay.take_mark(mark, self.entries)
+        self.disk.take_mark(mark, self.entries)
 
     def check_count(self, mark):
         """The counts of one line's faults rise."""
@@ -248,7 +284,7 @@ class Checker:
     def check_reply(self, reply, entry):
         """A reply line says what its entry says."""
         if entry.refusal:
-            wanted = 3, len(entry.refusal), runs_of(entry.refusal)
+            wanted = 3, len(entry.refusal), spell_runs(entry.refusal.encode())
         elif entry.kind == 'read':
             wanted = 2, bytes_count(entry.runs), entry.runs
         else:
@@ -257,7 +293,9 @@ class Checker:
             if seen != want:
                 self.say(reply, 'has the %s %s, and its entry in line %d makes it %s', what, shorten(str(seen), 30), entry.line,
                          shorten(str(want), 30))
-        if entry.kind in ('read', 'write', 'unmap') and reply.offset != int(entry.call[1]):
+        if self.script:
+            self.say_all(reply, asked.odd_reply(reply, self.script))
+        elif entry.kind in ('read', 'write', 'unmap') and reply.offset != int(entry.call[1]):
             self.say(reply, 'has the offset %d, and its entry in line %d has %s', reply.offset, entry.line, entry.call[1])
 
     def check_end(self):
@@ -267,7 +305,9 @@ class Checker:
         if self.is_front:
             self.say(None, 'has no modes at its end: it is a prefix of a report')
             return
-        if [line.replica for line in modes] != list(range(len(modes))):
+        if self.script:
+            self.say_all(None, asked.odd_lack(self.next_index, self.script))
+        if [line.replica for line in modes] != list(range(self.script.head.replicas if self.script else len(modes))):
             self.say(modes[0], 'begins modes of %s, where each replica has one, in order',
                      replicas_text([line.replica for line in modes]))
         self.check_last_modes(modes)
@@ -276,6 +316,8 @@ class Checker:
         wanted = [line.replica for line in modes if line.value == RW]
         for group in ('chain', 'head'):
             self.check_sameness([line for line in lines if line.group == group], group, wanted)
+        if self.size is not None and self.is_whole and self.replay.layers_known:
+            self.check_digest([line for line in lines if line.group == 'head'])
 
     def check_last_modes(self, modes):
         """The modes at the end are those of the journal."""
@@ -297,6 +339,22 @@ class Checker:
         if group == 'chain' and lines and self.is_whole and self.replay.layers_known and lines[0].value != self.replay.chain:
             self.say(lines[0], 'gives the chain `%s`, and the journal `%s`', chain_text(lines[0].value),
                      chain_text(self.replay.chain))
+
+
+    def check_digest(self, lines):
+        """The heads read as the plain disk does."""
+        digest = self.disk.digest(self.size) if lines else None
+        for line in lines:
+            if line.value != digest:
+                self.say(line, 'gives r%d the digest %s, and a plain disk has %s', line.replica, shorten(line.value, 17),
+                         shorten(digest, 17))
+
+
+def is_carried(entry):
+    """Whether the range of a read or a write is one that can be carried, and has just as many bytes as it says."""
+    offset, length = map(int, entry.call[1:3])
+    runs = entry.call[3] if entry.kind == 'write' else entry.runs
+    return offset >= 0 and length <= MOST_LENGTH and (entry.kind == 'unmap' or bytes_count(runs) == length)
 
 
 def replicas_text(replicas):

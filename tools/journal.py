@@ -4,6 +4,7 @@ import argparse
 import os
 import sys
 
+import asked
 import findings
 import picture
 from report import Entry, read_report, shorten, shorten_runs, spell_call
@@ -11,11 +12,16 @@ from report import Entry, read_report, shorten, shorten_runs, spell_call
 CHECK_HELP = '''
 Prints one line for each thing that is odd, as `line 7: has place 5, where 4 comes next`, and nothing where there is none; the
 status is then 1 or 0. Odd are: a line that is none of a report, groups out of order, places and indices that skip, a call that
-saw its own future or ended before the call before it, bytes that do not fit their range, a call without its reply line, a reply
-line without its call or of other contents, answers that do not fit the names, layers and modes that the journal has made, marks
-that may not stand where they do, rebuilds that begin, end or are answered as they may not be, and modes, chains and heads at
-the end that are missing or do not agree. Where a line of the journal is missing, nothing is said of what would follow from all
-lines. No bytes are replayed: whether a read gives what was written is proved of longhorn, and not checked here.
+saw its own future or was taken up before the call before it in its stream had ended, bytes that do not fit their range, a read that
+does not give what one plain disk has at its place, a call without its reply line, a reply line without its call or of other
+contents, answers that do not fit the names, layers and modes that the journal has made, marks that may not stand where they
+do, rebuilds that begin, end or are answered as they may not be, and modes, chains and heads at the end that are missing or do
+not agree. Where a line of the journal is missing, nothing is said of what would follow from all lines; and nothing of bytes
+where the run began with saved replicas.
+
+With --script SCRIPT, what was run, odd are also: calls that are not those of their stream, each once and in order, ranges
+that the volume does not have, replies to other frames, more faults of a line than are planned, replicas and streams that there
+are not, and heads whose digest is not that of the plain disk.
 '''
 
 TABLE_HELP = '''
@@ -33,10 +39,10 @@ that is.
 '''
 
 
-def check(report):
-    """The findings, as lines."""
+def check(report, script=None):
+    """The findings, as lines; with a script also those of a report that is none of it."""
     return ''.join('%s %s\n' % ('the report' if number is None else 'line %d:' % number, text)
-                   for number, text in findings.find_odd(report))
+                   for number, text in findings.find_odd(report, script))
 
 
 def table(report):
@@ -67,6 +73,7 @@ def read_words():
         added[verb] = verbs.add_parser(verb, help=short, description=text, formatter_class=formatter)
         added[verb].add_argument('report', nargs='?', default='-',
                                  help='a file with what `run` printed; standard input where it is left out or `-`')
+    added['check'].add_argument('--script', metavar='SCRIPT', help='a file with the script that was run')
     added['picture'].add_argument('--most', type=whole_number, metavar='COUNT', help='draw at most so many entries and marks')
     added['picture'].add_argument('--height', type=whole_number, metavar='PIXELS', default=4000,
                                   help='draw no more bands than have room in that height; 4000 where it is left out')
@@ -78,6 +85,15 @@ def whole_number(text):
     if not (text.isascii() and text.isdigit()) or int(text) < 2:
         raise argparse.ArgumentTypeError('%r is no whole number from 2 on' % text)
     return int(text)
+
+
+def read_asked(path):
+    """The script in a file."""
+    with open(path, 'rb') as file:
+        script = asked.read_script(file.read())
+    if script is None:
+        sys.exit('%s: is no script' % path)
+    return script
 
 
 def read_input(path):
@@ -95,7 +111,7 @@ def main():
     try:
         report = read_input(words.report)
         if words.verb == 'check':
-            written = check(report)
+            written = check(report, words.script and read_asked(words.script))
         elif words.verb == 'table':
             written = table(report)
         else:
@@ -106,7 +122,7 @@ def main():
         os.dup2(os.open(os.devnull, os.O_WRONLY), sys.stdout.fileno())
         return
     except OSError as error:
-        sys.exit('%s: %s' % (words.report, error.strerror))
+        sys.exit('%s: %s' % (error.filename or words.report, error.strerror))
     sys.exit(words.verb == 'check' and bool(written))
 
 

@@ -36,11 +36,12 @@ class Replay:
     @property
     def chain(self):
         """The layers below the head, from its parent down, as a chain line names them."""
-        names, name = [], self.below_head
-        while name is not None:
-            names.append(name + '*' * (name in self.marked))
+        names, name = {}, self.below_head
+        # A journal that takes a name twice may put a layer above itself.
+        while name is not None and name not in names:
+            names[name] = name + '*' * (name in self.marked)
             name = self.parents.get(name)
-        return tuple(names)
+        return tuple(names.values())
 
     def source(self):
         """The lowest replica in mode RW, or None."""

@@ -4,6 +4,7 @@ from typing import NamedTuple
 
 NUMBER = '(?:0|[1-9][0-9]*)'
 RUNS = '(?:-|[0-9a-f]{2}\\*[1-9][0-9]*(?:,[0-9a-f]{2}\\*[1-9][0-9]*)*)'
+LONGEST_RUN = re.compile(rb'(.)\1*', re.DOTALL)
 REPLICA = 'r[0-9]'
 NAME = '[a-zA-Z0-9._-]{1,64}'
 # Each call: its first word, and the pattern of the words behind it.
@@ -202,10 +203,14 @@ def is_shortest(runs):
     return all(one != two for one, two in zip(values, values[1:]))
 
 
-def runs_of(text):
-    """A text of ASCII as runs."""
-    runs = re.findall(r'((.)\2*)', text)
-    return ','.join('%02x*%d' % (ord(letter), len(run)) for run, letter in runs) or '-'
+def spell_runs(content):
+    """Bytes as runs, each as long as can be."""
+    return ','.join('%02x*%d' % (content[run.start()], run.end() - run.start()) for run in LONGEST_RUN.finditer(content)) or '-'
+
+
+def bytes_of(runs):
+    """The bytes that runs say."""
+    return b'' if runs == '-' else b''.join(bytes.fromhex(run[:2]) * int(run[3:]) for run in runs.split(','))
 
 
 def shorten(text, most):

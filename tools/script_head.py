@@ -147,6 +147,12 @@ def spell_head(head):
 
 def read_head(line):
     """What a first line says that is good and spelled as `spell_head` would; else None."""
+    head = understand_head(line)
+    return head if head is not None and spell_head(head) == line else None
+
+
+def understand_head(line):
+    """What a first line says that is good, however it is spelled; else None."""
     try:
         members = json.loads(line)
         streams = tuple(stream['frames'] if 'frames' in stream else tuple(stream['control']) for stream in members['streams'])
@@ -159,7 +165,7 @@ def read_head(line):
         if not all(type(number) is int for number in wholes):
             return None
         check_head(head)
-        return head if spell_head(head) == line else None
+        return head
     except (Wrong, ValueError, TypeError, KeyError, AttributeError, RecursionError):
         return None
 

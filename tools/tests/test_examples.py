@@ -5,6 +5,7 @@ import sys
 import tempfile
 import unittest
 
+import asked
 import journal
 import script
 from report import read_report
@@ -52,7 +53,8 @@ class Examples(unittest.TestCase):
 
     def test_no_expected_output_has_anything_odd(self):
         for name in NAMES:
-            self.assertEqual(journal.check(read_report(read(name + '.output'))), '', name)
+            its = asked.read_script(script.make(read(name + TEXT)))
+            self.assertEqual(journal.check(read_report(read(name + '.output')), its), '', name)
 
     def run_all(self, change):
         """The status and the output of run_all with a program that changes what it prints."""

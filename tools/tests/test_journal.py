@@ -1,17 +1,25 @@
 """Tests of journal.py: what is odd, and the table."""
+import os
 import random
 import subprocess
 import sys
+import tempfile
 import unittest
 
+import asked
 import journal
 import picture
+import script
 from findings import find_odd
+from generated_runs import run_text
 from report import read_report
+from side_by_side import report_of
 
 TOOL = journal.__file__
 HEAD = '731859029215873fdac1c9f2f8bd25a334abf0f3a9e1b057cf2cacc2826d86b0'
 OTHER_HEAD = '85f0f89e45067bf835186d74db75cef739d5a1ccdff92f301eb2c1cfbc74ca96'
+# The digest of `ab` and then zeros, 2,097,152 bytes together, as sha512sum gives it.
+AB_HEAD = 'd73b05db32fc16389f6ef05f8a008a1d31eb2d6aeccf44c5037a5c53144403be'
 OUT_OF_RANGE = '6f*1,75*1,74*1,20*1,6f*1,66*1,20*1,72*1,61*1,6e*1,67*1,65*1'
 
 ONE_STREAM = '''0 0 0 0 write 4095 1 61*1 ok
@@ -104,7 +112,33 @@ chain r0 head old
 head r0 %s
 ''' % HEAD
 
-GOOD = (ONE_STREAM, COMMANDS, REBUILD, ABORTED, SAVED)
+# Two streams side by side: both writes began before either ended, and so did both reads.
+SIDE_BY_SIDE_TEXT = '''volume v 2M
+replicas 2
+fault worker 1 replica 1 carries 1
+stream frames
+  write 0 "aa"
+  read 0 2
+stream frames
+  write 1 "b"
+  read 0 2
+'''
+SIDE_BY_SIDE = '''0 mark fault 1 r1 1
+1 0 0 0 write 0 2 61*2 ok
+2 0 1 0 write 1 1 62*1 ok
+3 3 1 1 read 0 2 ok 61*1,62*1
+4 2 0 1 read 0 2 ok 61*1,62*1
+reply 0 0 1 2 0 2 -
+reply 0 1 2 2 0 2 61*1,62*1
+reply 1 0 1 2 1 1 -
+reply 1 1 2 2 0 2 61*1,62*1
+mode r0 RW
+mode r1 ERR
+chain r0 head
+head r0 %s
+''' % AB_HEAD
+
+GOOD = (ONE_STREAM, COMMANDS, REBUILD, ABORTED, SAVED, SIDE_BY_SIDE)
 # A report, a text of it, what stands there instead, and what is found, with the number of its line.
 BREAKS = [
     (ONE_STREAM, '2 2 0 2 ping', '3 2 0 2 ping', 'line 3: has place 3, where 2 comes next'),
@@ -135,7 +169,7 @@ BREAKS = [
     (ONE_STREAM, 'mode r0 RW\n', 'mode r0 RW\nmode r1 RW\n', 'line 13: has `chain` of r0, and in mode RW is r0, r1'),
     (ONE_STREAM, 'mode r0 RW\nchain r0 head\nhead r0 %s\n' % OTHER_HEAD, '', 'the report has no modes at its end'),
     (COMMANDS, '1 1 0 1 snapshot s error name used', '1 1 0 1 snapshot r error name used', 'line 2: is answered `error name used`, but'),
-    (COMMANDS, '2 2 0 2 snapshot t ok', '2 2 0 2 snapshot t error chain full', 'line 3: is refused as `chain full`, but there are 2 layers'),
+    (COMMANDS, '2 2 0 2 snapshot t ok', '2 2 0 2 snapshot t error chain full', 'line 3: is answered `error chain full`, and there are 2 layers'),
     (COMMANDS, '4 4 0 4 revert s error no such snapshot', '4 4 0 4 revert s ok', 'line 5: is answered `ok`, but there is no snapshot'),
     (COMMANDS, '3 3 0 3 remove s ok', '3 3 0 3 remove s error no such snapshot', 'line 4: is answered `error no such snapshot`, but there is a'),
     (COMMANDS, 'layers 3', 'layers 2', 'line 6: tells 2 layers, and there are 3'),
@@ -176,8 +210,33 @@ BREAKS = [
     (ABORTED, '10 mark promoted r1\n11', '10', 'line 11: is answered `ok`, but the rebuild of r1 has not ended'),
     (ABORTED, '11 8 0 3 add r1 ok', '11 8 0 3 add r1 error aborted 10', 'line 12: is answered `error aborted 10`, and the'),
     (ABORTED, 'add r1 error no replica', 'add r1 error in use', 'line 16: is answered `error in use`, and'),
+    (SIDE_BY_SIDE, '3 3 1 1 read 0 2 ok 61*1,62*1', '3 3 1 0 write 1 1 62*1 ok', 'line 4: is call 0 of stream 1, where call 1 comes'),
+    (SIDE_BY_SIDE, '3 3 1 1 read 0 2 ok 61*1,62*1', '3 3 1 1 read 0 2 ok 61*2',
+     'line 4: reads `61*2`, and a plain disk has `61*1,62*1` there'),
+    (SIDE_BY_SIDE, '1 0 0 0 write 0 2 61*2 ok\n2 0 1 0 write 1 1 62*1 ok', '1 0 1 0 write 1 1 62*1 ok\n2 0 0 0 write 0 2 61*2 ok',
+     'line 4: reads `61*1,62*1`, and a plain disk has `61*2` there'),
+    (SIDE_BY_SIDE, '4 2 0 1', '4 5 0 1', 'line 5: saw 5, which is past its own place 4'),
+    (SIDE_BY_SIDE, '4 2 0 1', '4 1 0 1', 'line 5: saw 1, but the call before it in stream 0 ended at place 1'),
+    (SIDE_BY_SIDE, '4 2 0 1 read 0 2 ok 61*1,62*1', '4 2 0 1 read 0 2 error no replica', 'line 5: is refused as `no replica`, but r0 is RW'),
+    (SIDE_BY_SIDE, '2 0 1 0 write 1 1 62*1 ok', '2 0 1 0 write 1 1048577 62*1048577 ok', 'line 3: writes 1048577 bytes, and a frame'),
     (SAVED, 'salvaged r0 2', 'salvaged r0 -\n4 mark salvaged r0 -', 'line 7: begins with r0 as RW, and not as ERR'),
     (SAVED, 'chain r0 head old\n', 'chain r0 head old\nchain r1 head\n', 'line 11: has `chain` of r0, r1, and in mode RW is r0'),
+]
+# What is odd beside the script of SIDE_BY_SIDE: a text of the report, what stands there instead, and what is found.
+NOT_OF_THE_SCRIPT = [
+    ('fault 1 r1 1', 'fault 1 r1 2', 'line 1: counts 2 faults of the line from worker 1 to r1, for which 1 are planned'),
+    ('fault 1 r1 1', 'fault 0 r1 1', 'line 1: counts 1 faults of the line from worker 0 to r1, for which 0 are planned'),
+    ('fault 1 r1 1', 'fault 2 r1 1', 'line 1: is of worker 2, and the script has 2 streams'),
+    ('fault 1 r1 1', 'fault 1 r2 1', 'line 1: names r2, and the script has 2 replicas'),
+    ('4 2 0 1 read 0 2', '4 2 0 1 read 0 3', 'line 5: is `read 0+3`, and its stream asks there for `read 0+2`'),
+    ('4 2 0 1 read', '4 2 2 0 read', 'line 5: is of stream 2, and the script has 2'),
+    ('reply 0 0', '5 5 0 2 ping ok\nreply 0 0', 'line 6: is call 2 of stream 0, which asks for 2 in all'),
+    ('4 2 0 1 read 0 2 ok 61*1,62*1\n', '', 'the report has 1 of the 2 calls of stream 0'),
+    ('4 2 0 1 read 0 2 ok 61*1,62*1', '4 2 0 1 read 0 2 error out of range', 'line 5: is answered `error out of range`, and a volume'),
+    ('reply 1 1 2', 'reply 1 1 3', 'line 9: has the seq 3, and its frame 2'),
+    ('reply 1 0 1 2 1', 'reply 1 0 1 2 0', 'line 8: has the offset 0, and its frame 1'),
+    ('mode r1 ERR\n', '', 'line 10: begins modes of r0, where each replica has one'),
+    (AB_HEAD, HEAD, 'line 13: gives r0 the digest 73185902…826d86b0, and a'),
 ]
 
 
@@ -192,6 +251,44 @@ class Check(unittest.TestCase):
                 self.assertEqual(report.count(old), 1, old)
                 lines = journal.check(read_report(report.replace(old, new))).split('\n')
                 self.assertTrue(any(line.startswith(found) for line in lines), lines)
+
+    def test_what_is_not_of_the_script_is_found(self):
+        its = asked.read_script(script.make(SIDE_BY_SIDE_TEXT))
+        self.assertEqual(journal.check(read_report(SIDE_BY_SIDE), its), '')
+        for old, new, found in NOT_OF_THE_SCRIPT:
+            with self.subTest(found, new=new):
+                self.assertEqual(SIDE_BY_SIDE.count(old), 1, old)
+                lines = journal.check(read_report(SIDE_BY_SIDE.replace(old, new)), its).split('\n')
+                self.assertTrue(any(line.startswith(found) for line in lines), lines)
+
+    def test_runs_side_by_side_have_nothing_odd_and_calls_out_of_order_are_odd(self):
+        for seed in range(25):
+            chance = random.Random(seed)
+            its = asked.read_script(script.make(run_text(chance)))
+            report = report_of(its, chance)
+            self.assertEqual(journal.check(read_report(report), its), '', seed)
+            lines = report.splitlines()
+            words = [line.split(' ', 2) for line in lines]
+            streams = {}
+            for number, (place, _, rest) in enumerate(words):
+                if place.isdigit() and rest[0].isdigit():
+                    streams.setdefault(rest.split(' ')[0], []).append(number)
+            one, other = chance.sample(chance.choice([calls for calls in streams.values() if len(calls) > 1]), 2)
+            # Place and SAW stay where they are, and two calls of a stream change their places.
+            lines[one], lines[other] = (' '.join([*words[here][:2], words[there][2]]) for here, there in ((one, other), (other, one)))
+            self.assertNotEqual(journal.check(read_report('\n'.join(lines)), its), '', seed)
+
+    def test_a_script_is_read_as_its_calls(self):
+        its = asked.read_script(script.make(SIDE_BY_SIDE_TEXT))
+        self.assertEqual([[call.call for call in calls] for calls in its.streams],
+                         [[('write', '0', '2', '61*2'), ('read', '0', '2')], [('write', '1', '1', '62*1'), ('read', '0', '2')]])
+        made = script.make('volume v 2M\nstream commands\n  snapshot s\n  purge\nstream frames\n  ping seq 7\n  frame 9 0 0\n  close\n')
+        spelled = made.replace(b'{"volume"', b'{ "more": null, "volume"')
+        for given in (made, spelled):
+            self.assertEqual(asked.read_script(given).streams,
+                             [[(('snapshot', 's'), None, None), (('purge',), None, None)], [(('ping',), 7, 0), (('other', '9'), 2, 0)]])
+        for given in (b'', b'{}\n', made[:-1], made + b'x', made[1:]):
+            self.assertIsNone(asked.read_script(given))
 
     def test_a_purge_may_leave_a_layer_under_the_head_or_with_two_children(self):
         calls = 'snapshot a', 'snapshot b', 'revert a', 'snapshot c', 'remove a', 'remove c', 'purge'
@@ -287,6 +384,19 @@ class CommandLine(unittest.TestCase):
     def test_check_ends_with_1_where_something_is_odd(self):
         self.assertEqual(self.run_tool('check', given=ONE_STREAM), (0, ''))
         self.assertEqual(self.run_tool('check', given=''), (1, 'the report has no modes at its end: it is a prefix of a report\n'))
+
+    def test_check_takes_the_script_that_was_run(self):
+        with tempfile.TemporaryDirectory() as folder:
+            path = os.path.join(folder, 'a.script')
+            with open(path, 'wb') as file:
+                file.write(script.make(SIDE_BY_SIDE_TEXT))
+            self.assertEqual(self.run_tool('check', '--script', path, given=SIDE_BY_SIDE), (0, ''))
+            wrong = SIDE_BY_SIDE.replace('fault 1 r1 1', 'fault 1 r1 2')
+            self.assertEqual(self.run_tool('check', given=wrong), (0, ''))
+            self.assertEqual(self.run_tool('check', '--script', path, given=wrong)[0], 1)
+            with open(path, 'ab') as file:
+                file.write(b'x')
+            self.assertEqual(self.run_tool('check', '--script', path, given=SIDE_BY_SIDE), (1, ''))
 
     def test_table_and_picture_print(self):
         self.assertIn('write 4095+1', self.run_tool('table', given=ONE_STREAM)[1])

@@ -1,0 +1,53 @@
+"""Texts of scripts whose streams have to do with each other, made at random: for runs with a worker for each stream."""
+
+PAGE = 1 << 21
+# Where frames read and write: few places, so that ranges of different streams overlap, also over a block's and a page's end.
+PLACES = (0, 1, 4000, 4095, 4096, 8192, PAGE - 4096, PAGE - 1)
+LENGTHS = (1, 2, 97, 4095, 4096, 4097, 8192, 12288)
+NAMES = ('a', 'b', 'c', 'd', 'e', 'f', 'g', 'h')
+
+
+def run_text(random, streams=None, most_calls=12):
+    """One text of so many streams, or of 2 to 16: of frames, and of commands that take, fail and rebuild."""
+    streams = streams or random.choice([2, 2, 3, 4, 5, 6, 8, 12, 16])
+    replicas, pages = random.choice([1, 2, 2, 3, 3, 4]), random.choice([1, 1, 2, 3])
+    of_commands = set(random.sample(range(streams), max(1, streams // 3)))
+    lines = ['volume v %dM' % (2 * pages), 'replicas %d' % replicas]
+    pairs = [(worker, replica) for worker in range(streams) for replica in range(replicas)]
+    for pair in random.sample(pairs, min(len(pairs), random.choice([0, 2, 4, 6]))):
+        carries = sorted(random.sample(range(1, 12), random.randint(1, 3)))
+        lines.append(' '.join(['fault worker %d replica %d carries' % pair, *map(str, carries)]))
+    for stream in range(streams):
+        if stream in of_commands:
+            lines += ['stream %d commands' % stream, *('  ' + text for text in commands(random, replicas, most_calls))]
+        else:
+            lines += ['stream %d frames' % stream, *('  ' + text for text in frames(random, stream, pages, most_calls))]
+    return '\n'.join(lines) + '\n'
+
+
+def frames(random, stream, pages, most_calls):
+    """The lines of a stream of frames. Its number is in each byte that it writes, so that what a read gives tells who wrote."""
+    for number in range(random.randint(min(4, most_calls), most_calls)):
+        offset, length = random.choice(PLACES), random.choice(LENGTHS)
+        kind = random.random()
+        if kind < 0.5:
+            yield 'write %d fill %02x %d' % (offset, 16 * (stream + 1) + number % 16 & 255, length)
+        elif kind < 0.9:
+            yield 'read %d %d' % (offset, length)
+        else:
+            yield random.choice(['ping', 'read %d 2' % (pages * PAGE - 1), 'frame 4 0 1', 'read 0 1048577', 'write %d "no"' % -1])
+
+
+def commands(random, replicas, most_calls):
+    """The lines of a stream of commands: what is taken away was mostly taken before, and who fails is mostly rebuilt."""
+    lines, snapshots = [], list(NAMES)
+    random.shuffle(snapshots)
+    while len(lines) < most_calls:
+        name, other, replica = snapshots[0], snapshots[1], random.randrange(replicas)
+        lines += random.choice([['snapshot ' + name], ['snapshot ' + name, 'remove ' + name, 'purge'],
+                                ['snapshot ' + name, 'snapshot ' + other, 'remove ' + name, 'purge'],
+                                ['snapshot ' + name, 'snapshot ' + other, 'revert ' + name, 'remove ' + other, 'purge'],
+                                ['revert ' + name], ['purge', 'status'], ['add r%d' % replica], ['add r0', 'add r1'][:replicas],
+                                ['fail r%d' % replica, 'add r%d' % replica], ['remove sys-%d' % random.randrange(4), 'purge']])
+        snapshots = snapshots[1:] + snapshots[:1]
+    return lines[:random.randint(most_calls // 2, most_calls)]
