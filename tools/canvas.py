@@ -24,19 +24,20 @@ class Canvas:
         self.add('<rect x="%.1f" y="%.1f" width="%.1f" height="%.1f" rx="%d" fill="%s"%s%s', left, top, width, height,
                  2 if border else 0, fill, line, end)
 
-    def line(self, left, top, right, bottom, colour, thick=1):
+    def line(self, left, top, right, bottom, colour, thick=1, dashed=False):
         """A straight line."""
-        self.add('<line x1="%.1f" y1="%.1f" x2="%.1f" y2="%.1f" stroke="%s" stroke-width="%g"/>', left, top, right, bottom,
-                 colour, thick)
+        dashes = ' stroke-dasharray="3 2"' if dashed else ''
+        self.add('<line x1="%.1f" y1="%.1f" x2="%.1f" y2="%.1f" stroke="%s" stroke-width="%g"%s/>', left, top, right, bottom,
+                 colour, thick, dashes)
 
     def cross(self, middle, centre, colour=RED, reach=3):
         """A small cross."""
         self.line(middle - reach, centre - reach, middle + reach, centre + reach, colour, 1.8)
         self.line(middle - reach, centre + reach, middle + reach, centre - reach, colour, 1.8)
 
-    def ring(self, middle, centre):
-        """A small ring."""
-        self.add('<circle cx="%.1f" cy="%.1f" r="2.2" fill="#ffffff" stroke="%s"/>', middle, centre, FAINT)
+    def dot(self, middle, centre, colour=RED):
+        """A small dot."""
+        self.add('<circle cx="%.1f" cy="%.1f" r="3" fill="%s"/>', middle, centre, colour)
 
     def polygon(self, points, fill=INK):
         """A filled shape."""

@@ -30,12 +30,14 @@ Columns: the place, the journal's length that the call saw when it was taken up,
 '''
 
 PICTURE_HELP = '''
-Writes one SVG. The places go from left to right, in bands like lines of text. Each stream has a lane with its calls, coloured by
-kind; a refused one has a red border and a cross; a thin line leads from each call back to the ring at the place that it saw.
-Each replica has a lane coloured by its mode, with its marks: where it falls, and where its rebuild begins, joined to its source,
-and ends. Below are the chain at the end and a legend. A journal of at most 40 lines has boxes with all that a call says; a longer
-one has small boxes, and its refusals in words below. What has no room is left out in the middle, and the picture says how much
-that is.
+Writes one SVG. The places go from left to right, in bands like lines of text. Each stream has a lane with a bar for each call,
+which reaches from what the call saw when it was taken up to its place, and has its full colour there: calls whose bars stand one
+above the other overlap. Bars are coloured by kind; a refused one has a red border and a cross; one that is open at the edge of
+a band goes on in the next. Each replica has a lane coloured by its mode, with its marks: where it falls, joined by a dashed line
+to the stream whose line to it failed, if that is why; and where its rebuild begins, joined to its source, and ends. What a purge
+takes out has a lane too. Below are the chain at the end and a legend. Where at most 4 streams have a journal of at most 40
+lines, bars have all that a call says; of at most 80 lines, the kind and range or names, and more where there is room; else a
+letter. Refusals then stand in words below. What has no room is left out in the middle, and the picture says how much that is.
 '''
 
 

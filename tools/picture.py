@@ -1,15 +1,15 @@
 """One SVG of a run: the places from left to right, a lane for each stream and each replica."""
-from bisect import bisect_left
 from collections import Counter
 
 from canvas import FAINT, INK, RED, Canvas
-from layout import AXIS, BAND_GAP, LEFT, LETTER, LINE_HEIGHT, RIGHT, RING, SHORT, SMALL_LETTER, WIDTH, Layout, lane_of
+from layout import (ALL, AXIS, BAND_GAP, LETTER, LINE_HEIGHT, ONE_LINE, PADDING, RIGHT, SHORT, SMALL_LETTER, WIDTH, Layout,
+                    labels_for, lane_of, mark_label, needed_labels)
 from replay import ERR, RW, WO, Replay
 from report import LAYER_MARKS, Entry, replica_number, shorten
 
 LEAST_WIDTH = 640
 MOST_CHAIN_ROWS = 8
-# How the box of each kind of call is filled, and its border.
+# How the bar of each kind of call is filled at its place, and its border.
 COLOURS = {
     'read': ('#d6e9f8', '#3a7ab0'),
     'write': ('#fde3bd', '#b5730b'),
@@ -49,22 +49,20 @@ class Picture:
         self.canvas = Canvas()
         self.modes_before = find_modes(report)
         self.bands = [band for group in self.layout.groups for band in group]
-        self.places = [line.place for line in self.layout.kept]
-        self.left_out = len(self.layout.journal) - len(self.places)
+        self.left_out = len(self.layout.journal) - len(self.layout.kept)
         self.width = WIDTH if len(self.bands) > 1 else max([LEAST_WIDTH, *(band.right + RIGHT for band in self.bands)])
 
     def draw(self):
         """The whole picture."""
-        top, first = self.draw_title(), 0
+        top = self.draw_title()
         for number, group in enumerate(self.layout.groups):
             if number:
                 top = self.draw_gap(top)
             for band in group:
-                self.draw_band(band, first, top)
-                first += len(band.columns)
+                self.draw_band(band, top)
                 top += band.height
         top = self.draw_end(top + 6)
-        if not self.layout.is_detailed:
+        if self.layout.form != ALL:
             top = self.draw_refusals(top)
         return self.canvas.svg(self.width, self.draw_legend(top + 4) + 10)
 
@@ -75,9 +73,11 @@ class Picture:
         title = '%s of %s on %s, %d refused' % (count_text(len(entries), 'call'), count_text(len(self.layout.streams), 'stream'),
                                                 count_text(self.report.replica_count, 'replica'), refused)
         self.note(24, title + (', ' + count_text(marks, 'mark') if marks else ''), size=15, bold=True)
-        notes = ['Places from left to right.']
+        notes, most = ['Places from left to right.'], most_at_once(entries)
+        if most > 1:
+            notes.append('Bars one above the other are calls that overlap: at most %d at once.' % most)
         if any(('stream', stream) not in band.lanes for band in self.bands for stream in self.layout.streams):
-            notes.append('A band shows the streams that have a call in it.')
+            notes.append('A band shows the streams that have a bar in it.')
         if self.left_out:
             notes.append('Left out in the middle: %d of %d places.' % (self.left_out, len(self.layout.journal)))
         if self.report.unread:
@@ -101,8 +101,8 @@ class Picture:
 
     # A band.
 
-    def draw_band(self, band, first, top):
-        """A band whose upper edge is at `top`; its first column is of the kept line of number `first`."""
+    def draw_band(self, band, top):
+        """A band whose upper edge is at `top`."""
         self.draw_axis(band, top)
         tops, place = {}, top + AXIS
         for lane, height in band.lanes.items():
@@ -114,75 +114,106 @@ class Picture:
             if kind == 'replica':
                 self.draw_modes(band, number, place)
             place += height
-        self.draw_sights(band, first, tops)
-        for column, left in zip(band.columns, band.lefts):
-            lane = lane_of(column.line)
-            if isinstance(column.line, Entry):
-                self.draw_call(column, left, tops[lane] + band.lanes[lane] / 2)
-            else:
-                self.draw_mark(column, left, tops)
+        faults = [column for column in band.columns if column.line.kind == 'fault']
+        for column in faults:
+            self.draw_cause(column, band, tops)
+        for bar in band.bars:
+            lane = lane_of(bar.entry)
+            self.draw_call(bar, tops[lane] + band.lanes[lane] / 2)
+        for column in faults:
+            self.draw_cause_dot(column, band, tops)
+        for column in band.columns:
+            if not isinstance(column.line, Entry):
+                self.draw_mark(column, tops)
 
     def draw_axis(self, band, top):
         """The places above a band, as many as have room, and a line down from each."""
         free = 0
         self.note(top + 12, 'place', FAINT, 10)
-        for column, left in zip(band.columns, band.lefts):
-            self.canvas.line(left, top + AXIS - 4, left, top + band.height - BAND_GAP, '#ececec')
-            if left >= free:
-                self.canvas.text(left, top + 12, str(column.line.place), 10, FAINT)
-                free = left + (len(str(column.line.place)) + 1) * SMALL_LETTER
+        for column in band.columns:
+            self.canvas.line(column.left, top + AXIS - 4, column.left, top + band.height - BAND_GAP, '#ececec')
+            if column.left >= free:
+                self.canvas.text(column.left, top + 12, str(column.line.place), 10, FAINT)
+                free = column.left + (len(str(column.line.place)) + 1) * SMALL_LETTER
 
-    def draw_sights(self, band, first, tops):
-        """From each call a thin line back to the place that it saw, also from a call in a later band."""
-        after = first + len(band.columns)
-        for number, entry in enumerate(self.layout.kept[first:], first):
-            lane = lane_of(entry)
-            if not isinstance(entry, Entry) or lane not in tops:
-                continue
-            seen = min(bisect_left(self.places, entry.saw), number)
-            if seen >= after:
-                continue
-            left = band.lefts[seen - first] + 4 if seen >= first else LEFT
-            right = band.lefts[number - first] + RING if number < after else band.right
-            centre = tops[lane] + band.lanes[lane] / 2
-            self.canvas.line(left, centre, right, centre, FAINT)
-            if seen >= first:
-                self.canvas.ring(left, centre)
-
-    def draw_call(self, column, left, centre):
-        """The box of a call."""
-        entry, (fill, border) = column.line, COLOURS[column.line.kind]
-        width, height = column.width - RING - 5, len(column.labels) * LINE_HEIGHT + 6
-        left, top = left + RING, centre - height / 2
+    def draw_call(self, bar, centre):
+        """The part of a call's bar that is in a band: from what the call saw to its place, where it has its full colour."""
+        entry, (fill, border) = bar.entry, COLOURS[bar.entry.kind]
+        left, width = bar.left + 1, bar.right - bar.left - 1
+        labels, height = labels_for(entry, self.layout.form, width), self.bar_height(entry)
+        top, ink, thick = centre - height / 2, RED if entry.refusal else border, 2 if entry.refusal else 1
         title = 'place %d, saw %d, stream %d, call %d: %s: %s' % (*entry[1:5], ' '.join(entry.call), entry.answer)
-        self.canvas.rectangle(left, top, width, height, fill, RED if entry.refusal else border, 2 if entry.refusal else 1,
-                              shorten(title, 200))
-        for number, label in enumerate(column.labels):
-            is_refusal = bool(entry.refusal) and self.layout.is_detailed and number + 1 == len(column.labels)
-            self.canvas.text(left + 4, top + 13 + number * LINE_HEIGHT, label, colour=RED if is_refusal else INK, bold=number == 0)
-        if entry.refusal:
-            self.canvas.cross(left + width, top)
+        title = shorten(title if bar.own is not None else 'goes on to ' + title, 200)
+        if bar.begins and bar.own is not None and bar.own <= bar.left:
+            self.canvas.rectangle(left, top, width, height, fill, ink, thick, title)
+        else:
+            self.canvas.rectangle(left, top, width, height, paler(fill), title=title)
+            if bar.own is not None:
+                self.canvas.rectangle(bar.own + 1, top, bar.right - bar.own - 1, height, fill, title=title)
+            self.draw_border(bar, left, top, height, ink, thick)
+        for number, label in enumerate(labels):
+            is_refusal = bool(entry.refusal) and self.layout.form == ALL and number + 1 == len(labels)
+            self.canvas.text(left + PADDING, top + 13 + number * LINE_HEIGHT, label, colour=RED if is_refusal else INK,
+                             bold=number == 0 and self.layout.form != ONE_LINE)
+        if entry.refusal and bar.own is not None:
+            self.canvas.cross(bar.right, top)
+
+    def bar_height(self, entry):
+        """How high the bar of a call is."""
+        return len(needed_labels(entry, self.layout.form)) * LINE_HEIGHT + 6
+
+    def draw_border(self, bar, left, top, height, ink, thick):
+        """The border of a part of a bar, which is open where the call begins before the band or ends behind it."""
+        for edge in (top, top + height):
+            self.canvas.line(left, edge, bar.right, edge, ink, thick)
+        if bar.begins:
+            self.canvas.line(left, top, left, top + height, ink, thick)
+        if bar.own is not None:
+            self.canvas.line(bar.right, top, bar.right, top + height, ink, thick)
+
+    def draw_cause(self, column, band, tops):
+        """A dashed line from the stream whose line to a replica failed to that replica; it passes behind the bars between."""
+        begin = self.cause_begin(column, band, tops)
+        if begin is not None:
+            self.canvas.line(column.left + 6, begin, column.left + 6, tops[lane_of(column.line)] + 8.5, RED, dashed=True)
+
+    def draw_cause_dot(self, column, band, tops):
+        """A dot where that line begins."""
+        begin = self.cause_begin(column, band, tops)
+        if begin is not None:
+            self.canvas.dot(column.left + 6, begin)
+
+    def cause_begin(self, column, band, tops):
+        """The height at which that line begins: the lower edge of the bar that is there, if there is one."""
+        stream = int(column.line.words[1])
+        if ('stream', stream) not in tops:
+            return None
+        heights = [self.bar_height(bar.entry) / 2 for bar in band.bars
+                   if bar.entry.stream == stream and bar.left <= column.left < bar.right]
+        return tops['stream', stream] + band.lanes['stream', stream] / 2 + max(heights, default=0)
 
     def draw_modes(self, band, replica, top):
         """The bar of a replica's modes in a band."""
-        mode, begin = self.modes_before[band.columns[0].line.line][replica], band.lefts[0]
-        for column, left in zip(band.columns, band.lefts):
+        mode, begin = self.modes_before[band.columns[0].line.line][replica], band.columns[0].left
+        for column in band.columns:
             if lane_of(column.line) == ('replica', replica):
-                self.canvas.rectangle(begin, top + 5, left + 6 - begin, 7, MODES[mode])
-                mode, begin = MODE_AFTER[column.line.kind], left + 6
+                self.canvas.rectangle(begin, top + 5, column.left + 6 - begin, 7, MODES[mode])
+                mode, begin = MODE_AFTER[column.line.kind], column.left + 6
         self.canvas.rectangle(begin, top + 5, band.right - begin, 7, MODES[mode])
 
-    def draw_mark(self, column, left, tops):
+    def draw_mark(self, column, tops):
         """A mark, in the lane of its replica or in the lane of layers. A rebuild hangs on its source."""
-        mark, middle, top = column.line, left + 6, tops[lane_of(column.line)]
+        mark, left, label, top = column.line, column.left, mark_label(column.line), tops[lane_of(column.line)]
+        middle = left + 6
         if mark.kind in LAYER_MARKS:
-            self.canvas.rectangle(left + 3, top + 3, column.width - 6, 16, '#ffffff', FAINT, title=' '.join(mark.words))
-            self.canvas.text(left + 6, top + 14, column.labels[0], 10)
+            width = len(label) * SMALL_LETTER + 6
+            self.canvas.rectangle(left + 3, top + 3, width, 16, '#ffffff', FAINT, title=' '.join(mark.words))
+            self.canvas.text(left + 6, top + 14, label, 10)
             return
         if mark.kind == 'added':
             self.canvas.line(middle, tops['replica', replica_number(mark.words[2])] + 8.5, middle, top + 8.5, INK, 1.5)
         self.draw_mark_sign(MODE_AFTER[mark.kind], middle, top + 8.5)
-        self.canvas.text(left + (12 if mark.kind == 'added' else 3), top + 25, column.labels[0], 10)
+        self.canvas.text(left + (12 if mark.kind == 'added' else 3), top + 25, label, 10)
 
     def draw_mark_sign(self, mode, middle, centre):
         """The sign of a mark after which its replica has that mode."""
@@ -275,17 +306,19 @@ class Picture:
     def legend(self):
         """What the legend says: which sign, of which kind or mode, and the words for it."""
         counts = Counter(entry.kind for entry in self.report.entries)
-        words = {kind: kind if self.layout.is_detailed or short == kind else '%s: %s' % (short, kind)
+        words = {kind: kind if self.layout.form == ALL or short == kind else '%s: %s' % (short, kind)
                  for kind, short in SHORT.items()}
         items = [('kind', kind, text) for kind, text in words.items() if counts[kind]]
         if any(entry.refusal for entry in self.report.entries):
             items.append(('refused', None, 'refused'))
         if counts:
-            items.append(('saw', None, 'from the place that a call saw when it was taken up'))
+            items.append(('saw', None, 'from what a call saw when it was taken up to its place'))
         seen = {mode for modes in self.modes_before.values() for mode in modes}
         items += [('mode', mode, text) for mode, text in MODE_TEXTS.items() if mode in seen]
         marked = {MODE_AFTER.get(line.kind) for line in self.report.journal if not isinstance(line, Entry)}
         items += [('mark', mode, text) for mode, text in SIGNS.items() if mode in marked]
+        if any(line.kind == 'fault' for line in self.report.journal):
+            items.append(('cause', None, 'the line of that stream to the replica failed'))
         if any(name.endswith('*') for chain in self.report.of_replicas('chain').values() for name in chain):
             items.append(('marked', None, 'removed layer'))
         return items
@@ -298,8 +331,11 @@ class Picture:
             self.canvas.rectangle(left, top + 3, 20, 12, '#ffffff', RED, 2)
             self.canvas.cross(left + 20, top + 3)
         elif what == 'saw':
-            self.canvas.line(left + 2, top + 9, left + 20, top + 9, FAINT)
-            self.canvas.ring(left + 3, top + 9)
+            self.canvas.rectangle(left, top + 3, 20, 12, paler(FAINT), FAINT)
+            self.canvas.rectangle(left + 13, top + 3, 7, 12, FAINT)
+        elif what == 'cause':
+            self.canvas.line(left + 12, top + 4, left + 12, top + 17, RED, dashed=True)
+            self.canvas.dot(left + 12, top + 4)
         elif what == 'mode':
             self.canvas.rectangle(left, top + 5, 20, 7, MODES[key])
         elif what == 'mark':
@@ -318,6 +354,24 @@ def find_modes(report):
             replay.take_mark(line, entries)
     modes[None] = tuple(replay.modes)
     return modes
+
+
+def most_at_once(entries):
+    """The greatest number of calls that are open at one place."""
+    steps = Counter()
+    for entry in entries:
+        steps[min(entry.saw, entry.place)] += 1
+        steps[entry.place + 1] -= 1
+    most = count = 0
+    for place in sorted(steps):
+        count += steps[place]
+        most = max(most, count)
+    return most
+
+
+def paler(colour):
+    """A colour, more than half of the way to white."""
+    return '#' + ''.join('%02x' % (255 - (255 - int(colour[at:at + 2], 16)) * 2 // 5) for at in (1, 3, 5))
 
 
 def names_of(values, value):

@@ -1,11 +1,18 @@
 """Tests of the picture that journal.py draws."""
+import itertools
+import random
 import re
 import unittest
 from xml.etree import ElementTree
 
+import asked
 import picture
+import script
+from generated_runs import run_text
+from layout import ONE_LINE, needed_labels
 from report import read_report
-from test_journal import ABORTED, COMMANDS, HEAD, ONE_STREAM, REBUILD, SAVED
+from side_by_side import report_of
+from test_journal import ABORTED, COMMANDS, HEAD, ONE_STREAM, REBUILD, SAVED, SIDE_BY_SIDE
 
 SVG = '{http://www.w3.org/2000/svg}'
 
@@ -26,8 +33,21 @@ def places(tree):
 
 
 def boxes(tree):
-    """The texts that show where a pointer rests on the box of a call."""
-    return [element.text for element in tree.iter(SVG + 'title') if element.text.startswith('place ')]
+    """The texts that show where a pointer rests on the bar of a call, at its place."""
+    return list(dict.fromkeys(element.text for element in tree.iter(SVG + 'title') if element.text.startswith('place ')))
+
+
+def spans(tree):
+    """Where the bar of each call begins and ends, by the call's place; of a bar in several bands in the last one."""
+    found = {}
+    for bar in tree.iter(SVG + 'rect'):
+        title = bar.find(SVG + 'title')
+        place = title is not None and re.match('place ([0-9]+), saw', title.text)
+        if place:
+            left, end = float(bar.get('x')), float(bar.get('x')) + float(bar.get('width'))
+            before = found.get(int(place[1]), (left, end))
+            found[int(place[1])] = min(left, before[0]), max(end, before[1])
+    return found
 
 
 def long_run(count, streams):
@@ -81,12 +101,59 @@ class Picture(unittest.TestCase):
         self.assertLess(float(joined[0].get('y1')), float(joined[0].get('y2')))
         self.assertGreater(float(joined[1].get('y1')), float(joined[1].get('y2')))
 
-    def test_a_line_leads_back_to_the_place_that_a_call_saw(self):
-        tree = drawn(REBUILD)
-        self.assertEqual(len(list(tree.iter(SVG + 'circle'))), 7 + 1)
-        lefts = places(tree)
-        rings = {round(float(ring.get('cx')) - 4, 1) for ring in tree.iter(SVG + 'circle')}
-        self.assertTrue({round(lefts[place], 1) for place in ('0', '1', '3', '6', '7', '10')} <= rings)
+    def test_a_bar_reaches_from_what_a_call_saw_to_its_place(self):
+        for report in (REBUILD, SIDE_BY_SIDE, ABORTED):
+            tree = drawn(report)
+            lefts, bars = places(tree), spans(tree)
+            for entry in read_report(report).entries:
+                begin, end = bars[entry.place]
+                self.assertAlmostEqual(begin, lefts[str(entry.saw)] + 1, delta=0.2)
+                self.assertGreater(end, lefts[str(entry.place)])
+                self.assertLess(end, lefts.get(str(entry.place + 1), 1e9))
+
+    def test_calls_that_overlap_have_bars_that_overlap(self):
+        for report in (ONE_STREAM, REBUILD, ABORTED, SIDE_BY_SIDE):
+            bars, entries = spans(drawn(report)), read_report(report).entries
+            for one, other in itertools.combinations(entries, 2):
+                overlap = one.saw <= other.place and other.saw <= one.place
+                (left, right), (begin, end) = bars[one.place], bars[other.place]
+                self.assertEqual(left < end and begin < right, overlap, (one, other))
+        self.assertIn('Places from left to right.', texts(drawn(ONE_STREAM)))
+        self.assertIn('Places from left to right. Bars one above the other are calls that overlap: at most 2 at once.',
+                      texts(drawn(SIDE_BY_SIDE)))
+
+    def test_a_bar_goes_on_in_the_next_band(self):
+        lines = ['%d %d 0 %d read 0 4096 ok 00*4096' % (place, place, place) for place in range(30)]
+        lines += ['30 2 1 0 write 0 1 61*1 ok', 'mode r0 RW', 'chain r0 head', 'head r0 ' + HEAD]
+        tree = drawn('\n'.join(lines))
+        titles = [element.text for element in tree.iter(SVG + 'title')]
+        parts = [title for title in titles if title.startswith('goes on to place 30, saw 2, stream 1, call 0: write')]
+        self.assertEqual(len(parts), texts(tree).count('place') - 1)
+        self.assertEqual(boxes(tree)[-1], 'place 30, saw 2, stream 1, call 0: write 0 1 61*1: ok')
+
+    def test_a_fault_hangs_on_the_stream_whose_line_failed(self):
+        tree = drawn(SIDE_BY_SIDE)
+        # The last one is that of the legend.
+        (dot, _), begin = tree.iter(SVG + 'circle'), places(tree)['0'] + 6
+        dashed = [line for line in tree.iter(SVG + 'line') if line.get('stroke-dasharray')]
+        self.assertAlmostEqual(float(dot.get('cx')), begin, delta=0.2)
+        self.assertEqual((dashed[0].get('x1'), dashed[0].get('y1')), (dot.get('cx'), dot.get('cy')))
+        # It begins at the write of stream 1, below the lane of stream 0.
+        names = {element.text: float(element.get('y')) for element in tree.iter(SVG + 'text')}
+        self.assertTrue(names['stream 1'] < float(dashed[0].get('y1')) < float(dashed[0].get('y2')))
+        self.assertIn('the line of that stream to the replica failed', texts(tree))
+
+    def test_sixteen_streams_can_be_read(self):
+        chance = random.Random(7)
+        report = report_of(asked.read_script(script.make(run_text(chance, 16, 5))), chance)
+        tree, entries = drawn(report), read_report(report).entries
+        self.assertEqual(len(boxes(tree)), len(entries))
+        self.assertLess(float(tree.get('height')), 1600)
+        # Each has its kind and its range or names on its bar at least.
+        for entry in entries:
+            needed = needed_labels(entry, ONE_LINE)[0]
+            self.assertTrue(any(text == needed or text.startswith(needed + ' ') for text in texts(tree)), needed)
+        self.assertTrue({'stream 0', 'stream 15', 'W: write', 'snap: snapshot'} <= set(texts(tree)))
 
     def test_300_calls_are_all_there(self):
         tree = drawn(long_run(300, 3))
@@ -100,7 +167,7 @@ class Picture(unittest.TestCase):
         tree = drawn(long_run(300, 3), most=20)
         self.assertEqual(len(boxes(tree)), 20)
         self.assertIn('places 10 to 289 are left out here: 280 of 300', texts(tree))
-        self.assertIn('Places from left to right. Left out in the middle: 280 of 300 places.', texts(tree))
+        self.assertTrue(any(text.endswith(' Left out in the middle: 280 of 300 places.') for text in texts(tree)))
         low = drawn(long_run(2000, 16), height=1500)
         self.assertLess(float(low.get('height')), 2000)
         self.assertTrue(any('are left out here' in text for text in texts(low)))
@@ -109,7 +176,7 @@ class Picture(unittest.TestCase):
                             for text in texts(drawn('mode r0 RW\nchain r0 head %s\nhead r0 %s\n' % (chain, HEAD)))))
 
     def test_all_stands_within_the_picture(self):
-        for report in (ONE_STREAM, COMMANDS, REBUILD, ABORTED, SAVED, long_run(300, 16), ''):
+        for report in (ONE_STREAM, COMMANDS, REBUILD, ABORTED, SAVED, SIDE_BY_SIDE, long_run(70, 9), long_run(300, 16), ''):
             tree = drawn(report)
             width, height = float(tree.get('width')), float(tree.get('height'))
             for element in list(tree)[1:]:
