@@ -43,7 +43,7 @@ class Examples(unittest.TestCase):
             self.assertEqual(script.show(script.make(''.join(lines))), ''.join(line for line in lines if line[0] != '#'), name)
 
     def test_stored_scripts_are_what_is_made(self):
-        for name, stored in (('first_steps', 'first.script'), ('a_rebuild', 'a_rebuild.script')):
+        for name, stored in (('first_steps', 'first.script'), ('a_rebuild', 'a_rebuild.script'), ('side_by_side', 'side_by_side.script')):
             with open(os.path.join(EXAMPLES, stored), 'rb') as file:
                 self.assertEqual(script.make(read(name + TEXT)), file.read())
 
