@@ -15,7 +15,7 @@ import tempfile
 import time
 
 # How many calls each of so many threads makes.
-CALLS = {1: 4_000_000, 2: 2_000_000, 16: 2_000}
+CALLS = {1: 4_000_000, 2: 2_000_000, 16: 200_000}
 
 LOCKS = r'''
 #define _GNU_SOURCE
@@ -24,6 +24,7 @@ LOCKS = r'''
 #include <stdio.h>
 #include <stdlib.h>
 #include <string.h>
+#include <time.h>
 #include <unistd.h>
 #include <linux/futex.h>
 #include <sys/syscall.h>
@@ -37,6 +38,13 @@ static int tickets;
 
 static void enter(void) {
     if (!tickets) { pthread_mutex_lock(&mutex); return; }
+    struct timespec pause = {0, 50000};
+    for (int looks = 0;;) {
+        unsigned long serving = atomic_load(&served);
+        if (atomic_load(&drawn) == serving) break;
+        if (looks < 100) { looks++; __builtin_ia32_pause(); }
+        else { looks = 0; syscall(SYS_futex, &served, FUTEX_WAIT_PRIVATE, (int)serving, &pause, 0, 0); }
+    }
     unsigned long ticket = atomic_fetch_add(&drawn, 1);
     for (int looks = 0;;) {
         unsigned long serving = atomic_load(&served);

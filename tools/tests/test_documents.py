@@ -222,11 +222,16 @@ class Texts(unittest.TestCase):
         for report in reports:
             self.assertEqual(journal.check(read_report(report)), '', report)
 
-    def test_the_picture_is_that_of_the_example(self):
+    def test_the_picture_is_that_of_a_run_side_by_side(self):
+        import asked
+        import journal
         import picture
         from report import read_report
-        drawn = picture.draw(read_report(read(TOP, 'examples/a_rebuild.output')))
-        self.assertEqual(read(TOP, 'docs/rebuild.svg'), drawn)
+        with open(os.path.join(TOP, 'examples/side_by_side.script'), 'rb') as given:
+            its = asked.read_script(given.read())
+        report = read_report(read(TOP, 'docs/side_by_side.output'))
+        self.assertEqual(journal.check(report, its), '')
+        self.assertEqual(read(TOP, 'docs/side_by_side.svg'), picture.draw(report))
 
 
 if __name__ == '__main__':
