@@ -54,9 +54,6 @@ none_answered w place modes (entry.Mark m ∷ es) none =
     let after = modes_after_entry modes (entry.Mark m) in
     none_answered w (suc place) after es (tail_none (is_own_mark w m) (record { modes = modes; entry = entry.Mark m }) (own_entries w after es) none)
 
-pub none_faulted : (w r : ℕ) (modes : List Mode) (es : List Entry) → own_entries w modes es ≡ [] → fault_counts w r es ≡ []
-none_faulted w r modes es none = sym (own_faults w r modes es) ∙ ap (λ ps. fault_counts w r (entries_in ps)) none
-
 -- ---- what is behind a part of a legal journal
 
 pub legal_behind : (opening : Spot) (front xs ys : List Entry) → LegalAfter opening front (xs ++ ys) → LegalAfter opening (front ++ xs) ys

@@ -6,9 +6,8 @@ use Rattle.volume_model.specs.declared.call.Call.{Call}
 use Rattle.volume_model.specs.declared.entry.Answer.{Answer}
 use Rattle.volume_model.specs.declared.entry.Entry.{Entry}
 use Rattle.volume_model.specs.declared.entry.Entry.TheVariants as entry
-use Rattle.volume_model.specs.Faults.{last_in, last_count, CountsRise}
-use Rattle.volume_model.specs.Rebuilds.{AreBehindFalls}
-use Rattle.volume_model.specs.History.{Spot, IsLegal, SeenInOrder, answers_from, calls_of, IsHistory}
+use Rattle.volume_model.specs.Faults.{last_in, last_count}
+use Rattle.volume_model.specs.History.{Spot, answers_from, calls_of}
 use Rattle.volume_model.specs.Modes.{modes_after}
 use Rattle.volume_model.specs.OneWorker.{behind_entries, behind, served_from, after_streams, served_streams, served, stream_of}
 use Rattle.volume_model.proofs.FaultLemmas.{last_count-append}
@@ -18,7 +17,6 @@ use Rattle.client_worker.specs.Exchanges.{AreCarried}
 use Rattle.world_in_hand.specs.Hand.{own_entries}
 use Rattle.turn_laws.specs.Turns.{AreWell, IsTurn, AreTurns}
 use Rattle.turn_laws.proofs.Own.{no_faults, no_answers, none_own, own-append}
-use Rattle.turn_laws.proofs.Counted.{faults_shown}
 use Rattle.std.proofs.lemmas.List.Elements.{All-nil}
 use Rattle.stream_steps.specs.Mine.{Placed}
 use Rattle.client_worker.specs.Exchanges.{IsCarried}
@@ -129,15 +127,3 @@ module _ (opening : Spot) (replicas : ℕ) (css : List (List Call)) (cs : List C
     ];
     turns = all_turns;
   }
-
--- ---- all of them
-
-pub is_history : (opening : Spot) (replicas : ℕ) (css : List (List Call)) (entries : List Entry) (counts : ℕ → ℕ → ℕ) (carried : ℕ → ℕ → Option (List (List ℕ)))
-    → AreTurns opening replicas css entries counts carried → IsLegal opening entries → AreBehindFalls entries → SeenInOrder entries → CountsRise entries → IsHistory opening counts (stream_of css) entries
-is_history opening replicas css entries counts carried turns legal fell order rise = record {
-  legal = legal;
-  fell = fell;
-  order = order;
-  each_once = turns.calls;
-  faults = faults_shown counts entries rise turns.counted;
-}

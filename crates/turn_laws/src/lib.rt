@@ -1,4 +1,2 @@
-//! What streams that are served one after another make of a journal.
+//! What streams that are served one after another make of a journal. It has specs and lemmas, and no function.
 #![tactic(auto)]
-
-pub mod laws;
