@@ -39,9 +39,6 @@ place_in_order names i h order =
     (λ k l e. false≢true (sym (before_itself (get_or names i [])) ∙ subst (λ n. is_before n (get_or names i []) ≡ true) e (order k i l h)))
     refl
 
-pub name_there : (names : List (List ℕ)) (i : ℕ) → i < length names → Contains names (get_or names i [])
-name_there names i h = (i, h, get_or_default names i (get_or names i []) [] h)
-
 -- ---- one name more
 
 -- a name that is there already
@@ -89,9 +86,6 @@ added_new names name i l less more order = record {
   where
     long : length (insert names i name) ≡ length names + 1
     long = length-insert names i name l
-
-    At : ℕ → Type 0
-    At k = ((k < i) × (get_or (insert names i name) k [] ≡ get_or names k [])) ⊎ (((k ≡ i) × (get_or (insert names i name) k [] ≡ name)) ⊎ ((i < k) × (get_or (insert names i name) k [] ≡ get_or names (k - 1) [])))
 
     both : (a b x y : List ℕ) → a ≡ x → b ≡ y → is_before x y ≡ true → is_before a b ≡ true
     both a b x y p q r = ap (λ n. is_before n b) p ∙ ap (is_before x) q ∙ r

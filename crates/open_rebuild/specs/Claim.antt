@@ -3,19 +3,17 @@
 use Rattle.std.specs.Prelude.{◌≡◌, ◌≢◌, ℕ, ◌+◌, ◌-◌, ◌*◌, ◌<◌, Bool, true, false, List, length, replicate, slice_set, Contains, Option, None, Some}
 use Rattle.vol_units.specs.declared.size.TheConstants.{PAGE_BYTES}
 use Rattle.volume_model.specs.declared.mode.Mode.{Mode}
-use Rattle.volume_model.specs.declared.mode.Mode.TheVariants.{Rw, Wo, Err}
+use Rattle.volume_model.specs.declared.mode.Mode.TheVariants.{Rw, Wo}
 use Rattle.volume_model.specs.Modes.{mode_of}
 use Rattle.range_turns.specs.declared.ticket.Ticket.{Ticket}
-use Rattle.range_turns.specs.declared.ticket.Kind.TheVariants as kind
-use Rattle.range_turns.specs.Order.{ticket_at, IsClear, AreInOrder}
+use Rattle.range_turns.specs.Order.{ticket_at}
 use Rattle.replica_node.specs.Node.{Node, layer_names, snapped_node}
 use Rattle.open_calls.specs.declared.open_call.OpenCall.{OpenCall}
 use Rattle.open_calls.specs.declared.whole_op.WholeOp.{WholeOp}
 use Rattle.open_calls.specs.declared.whole_op.WholeOp.TheVariants as whole
 use Rattle.open_calls.specs.Calls.{open_at, node_at, whole_of}
 use Rattle.open_calls.specs.Clients.{IsWriting}
-use Rattle.open_calls.specs.declared.parts.Part.TheVariants.{Apart}
-use Rattle.open_calls.specs.Parts.{part_at, is_pending_at, IsTaken}
+use Rattle.open_calls.specs.Parts.{part_at, IsTaken}
 use Rattle.whole_calls.specs.declared.whole.Whole.{Whole}
 use Rattle.whole_calls.specs.Due.{forms, part_on}
 use Rattle.rebuild_state.specs.Listed.{place_of, is_listed_in}
@@ -113,23 +111,6 @@ pub record IsRebuilding (size : ℕ) (modes : List Mode) (tickets : List Ticket)
   pub claim : IsClaim size tickets calls whole nodes rebuild
 
 -- ---- how steps find it
-
--- the call on the whole volume at the place has not started, and no call is in its way
-pub record MayStartAt (tickets : List Ticket) (i : ℕ) : Type 0 where
-  pub order : AreInOrder tickets
-  pub within : i < length tickets
-  pub kind : (ticket_at tickets i).kind ≡ kind.Whole
-  pub waits : (ticket_at tickets i).started ≡ false
-  pub clear : IsClear tickets i
-
--- it has started, and each replica that has not failed has acknowledged its part
-pub record MayEndAt (modes : List Mode) (tickets : List Ticket) (nodes : List Node) (w : Whole) (i : ℕ) : Type 0 where
-  pub order : AreInOrder tickets
-  pub within : i < length tickets
-  pub kind : (ticket_at tickets i).kind ≡ kind.Whole
-  pub started : (ticket_at tickets i).started ≡ true
-  pub owes : (r : ℕ) → mode_of modes r ≢ Err → part_at w.parts r ≢ Apart
-  pub acknowledged : (r : ℕ) → r < length nodes → is_pending_at (mode_of modes r) (part_at w.parts r) ≡ false
 
 -- the operation takes a snapshot of that name on each replica whose head has that number
 abbrev pub Snaps : WholeOp → ℕ → List ℕ → Type 0

@@ -2,7 +2,6 @@
 #![tactic(auto)]
 
 mod frozen_layers;
-pub mod laws;
 mod rebuilding;
 
 pub use frozen_layers::FrozenLayers;
