@@ -1,5 +1,5 @@
 -- What a write makes of the blocks that a head itself has, and why it keeps a rebuild.
-use Rattle.std.proofs.Common.{◌≡◌, ⊎_elim, ◌⊎◌, inl, inr, ℕ, ◌+◌, ◌-◌, ◌*◌, ◌/◌, ◌<◌, ◌≤◌, Bool, true, false, cond, List, length, get_or, None, Some, refl, sym, ap, ◌∙◌, arith}
+use Rattle.std.proofs.Common.{◌≡◌, ⊎_elim, ◌⊎◌, inl, inr, ℕ, ◌+◌, ◌-◌, ◌*◌, ◌/◌, ◌<◌, ◌≤◌, true, false, cond, List, length, get_or, None, Some, sym, ap, ◌∙◌, arith}
 use Rattle.std.specs.Prelude.{◌||◌}
 use Rattle.std.proofs.lemmas.Bool.{cases_lt}
 use Rattle.std.proofs.lemmas.Bool.Decides.{nat_tests}
@@ -10,8 +10,7 @@ use Rattle.replica_node.specs.Node.{Node, has_own}
 use Rattle.replica_node.specs.Room.{head_block, put_at, own_with, is_among}
 use Rattle.replica_node.specs.Held.{block_of, IsChained}
 use Rattle.replica_node.proofs.ListedLemmas.{listed-at, listed-past}
-use Rattle.rebuild_state.specs.Rebuild.{IsRebuilt, IsAmong, HasPut}
-use Rattle.rebuild_state.proofs.RebuildLemmas.{head_keeps}
+use Rattle.rebuild_state.specs.Rebuild.{HasPut}
 
 -- ---- bytes
 
@@ -89,29 +88,3 @@ module _ (node : Node) (first : ℕ) (bytes : List ℕ) (count blocks : ℕ) (ch
       byte : (block < first) ⊎ (first + blocks ≤ block) → (k : ℕ) → k < 4096 → get_or disk (block * 4096 + k) 0 ≡ get_or node.disk (block * 4096 + k) 0
       byte (inl h) k i = get_or-put_out node.disk (first * 4096) bytes (block * 4096 + k) 0 room (λ g. absurd (omega (arith, h, i, g)))
       byte (inr h) k i = get_or-put_out node.disk (first * 4096) bytes (block * 4096 + k) 0 room (λ g. omega (arith, h, i, whole))
-
-  -- a block that is free is no block of the write
-  apart : (Free : ℕ → Type 0) (block : ℕ) → Free block → (IsAmong first blocks block → Free block → ⊥) → (block < first) ⊎ (first + blocks ≤ block)
-  apart Free block free held = ⊎_elim (λ l. inl l) (λ g. ⊎_elim (λ u. absurd (held (g, u) free)) (λ u. inr u) (cases_lt block (first + blocks))) (cases_lt block first)
-
-  -- the source takes a write
-  pub source_put : (frozen : List (List ℕ)) (is_listed : List ℕ → ℕ → Bool) (Free : ℕ → Type 0) (target : Node) → ((block : ℕ) → IsAmong first blocks block → Free block → ⊥)
-      → IsRebuilt frozen is_listed Free node target → IsRebuilt frozen is_listed Free (put_at node first bytes) target
-  source_put frozen is_listed Free target held r =
-      head_keeps frozen is_listed Free Free node target (put_at node first bytes) target refl refl refl refl refl refl
-      (λ block is. r.head block is ∙ sym (put_outside block (apart Free block is (held block)))) r
-
-  -- the rebuilt replica does
-  pub target_put : (frozen : List (List ℕ)) (is_listed : List ℕ → ℕ → Bool) (Free : ℕ → Type 0) (source : Node) → ((block : ℕ) → IsAmong first blocks block → Free block → ⊥)
-      → IsRebuilt frozen is_listed Free source node → IsRebuilt frozen is_listed Free source (put_at node first bytes)
-  target_put frozen is_listed Free source held r =
-      head_keeps frozen is_listed Free Free source node source (put_at node first bytes) refl refl refl refl refl refl
-      (λ block is. put_outside block (apart Free block is (held block)) ∙ r.head block is) r
-
--- a write that both took ends: its blocks are free again
-pub put_ends : (frozen : List (List ℕ)) (is_listed : List ℕ → ℕ → Bool) (Free After : ℕ → Type 0) (source target : Node) (first blocks : ℕ) (bytes : List ℕ)
-    → HasPut source first blocks bytes → HasPut target first blocks bytes → ((block : ℕ) → After block → Free block ⊎ IsAmong first blocks block)
-    → IsRebuilt frozen is_listed Free source target → IsRebuilt frozen is_listed After source target
-put_ends frozen is_listed Free After source target first blocks bytes s t freed r =
-    head_keeps frozen is_listed Free After source target source target refl refl refl refl refl refl
-    (λ block is. ⊎_elim (r.head block) (λ a. t block a.0 a.1 ∙ sym (s block a.0 a.1)) (freed block is)) r

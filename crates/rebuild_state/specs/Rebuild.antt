@@ -49,10 +49,6 @@ IsAllCopied count frozen is_listed =
 
 -- ---- writes
 
--- the block is one of so many from the first on
-abbrev pub IsAmong : ℕ → ℕ → ℕ → Type 0
-IsAmong first blocks block = (first ≤ block) × (block < first + blocks)
-
 -- the head has these bytes, whole blocks, from the first block on
 abbrev pub HasPut : Node → ℕ → ℕ → List ℕ → Type 0
 HasPut node first blocks bytes = (block : ℕ) → first ≤ block → block < first + blocks

@@ -2,7 +2,6 @@
 //! pages are copied.
 #![tactic(auto)]
 
-pub mod laws;
 mod listed_pages;
 
 pub use listed_pages::ListedPages;
