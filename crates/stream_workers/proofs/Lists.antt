@@ -25,9 +25,6 @@ module _ {A : Type 0} where
       let e : xs ++ x ∷ ys ≡ all = ap (λ r. xs ++ r) (sym is) ∙ whole in
       subst (P (length xs)) (ap (λ l. get_or l (length xs) x) (sym e) ∙ at_middle xs x ys x) (each (length xs) x (subst (λ l. length xs < length l) e (middle_below xs x ys)))
 
-  pub next_below : (all xs ys rest : List A) (x : A) → xs ++ rest ≡ all → rest ≡ x ∷ ys → length xs < length all
-  next_below all xs ys rest x whole is = subst (λ l. length xs < length l) (ap (λ r. xs ++ r) (sym is) ∙ whole) (middle_below xs x ys)
-
   pub whole_next : (all xs ys rest : List A) (x : A) → xs ++ rest ≡ all → rest ≡ x ∷ ys → (xs ++ x ∷ []) ++ ys ≡ all
   whole_next all xs ys rest x whole is = append_assoc xs (x ∷ []) ys ∙ (ap (λ r. xs ++ r) (sym is) ∙ whole)
 
