@@ -1,5 +1,5 @@
 -- The lines of a worker, one after another: new ones, and those that are taken back.
-use Rattle.std.proofs.Common.{◌≡◌, ℕ, ◌+◌, List, [], ◌∷◌, ◌++◌, length, map, Option, sym, refl, ap, subst, ◌∙◌, arith, slice_index_or, add-zero, take, drop}
+use Rattle.std.proofs.Common.{◌≡◌, ℕ, ◌+◌, List, [], ◌∷◌, ◌++◌, length, map, Option, sym, ap, subst, ◌∙◌, arith, slice_index_or, add-zero, take, drop}
 use Rattle.std.proofs.Math.Seq.{take-append_seam}
 use Rattle.std.specs.Prelude.{IfSome, None}
 use Rattle.std.proofs.lemmas.List.{map-append, length-append, length-map, append-nil, get_or_past}
@@ -13,9 +13,6 @@ use Rattle.client_worker.specs.Exchanges.{told_in}
 use Rattle.turn_laws.specs.Turns.{IsTurn, TellsOthers}
 use Rattle.stream_turns.specs.Turn.{AreNewLines}
 use Rattle.turn_laws.proofs.OneTurn.{noted}
-
-pub no_lines : (worker : ℕ) → AreNewLines worker 0 [] [] []
-no_lines worker = record { lined = tt; many = refl; unfailed = All-nil (λ n. n ≡ 0); empty = All-nil (λ t. IfSome t (λ frames. frames ≡ [])) }
 
 lined_more : (worker first : ℕ) (es : List Ends) (e : Ends) → AreLinesOf worker first es → e ≡ record { worker = worker; replica = first + length es } → AreLinesOf worker first (es ++ e ∷ [])
 lined_more worker first [] e lined is = (is ∙ ap (λ n. record { worker = worker; replica = n }) (add-zero first), tt)
@@ -59,9 +56,6 @@ all_records C told f g worker all taken left cut none records =
     subst (λ l. RecordsOf f g worker (map told l)) (sym (cut ∙ ap (λ l. taken ++ l) none ∙ append-nil taken)) records
 
 -- ---- what a wiring tells
-
-pub tells_same : {T : Type 0} (f : ℕ → ℕ → T) → TellsSame f f
-tells_same f worker replica = refl
 
 pub tells_on : {T : Type 0} (f g h : ℕ → ℕ → T) → TellsSame f g → TellsSame g h → TellsSame f h
 tells_on f g h p q worker replica = q worker replica ∙ p worker replica

@@ -55,15 +55,7 @@ no_streams all w counts told between begun = record {
       (no_turns (opening_of (state_of w)) (length w.nodes.items) counts told);
 }
 
--- the next is one of the World's
-pub is_there : (number : ℕ) (all rest : List Stream) (x : Stream) (w0 w : World) (counts : ℕ → ℕ → ℕ) (told : ℕ → ℕ → Option (List (List ℕ))) → length w0.indices.items ≡ length all
-    → StreamsSoFar number all (x ∷ rest) w0 w counts told → (number < length w.indices.items) × (number < length all)
-is_there number all rest x w0 w counts told many far = (omega (arith, below, many, ap (λ (o : Origin). o.streams) far.origin), below)
-  where
-    below : number < length all
-    below = omega (arith, far.count, ap length far.cut, length-append far.done (x ∷ rest))
-
--- and has no entry yet
+-- the next stream has no entry yet
 pub is_first : (number : ℕ) (all rest : List Stream) (w0 w : World) (counts : ℕ → ℕ → ℕ) (told : ℕ → ℕ → Option (List (List ℕ))) → StreamsSoFar number all rest w0 w counts told → HasNoEntry number w
 is_first number all rest w0 w counts told far =
     ap (λ (o : Origin). own_entries number o.opening.modes w.journal.entries) far.origin
