@@ -1,13 +1,11 @@
 -- How many pages are left of the rebuild of a stream's add, as its seat last saw it.
-use Rattle.std.proofs.Common.{◌≡◌, ℕ, ◌+◌, ◌<◌, true, false, eqb, eq-eqb, [], ◌∷◌, length, Option, None, Some, sym, refl, ap, ◌∙◌, arith}
+use Rattle.std.proofs.Common.{◌≡◌, ℕ, ◌+◌, ◌<◌, true, false, eqb, eq-eqb, [], ◌∷◌, length, Some, sym, ap, ◌∙◌, arith}
 use Rattle.sparse_image.specs.Image.{Table}
 use Rattle.vol_units.specs.declared.page_ref.PageRef.{PageRef}
 use Rattle.range_turns.specs.declared.ticket.Ticket.{Ticket}
 use Rattle.whole_calls.specs.declared.maint.MaintCall.{MaintCall}
 use Rattle.whole_calls.specs.Maint.{command_at}
-use Rattle.open_rebuild.specs.declared.rebuilding.Rebuilding.{Rebuilding}
 use Rattle.open_rebuild.specs.Claim.{with_page}
-use Rattle.volume_core.specs.declared.world.EndedRebuild.{EndedRebuild}
 use Rattle.volume_core.specs.State.{State}
 use Rattle.volume_core.specs.Sound.{IsSound}
 use Rattle.volume_core.specs.Streams.{turning}
@@ -32,15 +30,6 @@ true_false e = cc
 -- so where the first is another's, it has not the turn
 pub not_first : (n m : ℕ) (s : State) → IsSound s → (command_at s.commands 0).stream ≡ m → eqb m n ≡ false → (p : Ticket × MaintCall) → turning s n ≡ p ∷ [] → p.0.started ≡ true → ⊥
 not_first n m s ok is other p turns started = true_false (sym (eq-eqb m n (sym is ∙ (first_own n s p ok turns started).1)) ∙ other)
-
--- so many are left, seen again
-pub twice : (seen : ℕ) (x : Option Rebuilding) (g : Option EndedRebuild) → left_in seen x g ≡ left_in (left_in seen x g) x g
-twice seen (Some b) g = refl
-twice seen None (Some e) = refl
-twice seen None None = refl
-
-pub left_told : (n seen now : ℕ) (s : State) → now ≡ left_in seen s.rebuild s.ended → IsLeftAt n s now
-left_told n seen now s told p turns started = told ∙ twice seen s.rebuild s.ended ∙ ap (λ k. left_in k s.rebuild s.ended) (sym told)
 
 -- of a stream without a command of the turn nothing is said
 pub left_none : (n left : ℕ) (s : State) → turning s n ≡ [] → IsLeftAt n s left

@@ -1,17 +1,15 @@
 -- The pages of a rebuild, as the worker of its add sees them in a turn at a desk.
-use Rattle.std.proofs.Common.{◌≡◌, ◌≢◌, ◌⊎◌, ℕ, ◌<◌, Option, None, Some, Result, Ok, OnOk, OnErr, inl, inr, ⊎_elim, subst, sym, refl, ap, ◌∙◌}
+use Rattle.std.proofs.Common.{◌≡◌, ◌≢◌, ◌⊎◌, ℕ, None, Some, Result, Ok, OnOk, OnErr, inl, inr, ⊎_elim, subst, sym, refl, ap, ◌∙◌}
 use Rattle.std.proofs.Common.{Err as Failed}
 use Rattle.sparse_image.specs.Image.{Table}
 use Rattle.vol_units.specs.declared.page_ref.PageRef.{PageRef}
 use Rattle.volume_model.specs.declared.mark.Mark.TheVariants as mark
 use Rattle.open_rebuild.specs.declared.rebuilding.Rebuilding.{Rebuilding}
-use Rattle.open_rebuild.specs.Pages.{IsPageLeft}
-use Rattle.volume_core.specs.declared.world.EndedRebuild.{EndedRebuild}
 use Rattle.volume_core.specs.State.{State}
-use Rattle.volume_core.specs.Sound.{IsSound, AreAdds}
+use Rattle.volume_core.specs.Sound.{IsSound}
 use Rattle.volume_core.specs.Steps.{faulted, marked}
 use Rattle.volume_core.specs.Streams.{MayGo}
-use Rattle.volume_rebuild.specs.Answers.{IsNextPage, IsNoPage, IsNotLeft, CopiesIn}
+use Rattle.volume_rebuild.specs.Answers.{CopiesIn}
 use Rattle.world_desk.specs.Counted.{IsRebuildKept}
 use Rattle.world_desk.specs.Laid.{parts_of}
 use Rattle.world_desk.proofs.CountedLemmas.{kept_same, kept_fall}
@@ -21,50 +19,15 @@ use Rattle.stream_steps.specs.declared.add.PageIn.TheVariants as put
 use Rattle.stream_steps.specs.Mine.{Mine, OwnCall}
 use Rattle.stream_steps.specs.Steps.{FallsTo}
 use Rattle.stream_steps.specs.Add.{AreKept, HasAdd}
-use Rattle.commands_in_hand.specs.Rebuild.{left_in, AwaitsIn, IsPageIn, IsAbortedAt}
-use Rattle.commands_in_hand.proofs.Pages.{takes_page, pages_kept}
+use Rattle.commands_in_hand.specs.Rebuild.{IsPageIn}
+use Rattle.commands_in_hand.proofs.Pages.{pages_kept}
 use Rattle.command_desk.specs.AtDesk.{mine_at}
-use Rattle.command_desk.specs.Rebuild.{AwaitsAt, IsEndedAt, PutsAt}
+use Rattle.command_desk.specs.Rebuild.{IsEndedAt, PutsAt}
 use Rattle.command_desk.proofs.AtOnce.{falls}
 use Rattle.command_desk.proofs.Grown.{only_open}
 
 not_some : (b : Rebuilding) → None ≡ Some b → ⊥
 not_some b e = cc
-
--- ---- its end
-
--- none is open where one was aborted
-pub closed_by : (s : State) (place : ℕ) → IsSound s → IsAbortedAt s.ended place → IsEndedAt s place
-closed_by s place ok is = record { closed = by s.rebuild s.ended ok.adds is; ended = is }
-  where
-    by : (x : Option Rebuilding) (g : Option EndedRebuild) → AreAdds s.maint s.commands x g → IsAbortedAt g place → x ≡ None
-    by None g adds is = refl
-    by (Some b) None adds is = absurd is
-    by (Some b) (Some e) adds is = absurd cc
-
--- a page was awaited that is none of the rebuild's: it was aborted
-module _ (s : State) (page : PageRef) where
-  cut_off : (x : Option Rebuilding) (g : Option EndedRebuild) → s.rebuild ≡ x → ((b : Rebuilding) → s.rebuild ≡ Some b → IsPageLeft b page → ⊥) → AwaitsAt x g page → g ≢ None
-  cut_off (Some b) g here none is e = none b here is
-  cut_off None (Some a) here none is e = absurd cc
-  cut_off None None here none is e = is
-
-  pub no_page_end : IsNoPage s page → AwaitsAt s.rebuild s.ended page → s.ended ≢ None
-  no_page_end none is = cut_off s.rebuild s.ended refl (λ b begun left. none b (record { begun = begun; frozen = left.frozen })) is
-
-  pub not_left_end : IsNotLeft s page → AwaitsAt s.rebuild s.ended page → s.ended ≢ None
-  not_left_end none is = cut_off s.rebuild s.ended refl (λ b begun left. none b (record { begun = begun; left = left })) is
-
--- ---- the next page
-
-awaits_at : (x : Option Rebuilding) (g : Option EndedRebuild) (b : Rebuilding) (page : PageRef) → x ≡ Some b → AwaitsIn x page → AwaitsAt x g page
-awaits_at (Some a) g b page e is = is
-awaits_at None g b page e is = absurd (not_some b e)
-
-pub next_page : (s : State) (page : PageRef) → IsSound s → IsNextPage s (Some page) → (seen : ℕ) → AwaitsAt s.rebuild s.ended page × (0 < left_in seen s.rebuild s.ended)
-next_page s page ok is seen =
-    let takes = takes_page seen s page ok is in
-    (awaits_at s.rebuild s.ended is.0 page is.1 takes.0, takes.1)
 
 -- ---- a page comes in
 
