@@ -27,10 +27,10 @@ use Rattle.open_rebuild.proofs.PlaceLemmas.{page_within}
 use Rattle.volume_core.specs.State.{State, modes_in}
 use Rattle.volume_core.specs.Sound.{IsSound}
 use Rattle.volume_core.specs.declared.world.EndedRebuild.{EndedRebuild}
-use Rattle.volume_rebuild.specs.Answers.{IsNextPage, IsOutOfSource, CopiesIn, CopiesOut}
+use Rattle.volume_rebuild.specs.Answers.{IsNextPage, CopiesIn, CopiesOut}
 use Rattle.volume_rebuild.proofs.Left.{has_bits}
 use Rattle.stream_steps.specs.declared.add.NextPage.TheVariants as next
-use Rattle.commands_in_hand.specs.Rebuild.{left_of, left_in, AwaitsIn, IsPageIn, IsAbortedAt}
+use Rattle.commands_in_hand.specs.Rebuild.{left_of, left_in, IsPageIn, IsAbortedAt}
 
 -- ---- how many are left
 
@@ -75,19 +75,10 @@ module _ (s : State) (b : Rebuilding) (page : PageRef) (ok : IsSound s) (begun :
       ap (λ n. n + 1) (past_left (with_page b page.layer page.page) left.frozen.may)
       ∙ set_left b.listed its_place its_within its_bit ∙ sym (past_left b left.frozen.may)
 
-  one_more : 0 < left_of b
-  one_more = omega (arith, one_fewer)
-
 open_left : (seen : ℕ) (b : Rebuilding) (x : Option Rebuilding) (g : Option EndedRebuild) → x ≡ Some b → left_in seen x g ≡ left_of b
 open_left seen b x g e = ap (λ y. left_in seen y g) e
 
 -- ---- the next page
-
-pub takes_page : (seen : ℕ) (s : State) (page : PageRef) → IsSound s → IsNextPage s (Some page) → AwaitsIn s.rebuild page × (0 < left_in seen s.rebuild s.ended)
-takes_page seen s page ok x = (
-  subst (λ y. AwaitsIn y page) (sym x.1) x.2.left,
-  subst (λ k. 0 < k) (sym (open_left seen x.0 s.rebuild s.ended x.1)) (one_more s x.0 page ok x.1 x.2.left),
-)
 
 pub takes_all : (seen : ℕ) (s : State) → s.ended ≡ None → IsNextPage s None → left_in seen s.rebuild s.ended ≡ 0
 takes_all seen s first none = by s.rebuild refl
@@ -102,9 +93,6 @@ pub fewer_left : (seen : ℕ) (s s2 : State) (page : PageRef) (old new : Table) 
 fewer_left seen s s2 page old new ok y =
     ap (λ n. n + 1) (open_left seen (with_page y.b page.layer page.page) s2.rebuild s2.ended (ap (λ (z : State). z.rebuild) y.state))
     ∙ one_fewer s y.b page ok y.is.begun y.is.left ∙ sym (open_left seen y.b s.rebuild s.ended y.is.begun)
-
-pub out_of_source : (s : State) (page : PageRef) (table : Table) → IsPageIn s page table → IsOutOfSource s page table
-out_of_source s page table is b to = is b to.begun to.left.frozen
 
 -- the source is not what is rebuilt
 apart : (s : State) (b : Rebuilding) → IsSound s → s.rebuild ≡ Some b → b.source ≢ b.target

@@ -250,10 +250,6 @@ enrols_kept n c s s2 (Failed x) wants r ok h e err = kept_same n s s2 r err
 same_command : (c d : Command) → call.Command c ≡ call.Command d → c ≡ d
 same_command c d e = cc
 
--- where the ticket stands
-same_head : (x y : OwnCall) → x ∷ [] ≡ y ∷ [] → x ≡ y
-same_head x y e = cc
-
 pub waits_one : (n t : ℕ) (s : State) → IsReady n s → (w : (c : Command) × (o : OwnCall) × AwaitsTurn t c o (mine_in n s)) → HasOneTurn n s w.1
 waits_one n t s r w = has_turn n s w.1 w.0 r w.2.is w.2.call w.2.wants
 
@@ -300,10 +296,6 @@ ends n t y s s2 (Failed e) r ok x = tt
 pub ends_kept : {E : Type 0} (n t : ℕ) (y : Reply) (s s2 : State) (res : Result ℕ E) → IsReady n s → IsSound s2 → OnOk res (world.EndsTurn s t y s2) → OnErr res (s2 ≡ s) → ((o : OwnCall) × HasTurn t command.Purge o (mine_in n s)) → Kept n s s2
 ends_kept n t y s s2 (Ok at) r ok x err h = let one = turn_one n t command.Purge h.0 s r h.1 in ended_kept n s s2 r ok one.p one.has y x.state
 ends_kept n t y s s2 (Failed e) r ok x err h = kept_same n s s2 r err
-
-pub mine_err : {A E : Type 0} (n : ℕ) (s s2 : State) (res : Result A E) → OnErr res (s2 ≡ s) → OnErr res (mine_in n s2 ≡ mine_in n s)
-mine_err n s s2 (Ok a) e = tt
-mine_err n s s2 (Failed x) e = ap (mine_in n) e
 
 -- ---- of a command that is no add
 

@@ -467,10 +467,6 @@ module _ (n : ℕ) (s s2 : State) (r : IsReady n s) (ok : IsSound s2) (h : Has n
   snap_at (Some k) x = enrolled_at n s s2 r ok [] h k (seen_by s op) op x.1 refl (snap_saw s op snap.0 snap.1)
   snap_at None x = tt
 
-  pub snap_some : (t : Option ℕ) → world.EnrolsWhole s n op t s2 → t ≢ None
-  snap_some (Some k) x e = cc
-  snap_some None x e = subst (world.CannotGo s) snap.1 x.0
-
   pub snap_kept : (t : Option ℕ) → world.EnrolsWhole s n op t s2 → Kept n s s2
   snap_kept (Some k) x = enrolled_kept n s s2 r ok [] h k (seen_by s op) op x.1 (subst (MayBegin s) (sym snap.1) tt)
   snap_kept None x = kept_same n s s2 r x.1
@@ -852,7 +848,3 @@ module _ (n : ℕ) (s s2 : State) (r : IsReady n s) (ok : IsSound s2) (q page : 
   pub folds_kept : {E : Type 0} (res : Result (Unit {0}) E) → OnOk res (world.FoldsPage s q p page s2) → OnErr res (s2 ≡ s) → Kept n s s2
   folds_kept (Ok u) y err = folded_kept y.c y.state
   folds_kept (Failed e) y err = kept_same n s s2 r err
-
-  pub folds_mine : {E : Type 0} (res : Result (Unit {0}) E) → OnOk res (world.FoldsPage s q p page s2) → OnErr res (s2 ≡ s) → mine_in n s2 ≡ mine_in n s
-  folds_mine (Ok u) y err = only_open n s s2 (folded_origin y.c y.state) (mine_in n s).running (ap (λ (z : State). z.book.entries) y.state) (ap (λ (z : State). (mine_in n z).running) y.state)
-  folds_mine (Failed e) y err = ap (mine_in n) err
