@@ -153,9 +153,6 @@ module _ (n t : ℕ) (o : OwnCall) (job : Job) (s s2 : State) (i : ℕ) (ok : Is
   not_acked r e = part_for_new (mode_of (modes_in s) r) (subst IsTaken (sym (sym (part_of (modes_in s) r) ∙ e)) tt)
 
   module _ (nodes : List Node) (front back buffer : List ℕ) (is : s2 ≡ started (with_place s) i nodes front back buffer) where
-    y : OpenCall
-    y = begun (open_at s.calls i) (modes_in s) front back buffer
-
     there : open_at s2.calls i ≡ begun (open_at s.calls i) (modes_in s) front back buffer
     there = ap (λ (x : State). open_at x.calls i) is ∙ get_or-set_same s.calls i (begun (open_at s.calls i) (modes_in s) front back buffer) no_call inside
 

@@ -18,7 +18,7 @@ use Rattle.open_calls.specs.Calls.{open_at}
 use Rattle.open_calls.specs.Clients.{IsIdle}
 use Rattle.volume_core.specs.State.{State, opening_of, modes_in}
 use Rattle.volume_core.specs.Sound.{IsSound, NoneGaveUp}
-use Rattle.volume_core.specs.Streams.{calls_in, running, open_of, IsOpen, MayGo, Origin}
+use Rattle.volume_core.specs.Streams.{running, open_of, IsOpen, MayGo, Origin}
 use Rattle.volume_core.proofs.CallLemmas.{idle-calls, calls-none, calls-place, calls-one}
 use Rattle.volume_core.proofs.Moves.{IsOwnAt, own_at}
 use Rattle.volume_maint.specs.Answers.{spot_of}
@@ -199,10 +199,3 @@ rests n s ready idle = at_rest s ready.sound (λ m _. ⊎_elim
     (λ is. ap (running s) is ∙ none_running (running s n) idle)
     (λ other. ready.alone m other)
     (cases_eq m n))
-
--- and then any stream can be served next
-pub none_of : (m : ℕ) (s : State) → s.tickets ≡ [] → running s m ≡ []
-none_of m s none = ap (λ ts. calls_in m ts s.calls) none
-
-pub ready_at : (m : ℕ) (s : State) → IsSound s → m < length s.indices → s.tickets ≡ [] → s.commands ≡ [] → NoneGaveUp s.gave_up → IsReady m s
-ready_at m s ok there none turns gave_up = record { sound = ok; there = there; alone = λ other _. none_of other s none; turns = turns; gave_up = gave_up }
