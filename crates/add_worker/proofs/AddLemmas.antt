@@ -1,5 +1,5 @@
 -- An add is answered as one worker answers it there, where no line failed.
-use Rattle.std.proofs.Common.{◌≡◌, ℕ, inl, inr, ⊎_elim, cond, eqb, is_ok, is_some, true, false, List, [], ◌∷◌, ◌++◌, Option, Some, None, IfSome, Result, Ok, Err, OnOk, OnErr, subst, sym, refl, ap, ◌∙◌, append_assoc, append-nil}
+use Rattle.std.proofs.Common.{◌≡◌, ℕ, inl, inr, ⊎_elim, cond, eqb, is_ok, is_some, true, false, List, [], ◌∷◌, ◌++◌, Option, Some, None, IfSome, Result, Ok, Err, OnOk, subst, sym, refl, ap, ◌∙◌, append_assoc, append-nil}
 use Rattle.std.specs.Prelude.{All}
 use Rattle.std.proofs.lemmas.Bool.{eq-eqb}
 use Rattle.std.proofs.lemmas.List.Elements.{All-append}
@@ -31,13 +31,11 @@ use Rattle.client_worker.proofs.Shown.{shown_same}
 use Rattle.command_worker.proofs.ShownLemmas.{idle_of, idle_answer}
 use Rattle.command_worker.specs.OwnAnswers.{answers_in}
 use Rattle.command_worker.specs.Purges.{MayComeBefore, AreFalls}
-use Rattle.command_worker.specs.Serving.{IsForCommands, GrewByCommand, GaveUp, LeftUndone}
-use Rattle.command_worker.proofs.InTurn.{left_of}
+use Rattle.command_worker.specs.Serving.{GrewByCommand, LeftUndone}
 use Rattle.command_worker.proofs.OwnAnswers.{has_both, has_last}
 use Rattle.command_worker.specs.Whole.{GoesOn, RefusedWhole, EndsBehind}
 use Rattle.command_worker.proofs.AnswerLemmas.{known, command_at}
 use Rattle.command_worker.proofs.Goes.{are_first, aborts_come, comes, none_come, falls_both}
-use Rattle.add_worker.specs.Serving.{IsForWorker}
 use Rattle.add_worker.specs.Adding.{BeganRebuild, PassesTo, EndsRebuild, AddsTo, GoesAdding}
 
 -- ---- refused
@@ -82,9 +80,6 @@ module _ (r : ℕ) (o : OwnCall) (a c d : Mine) (from : c ≡ with_running a (o 
   -- ---- promoted
 
   module _ (g : BeganRebuild r o c d) where
-    added : Entry
-    added = entry.Mark (mark.Added r g.source g.name)
-
     falls_here : AreFalls a.stream g.marks
     falls_here = subst (λ n. AreFalls n g.marks) stream_same g.falls
 
@@ -271,21 +266,6 @@ rebuilds_goes r o a b g = record {
   is = g.is;
   same = g.same;
 }
-
--- ---- other commands
-
-pub left_err : {E : Type 0} (res : Result (Unit {0}) E) (c : Command) (a b : Mine) → OnErr res (GaveUp a b) → OnErr res (LeftUndone c a b)
-left_err (Ok u) c a b err = tt
-left_err (Err e) c a b err = left_of c a b err
-
-pub for_commands : (c : Command) → IsForWorker c → ((r : ℕ) → c ≡ command.Add r → ⊥) → IsForCommands c
-for_commands (command.Snapshot name) h other = h
-for_commands (command.Remove name) h other = tt
-for_commands (command.Revert name) h other = tt
-for_commands command.Purge h other = tt
-for_commands (command.Fail r) h other = tt
-for_commands command.Status h other = tt
-for_commands (command.Add r) h other = absurd (other r refl)
 
 -- ---- past its barrier
 

@@ -1,16 +1,16 @@
 -- What is in hand while the pages of a rebuild are copied, step after step.
-use Rattle.std.proofs.Common.{◌≡◌, ◌≢◌, ◌⊎◌, inl, inr, ℕ, ◌<◌, ◌≤◌, Bool, true, false, arith, List, [], ◌∷◌, length, length-append, length-set, map, set, get_or, Result, Ok, Option, Some, None, subst, sym, refl, ap, ◌∙◌}
+use Rattle.std.proofs.Common.{◌≡◌, ◌≢◌, ◌⊎◌, inl, inr, ℕ, ◌<◌, ◌≤◌, Bool, true, false, arith, List, [], ◌∷◌, length, length-set, map, set, get_or, Result, Ok, Option, Some, None, subst, sym, refl, ap, ◌∙◌}
 use Rattle.sparse_image.specs.Image.{Table}
 use Rattle.vol_units.specs.declared.page_ref.PageRef.{PageRef}
 use Rattle.outer_traits.specs.Lines.{TellsMore}
 use Rattle.outer_traits.proofs.Lines.{TellsMore-nil}
 use Rattle.rebuild_worker.specs.Copying as copy
-use Rattle.rebuild_worker.specs.Copying.{Copying, IsQuiet, CarriesTo, IsFrame, number_after, numbered}
+use Rattle.rebuild_worker.specs.Copying.{IsQuiet, CarriesTo, number_after, numbered}
 use Rattle.rebuild_worker.specs.declared.steps.Carried.TheVariants as carried
 use Rattle.rebuild_worker.specs.declared.steps.CopySide.{CopySide}
 use Rattle.rebuild_worker.specs.declared.steps.CopySide.TheVariants.{Source, Target}
 use Rattle.frame_wire.specs.declared.head.Head.{Head}
-use Rattle.frame_wire.specs.Spelling.{frame, header, IsHead}
+use Rattle.frame_wire.specs.Spelling.{frame, IsHead}
 use Rattle.client_worker.specs.Exchanges.{told_in}
 use Rattle.stream_steps.specs.Mine.{Mine, OwnCall, with_running}
 use Rattle.stream_steps.specs.Add as step
@@ -103,16 +103,6 @@ carries_to Target source target apart left left2 hand hand2 read read2 told told
   record { told = tells; spelled = spelled; number = number },
   quiet_now (told_in told source) (told_in told2 source) (get_or begun source 0) (get_or begun2 source 0) (others source apart) (same source apart),
 )
-
-pub ends_at : (side : CopySide) (place : ℕ) (aborted : ℕ → Type 0) (before after : List ℕ) (a b : Copying) → aborted place → CarriesTo side (carried.Ended place) aborted before after a b
-ends_at Source place aborted before after a b h = h
-ends_at Target place aborted before after a b h = h
-
--- a whole frame has a header
-pub framed_long : (bytes : List ℕ) → IsFrame bytes → 26 ≤ length bytes
-framed_long bytes f =
-    let long : length (header f.head) ≡ 26 = refl in
-    omega (arith, ap length f.spelled, length-append (header f.head) f.body, long)
 
 pub add_at : (t r : ℕ) (o : OwnCall) (a b : Mine) → b ≡ a → HasAdd t r o a → HasAdd t r o b
 add_at t r o a b e h = subst (HasAdd t r o) (sym e) h
