@@ -7,7 +7,7 @@ use Rattle.frame_wire.specs.Spelling.{header, frame}
 use Rattle.client_worker.proofs.Told.{header_alone}
 use Rattle.open_calls.specs.declared.whole_op.WholeOp.{WholeOp}
 use Rattle.open_calls.specs.declared.whole_op.WholeOp.TheVariants as whole
-use Rattle.command_worker.specs.Frames.{ask_head, ask_request, done_head, done_reply, pair_text, part_text, AsksBy, AsksPart, IsPartText}
+use Rattle.command_worker.specs.Frames.{ask_head, ask_request, done_head, done_reply, pair_text, part_text, AsksBy, IsPartText}
 
 -- a request's header is put before its text
 pub asks_now : (seq : ℕ) (offset : ℤ) (text before request : List ℕ) (h : Head) → AsksBy text before → h ≡ ask_head seq offset (length before - 26) → request ≡ frame h (drop 26 before) → request ≡ ask_request seq offset text
@@ -17,17 +17,6 @@ asks_now seq offset text before request h asks is made =
 
 pub replies_now : (seq : ℕ) (offset : ℤ) (reply : List ℕ) (h : Head) → h ≡ done_head seq offset → reply ≡ header h → reply ≡ done_reply seq offset
 replies_now seq offset reply h is made = made ∙ ap header is ∙ header_alone (done_head seq offset)
-
--- the text stays behind another header
-pub asks_still : (text before request : List ℕ) (h : Head) → AsksBy text before → length request ≡ length before → drop 26 request ≡ drop 26 before → AsksBy text request
-asks_still text before request h asks long same = record {
-  header = omega (arith, asks.header, long);
-  few = omega (arith, asks.few, long);
-  tells = same ∙ asks.tells;
-}
-
-pub part_still : (op : WholeOp) (before request : List ℕ) (h : Head) → AsksPart op before → length request ≡ length before → drop 26 request ≡ drop 26 before → AsksPart op request
-part_still op before request h asks long same = (asks.0, asks.1, asks_still asks.0 before request h asks.2 long same)
 
 -- the text of each operation, with no name of a barrier's snapshot
 pub part_is_text : (op : WholeOp) → IsPartText op (part_text op)
@@ -39,10 +28,6 @@ part_is_text (whole.Barrier r) = ([], sym (append-nil (codes "snapshot ")))
 
 pub barrier_is_text : (op : WholeOp) (r : ℕ) (name : List ℕ) → op ≡ whole.Barrier r → IsPartText op (codes "snapshot " ++ name)
 barrier_is_text op r name e = subst (λ x. IsPartText x (codes "snapshot " ++ name)) (sym e) (name, refl)
-
--- how long a request is
-pub asks_length : (text request : List ℕ) → AsksBy text request → length request ≡ 26 + length text
-asks_length text request asks = omega (arith, asks.header, length-drop 26 request, ap length asks.tells)
 
 -- a space and a second name behind the first
 pub pair_asks : (word first second before request : List ℕ) → AsksBy (word ++ first) before → length before ≡ 26 + (length word + length first) → length word ≤ 8 → length first ≤ 64 → length second ≤ 64

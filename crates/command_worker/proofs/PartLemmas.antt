@@ -381,18 +381,8 @@ admits_shown t m0 m m2 a same ok w =
     let h : HasWhole t w.0 w.1.0 w.1.1 m = subst (HasWhole t w.0 w.1.0 w.1.1) (sym same) w.1.2 in
     subst (λ (x : Mine). KeepsIdle x m2) same (admitted_idle t w.0 w.1.0 w.1.1 a m m2 h (ok w.0 w.1.0 w.1.1 h))
 
--- it is taken back
-pub withdrawn : (t : ℕ) (m0 m m2 : Mine) → m ≡ m0 → ((op : WholeOp) (turn : List OwnCall) (o : OwnCall) → HasWhole t op turn o m → m2 ≡ with_running m turn) → (op : WholeOp) (turn : List OwnCall) (o : OwnCall) → HasWhole t op turn o m0 → m2 ≡ with_running m0 turn
-withdrawn t m0 m m2 same gone = subst (λ (x : Mine). (op : WholeOp) (turn : List OwnCall) (o : OwnCall) → HasWhole t op turn o x → m2 ≡ with_running x turn) same gone
-
-pub withdrawn_shown : (t : ℕ) (m0 m m2 : Mine) → m ≡ m0 → ((op : WholeOp) (turn : List OwnCall) (o : OwnCall) → HasWhole t op turn o m → m2 ≡ with_running m turn) → ((op : WholeOp) × IsWhole false t op m0) → KeepsIdle m0 m2
-withdrawn_shown t m0 m m2 same gone w = idle_running w.1.0 m0 m2 (withdrawn t m0 m m2 same gone w.0 w.1.0 w.1.1 w.1.2)
-
 pub waits_still : (t : ℕ) (s : Bool) (a b : Mine) → b ≡ a → ((op : WholeOp) × IsWhole s t op a) → (op : WholeOp) × IsWhole s t op b
 waits_still t s a b e w = subst (λ (x : Mine). (op : WholeOp) × IsWhole s t op x) (sym e) w
-
-pub is_still : (t : ℕ) (s : Bool) (op : WholeOp) (a b : Mine) → b ≡ a → IsWhole s t op a → IsWhole s t op b
-is_still t s op a b e w = subst (IsWhole s t op) (sym e) w
 
 -- the end, whose asking may have been refused before
 pub ends_still : (t : ℕ) (m0 m m2 : Mine) → m ≡ m0 → ((op : WholeOp) (turn : List OwnCall) (o : OwnCall) → HasWhole t op turn o m → WholeEnds op turn o m m2) → (op : WholeOp) (turn : List OwnCall) (o : OwnCall) → HasWhole t op turn o m0 → WholeEnds op turn o m0 m2

@@ -6,7 +6,6 @@ use Rattle.volume_model.specs.declared.call.Refusal.TheVariants.{NoReplica}
 use Rattle.volume_model.specs.declared.call.Reply.{Reply}
 use Rattle.volume_model.specs.declared.call.Reply.TheVariants as reply
 use Rattle.volume_model.specs.declared.mark.FoldOrDrop.{FoldOrDrop}
-use Rattle.volume_model.specs.Purge.{next_of}
 use Rattle.command_text.specs.declared.command.Command.TheVariants as command
 use Rattle.open_calls.specs.declared.whole_op.WholeOp.TheVariants as whole
 use Rattle.volume_maint.specs.declared.answers.NextPart.{NextPart}
@@ -25,10 +24,6 @@ use Rattle.command_worker.proofs.PurgeLemmas.{on_none, on_goes, on_part, on_then
 
 pub some_of : {A : Type 0} (x : Option A) (a : A) (P : A → Type 0) → x ≡ Some a → IfSome x P → P a
 some_of x a P is h = subst (λ y. IfSome y P) is h
-
-pub none_of : {A : Type 0} (x : Option A) → ((a : A) → x ≡ Some a → ⊥) → x ≡ None
-none_of None h = refl
-none_of (Some a) h = absurd (h a refl)
 
 -- ---- a layer goes
 
@@ -99,10 +94,6 @@ next_done (Some l) x e h = subst (λ y. IsNext y l) e h
 pub next_refused : (log : Option Log) (x : NextPart) → x ≡ next.NoReplica → IfSome log (IsNext x) → IfSome log (λ l. IsPurgeReply l.spot (reply.Refused NoReplica))
 next_refused None x e h = tt
 next_refused (Some l) x e h = (refl, subst (λ y. IsNext y l) e h)
-
-pub next_part : (log : Option Log) (x : NextPart) (f : FoldOrDrop) → x ≡ next.Part f → IfSome log (IsNext x) → IfSome log (λ l. next_of l.spot.state.volume.snapshots ≡ Some f)
-next_part None x f e h = tt
-next_part (Some l) x f e h = subst (λ y. IsNext y l) e h
 
 -- ---- round after round
 

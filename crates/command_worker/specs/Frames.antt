@@ -1,7 +1,6 @@
 -- The frames of a command on a line to a replica: a request that tells what to do as a text, and the replica's reply
 -- with the same number. The texts are this project's own.
-use Rattle.std.specs.Prelude.{◌≡◌, ℕ, ◌+◌, ◌*◌, ◌≤◌, ℤ, pos, List, [], ◌++◌, length, drop, codes}
-use Rattle.vol_units.specs.declared.size.TheConstants.{PAGE_BYTES}
+use Rattle.std.specs.Prelude.{◌≡◌, ℕ, ◌+◌, ◌≤◌, ℤ, pos, List, [], ◌++◌, length, drop, codes}
 use Rattle.volume_model.specs.declared.mark.FoldOrDrop.TheVariants as part
 use Rattle.open_calls.specs.declared.whole_op.WholeOp.{WholeOp}
 use Rattle.open_calls.specs.declared.whole_op.WholeOp.TheVariants as whole
@@ -63,13 +62,6 @@ part_request seq text = ask_request seq (pos 0) text
 
 abbrev pub part_reply : ℕ → List ℕ
 part_reply seq = done_reply seq (pos 0)
-
--- a replica's fold of a page
-abbrev pub fold_request : ℕ → ℕ → List ℕ → List ℕ → List ℕ
-fold_request seq page p c = ask_request seq (pos (page * PAGE_BYTES)) (fold_text p c)
-
-abbrev pub fold_reply : ℕ → ℕ → List ℕ
-fold_reply seq page = done_reply seq (pos (page * PAGE_BYTES))
 
 -- ---- on a line
 
