@@ -1,5 +1,5 @@
 -- A replica that is asked acknowledges, or has failed: what stood against each step.
-use Rattle.std.proofs.Common.{arith, ◌≡◌, ◌≢◌, ℕ, ◌<◌, ◌⊎◌, inl, inr, Bool, false, List, length, set, is_ok, Result, Ok, Err, OnOk, OnErr, IfErr, subst, sym, refl, ap, ◌∙◌}
+use Rattle.std.proofs.Common.{arith, ◌≡◌, ◌≢◌, ℕ, ◌<◌, ◌⊎◌, inl, inr, false, List, length, set, is_ok, Result, Ok, Err, OnOk, OnErr, IfErr, subst, sym, refl, ap, ◌∙◌}
 use Rattle.std.proofs.lemmas.List.{get_or-set_same, length-set}
 use Rattle.volume_model.specs.declared.call.Call.{Call}
 use Rattle.volume_model.specs.declared.call.Call.TheVariants as call
@@ -14,26 +14,12 @@ use Rattle.volume_core.specs.declared.world.NotThis.{NotThis}
 use Rattle.volume_core.specs.declared.world.NotThis.TheVariants as against
 use Rattle.stream_steps.specs.Mine.{Mine, OwnCall, IsOwn, entries_in}
 use Rattle.stream_steps.specs.Steps.{IsReadCall, AcksTo}
-use Rattle.stream_steps.specs.Against.{AgainstTake, AgainstGive, RefusesAck, RefusesFault, RefusesEnd}
+use Rattle.stream_steps.specs.Against.{RefusesAck, RefusesFault, RefusesEnd}
 use Rattle.client_worker.specs.Ends.{NoneAcked}
 use Rattle.client_worker.specs.Asking.{HasTaken, HasAcked, AckedOrFailed, AckedOrUnread}
 use Rattle.client_worker.proofs.Going.{one_of}
 
 -- ---- refused
-
-take_failed : (modes : List Mode) (r : ℕ) (why : NotThis) → AgainstTake modes r why → mode_of modes r ≡ mode.Err
-take_failed modes r (against.Mode m) h = sym h.0 ∙ h.1
-take_failed modes r against.Ticket h = absurd h
-take_failed modes r against.Page h = absurd h
-take_failed modes r (against.Pending q) h = absurd h
-take_failed modes r (against.Count n) h = absurd h
-
-give_unread : (modes : List Mode) (r : ℕ) (why : NotThis) → AgainstGive modes r why → mode_of modes r ≢ mode.Rw
-give_unread modes r (against.Mode m) h = λ e. h.1 (h.0 ∙ e)
-give_unread modes r against.Ticket h = absurd h
-give_unread modes r against.Page h = absurd h
-give_unread modes r (against.Pending q) h = absurd h
-give_unread modes r (against.Count n) h = absurd h
 
 fault_failed : (modes : List Mode) (m : Mine) (r count : ℕ) (why : NotThis) → last_count m.stream r (entries_in m.entries) < count → RefusesFault modes m r count why → mode_of modes r ≡ mode.Err
 fault_failed modes m r count (against.Mode x) above h = sym h.0 ∙ h.1
@@ -59,14 +45,6 @@ end_unacked modes o (call.Write offset bytes) parts why w e h = absurd w
 end_unacked modes o call.Ping parts why w e h = absurd w
 end_unacked modes o (call.Other k) parts why w e h = absurd w
 end_unacked modes o (call.Command c) parts why w e h = absurd w
-
-pub take_why : (res : Result (Unit {0}) NotThis) (modes : List Mode) (r : ℕ) → is_ok res ≡ false → IfErr res (AgainstTake modes r) → mode_of modes r ≡ mode.Err
-take_why (Ok u) modes r e h = absurd cc
-take_why (Err why) modes r e h = take_failed modes r why h
-
-pub place_why : (res : Result Bool NotThis) (why : NotThis) (modes : List Mode) (r : ℕ) → res ≡ Err why → IfErr res (AgainstTake modes r) → mode_of modes r ≡ mode.Err
-place_why (Ok b) why modes r e h = absurd cc
-place_why (Err x) why modes r e h = take_failed modes r x h
 
 pub fault_why : (res : Result (Unit {0}) NotThis) (modes : List Mode) (m : Mine) (r count : ℕ) → last_count m.stream r (entries_in m.entries) < count → OnOk res (mode_of modes r ≡ mode.Err) → IfErr res (RefusesFault modes m r count) → mode_of modes r ≡ mode.Err
 fault_why (Ok u) modes m r count above ok why = ok
@@ -109,13 +87,6 @@ asked_failed modes r m e = λ o run. inr e
 
 failed_unread : (modes : List Mode) (r : ℕ) → mode_of modes r ≡ mode.Err → mode_of modes r ≢ mode.Rw
 failed_unread modes r e f = cc
-
-pub unread_failed : (modes : List Mode) (r : ℕ) (m : Mine) → mode_of modes r ≡ mode.Err → AckedOrUnread modes r m
-unread_failed modes r m e = λ o run. inr (failed_unread modes r e)
-
-pub unread_why : (res : Result (Unit {0}) NotThis) (modes : List Mode) (r : ℕ) (m : Mine) → is_ok res ≡ false → IfErr res (AgainstGive modes r) → AckedOrUnread modes r m
-unread_why (Ok u) modes r m e h = absurd cc
-unread_why (Err why) modes r m e h = λ o run. inr (give_unread modes r why h)
 
 pub unread_acked : (modes : List Mode) (r : ℕ) (m : Mine) → AckedOrFailed modes r m → AckedOrUnread modes r m
 unread_acked modes r m h = λ o run. elim (h o run) [ inl acked ↦ inl acked | inr failed ↦ inr (failed_unread modes r failed) ]

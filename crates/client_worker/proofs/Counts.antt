@@ -6,7 +6,7 @@ use Rattle.volume_model.specs.declared.entry.Answer.{Answer}
 use Rattle.volume_model.specs.declared.mode.Mode.{Mode}
 use Rattle.volume_model.specs.Faults.{fault_counts, last_in, last_count}
 use Rattle.volume_model.proofs.FaultLemmas.{last_count-append}
-use Rattle.stream_steps.specs.Mine.{Placed, Mine, OwnCall, entries_in, with_more, with_running, answer_placed, fault_placed}
+use Rattle.stream_steps.specs.Mine.{Placed, Mine, OwnCall, entries_in, with_more, answer_placed, fault_placed}
 use Rattle.stream_steps.specs.Steps.{FaultsTo}
 use Rattle.stream_steps.proofs.MineLemmas.{entries-append}
 use Rattle.client_worker.specs.Serving.{Counted}
@@ -17,9 +17,6 @@ counted_same a b counts e h = subst (λ (m : Mine). Counted m counts) (sym e) h
 -- counts that are no lower
 pub counted_later : (m : Mine) (before now : List ℕ) → ((k : ℕ) → get_or before k 0 ≤ get_or now k 0) → Counted m before → Counted m now
 counted_later m before now later h r = omega (arith, h r, later r)
-
-pub counted_running : (a b : Mine) (os : List OwnCall) (counts : List ℕ) → b ≡ with_running a os → Counted a counts → Counted b counts
-counted_running a b os counts e h = counted_same (with_running a os) b counts e h
 
 -- ---- one entry more
 

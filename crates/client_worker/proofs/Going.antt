@@ -34,13 +34,6 @@ after o m m2 g = record o { buffer = g.buffer; parts = g.parts }
 pub goes_running : (o : OwnCall) (m m2 : Mine) (g : StaysOpen o m m2) → m2.running ≡ after o m m2 g ∷ []
 goes_running o m m2 g = ap (λ (x : Mine). x.running) g.is
 
--- and keeps it
-pub goes_own : (t : ℕ) (a b : Mine) → KeepsOpen a b → ((o : OwnCall) × IsOwn t o a) → (o : OwnCall) × IsOwn t o b
-goes_own t a b goes op = let g = goes op.0 op.1.is in (after op.0 a b g, record { is = goes_running op.0 a b g; number = op.1.number })
-
-pub same_own : (t : ℕ) (a b : Mine) → b ≡ a → ((o : OwnCall) × IsOwn t o a) → (o : OwnCall) × IsOwn t o b
-same_own t a b e op = (op.0, subst (IsOwn t op.0) (sym e) op.1)
-
 pub goes_step : (o : OwnCall) (buffer : List ℕ) (parts : List Part) (a b : Mine) → length buffer ≡ length o.buffer → b ≡ with_running a (record o { buffer = buffer; parts = parts } ∷ []) → StaysOpen o a b
 goes_step o buffer parts a b long e = record { marks = []; buffer = buffer; parts = parts; long = long; faults = no_faults a.stream; is = e ∙ sym (more_none a _) }
 

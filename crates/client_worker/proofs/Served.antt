@@ -11,7 +11,7 @@ use Rattle.volume_model.specs.Modes.{HasSource}
 use Rattle.stream_steps.specs.Mine.{Mine, Log, OwnCall, IsOwn, entries_in, longer, length_of, with_more, with_running, answer_placed}
 use Rattle.stream_steps.specs.Steps.{IsUncarried, EnrolsAt, AnswersNow, Answers, Refuses}
 use Rattle.stream_steps.proofs.MineLemmas.{entries-append, longer_none, longer_twice, more_none, more_twice}
-use Rattle.client_worker.specs.Serving.{IsOwnFault, StaysOpen, KeepsOpen, Serves, AreServed, GrewBy, Grew, GrewSome}
+use Rattle.client_worker.specs.Serving.{IsOwnFault, StaysOpen, KeepsOpen, Serves, AreServed, GrewBy, Grew}
 use Rattle.client_worker.specs.Ends.{BeginsAs, EndsTo, TakesUp}
 use Rattle.client_worker.proofs.Going.{after, goes_running, own_of, no_faults}
 
@@ -152,7 +152,3 @@ grew_next cs c a b d g h = record {
 -- one ask more
 pub grew_ask : {A : Type 0} (f : A → Call) (xs : List A) (x : A) (a b d : Mine) → Grew (map f xs) a b → GrewBy (f x) b d → Grew (map f (xs ++ x ∷ [])) a d
 grew_ask f xs x a b d g h = subst (λ (cs : List Call). Grew cs a d) (sym (map-append f xs (x ∷ []))) (grew_next (map f xs) (f x) a b d g h)
-
--- as far as memory lasted
-pub grew_some : {A : Type 0} (f : A → Call) (xs ys all : List A) (a b : Mine) → xs ++ ys ≡ all → Grew (map f xs) a b → GrewSome (map f all) a b
-grew_some f xs ys all a b e g = record { done = map f xs; left = map f ys; are = sym (map-append f xs ys) ∙ ap (map f) e; grew = g }
