@@ -1,7 +1,7 @@
 -- Lemmas on specs/Frames.antt.
 use Rattle.std.proofs.Common.{◌≡◌, ◌∙◌, ℕ, zero, suc, ◌≤◌, List, [], ◌∷◌, ◌++◌, length, refl, sym, ap, subst, arith, append_assoc, append-nil}
 use Rattle.std.proofs.lemmas.List.{append_cancel_left}
-use Rattle.std.proofs.lemmas.List.Elements.{All-nil, All-head, All-tail, All-push}
+use Rattle.std.proofs.lemmas.List.Elements.{All-head, All-tail, All-push}
 use Rattle.std.proofs.lemmas.List.Concat.{flat_map-append}
 use Rattle.frame_wire.specs.declared.head.Head.{Head}
 use Rattle.frame_wire.proofs.OneSpelling.{one_spelling}
@@ -34,9 +34,6 @@ pub no_close_and_call : (bytes r s : List ℕ) (f g : Frame) → BeginsWithFrame
 no_close_and_call bytes r s f g x closes y calls = calls (ap (λ (h : Frame). h.head.kind) (sym (one_front bytes r s f g x y).0) ∙ closes)
 
 -- ---- calls at the front
-
-pub no_calls : (bytes : List ℕ) → BeginWithCalls bytes [] bytes
-no_calls bytes = record { calls = All-nil IsCall; text = refl }
 
 spellings-push : (frames : List Frame) (f : Frame) → spellings (frames ++ f ∷ []) ≡ spellings frames ++ spelled f
 spellings-push frames f = flat_map-append spelled frames (f ∷ []) ∙ ap (λ l. spellings frames ++ l) (append-nil (spelled f))
