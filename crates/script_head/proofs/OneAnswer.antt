@@ -11,7 +11,6 @@ use Rattle.script_head.specs.declared.member.Member.{Member}
 use Rattle.script_head.specs.Members.{HasStreams, HasLines, IsGood, IsFirstBadOf, in_order}
 use Rattle.script_head.specs.Head.{IsObject, IsScriptHead, IsFirstBad, Says, HasFirstBad, IsNoObject, AnswersLine}
 use Rattle.script_head.specs.Answers.{IsOnlyAnswer}
-use Rattle.script_head.specs.Refusals.{AnswersObject}
 use Rattle.script_head.proofs.OneValue.{same_value, same_streams, same_plans}
 
 same_object : (line : List ℕ) (d e : Data) → IsObject line d → IsObject line e → d ≡ e
@@ -99,10 +98,3 @@ one_answer line (Ok head) is = λ b told also. inl (beside_head line head b told
 one_answer line (Err Json) is = λ b told also. inl (beside_json line b told is also)
 one_answer line (Err (BadMember m)) is = λ b told also. inl (beside_bad line m b told is also)
 one_answer line (Err NoMemory) is = λ b told also. inr refl
-
--- an answer that is true of the line's object
-pub answers_line : (line : List ℕ) (d : Data) (r : Result ScriptHead HeadError) → IsObject line d → AnswersObject d r → AnswersLine line r
-answers_line line d (Ok head) object is = (d, object, is)
-answers_line line d (Err Json) object is = absurd is
-answers_line line d (Err (BadMember m)) object bad = (d, object, bad)
-answers_line line d (Err NoMemory) object free = free
