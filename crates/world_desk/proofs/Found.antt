@@ -130,10 +130,6 @@ none_running n s e = sym (calls_are n s) ∙ ap calls_of e
 pub gave_none_up : (n : ℕ) (s : State) → running_of s n ≡ [] → gave_up_at s.gave_up n ≡ false
 gave_none_up n s e = sym (gave_up_is n s) ∙ ap gave_up_in e
 
--- and where it has none of each, it has nothing open
-pub none_open : (n : ℕ) (s : State) → turning s n ≡ [] → running s n ≡ [] → gave_up_at s.gave_up n ≡ false → running_of s n ≡ []
-none_open n s turns calls gave_up = λ i. gave_up_of (gave_up i) ++ (map turn_of (turns i) ++ map (call_of s.whole) (calls i))
-
 -- ---- what came between
 
 cond_none : (b : Bool) (e : Entry) (es : List Entry) → cond b (e ∷ es) es ≡ [] → b ≡ false

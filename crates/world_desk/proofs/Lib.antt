@@ -1,4 +1,3 @@
 pub mod CountedLemmas
 pub mod Leaves
 pub mod Found
-pub mod Opened
