@@ -5,13 +5,13 @@ use Rattle.std.specs.Str.{bytes_eq}
 use Rattle.vol_units.specs.declared.page_ref.PageRef.{PageRef}
 use Rattle.sparse_image.specs.Image.{Table, HasNoBlock}
 use Rattle.replica_node.specs.Node.{Kept, Node, has_own}
-use Rattle.replica_node.specs.Fold.{own_named, HasBlockOf, HasNoBlockOf}
+use Rattle.replica_node.specs.Fold.{own_named, HasNoBlockOf}
 use Rattle.replica_node.specs.Held.{IsPageOf, block_named, block_of, own_block}
 use Rattle.replica_node.proofs.OwnLemmas.{is_in-same}
 use Rattle.open_calls.specs.Calls.{node_at}
 use Rattle.open_rebuild.specs.declared.rebuilding.Rebuilding.{Rebuilding}
 use Rattle.volume_core.specs.State.{State}
-use Rattle.volume_rebuild.specs.Answers.{IsSourcePage, CopiesOut, IsOutOfSource}
+use Rattle.volume_rebuild.specs.Answers.{CopiesOut, IsOutOfSource}
 
 -- none of its blocks is there
 none_named : (ks : List Kept) (name : List ℕ) (block : ℕ) → has_own (own_named ks name) block ≡ false → block_named ks name block ≡ None
@@ -29,12 +29,6 @@ bare_page node name page table bare none i h =
     none i ∙ sym (none_named node.layers name (page * 512 + i) (bare (page * 512 + i) (is_in-same page (page * 512 + i) of)))
 
 -- ---- what went out of the source
-
--- as it was told of the source
-pub went_out : (source : Node) (page : PageRef) (found : Bool) (old new : Table) → (found ≡ true → HasBlockOf source page.layer page.page) → (found ≡ false → HasNoBlockOf source page.layer page.page)
-    → (found ≡ true → IsPageOf source page.layer page.page new) → (found ≡ false → new ≡ old) → IsSourcePage source page found old new
-went_out source page true old new some none copied same = (some refl, copied refl)
-went_out source page false old new some none copied same = (none refl, same refl)
 
 -- one rebuild is open
 one_rebuild : (b c : Rebuilding) → Some b ≡ Some c → b ≡ c
