@@ -10,7 +10,7 @@ use Rattle.volume_model.specs.declared.mark.FoldOrDrop.TheVariants as part
 use Rattle.volume_model.specs.declared.mode.Mode.TheVariants.{Rw, Err}
 use Rattle.volume_model.specs.Modes.{mode_of}
 use Rattle.volume_model.specs.PlainState.{is_used}
-use Rattle.volume_model.specs.Purge.{CanBeDone, CanFold, CanDrop, IsMarked, children_of, gone, next_of}
+use Rattle.volume_model.specs.Purge.{CanBeDone, CanFold, CanDrop, IsMarked, children_of, gone}
 use Rattle.volume_model.specs.Snapshots.{Snapshot, Snapshots, with_snapshot}
 use Rattle.volume_model.proofs.PurgeLemmas.{any_cases}
 use Rattle.replica_node.specs.Node.{Node}
@@ -27,7 +27,7 @@ use Rattle.whole_calls.specs.declared.whole.Whole.{Whole}
 use Rattle.whole_calls.specs.Due.{due, due_of, form_part, formed, forms}
 use Rattle.whole_calls.specs.Whole.{IsWhole, IsStarted, MayBeDone}
 use Rattle.whole_calls.specs.Maint.{command_at}
-use Rattle.whole_calls.proofs.Folds.{IsBeside, IsSnapshot, snapshot_stands, FoldsOn, folds_on, folded_clients, folded_whole, idle_maint, idle_beside}
+use Rattle.whole_calls.proofs.Folds.{IsBeside, IsSnapshot, snapshot_stands, folded_clients, folded_whole, idle_maint, idle_beside}
 use Rattle.whole_calls.proofs.Forms.{formed_at, length-forms}
 use Rattle.whole_calls.proofs.Ends.{snapped_can}
 use Rattle.whole_calls.proofs.Ops.{not_there}
@@ -38,19 +38,6 @@ use Rattle.volume_core.specs.Sound.{IsSound}
 use Rattle.volume_maint.specs.Answers.{snapshots_told, IsOntoNew}
 use Rattle.volume_maint.specs.Steps.{folded_on}
 use Rattle.volume_maint.proofs.WholeSound.{told_named}
-
--- ---- the snapshots of a replica that is read
-
--- they are the volume's while no call on the whole volume is started
-pub told_tree : (s : State) (r : ℕ) → IsSound s → s.whole ≡ None → mode_of (modes_in s) r ≢ Err → snapshots_of (node_at s.nodes r) ≡ snapshots_told s
-told_tree s r ok none up = go s.whole none ok.on.clients
-  where
-    go : (w : Option Whole) → w ≡ None → AreClients (due w (told_of s).volume) s.size (length s.indices) s.book.entries (modes_in s) s.tickets s.calls (forms w s.nodes) → snapshots_of (node_at s.nodes r) ≡ snapshots_told s
-    go None e c = c.agree.tree r up
-    go (Some w) e c = absurd cc
-
-pub told_next : (s : State) (r : ℕ) → IsSound s → s.whole ≡ None → mode_of (modes_in s) r ≢ Err → next_of (snapshots_of (node_at s.nodes r)) ≡ next_of (snapshots_told s)
-told_next s r ok none up = ap next_of (told_tree s r ok none up)
 
 -- ---- what can be done of the replica's can be of the volume
 
@@ -191,9 +178,6 @@ module _ (s : State) (r : ℕ) (ok : IsSound s) (purging : IsPurging s) (read : 
 
   pub node_in : r < length s.nodes
   node_in = omega (arith, up_in (modes_in s) r up, ok.on.clients.agree.as_many, length-forms s.whole s.nodes)
-
-  pub fold_on : (p c : List ℕ) → CanFold (snapshots_told s).tree (snapshots_told s).on p c → FoldsOn (node_at s.nodes r) p c
-  fold_on p c can = folds_on (told_of s) s.size (length s.indices) s.book.entries (modes_in s) s.tickets s.calls s.nodes s.whole r p c (told_named s ok) can ok.whole beside ok.on.clients up
 
   -- a page is folded
   pub folded_sound : (p c : List ℕ) (page : ℕ) → (command_at s.commands 0).command ≡ command.Purge → CanFold (snapshots_told s).tree (snapshots_told s).on p c → IsSound (folded_on s r p c page)

@@ -1,5 +1,5 @@
 -- What stands against a command, as the journal tells it, and how it may then be answered.
-use Rattle.std.proofs.Common.{◌≡◌, ◌≢◌, ℕ, ◌<◌, ◌≤◌, true, false, cond, List, refl, sym, ap, subst, ◌∙◌, arith}
+use Rattle.std.proofs.Common.{◌≡◌, ℕ, ◌<◌, ◌≤◌, true, false, cond, List, refl, sym, ap, subst, ◌∙◌, arith}
 use Rattle.std.specs.Prelude.{Option, None, Some}
 use Rattle.std.specs.Option.{option_or}
 use Rattle.std.proofs.lemmas.Bool.{lt-ltb, le-ltb}
@@ -7,18 +7,16 @@ use Rattle.command_text.specs.declared.command.Command.{Command}
 use Rattle.command_text.specs.declared.command.Command.TheVariants as command
 use Rattle.volume_model.specs.declared.call.Call.TheVariants as call
 use Rattle.volume_model.specs.declared.call.Refusal.{Refusal}
-use Rattle.volume_model.specs.declared.call.Refusal.TheVariants.{NameUsed, ChainFull, NoSuchSnapshot, InUse}
+use Rattle.volume_model.specs.declared.call.Refusal.TheVariants.{NameUsed, ChainFull, NoSuchSnapshot}
 use Rattle.volume_model.specs.declared.call.Reply.{Reply}
 use Rattle.volume_model.specs.declared.call.Reply.TheVariants as reply
 use Rattle.volume_model.specs.declared.mark.FoldOrDrop.{FoldOrDrop}
 use Rattle.volume_model.specs.History.{IsAnswered}
-use Rattle.volume_model.specs.declared.mode.Mode.{Mode}
-use Rattle.volume_model.specs.declared.mode.Mode.TheVariants.{Rw, Wo, Err}
-use Rattle.volume_model.specs.Modes.{mode_of, source_of}
+use Rattle.volume_model.specs.Modes.{source_of}
 use Rattle.volume_model.specs.Names.{TellOf, is_used_in, is_live_in}
 use Rattle.volume_model.specs.OneWorker.{want_of_replica, reply_for}
 use Rattle.volume_model.specs.PlainState.{Volume, is_used}
-use Rattle.volume_model.specs.PlainStep.{refusal_of, room_refusal, live_refusal, add_refusal, most_layers}
+use Rattle.volume_model.specs.PlainStep.{refusal_of, room_refusal, live_refusal, most_layers}
 use Rattle.volume_model.specs.Purge.{IsPurged, next_of}
 use Rattle.volume_model.specs.Replay.{is_refusal}
 use Rattle.volume_model.specs.Snapshots.{is_live, layer_count}
@@ -29,7 +27,6 @@ use Rattle.volume_model.proofs.SpotLemmas.{answered_there, has_source}
 use Rattle.volume_model.proofs.StepLemmas.{has_no_source}
 use Rattle.journal_book.specs.Book.{names_of}
 use Rattle.whole_calls.specs.declared.whole.Whole.{Whole}
-use Rattle.whole_calls.specs.Maint.{IsMaint}
 use Rattle.volume_core.specs.State.{State, opening_of, told_of, modes_in}
 use Rattle.volume_core.specs.Sound.{IsSound}
 use Rattle.volume_maint.specs.Places.{IsWholeCommand}
@@ -69,14 +66,6 @@ pub name_unused : (s : State) (name : List ℕ) (x : Option Refusal) → is_used
     → x ≡ refusal_of (modes_in s) (told_of s) (call.Command (command.Snapshot name))
 name_unused s name x e is = is ∙ ap (λ b. option_or (cond b (Some NameUsed) None) (room_refusal (told_of s).volume)) (sym e)
 
-pub replica_up : (s : State) (r : ℕ) (m : Mode) → m ≡ mode_of (modes_in s) r → m ≢ Err → Some InUse ≡ refusal_of (modes_in s) (told_of s) (call.Command (command.Add r))
-replica_up s r m is up = by m up ∙ ap (λ x. add_refusal x (told_of s).volume) is
-  where
-    by : (x : Mode) → x ≢ Err → Some InUse ≡ add_refusal x (told_of s).volume
-    by Rw n = refl
-    by Wo n = refl
-    by Err n = absurd (n refl)
-
 -- ---- and then that there is no replica
 
 -- a command asks for one
@@ -96,22 +85,9 @@ nothing (Some why) source e = absurd cc
 nothing None None e = absurd cc
 nothing None (Some r) e = (refl, (r, refl))
 
-pub free_refusal : (s : State) (c : Command) → IsWholeCommand c → refused_in s c ≡ None → refusal_of (modes_in s) (told_of s) (call.Command c) ≡ None
-free_refusal s c asks e = (nothing (refusal_of (modes_in s) (told_of s) (call.Command c)) (source_of (modes_in s)) (sym (asks_source s c asks) ∙ e)).0
-
--- then a replica is read
+-- where nothing refuses it, a replica is read
 pub free_source : (s : State) (c : Command) → IsWholeCommand c → refused_in s c ≡ None → (r : ℕ) × (source_of (modes_in s) ≡ Some r)
 free_source s c asks e = (nothing (refusal_of (modes_in s) (told_of s) (call.Command c)) (source_of (modes_in s)) (sym (asks_source s c asks) ∙ e)).1
-
--- a command that wants the turn
-pub maint_whole : (c : Command) → IsMaint c → IsWholeCommand c
-maint_whole (command.Snapshot name) w = absurd w
-maint_whole (command.Remove name) w = tt
-maint_whole (command.Revert name) w = tt
-maint_whole command.Purge w = tt
-maint_whole command.Status w = absurd w
-maint_whole (command.Fail r) w = absurd w
-maint_whole (command.Add r) w = tt
 
 -- ---- how it may be answered
 

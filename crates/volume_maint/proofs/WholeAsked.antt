@@ -1,8 +1,6 @@
 -- The end of a call on the whole volume, as its steps ask it.
-use Rattle.std.proofs.Common.{◌≡◌, ℕ, ◌<◌, true, false, List, length, refl, sym, ap, subst, ◌∙◌, arith}
+use Rattle.std.proofs.Common.{◌≡◌, ℕ, ◌<◌, true, false, List, length, refl, sym, subst, ◌∙◌, arith}
 use Rattle.std.specs.Prelude.{Option, None, Some, IfSome, is_some}
-use Rattle.volume_model.specs.declared.call.Call.TheVariants as call
-use Rattle.volume_model.specs.declared.call.Reply.{Reply}
 use Rattle.std.proofs.lemmas.List.{get_or_default}
 use Rattle.volume_model.specs.declared.mode.Mode.{Mode}
 use Rattle.volume_model.specs.declared.mode.Mode.TheVariants.{Rw, Err}
@@ -10,14 +8,12 @@ use Rattle.volume_model.specs.Modes.{mode_of, source_of, HasSource, HasNoSource}
 use Rattle.volume_model.proofs.SpotLemmas.{has_source, no_source}
 use Rattle.open_calls.specs.declared.whole_op.WholeOp.{WholeOp}
 use Rattle.open_calls.specs.declared.whole_op.WholeOp.TheVariants as whole
-use Rattle.open_calls.specs.Calls.{open_at, command_of}
 use Rattle.open_calls.specs.Parts.{part_at, is_pending_at}
 use Rattle.whole_calls.specs.declared.whole.Whole.{Whole}
 use Rattle.whole_calls.proofs.Forms.{length-formed}
 use Rattle.volume_core.specs.State.{State, modes_in}
-use Rattle.volume_core.specs.Steps.{without_call, answered}
 use Rattle.volume_core.specs.Sound.{IsSound}
-use Rattle.volume_maint.specs.Steps.{turn_over, without_whole, whole_ended}
+use Rattle.volume_maint.specs.Steps.{turn_over}
 use Rattle.volume_maint.specs.Places.{IsWholeOn}
 use Rattle.volume_maint.specs.Answers.{whole_done, whole_lost, AreDone, EndsWhole}
 use Rattle.volume_maint.proofs.WholeSound.{on_due, if_whole}
@@ -25,29 +21,12 @@ use Rattle.volume_maint.proofs.WholeEnds.{done_kept, lost_kept}
 
 -- ---- the answer
 
--- the turn over, streams and journal are as they were
-pub over_indices : (op : WholeOp) (s : State) → (turn_over op s).indices ≡ s.indices
-over_indices (whole.Snapshot name) s = refl
-over_indices (whole.Remove name) s = refl
-over_indices (whole.Revert name) s = refl
-over_indices (whole.Purge f) s = refl
-over_indices (whole.Barrier r) s = refl
-
 pub over_book : (op : WholeOp) (s : State) → (turn_over op s).book ≡ s.book
 over_book (whole.Snapshot name) s = refl
 over_book (whole.Remove name) s = refl
 over_book (whole.Revert name) s = refl
 over_book (whole.Purge f) s = refl
 over_book (whole.Barrier r) s = refl
-
--- where no call on the whole volume is started
-none_gone : (s : State) (i : ℕ) → s.whole ≡ None → without_call s i ≡ without_whole s i
-none_gone s i none = ap (λ (o : Option Whole). record (without_call s i) { whole = o }) none
-
-pub ended_is : (s s1 s2 s3 : State) (i : ℕ) (op : WholeOp) (r : Reply) → s.whole ≡ None → s1 ≡ without_call s i → s2 ≡ turn_over op s1
-    → s3 ≡ answered s2 (open_at s.calls i).stream (open_at s.calls i).saw (call.Command (command_of op)) r → s3 ≡ whole_ended s i op r
-ended_is s s1 s2 s3 i op r none e1 e2 e3 =
-    e3 ∙ ap (λ (x : State). answered x (open_at s.calls i).stream (open_at s.calls i).saw (call.Command (command_of op)) r) (e2 ∙ ap (turn_over op) (e1 ∙ none_gone s i none))
 
 -- ---- it ends
 

@@ -1,5 +1,5 @@
 -- Each step of a call on the whole volume that has started keeps the invariant.
-use Rattle.std.proofs.Common.{◌≡◌, ◌≢◌, ℕ, ◌+◌, ◌<◌, ◌≤◌, ◌^◌, List, [], ◌∷◌, length, refl, sym, subst, ◌∙◌, arith}
+use Rattle.std.proofs.Common.{◌≡◌, ◌≢◌, ℕ, ◌+◌, ◌<◌, ◌≤◌, ◌^◌, List, [], ◌∷◌, length, sym, subst, ◌∙◌, arith}
 use Rattle.std.specs.Prelude.{Option, Some, IfSome}
 use Rattle.volume_model.specs.declared.entry.Entry.{Entry}
 use Rattle.volume_model.specs.Modes.{mode_of}
@@ -14,8 +14,8 @@ use Rattle.open_calls.specs.Calls.{node_at}
 use Rattle.open_calls.specs.Parts.{part_at, IsTaken}
 use Rattle.whole_calls.specs.declared.whole.Whole.{Whole}
 use Rattle.whole_calls.specs.Due.{due, due_of, forms, formed}
-use Rattle.whole_calls.specs.Whole.{IsWhole, IsStarted, IsFit, IsSpared, spare_at}
-use Rattle.whole_calls.proofs.Ops.{fits, spared}
+use Rattle.whole_calls.specs.Whole.{IsWhole, IsStarted, IsFit, spare_at}
+use Rattle.whole_calls.proofs.Ops.{fits}
 use Rattle.whole_calls.proofs.PartSteps.{part_taken, part_told, parted_clients, told_clients, part_maint, owed_in}
 use Rattle.open_rebuild.specs.Claim.{IsRebuilding}
 use Rattle.open_rebuild.proofs.WholeSteps as rebuilds
@@ -23,7 +23,7 @@ use Rattle.volume_core.specs.State.{State, opening_of, told_of, modes_in}
 use Rattle.volume_core.specs.Sound.{IsSound, IsSoundOn}
 use Rattle.volume_maint.specs.Steps.{whole_parted, whole_acked}
 use Rattle.volume_maint.specs.Places.{IsWholeOn}
-use Rattle.volume_maint.specs.Answers.{TakesPart, AcksPart}
+use Rattle.volume_maint.specs.Answers.{AcksPart}
 
 -- ---- what the journal tells
 
@@ -54,22 +54,12 @@ module _ (s : State) (w : Whole) (ok : IsSound s) (is : s.whole ≡ Some w) wher
   pub place_is : (t i : ℕ) → IsWholeOn s t w i → i ≡ is_started.place
   place_is t i at = is_started.stands.only i at.stands.within (at.stands.is ∙ sym at.number)
 
-  pub whole_at : IsWholeOn s w.number w is_started.place
-  whole_at = record {
-    is = is;
-    number = refl;
-    stands = record { within = is_started.stands.within; is = is_started.stands.is; only = is_started.stands.only };
-  }
-
   -- ---- a replica takes its part
 
   module _ (r : ℕ) (owed : part_at w.parts r ≡ Owed) where
     pub part_fits : length s.book.entries < 2 ^ 63 → mode_of (modes_in s) r ≢ Err → IsFit w.op (node_at s.nodes r)
     part_fits few up =
         fits w.op (told_of s) (node_at s.nodes r) (spare_at w.spares r) (told_named s ok) (is_started.takes r up owed) is_started.may (number_fits s ok few)
-
-    pub part_spared : mode_of (modes_in s) r ≢ Err → IsSpared w.op (node_at s.nodes r) (spare_at w.spares r)
-    part_spared up = spared w.op (told_of s).volume.snapshots (node_at s.nodes r) (spare_at w.spares r) (is_started.takes r up owed)
 
     pub part_there : r < length s.nodes
     part_there = omega (arith, owed_in w.parts r owed, is_started.parts)
@@ -129,24 +119,8 @@ module _ (s : State) (t r : ℕ) (ok : IsSound s) (owes : OwesPart s t r) where
   pub owes_fits : length s.book.entries < 2 ^ 63 → mode_of (modes_in s) r ≢ Err → IfSome s.whole (λ w. IsFit w.op (node_at s.nodes r))
   owes_fits few up = whole_if s.whole owes.0 (λ w. IsFit w.op (node_at s.nodes r)) owes.2.is (part_fits s owes.0 ok owes.2.is r owes.3 few up)
 
-  pub owes_spared : mode_of (modes_in s) r ≢ Err → IfSome s.whole (λ w. IsSpared w.op (node_at s.nodes r) (spare_at w.spares r))
-  owes_spared up = whole_if s.whole owes.0 (λ w. IsSpared w.op (node_at s.nodes r) (spare_at w.spares r)) owes.2.is (part_spared s owes.0 ok owes.2.is r owes.3 up)
-
   pub owes_kept : (s2 : State) → IfSome s.whole (λ w. s2 ≡ whole_parted s w r) → IsSound s2
   owes_kept s2 all = subst IsSound (sym (if_whole s.whole owes.0 (λ w. s2 ≡ whole_parted s w r) owes.2.is all)) (part_kept s owes.0 ok owes.2.is r owes.3)
-
-  pub owes_there : r < length s.nodes
-  owes_there = part_there s owes.0 ok owes.2.is r owes.3
-
-  pub owes_takes : (s2 : State) → mode_of (modes_in s) r ≢ Err → IfSome s.whole (λ w. s2 ≡ whole_parted s w r) → TakesPart s t r s2
-  owes_takes s2 up all = record {
-    w = owes.0;
-    i = owes.1;
-    at = owes.2;
-    up = up;
-    owed = owes.3;
-    state = if_whole s.whole owes.0 (λ w. s2 ≡ whole_parted s w r) owes.2.is all;
-  }
 
 -- and acknowledges its part
 pub acks_kept : (s s2 : State) (t r : ℕ) → IsSound s → AcksPart s t r s2 → IsSound s2
