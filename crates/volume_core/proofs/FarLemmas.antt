@@ -6,7 +6,7 @@ use Rattle.volume_model.specs.declared.entry.Entry.{Entry}
 use Rattle.volume_model.specs.declared.entry.Entry.TheVariants as entry
 use Rattle.volume_model.specs.declared.mark.Mark.TheVariants as mark
 use Rattle.volume_model.specs.declared.mark.Rebuild.TheVariants as rebuild
-use Rattle.volume_model.specs.Rebuilds.{rebuild_of, IsOpenOnly}
+use Rattle.volume_model.specs.Rebuilds.{rebuild_of}
 use Rattle.volume_model.proofs.RebuildLemmas.{rebuild_of-push}
 use Rattle.open_rebuild.specs.declared.rebuilding.Rebuilding.{Rebuilding}
 use Rattle.open_rebuild.specs.Claim.{IsApart}
@@ -43,15 +43,6 @@ module _ (es : List Entry) (b : Rebuilding) (g : Option EndedRebuild) (far : (q 
 
   pub only_of : (q s : ℕ) → rebuild_of q es ≡ rebuild.Open s → q ≡ b.target
   only_of q s e = sym (it_is b g q s (sym (far q) ∙ e)).0
-
--- as the journal's laws say it: the target and the source of the open one, or none
-abbrev pub pair_of : Option Rebuilding → Option (ℕ × ℕ)
-pair_of None = None
-pair_of (Some b) = Some (b.target, b.source)
-
-pub only_open : (es : List Entry) (b : Option Rebuilding) (g : Option EndedRebuild) → ((q : ℕ) → rebuild_of q es ≡ how_far b g q) → IsOpenOnly es (pair_of b)
-only_open es None g far = λ q s e. none_open g q s (sym (far q) ∙ e)
-only_open es (Some b) g far = (begun_of es b g far, only_of es b g far)
 
 -- a replica without a part in it is in no open rebuild
 pub not_in : (o : Option Rebuilding) (g : Option EndedRebuild) (q s r : ℕ) → how_far o g q ≡ rebuild.Open s → IsApart o r → (r ≡ q) ⊎ (r ≡ s) → ⊥

@@ -1,5 +1,5 @@
 -- Each step keeps the invariant, with the call on the whole volume and the maintenance turn.
-use Rattle.std.proofs.Common.{◌≡◌, ◌≢◌, ℕ, zero, suc, ◌+◌, ◌%◌, ◌<◌, ◌≤◌, Bool, true, false, cond, List, [], ◌∷◌, ◌++◌, length, set, length-set, refl, sym, ap, subst, ◌∙◌, arith}
+use Rattle.std.proofs.Common.{◌≡◌, ◌≢◌, ℕ, zero, suc, ◌+◌, ◌%◌, ◌<◌, ◌≤◌, Bool, true, false, cond, List, [], ◌∷◌, length, set, length-set, refl, sym, ap, subst, ◌∙◌, arith}
 use Rattle.std.specs.Prelude.{Option, None, Some}
 use Rattle.std.specs.List.{remove}
 use Rattle.vol_units.specs.declared.range.BlockRange.{BlockRange}
@@ -16,7 +16,7 @@ use Rattle.volume_model.specs.declared.mode.Mode.TheVariants.{Rw, Err}
 use Rattle.volume_model.specs.Modes.{mode_of, HasNoSource}
 use Rattle.volume_model.specs.PlainState.{PlainState}
 use Rattle.volume_model.specs.PlainStep.{longest_call, refusal_of, after_call}
-use Rattle.volume_model.specs.Replay.{replay, after_entry, is_refusal}
+use Rattle.volume_model.specs.Replay.{after_entry, is_refusal}
 use Rattle.volume_model.specs.Snapshots.{Snapshots}
 use Rattle.volume_model.proofs.PushLemmas.{modes_after-push}
 use Rattle.volume_model.proofs.StepLemmas.{replay-push}
@@ -158,16 +158,6 @@ enrolled_kept s t c ok range none new fresh on = record {
   streams = ok.streams;
 }
 
-forms_length : (w : Option Whole) (ns : List Node) → length (forms w ns) ≡ length ns
-forms_length None ns = refl
-forms_length (Some w) ns = go w.parts ns
-  where
-    go : (ps : List Rattle.open_calls.specs.declared.parts.Part.Part) (ns : List Node) → length (Rattle.whole_calls.specs.Due.formed w.op ps ns) ≡ length ns
-    go [] [] = refl
-    go [] (n ∷ ns) = refl
-    go (p ∷ ps) [] = refl
-    go (p ∷ ps) (n ∷ ns) = ap suc (go ps ns)
-
 at_most : (n : ℕ) → n ≤ n
 at_most n = omega arith
 
@@ -196,10 +186,6 @@ withdrawn_kept s i ok h waits = record {
 }
 
 -- ---- an answer that changes nothing, of a stream with no call open
-
-told_more : (s s2 : State) (e : Entry) → opening_of s2 ≡ opening_of s → s2.book.entries ≡ s.book.entries ++ e ∷ [] → told_of s2 ≡ after_entry (told_of s) e
-told_more s s2 e same more =
-    ap (λ (o : Rattle.volume_model.specs.History.Spot). replay o.state s2.book.entries) same ∙ ap (replay (opening_of s).state) more ∙ replay-push (opening_of s).state s.book.entries e
 
 module _ (s : State) (ok : IsSound s) (stream : ℕ) (c : Call) (r : Reply) (within : stream < length s.indices) (none : HasNoCommand stream s.commands) where
   abbrev pub next : State

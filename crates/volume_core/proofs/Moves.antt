@@ -38,9 +38,6 @@ may_roomier n s s2 ok r = record {
 pub stays_same : (n : ℕ) (s : State) → Stays n s s
 stays_same n s = record { entries = refl; same = refl }
 
-pub stays_roomier : (n : ℕ) (s s2 : State) → IsRoomier s s2 → Stays n s s2
-stays_roomier n s s2 r = record { entries = ap (λ (x : State). x.book.entries) r.state; same = ap (λ (x : State). opens x n) r.state }
-
 -- ---- the call of a ticket is the stream's
 
 -- what is open of a stream with one call
