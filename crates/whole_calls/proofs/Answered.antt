@@ -1,5 +1,5 @@
 -- A call on the whole volume, or the command that has the maintenance turn, goes with its entry in the journal.
-use Rattle.std.proofs.Common.{◌≡◌, ℕ, ◌<◌, false, List, [], ◌∷◌, ◌++◌, length, subst, sym, ◌∙◌, arith}
+use Rattle.std.proofs.Common.{◌≡◌, ℕ, ◌<◌, List, [], ◌∷◌, ◌++◌, length, subst, sym, ◌∙◌, arith}
 use Rattle.std.specs.Prelude.{Some}
 use Rattle.std.specs.List.{remove}
 use Rattle.std.proofs.lemmas.List.Edits.{length-remove}
@@ -23,7 +23,7 @@ use Rattle.whole_calls.specs.Maint.{command_at, HasNoCommand, HasTurn, IsAskedBy
 use Rattle.whole_calls.proofs.Kept.{queued_answer, queued_mark}
 use Rattle.whole_calls.proofs.PartSteps.{IsOfTurn, asked_there}
 use Rattle.whole_calls.proofs.Ends.{idle_left}
-use Rattle.whole_calls.proofs.Turns.{none_left, turn_ended, turn_withdrawn}
+use Rattle.whole_calls.proofs.Turns.{none_left, turn_ended}
 
 -- what is no snapshot was asked by the command that has the turn
 pub turn_of : (maint : List Ticket) (commands : List MaintCall) (stream : ℕ) (op : WholeOp) → IsOfTurn op → IsAskedBy maint commands stream op → HasTurn maint commands stream (command_of op)
@@ -88,15 +88,5 @@ module _ (s : Snapshots) (streams : ℕ) (es : List Entry) (modes : List Mode) (
       let ended = turn_ended s streams es modes ts cs ns maint commands paired some idle ok in
       record {
         queued = queued_answer streams es a (remove maint 0) (remove commands 0) ended.queued (subst (λ n. HasNoCommand n (remove commands 0)) (sym by) (none_left streams es maint commands 0 ok.queued some));
-        fits = ended.fits;
-      }
-
-  -- one that has not started is answered
-  pub waiting_answered : (k : ℕ) (a : Answer) → k < length maint → (ticket_at maint k).started ≡ false → a.stream ≡ (command_at commands k).stream
-      → AreMaint s streams (es ++ entry.Answer a ∷ []) modes ts cs ns (remove maint k) (remove commands k)
-  waiting_answered k a h waits by =
-      let ended = turn_withdrawn s streams es modes ts cs ns maint commands k h waits ok in
-      record {
-        queued = queued_answer streams es a (remove maint k) (remove commands k) ended.queued (subst (λ n. HasNoCommand n (remove commands k)) (sym by) (none_left streams es maint commands k ok.queued h));
         fits = ended.fits;
       }

@@ -2,7 +2,7 @@
 -- once, and with a failed replica that is written from now on: one without a block, with the layers of its source.
 use Rattle.std.proofs.Common.{◌≡◌, ◌≢◌, ℕ, ◌<◌, Bool, true, false, ◌||◌, List, [], ◌∷◌, ◌++◌, length, map, set, length-set, get_or-set_same, get_or-set_other, subst, sym, refl, ap, ◌∙◌, arith}
 use Rattle.std.specs.Prelude.{Some}
-use Rattle.std.specs.List.{All, remove}
+use Rattle.std.specs.List.{All}
 use Rattle.std.specs.Str.{bytes_eq}
 use Rattle.std.proofs.lemmas.List.Elements.{All-head, All-tail}
 use Rattle.std.proofs.lemmas.Slice.Eq.{bytes_eq-Decides}
@@ -29,7 +29,7 @@ use Rattle.open_calls.specs.declared.open_call.OpenCall.{OpenCall}
 use Rattle.open_calls.specs.declared.whole_op.WholeOp.TheVariants as whole
 use Rattle.open_calls.specs.Calls.{open_at, node_at}
 use Rattle.open_calls.specs.Clients.{AreClients, Fits, byte_of}
-use Rattle.open_calls.specs.Parts.{part_at, part_for, is_pending_at}
+use Rattle.open_calls.specs.Parts.{part_for}
 use Rattle.open_calls.proofs.FreeLemmas.{not_both}
 use Rattle.open_calls.proofs.Gone.{seen_clients}
 use Rattle.open_calls.proofs.ListLemmas.{each_set}
@@ -37,10 +37,9 @@ use Rattle.open_calls.proofs.PartLemmas.{up_in, rw_up, part_of}
 use Rattle.open_calls.proofs.SeenLemmas.{seen_mark}
 use Rattle.whole_calls.specs.declared.maint.MaintCall.{MaintCall}
 use Rattle.whole_calls.specs.declared.whole.Whole.{Whole}
-use Rattle.whole_calls.specs.Due.{due_of, form_part, formed}
+use Rattle.whole_calls.specs.Due.{form_part, formed}
 use Rattle.whole_calls.specs.Whole.{CanSnap, AreSpared, IsStarted}
 use Rattle.whole_calls.specs.Maint.{AreMaint}
-use Rattle.whole_calls.proofs.Ends.{done_clients}
 use Rattle.whole_calls.proofs.Forms.{length-formed, formed_in, part_for_owed}
 use Rattle.whole_calls.proofs.Kept.{queued_mark}
 use Rattle.whole_calls.proofs.PartSteps.{none_waits}
@@ -193,14 +192,3 @@ module _ (v : Volume) (size streams : ℕ) (es : List Entry) (m : Mark) (modes :
         fits = none_waits es s s2 modes written ns joined maint commands (with_started ts i) cs i (whole.Barrier r) ok.seen (ok.paired ∙ sym (length-set ts i begun)) (omega (arith, h, length-set ts i begun))
             (ap (λ (x : Ticket). x.kind) here ∙ is) (ap (λ (x : Ticket). x.started) here) asked tt (maint_started s modes ns maint commands ts cs i h maintained.fits);
       }
-
--- ---- the end
-
--- each replica that has not failed has acknowledged: they are the volume, which has the snapshot since the start
-pub barrier_ended : (p : PlainState) (size streams : ℕ) (es : List Entry) (modes : List Mode) (ts : List Ticket) (cs : List OpenCall) (ns : List Node) (w : Whole) (r : ℕ) (is : IsStarted p modes ts cs ns w)
-    → w.op ≡ whole.Barrier r → AreClients p.volume size streams es modes ts cs (formed w.op w.parts ns)
-    → ((q : ℕ) → q < length ns → is_pending_at (mode_of modes q) (part_at w.parts q) ≡ false) → AreClients p.volume size streams es modes (remove ts is.place) (remove cs is.place) ns
-barrier_ended p size streams es modes ts cs ns w r is same ok acknowledged =
-    let due : due_of w.op p.volume ≡ p.volume = ap (λ o. due_of o p.volume) same in
-    subst (λ (v : Volume). AreClients v size streams es modes (remove ts is.place) (remove cs is.place) ns) due
-    (done_clients p size streams es modes ts cs ns w is (subst (λ (v : Volume). AreClients v size streams es modes ts cs (formed w.op w.parts ns)) (sym due) ok) acknowledged)

@@ -39,7 +39,7 @@ use Rattle.open_calls.proofs.PartLemmas.{up_in, rw_up}
 use Rattle.whole_calls.specs.declared.maint.MaintCall.{MaintCall}
 use Rattle.whole_calls.specs.declared.whole.Whole.{Whole}
 use Rattle.whole_calls.specs.Due.{due_of, formed}
-use Rattle.whole_calls.specs.Whole.{MayBeDone, IsStarted, IsWhole}
+use Rattle.whole_calls.specs.Whole.{MayBeDone, IsStarted}
 use Rattle.whole_calls.specs.Maint.{CanStill, FitsMaint}
 use Rattle.whole_calls.proofs.Forms.{length-formed, formed_in, form_as_is, done_part}
 use Rattle.whole_calls.proofs.Kept.{whole_after, whole_before, each_left}
@@ -68,10 +68,6 @@ still_left ts i order h is started j l = one (ticket_at (remove ts i) j).started
     one false e = e
     one true e = absurd (skip-other i j (only_started ts i (skip i j) order h (skip-in i j (length ts) (omega (arith, l, length-remove ts i h))) is started
         (ap (λ (x : Ticket). x.started) (sym (get_or-remove ts i j no_ticket h)) ∙ e)))
-
--- then no call on the whole volume is started
-pub still_whole : (p : PlainState) (modes : List Mode) (ts : List Ticket) (cs : List OpenCall) (ns : List Node) → IsStill ts → IsWhole p modes ts cs ns None
-still_whole p modes ts cs ns still = λ j l k. still j l
 
 -- its stream has nothing open any more
 pub idle_left : (es : List Entry) (cs : List OpenCall) (i : ℕ) → AreSeen es cs → i < length cs → IsIdle (open_at cs i).stream (remove cs i)

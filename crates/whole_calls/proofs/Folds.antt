@@ -156,9 +156,6 @@ module _ (p : PlainState) (size streams : ℕ) (es : List Entry) (modes : List M
   pub folds_on : mode_of modes r ≢ Err → FoldsOn (node_at ns r) a b
   folds_on up = go w is beside ok
     where
-      n : Node
-      n = node_at ns r
-
       snapped : (v : Whole) (op : WholeOp) → v.op ≡ op → IsSnapshot op → MayBeDone op p → snapshots_of (node_at ns r) ≡ (due_of op p.volume).snapshots → FoldsOn (node_at ns r) a b
       snapped v (whole.Snapshot name) e s may same =
           folds_with (node_at ns r) (with_snapshot p.volume.snapshots name) a b same (not_there p name named may.1, named.once) (snapped_can p name (part.Fold a b) named may.1 can)

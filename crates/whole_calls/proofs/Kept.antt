@@ -38,9 +38,6 @@ use Rattle.whole_calls.specs.Maint.{command_at, HasNoCommand, FitsMaint, AreQueu
 
 -- ---- the call on the whole volume
 
-whole_no_read : kind.Whole ≢ kind.Read
-whole_no_read e = cc
-
 -- a started ticket of the whole volume is in the way of each that stands behind it, and each before it is in its way
 pub whole_after : (ts : List Ticket) (i j : ℕ) → j < i → (ticket_at ts j).kind ≡ kind.Whole → IsClear ts i → ⊥
 whole_after ts i j l w clear = subst (λ k. Rattle.range_turns.specs.Order.ConflictBy k (ticket_at ts i).kind (ticket_at ts j).range (ticket_at ts i).range → ⊥) w (clear j l) tt

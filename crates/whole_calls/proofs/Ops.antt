@@ -17,7 +17,7 @@ use Rattle.replica_state.proofs.PurgeLemmas.{replaced_volume, dropped_volume}
 use Rattle.open_calls.specs.declared.whole_op.WholeOp.{WholeOp}
 use Rattle.open_calls.specs.declared.whole_op.WholeOp.TheVariants as whole
 use Rattle.whole_calls.specs.Due.{part_on, due_of}
-use Rattle.whole_calls.specs.Whole.{MayBeDone, CanTake, IsFit, IsSpared, CanSnap, StandsFor}
+use Rattle.whole_calls.specs.Whole.{MayBeDone, CanTake, IsFit, CanSnap, StandsFor}
 
 -- ---- what it makes of a replica
 
@@ -126,7 +126,3 @@ fits (whole.Purge f) p n spare named takes may number = record {
   folded = takes.folded;
 }
 fits (whole.Barrier r) p n spare named takes may number = takes.still.1
-
--- and what it uses is there
-pub spared : (op : WholeOp) (s : Snapshots) (n : Node) (spare : Option Tables) → CanTake op s n spare → IsSpared op n spare
-spared op s n spare takes = takes.spared

@@ -231,14 +231,6 @@ starts_plain (whole.Revert name) modes on = tt
 starts_plain (whole.Purge f) modes on = tt
 starts_plain (whole.Barrier q) modes on = absurd on
 
--- and where no replica is rebuilt each may start that is no barrier
-pub settled_starts : (op : WholeOp) (modes : List Mode) → IsPlain op → ((r : ℕ) → mode_of modes r ≢ Wo) → StartsOn op modes
-settled_starts (whole.Snapshot name) modes plain settled = tt
-settled_starts (whole.Remove name) modes plain settled = settled
-settled_starts (whole.Revert name) modes plain settled = settled
-settled_starts (whole.Purge f) modes plain settled = settled
-settled_starts (whole.Barrier q) modes plain settled = absurd plain
-
 -- it keeps the length of a disk that is written and not read
 written_size : (op : WholeOp) (modes : List Mode) (r : ℕ) (n : Node) → StartsOn op modes → mode_of modes r ≡ Wo → length (part_on op n).disk ≡ length n.disk
 written_size (whole.Snapshot name) modes r n on e = refl

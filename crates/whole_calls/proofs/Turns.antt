@@ -126,15 +126,6 @@ module _ (streams : ℕ) (es : List Entry) (maint : List Ticket) (commands : Lis
     saw = ok.saw;
   }
 
-  -- then it has the turn
-  pub started_turn : HasTurn (with_started maint 0) commands (command_at commands 0).stream (command_at commands 0).command
-  started_turn = record {
-    some = omega (arith, some, ok.paired);
-    started = ap (λ (x : Ticket). x.started) (get_or-set_same maint 0 first no_ticket some);
-    own = refl;
-    command = refl;
-  }
-
   -- and each call fits as before
   pub fits_turn : (s : Snapshots) (modes : List Mode) (ns : List Node) (u : Ticket) (d : OpenCall) → FitsMaint s modes ns maint commands u d → FitsMaint s modes ns (with_started maint 0) commands u d
   fits_turn s modes ns u d fit =
