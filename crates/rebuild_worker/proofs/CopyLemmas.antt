@@ -8,8 +8,8 @@ use Rattle.page_text.specs.Text.{blocks_of, map_of, page_text}
 use Rattle.outer_traits.specs.Lines.{TellsMore}
 use Rattle.vol_units.specs.declared.page_ref.PageRef.{PageRef}
 use Rattle.rebuild_worker.specs.Frames.{ask_head, done_head, give_head, send_head, response_kind, source_request, source_reply, target_request, target_reply}
-use Rattle.rebuild_worker.specs.Copying.{AreKept, AreQuiet, Copying, OnLine, CarriesOn, IsFrame, IsQuiet, IsTextOf, number_after, numbered}
-use Rattle.rebuild_worker.specs.Rooms.{HasPlace, text_in}
+use Rattle.rebuild_worker.specs.Copying.{AreKept, AreQuiet, Copying, OnLine, CarriesOn, IsQuiet, IsTextOf, number_after, numbered}
+use Rattle.rebuild_worker.specs.Rooms.{text_in}
 use Rattle.rebuild_worker.specs.Told.{AreOf, CopiedPage, CopiesPage, CopiesPages, HaveTexts, IsUntold, Lists, SendsPage, TakesPage, TellPages, to_source, to_target}
 
 -- ---- told one after another
@@ -47,18 +47,6 @@ exchange a b c request asked reply replied h k body text p q is_request is_reply
     let told : TellsMore a.told c.told (asked ∷ replied ∷ []) = tells_both a.told b.told c.told (asked ∷ []) (replied ∷ []) p.told q.told in
     subst (λ x. TellsMore a.told c.told (x ∷ frame (numbered b.seq k) text ∷ [])) first
     (subst (λ x. TellsMore a.told c.told (asked ∷ x ∷ [])) second told)
-
--- ---- whole frames
-
--- a header before the text, of so many bytes as the text has
-pub placed_frame : (h : Head) (before bytes : List ℕ) → HasPlace before → IsHead h → h.len ≡ length before - 26 → bytes ≡ frame h (text_in before) → IsFrame bytes
-placed_frame h before bytes place fits count is = record {
-  head = h;
-  body = text_in before;
-  fits = fits;
-  long = length-drop 26 before ∙ sym count;
-  spelled = is;
-}
 
 -- ---- a page
 
@@ -103,21 +91,6 @@ takes_still page text a b c takes untold = (takes.0, tells_still a.told b.told c
 
 pub takes_later : (page : PageRef) (text : List ℕ) (a b c : OnLine) → IsUntold a b → TakesPage page text b c → TakesPage page text a c
 takes_later page text a b c untold takes = (takes.0, tells_later a.told b.told c.told (source_request takes.0 page ∷ source_reply takes.0 page text ∷ []) untold takes.1)
-
--- a page without blocks
-pub lists_empty : (page : PageRef) (is_text : PageRef → List ℕ → Type 0) (a b c : Copying) → is_text page [] → AreQuiet a b → AreQuiet b c → CopiesPage page is_text a c
-lists_empty page is_text a b c is p q = record {
-  text = [];
-  is = is;
-  tells = record {
-    source_frames = [];
-    target_frames = [];
-    of_source = (0, [], refl, refl);
-    of_target = (0, [], refl, refl);
-    source = tells_both a.source.told b.source.told c.source.told [] [] p.source.told q.source.told;
-    target = tells_both a.target.told b.target.told c.target.told [] [] p.target.told q.target.told;
-  };
-}
 
 -- a page with blocks, whose text has a byte
 carried_page : (page : PageRef) (is_text : PageRef → List ℕ → Type 0) (byte : ℕ) (bytes : List ℕ) (a b : Copying) → is_text page (byte ∷ bytes)
