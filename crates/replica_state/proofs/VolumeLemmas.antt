@@ -1,5 +1,5 @@
 -- What is told of the volume that a replica is, and what changes it, is told of the replica.
-use Rattle.std.proofs.Common.{◌≡◌, ◌≢◌, ℕ, suc, ◌+◌, ◌*◌, Bool, true, false, not, cond, ◌||◌, List, [], ◌∷◌, length, map, Some, pos, refl, sym, ap, ◌∙◌, arith}
+use Rattle.std.proofs.Common.{◌≡◌, ◌≢◌, ℕ, suc, ◌+◌, Bool, true, false, not, cond, ◌||◌, List, [], ◌∷◌, length, map, Some, refl, sym, ap, ◌∙◌, arith}
 use Rattle.std.specs.List.{All}
 use Rattle.std.specs.Prelude.{Contains}
 use Rattle.std.specs.Str.{bytes_eq}
@@ -7,14 +7,12 @@ use Rattle.std.proofs.lemmas.List.{length-map}
 use Rattle.std.proofs.lemmas.List.Elements.{All-nil, All-cons}
 use Rattle.std.proofs.lemmas.Slice.Eq.{bytes_eq-Decides}
 use Rattle.std.proofs.lemmas.Bool.{false≢true}
-use Rattle.vol_units.specs.Bytes.{zeros}
 use Rattle.replica_node.specs.Node.{Kept, Node, layer_names, disk_named, marked_if_named, IsKept, IsFree}
 use Rattle.replica_node.specs.Node as node
 use Rattle.replica_node.specs.Fold.{tree_of}
-use Rattle.replica_node.specs.Room.{put_at, with_room_of}
 use Rattle.volume_model.specs.Names.{has_name}
 use Rattle.volume_model.specs.Snapshots.{Snapshot, is_live, marked_if, layer_count}
-use Rattle.volume_model.specs.PlainState.{Copy, Volume, volume_of, copy_of, without}
+use Rattle.volume_model.specs.PlainState.{Copy, Volume, copy_of, without}
 use Rattle.volume_model.specs.PlainState as plain
 use Rattle.coalesce.specs.Folding.{snapshot_of}
 use Rattle.replica_state.specs.Volume.{copies_in, volume_of_node}
@@ -56,11 +54,6 @@ free_in (k ∷ ks) name none = go (bytes_eq name k.meta.name) refl none (λ rest
 pub free_of : (n : Node) (name : List ℕ) → has_name (tree_of n) name ≡ false → IsFree n name
 free_of n name none = free_in n.layers name none
 
--- ---- what a replica begins as
-
-pub blank_volume : (size : ℕ) → volume_of_node (node.blank size) ≡ volume_of (zeros size)
-blank_volume size = refl
-
 -- ---- what changes it
 
 -- the volume of a replica, with these copies and snapshots in place of its own
@@ -73,18 +66,6 @@ volume_with n copies tree = record {
 
 pub same_volume : (n : Node) {a b : List Copy} {c d : List Snapshot} → a ≡ b → c ≡ d → volume_with n a c ≡ volume_with n b d
 same_volume n {b = b} {c = c} p q = ap (λ x. volume_with n x c) p ∙ ap (λ t. volume_with n b t) q
-
--- places that are made are not seen
-pub room_volume : (n other : Node) → volume_of_node (with_room_of n other) ≡ volume_of_node n
-room_volume n other = refl
-
--- blocks that are put are bytes that are written
-pub put_volume : (n : Node) (first : ℕ) (bytes : List ℕ)
-    → volume_of_node (put_at n first bytes) ≡ plain.written (volume_of_node n) (pos (first * 4096)) bytes
-put_volume n first bytes = refl
-
-pub snapped_volume : (n : Node) (name : List ℕ) → volume_of_node (node.snapped_node n name) ≡ plain.snapped (volume_of_node n) name
-snapped_volume n name = refl
 
 -- the copy of a layer that is live is what it reads as
 copy_of_live : (ks : List Kept) (name : List ℕ) → is_live (map snap ks) name ≡ true → copy_of (copies_in ks) name ≡ disk_named ks name
