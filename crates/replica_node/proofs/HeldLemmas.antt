@@ -23,7 +23,7 @@ use Rattle.layer_chain.proofs.TreeShape.{apart, tree_back}
 use Rattle.layer_chain.proofs.FoldLaws.{alike_tree}
 use Rattle.coalesce.proofs.ChildLemmas.{same_name, other_name}
 use Rattle.replica_node.specs.Node.{Kept, Node, node_of, kept_in, disk_in, head_disk, own_in, made_in, has_own, IsInPages, IsNode}
-use Rattle.replica_node.specs.Fold.{is_in, own_named, HasNoBlockOf, HasBlockIn, HasNoBlockIn}
+use Rattle.replica_node.specs.Fold.{is_in, HasBlockIn, HasNoBlockIn}
 use Rattle.replica_node.specs.Held.{block_of, own_block, block_named, read_below, IsOver, AreChained, IsChained, IsPageOf, put_block, PutsPage}
 use Rattle.replica_node.proofs.CutLemmas.{place_reads, cut_reads}
 use Rattle.replica_node.proofs.MadeLemmas.{made_put}
@@ -113,21 +113,6 @@ pub none_in : (image : Tables) (page : ℕ) → HasNoBlock (table_at image page)
 unfolding block_at
 none_in image page none = λ block inside.
     ap (λ p. is_some (place_at (table_at image p) (block % 512))) (eqb-true (block / 512) page inside) ∙ ap is_some (none (block % 512))
-
-no_block : (ks : List Kept) (name : List ℕ) (block : ℕ) → has_own (own_named ks name) block ≡ false → block_named ks name block ≡ None
-no_block [] name block e = refl
-no_block (k ∷ ks) name block e = go (bytes_eq name k.meta.name) (no_block ks name block) e
-  where
-    go : (b : Bool) → (has_own (own_named ks name) block ≡ false → block_named ks name block ≡ None)
-        → has_own (cond b k.own (own_named ks name)) block ≡ false → cond b (own_block k.disk k.own block) (block_named ks name block) ≡ None
-    go true rest none = ap (λ h. cond h (Some (block_of k.disk block)) None) none
-    go false rest none = rest none
-
--- a layer that has no block of the page has an empty one
-pub empty_page : (node : Node) (name : List ℕ) (page : ℕ) → HasNoBlockOf node name page → IsPageOf node name page []
-empty_page node name page none = λ i h.
-    let here : (page * 512 + i) / 512 ≡ page = omega (arith, h) in
-    sym (no_block node.layers name (page * 512 + i) (none (page * 512 + i) (is_in-same page (page * 512 + i) here)))
 
 -- ---- a page comes in
 

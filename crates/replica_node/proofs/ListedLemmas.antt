@@ -1,6 +1,6 @@
 -- The answers for the numbers below so many, as a list.
-use Rattle.std.proofs.Common.{◌≡◌, ⊎_elim, ℕ, zero, suc, ◌+◌, ◌<◌, ◌≤◌, Bool, true, false, List, [], ◌∷◌, ◌++◌, length, get_or, replicate, refl, sym, ap, ◌∙◌, arith, add-one, length-append}
-use Rattle.std.proofs.lemmas.Bool.{false≢true, cases_eq, cases_lt}
+use Rattle.std.proofs.Common.{◌≡◌, ⊎_elim, ℕ, zero, suc, ◌+◌, ◌<◌, ◌≤◌, Bool, false, List, [], ◌∷◌, ◌++◌, length, get_or, replicate, refl, sym, ap, ◌∙◌, arith, add-one, length-append}
+use Rattle.std.proofs.lemmas.Bool.{cases_eq}
 use Rattle.std.proofs.lemmas.List.{get_or_append_left, get_or_past}
 use Rattle.std.proofs.Math.Seq.{get_or-append_seam}
 use Rattle.std.specs.List.{All}
@@ -27,13 +27,6 @@ listed-at f (suc count) k inside = ⊎_elim
 -- past the last number the answer is false
 pub listed-past : (f : ℕ → Bool) (count k : ℕ) → count ≤ k → get_or (listed f count) k false ≡ false
 listed-past f count k past = get_or_past (listed f count) k false (omega (arith, length-listed f count))
-
--- where the answer is true there is a number
-pub listed-within : (f : ℕ → Bool) (count k : ℕ) → get_or (listed f count) k false ≡ true → k < count
-listed-within f count k there = ⊎_elim
-    (λ inside. inside)
-    (λ past. absurd (false≢true (sym (listed-past f count k past) ∙ there)))
-    (cases_lt k count)
 
 one_more : {X : Type 0} (a b : List X) (x y : X) → a ≡ b → x ≡ y → a ++ x ∷ [] ≡ b ++ y ∷ []
 one_more a b x y p q = cc

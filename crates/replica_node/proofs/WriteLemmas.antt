@@ -188,10 +188,6 @@ put_blocks old new count node first blocks view n p =
     same_parts kept (on_same old new p.rest) (ap (λ t. t.number) p.rest) disk (same_room old.head new.head count p.pages) own
     ∙ ap (λ x. put_at x first (bytes_in blocks)) view
 
--- the tree of a replica stays that of one, by the same count
-pub put_whole : (old new : Tree) (count first : ℕ) (blocks : List (Option (List ℕ))) → IsNode old count → PutsBlocks old new first blocks → IsNode new count
-put_whole old new count first blocks n p = subst (IsNode new) n.pages p.node
-
 abbrev head_or : {X : Type 0} → X → List X → X
 head_or d [] = d
 head_or d (x ∷ xs) = x
