@@ -8,7 +8,7 @@ use Rattle.layer_chain.specs.declared.children.Child.{Child}
 use Rattle.layer_chain.specs.declared.children.Child.TheVariants as child
 use Rattle.layer_chain.specs.declared.children.Children.TheVariants as children
 use Rattle.layer_chain.proofs.TreeLemmas.{one_place}
-use Rattle.volume_model.proofs.PurgeLemmas.{before_trans, before_itself, is_marked, no_head}
+use Rattle.volume_model.proofs.PurgeLemmas.{before_trans, before_itself, is_marked}
 use Rattle.volume_model.specs.Purge.{IsMarked, CanFold, CanBeDone, IsPurged, gone, is_before, IsFirst}
 use Rattle.volume_model.specs.declared.mark.FoldOrDrop.{FoldOrDrop}
 use Rattle.volume_model.specs.declared.mark.FoldOrDrop.TheVariants as part
@@ -62,9 +62,6 @@ module _ (t : Tree) (i : ℕ) (m : LayerMeta) (within : i < length t.layers) (m_
     };
     named = ap (λ (l : LayerMeta). l.name) m_is;
   }
-
-pub stays_head : (t : Tree) (i : ℕ) → t.on ≡ Some (name_of (layer_at t.layers i)) → StaysAt t i
-stays_head t i on = λ f goes. no_head (snapshots_in t) t.on f goes.can (on ∙ ap (λ (n : List ℕ). Some n) (sym goes.named))
 
 -- one thing that stands on the layer is the one that it is folded into
 only_one : (t : Tree) (i : ℕ) (p c : List ℕ) → IsWholeTree t → p ≡ name_of (layer_at t.layers i) → CanFold (snapshots_in t) t.on p c → (a b : Child) → Stands t.layers t.on (length t.layers) i a → Stands t.layers t.on (length t.layers) i b → a ≡ b
