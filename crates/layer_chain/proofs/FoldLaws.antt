@@ -43,16 +43,6 @@ module _ {X B : Type 0} (name_of : X → List ℕ) (parent_of : X → Option (Li
         ∙ replace_keeps name_of parent_of block_of k.before k.between k.after c p d p on childless_before childless_between (named_once name_of parent_of k.between k.after p under) d_name d_parent d_block (parent_above name_of parent_of k.between k.after p under) want n
         ∙ sym (ap (λ (ys : List X). read_layers name_of parent_of block_of ys want) is)
 
-    pub fold_tree : (d q : X) → name_of d ≡ name_of c → parent_of d ≡ parent_of c → name_of q ≡ name_of p → parent_of q ≡ parent_of p → IsTree name_of parent_of (set (set xs i d) j q)
-    fold_tree d q d_name d_parent q_name q_parent =
-        subst (λ (ys : List X). IsTree name_of parent_of ys) (append_assoc k.before (d ∷ k.between) (q ∷ k.after) ∙ sym (k.with_others d q))
-        (tree_other name_of parent_of (k.before ++ (d ∷ k.between)) k.after p q q_name
-        (subst (λ (n : Option (List ℕ)). StandsOn name_of parent_of n k.after) (sym q_parent) (tree_back name_of parent_of k.between (p ∷ k.after) under).1)
-        (subst (λ (ys : List X). IsTree name_of parent_of ys) (sym (append_assoc k.before (d ∷ k.between) (p ∷ k.after)))
-        (tree_other name_of parent_of k.before (k.between ++ (p ∷ k.after)) c d d_name
-        (subst (λ (n : Option (List ℕ)). StandsOn name_of parent_of n (k.between ++ (p ∷ k.after))) (sym d_parent) (tree_back name_of parent_of k.before (c ∷ (k.between ++ (p ∷ k.after))) whole).1)
-        whole)))
-
     pub replace_tree : (d : X) → name_of d ≡ name_of c → parent_of d ≡ parent_of p → IsTree name_of parent_of (remove (set xs i d) j)
     replace_tree d d_name d_parent =
         let p_on : StandsOn name_of parent_of (parent_of p) k.after = (tree_back name_of parent_of k.between (p ∷ k.after) under).1 in
@@ -64,14 +54,6 @@ module _ {X B : Type 0} (name_of : X → List ℕ) (parent_of : X → Option (Li
         (tree_other name_of parent_of k.before (k.between ++ (p ∷ k.after)) c d d_name
         (subst (λ (n : Option (List ℕ)). StandsOn name_of parent_of n (k.between ++ (p ∷ k.after))) (sym d_parent) (on_back name_of parent_of (parent_of p) k.between (p ∷ k.after) (on_back name_of parent_of (parent_of p) (p ∷ []) k.after p_on)))
         whole)))
-
-    -- what stood on a layer that is not p still does
-    pub fold_on : (d q : X) → name_of d ≡ name_of c → name_of q ≡ name_of p → (n : Option (List ℕ)) → StandsOn name_of parent_of n xs → StandsOn name_of parent_of n (set (set xs i d) j q)
-    fold_on d q d_name q_name n on_n =
-        subst (λ (ys : List X). StandsOn name_of parent_of n ys) (append_assoc k.before (d ∷ k.between) (q ∷ k.after) ∙ sym (k.with_others d q))
-        (on_other name_of parent_of n (k.before ++ (d ∷ k.between)) k.after p q q_name
-        (subst (λ (ys : List X). StandsOn name_of parent_of n ys) (sym (append_assoc k.before (d ∷ k.between) (p ∷ k.after)))
-        (on_other name_of parent_of n k.before (k.between ++ (p ∷ k.after)) c d d_name (subst (λ (ys : List X). StandsOn name_of parent_of n ys) is on_n))))
 
     pub replace_on : (d : X) → name_of d ≡ name_of c → (n : Option (List ℕ)) → n ≢ Some (name_of p) → StandsOn name_of parent_of n xs → StandsOn name_of parent_of n (remove (set xs i d) j)
     replace_on d d_name n other on_n =

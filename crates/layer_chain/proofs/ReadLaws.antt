@@ -7,7 +7,7 @@ use Rattle.std.specs.Str.{bytes_eq}
 use Rattle.std.proofs.lemmas.Slice.Eq.{bytes_eq-Decides}
 use Rattle.std.proofs.lemmas.Bool.{cases_Bool, false_from_ne_true, false≢true}
 use Rattle.vol_units.specs.Chain.{is_named}
-use Rattle.layer_chain.specs.Layers.{HasNo, IsAbove, StandsOn, HasNoChild, IsTree, read_layers}
+use Rattle.layer_chain.specs.Layers.{HasNo, IsAbove, HasNoChild, read_layers}
 
 -- the test for a name
 pub is_named-same : (want : Option (List ℕ)) (name : List ℕ) → want ≡ Some name → is_named want name ≡ true
@@ -36,12 +36,6 @@ module _ {X : Type 0} (name_of : X → List ℕ) (parent_of : X → Option (List
 
   abbrev Above : Option (List ℕ) → List X → Type 0
   Above = IsAbove name_of parent_of
-
-  abbrev On : Option (List ℕ) → List X → Type 0
-  On = StandsOn name_of parent_of
-
-  abbrev Tree : List X → Type 0
-  Tree = IsTree name_of parent_of
 
   module _ {B : Type 0} (block_of : X → Option B) where
     abbrev read : List X → Option (List ℕ) → Option B
@@ -126,10 +120,6 @@ module _ {X : Type 0} (name_of : X → List ℕ) (parent_of : X → Option (List
     -- a layer on which none stands is taken out
     pub drop_keeps : (xs zs : List X) (p : X) → Childless (name_of p) xs → (want : Option (List ℕ)) → want ≢ Some (name_of p) → read (xs ++ zs) want ≡ read (xs ++ (p ∷ zs)) want
     drop_keeps xs zs p childless = read-over (name_of p) xs (p ∷ zs) zs childless (λ v m. sym (read-other v p zs m))
-
-    -- a layer that is put on top changes no reading but that of its name
-    pub push_keeps : (xs : List X) (x : X) (want : Option (List ℕ)) → want ≢ Some (name_of x) → read (x ∷ xs) want ≡ read xs want
-    push_keeps xs x want n = read-other want x xs n
 
     -- one layer of a walk from the newest on
     pub read-at_same : (xs : List X) (i : ℕ) (x : X) (want : List ℕ) → i < length xs → x ≡ get_or xs i x → bytes_eq want (name_of x) ≡ true → read (drop i xs) (Some want) ≡ option_or (block_of x) (read (drop (i + 1) xs) (parent_of x))

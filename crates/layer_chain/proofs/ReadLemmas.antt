@@ -1,15 +1,12 @@
 -- One layer of a walk from the newest layer on: of a reading, and of a chain.
-use Rattle.std.proofs.Common.{◌≡◌, ℕ, ◌+◌, ◌<◌, ◌≤◌, suc, Bool, cond, List, [], ◌∷◌, ◌++◌, length, map, get_or, take, drop, Option, None, Some, true, false, sym, refl, ap, ◌∙◌, arith}
+use Rattle.std.proofs.Common.{◌≡◌, ℕ, ◌+◌, ◌<◌, ◌≤◌, suc, Bool, cond, List, [], ◌∷◌, ◌++◌, length, map, get_or, drop, Option, None, Some, true, false, sym, refl, ap, ◌∙◌, arith}
 use Rattle.std.proofs.Math.Seq.{drop-cons}
-use Rattle.std.proofs.lemmas.List.{drop_all, append_assoc, map-append}
-use Rattle.std.specs.List.{filter}
-use Rattle.std.proofs.lemmas.List.Elements.{filter_more}
+use Rattle.std.proofs.lemmas.List.{drop_all, append_assoc}
 use Rattle.std.specs.Option.{option_or}
 use Rattle.std.specs.Str.{bytes_eq}
 use Rattle.sparse_image.specs.Image.{block_at}
 use Rattle.layer_chain.proofs.ReadLaws.{read-at_same, read-at_other, read-end, read-none}
 use Rattle.vol_units.specs.Chain.{is_named, chain_from}
-use Rattle.layer_chain.specs.Children.{children_named}
 use Rattle.layer_chain.specs.Tree.{Tree, name_of, parent_of, reads, head_reads, name_and_mark, marked_chain}
 use Rattle.layer_chain.specs.declared.layer.Layer.{Layer}
 
@@ -69,18 +66,3 @@ module _ (xs : List Layer) (i : ℕ) (x : Layer) (want : Option (List ℕ)) (wit
 
 pub chain-end : (xs : List Layer) (i : ℕ) (want : Option (List ℕ)) → length xs ≤ i → marked_chain (drop i xs) want ≡ []
 chain-end xs i want h = ap (λ (ys : List Layer). marked_chain ys want) (drop_all i xs h)
-
--- ---- the layers that stand on one
-
--- of one layer more
-pub children-more : (xs : List Layer) (name : List ℕ) (i : ℕ) (x : Layer) → i < length xs → x ≡ get_or xs i x
-    → children_named (take (i + 1) xs) name ≡ children_named (take i xs) name ++ cond (is_named (parent_of x) name) (name_of x ∷ []) []
-children-more xs name i x within is =
-    ap (map name_of) (filter_more (λ l. is_named (parent_of l) name) xs i x within)
-    ∙ ap (λ (y : Layer). map name_of (filter (λ l. is_named (parent_of l) name) (take i xs) ++ cond (is_named (parent_of y) name) (y ∷ []) [])) (sym is)
-    ∙ map-append name_of (filter (λ l. is_named (parent_of l) name) (take i xs)) (cond (is_named (parent_of x) name) (x ∷ []) [])
-    ∙ ap (λ ns. children_named (take i xs) name ++ ns) (one (is_named (parent_of x) name))
-  where
-    one : (on : Bool) → map name_of (cond on (x ∷ []) []) ≡ cond on (name_of x ∷ []) []
-    one true = refl
-    one false = refl

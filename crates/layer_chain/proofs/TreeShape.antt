@@ -37,14 +37,6 @@ module _ {X : Type 0} (name_of : X → List ℕ) (parent_of : X → Option (List
   no_append n [] ys h k = k
   no_append n (x ∷ xs) ys h k = (h.0, no_append n xs ys h.1 k)
 
-  pub childless_front : (n : List ℕ) (xs ys : List X) → Childless n (xs ++ ys) → Childless n xs
-  childless_front n [] ys h = tt
-  childless_front n (x ∷ xs) ys h = (h.0, childless_front n xs ys h.1)
-
-  pub childless_back : (n : List ℕ) (xs ys : List X) → Childless n (xs ++ ys) → Childless n ys
-  childless_back n [] ys h = h
-  childless_back n (x ∷ xs) ys h = childless_back n xs ys h.1
-
   pub childless_append : (n : List ℕ) (xs ys : List X) → Childless n xs → Childless n ys → Childless n (xs ++ ys)
   childless_append n [] ys h k = k
   childless_append n (x ∷ xs) ys h k = (h.0, childless_append n xs ys h.1 k)
