@@ -57,8 +57,3 @@ written_is_report heads book opening nodes other began many each =
     ap (λ l. call_lines heads book.entries ++ l) (same_end (modes_of book) (map volume_of_node nodes) v (length-map nodes volume_of_node ∙ many)
     (each_volume (modes_of book) nodes other v many each))
     ∙ ap (λ ms. call_lines heads book.entries ++ end_lines (modes_after ms book.entries) v) began
-
--- one replica is its own volume
-pub one_is : (modes : List Mode) (v : Volume) → EachIs modes (v ∷ []) v
-one_is modes v zero is = refl
-one_is modes v (suc r) is = refl
