@@ -27,12 +27,6 @@ next_line into whole place entries e inside is text =
     ∙ ap (λ n. into ++ (entry_line place e ++ journal_lines n (drop n entries))) (add-one place)
     ∙ ap (λ l. into ++ journal_lines place l) (sym cut) ∙ text
 
--- no line is left
-pub no_line : (into whole : List ℕ) (place : ℕ) (entries : List Entry) → length entries ≤ place
-    → into ++ journal_lines place (drop place entries) ≡ whole → into ≡ whole
-no_line into whole place entries past text =
-    sym (append-nil into) ∙ ap (λ l. into ++ journal_lines place l) (sym (drop_of_length-le entries past)) ∙ text
-
 -- the answers of a stream from an entry on
 answers-cut : (stream place : ℕ) (entries : List Entry) (a : Answer) → place < length entries → get_or entries place (entry.Answer a) ≡ entry.Answer a
     → answers_from stream place (drop place entries)
@@ -114,9 +108,3 @@ next_stream into whole stream streams entries hs inside is text =
     append_assoc into (reply_lines hs (answers_of stream entries)) _
     ∙ ap (λ n. into ++ (reply_lines hs (answers_of stream entries) ++ replies_from n (drop n streams) entries)) (add-one stream)
     ∙ ap (λ l. into ++ replies_from stream l entries) (sym cut) ∙ text
-
--- no stream is left
-pub no_stream : (into whole : List ℕ) (stream : ℕ) (streams : List (List Head)) (entries : List Entry) → length streams ≤ stream
-    → into ++ replies_from stream (drop stream streams) entries ≡ whole → into ≡ whole
-no_stream into whole stream streams entries past text =
-    sym (append-nil into) ∙ ap (λ l. into ++ replies_from stream l entries) (sym (drop_of_length-le streams past)) ∙ text
