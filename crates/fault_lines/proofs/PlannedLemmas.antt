@@ -1,16 +1,11 @@
 -- Which planned numbers have come, carry after carry.
-use Rattle.std.proofs.Common.{◌≡◌, ℕ, ◌+◌, ◌-◌, ◌^◌, ◌<◌, ◌≤◌, List, [], ◌∷◌, length, drop, get_or, ltb, Bool, if◌then◌else◌, refl, sym, ap, ◌∙◌, subst, add-one, arith}
+use Rattle.std.proofs.Common.{◌≡◌, ℕ, ◌-◌, ◌^◌, ◌<◌, ◌≤◌, List, [], ◌∷◌, length, ltb, Bool, if◌then◌else◌, sym, ap, ◌∙◌, subst, arith}
 use Rattle.std.specs.Prelude.{◌↔◌, IsTrue, slice_index_or, Contains}
-use Rattle.std.proofs.Math.Seq.{drop-cons}
 use Rattle.std.proofs.lemmas.Grind.{common_steps, get_or_default_zero}
 use Rattle.std.proofs.lemmas.Bool.Decides.{nat_tests}
 use Rattle.std.proofs.lemmas.List.Elements.{Contains-get_or}
 use Rattle.outer_traits.specs.Causes.{one_more}
 use Rattle.fault_lines.specs.Planned.{AreSmall, FollowsCarries, IsMet, IsNext, Planned, rising_above}
-
--- one number of the plan more is looked at
-pub rising_above-drop : (last i : ℕ) (numbers : List ℕ) → i < length numbers → rising_above last (drop i numbers) ≡ (if ltb last (get_or numbers i 0) then get_or numbers i 0 ∷ rising_above (get_or numbers i 0) (drop (i + 1) numbers) else rising_above last (drop (i + 1) numbers))
-rising_above-drop last i numbers h = rw (add-one, drop-cons numbers i 0 h) refl
 
 above_cons : (last n : ℕ) (more kept : List ℕ) (k : ℕ) → ((i : ℕ) → i < length more → n < slice_index_or more i 0) → ((i : ℕ) → i < length kept → last < slice_index_or kept i 0) → k < length (if ltb last n then n ∷ more else kept) → last < slice_index_or (if ltb last n then n ∷ more else kept) k 0
 above_cons last n more kept k above below h = grind (arith, common_steps, nat_tests, above (k - 1), below k)
@@ -37,38 +32,6 @@ IsMet-new numbers small = record {
   been = λ k h. absurd (omega arith);
   ahead = λ k h below. rising_above-above 0 numbers k below;
 }
-
--- the next planned number came
-pub IsMet-hit : (fails : List ℕ) (carries met : ℕ) → IsMet fails carries met → IsNext fails met (one_more carries) → IsMet fails (one_more carries) (met + 1)
-IsMet-hit fails carries met m next = record {
-  small = m.small;
-  within = omega arith;
-  rises = m.rises;
-  been = λ k below. been k below;
-  ahead = λ k from below. omega (arith, m.rises met k (omega arith) below);
-}
-  where
-    been : (k : ℕ) → k < met + 1 → slice_index_or fails k 0 ≤ one_more carries
-    been k below = grind (arith, m.been k)
-
--- it did not come yet
-pub IsMet-miss : (fails : List ℕ) (carries met : ℕ) → IsMet fails carries met → ¬ IsNext fails met (one_more carries) → IsMet fails (one_more carries) met
-IsMet-miss fails carries met m miss = record {
-  small = m.small;
-  within = m.within;
-  rises = m.rises;
-  been = λ k below. omega (arith, m.been k below);
-  ahead = λ k from below. ahead k from below;
-}
-  where
-    ahead : (k : ℕ) → met ≤ k → k < length fails → one_more carries < slice_index_or fails k 0
-    ahead k from below =
-        let here : met < length fails = omega arith in
-        let least : carries < slice_index_or fails met 0 = m.ahead met (omega arith) here in
-        let small : slice_index_or fails met 0 < 2 ^ 32 = m.small met here in
-        let other : slice_index_or fails met 0 ≡ one_more carries → ⊥ = λ e. miss (here, e) in
-        let later : met < k → slice_index_or fails met 0 < slice_index_or fails k 0 = λ h. m.rises met k h below in
-        grind arith
 
 -- The next carry is planned exactly where its number is the next of the plan.
 pub planned-next : (fails : List ℕ) (carries met : ℕ) → IsMet fails carries met → IsNext fails met (one_more carries) ↔ Contains fails (one_more carries)
