@@ -30,9 +30,6 @@ module _ {S : Type 0} where
   pub knows_is : (v w : Known S) → Knows v ≡ Knows w → v ≡ w
   knows_is v w e = cc
 
-  pub known_at : (vs : List (View S)) (id : ℕ) (x : View S) (v w : Known S) → get_elem? vs id ≡ some x → x ≡ Knows v → get_elem? vs id ≡ some (Knows w) → v ≡ w
-  known_at vs id x v w at is there = knows_is v w (sym is ∙ some-injective _ _ (sym at ∙ there))
-
   pub ticket_within : (served drawn : ℕ) (now : S) (homes : List (maybe.Option (Option S))) (last : S) (st : Stage) (a : ℕ)
       → OnStage served drawn now homes last st → ticket st ≡ Some a → (served ≤ a) × (a < drawn)
   ticket_within served drawn now homes last Idle a on e = let f : None ≡ Some a = e in absurd (cc)

@@ -1,10 +1,9 @@
 -- What a clause says of a seat.
-use Rattle.std.specs.Prelude.{◌≡◌, ℕ, ◌<◌, true, List, [], ◌∷◌, Option, None}
+use Rattle.std.specs.Prelude.{◌≡◌, ℕ, ◌<◌, true, [], ◌∷◌, Option, None}
 use Rattle.desk_lock.specs.declared.views.Known.{Known}
 use Rattle.desk_lock.specs.declared.views.Stage.TheVariants.{Idle, Holds}
 use Rattle.desk_lock.specs.declared.seats.Desk.{Desk}
 use Rattle.desk_lock.specs.declared.seats.Seat.{Seat}
-use Rattle.desk_lock.specs.Account.{Account, mine_in, running_in}
 use Rattle.desk_lock.specs.Known.{knowing, HasNumber}
 use Rattle.desk_lock.specs.Rule.{known_of, in_turn}
 
@@ -24,19 +23,6 @@ module _ {S : Type 0} where
   -- how many seats were split off the first
   abbrev pub made_of : Seat S → ℕ
   made_of s = (known s).made
-
-module _ {S Entry OpenCall Origin : Type 0} (account : Account S Entry OpenCall Origin) where
-  -- the journal as the seat last saw it
-  abbrev pub seen : Seat S → List Entry
-  seen s = account.journal (last_of s)
-
-  -- its own entries in it
-  abbrev pub mine : Seat S → List Entry
-  mine s = mine_in account (number_of s) (last_of s)
-
-  -- the calls that its stream had open
-  abbrev pub running : Seat S → List OpenCall
-  running s = running_in account (number_of s) (last_of s)
 
 module _ {S : Type 0} where
   -- no ticket is out with the seat
