@@ -1,48 +1,18 @@
 -- What lines tell, carry after carry, and what a wiring tells that notes each line in front of those before it.
-use Rattle.std.proofs.Common.{◌≡◌, ℕ, ◌+◌, ◌<◌, length, List, [], ◌∷◌, ◌++◌, Option, None, Some, refl, sym, ap, ◌∙◌, append_assoc, append-nil, add-zero, map, subst, inl, inr, arith}
+use Rattle.std.proofs.Common.{◌≡◌, ℕ, ◌+◌, ◌<◌, length, List, [], ◌∷◌, ◌++◌, Option, None, Some, sym, ap, ◌∙◌, append_assoc, append-nil, add-zero, map, subst, inl, inr, arith}
 use Rattle.std.specs.Prelude.{slice_index_or}
 use Rattle.std.proofs.lemmas.Bool.{cases_lt}
 use Rattle.std.proofs.lemmas.Grind.{common_steps}
 use Rattle.std.proofs.lemmas.List.{map-append, length-map}
 use Rattle.outer_traits.specs.declared.ends.Ends.{Ends}
-use Rattle.outer_traits.specs.declared.taken_back.LineRecord.{LineRecord}
-use Rattle.outer_traits.specs.Lines.{AreLinesOf, TellsMore, Records, RecordsOf, told_between}
+use Rattle.outer_traits.specs.Lines.{AreLinesOf, TellsMore, Records, RecordsOf}
 
 -- a line that carried nothing tells the same
 pub TellsMore-nil : (told : Option (List (List ℕ))) → TellsMore told told []
 TellsMore-nil None = tt
 TellsMore-nil (Some frames) = sym (append-nil frames)
 
--- one exchange after another
-pub TellsMore-trans : (s t u : Option (List (List ℕ))) (x y : List (List ℕ)) → TellsMore s t x → TellsMore t u y → TellsMore s u (x ++ y)
-TellsMore-trans s t None x y p q = tt
-TellsMore-trans s None (Some u) x y p q = absurd q
-TellsMore-trans None (Some t) (Some u) x y p q = absurd p
-TellsMore-trans (Some s) (Some t) (Some u) x y p q = q ∙ ap (λ l. l ++ y) p ∙ append_assoc s x y
-
--- the line that was noted last is told
-told_of-here : {T : Type 0} (r : LineRecord T) (rs : List (LineRecord T)) → told_between (r ∷ rs) r.ends.worker r.ends.replica ≡ Some r.told
-told_of-here r rs = grind arith
-
--- and each other as before
-told_of-other : {T : Type 0} (r : LineRecord T) (rs : List (LineRecord T)) (worker replica : ℕ) → ¬ ((worker ≡ r.ends.worker) × (replica ≡ r.ends.replica)) → told_between (r ∷ rs) worker replica ≡ told_between rs worker replica
-told_of-other r rs worker replica other = grind arith
-
--- whatever is read off what is told
-pub Records-noted : {T X : Type 0} (f : Option T → X) (r : LineRecord T) (rs : List (LineRecord T)) → Records (λ w k. f (told_between rs w k)) (λ w k. f (told_between (r ∷ rs) w k)) r.ends (f (Some r.told))
-Records-noted f r rs = record {
-  here = ap f (told_of-here r rs);
-  others = λ w k other. ap f (told_of-other r rs w k other);
-}
-
--- no line was taken back yet
-pub RecordsOf-nil : {T : Type 0} (f : ℕ → ℕ → T) (worker : ℕ) → RecordsOf f f worker []
-RecordsOf-nil f worker = record {
-  here = λ k d h. absurd (omega arith);
-  others = λ w k h. refl;
-}
-
--- and one more
+-- a line more was taken back
 pub RecordsOf-push : (T : Type 0) (f g h : ℕ → ℕ → T) (worker : ℕ) (told : List T) (e : Ends) (t : T) → RecordsOf f g worker told → Records g h e t → e ≡ record { worker = worker; replica = length told } → RecordsOf f h worker (told ++ t ∷ [])
 RecordsOf-push T f g h worker told e t p q is = record {
   here = λ k d below. elim (cases_lt k (length told)) [ inl earlier ↦ before k d earlier | inr from ↦ last k d (omega (arith, longer)) ];
