@@ -42,17 +42,3 @@ apart_before a b k apart write =
     bytes_apart b.range a.range k
     (λ common. apart (subst (λ (x : Kind). ConflictBy a.kind x a.range b.range) (sym write)
     (for_write a.kind a.range b.range (common.0, common.2, common.1))))
-
-for_whole : (other : Kind) (a b : BlockRange) → ConflictBy other kind.Whole a b
-for_whole kind.Read a b = tt
-for_whole kind.Write a b = tt
-for_whole kind.Whole a b = tt
-
--- a ticket for the whole volume, and one behind it
-pub whole_before : (a b : Ticket) → a.kind ≡ kind.Whole → Conflict a b
-whole_before a b whole = subst (λ (x : Kind). ConflictBy x b.kind a.range b.range) (sym whole) tt
-
--- a ticket for the whole volume, and one before it
-pub whole_behind : (a b : Ticket) → b.kind ≡ kind.Whole → Conflict a b
-whole_behind a b whole =
-    subst (λ (x : Kind). ConflictBy a.kind x a.range b.range) (sym whole) (for_whole a.kind a.range b.range)
