@@ -76,12 +76,6 @@ pub behind_falls_fail : (es : List Entry) (r q source : ℕ) → AreBehindFalls 
 behind_falls_fail es r q source behind begun which =
     BehindFalls-append [] es (entry.Mark (mark.Failed r) ∷ entry.Mark (mark.Aborted q) ∷ []) behind (tt, (behind_failed es r q source begun which, tt))
 
--- and with the answer
-pub behind_falls_failed_call : (es : List Entry) (r q source : ℕ) (a : Answer) → AreBehindFalls es → rebuild_of q es ≡ rebuild.Open source → (r ≡ q) ⊎ (r ≡ source)
-    → AreBehindFalls (es ++ entry.Mark (mark.Failed r) ∷ entry.Mark (mark.Aborted q) ∷ entry.Answer a ∷ [])
-behind_falls_failed_call es r q source a behind begun which =
-    BehindFalls-append [] es (entry.Mark (mark.Failed r) ∷ entry.Mark (mark.Aborted q) ∷ entry.Answer a ∷ []) behind (tt, (behind_failed es r q source begun which, (tt, tt)))
-
 -- ---- entries without an aborted mark
 
 abbrev pub IsNotAborted : Entry → Type 0

@@ -459,45 +459,6 @@ pub names_tell : (opening : Spot) (names : List UsedName) (journal : List Entry)
     → TellOf names opening.state → TellOf (names_after names journal) (replay opening.state journal)
 names_tell opening names journal legal named tell = tell_behind opening [] opening.state names journal refl legal named tell
 
--- ---- the names that were taken, of any journal
-
-used_called : (names : List UsedName) (state : PlainState) (c : Call) → names_in names ≡ state.used → names_in (names_after_call names c) ≡ (after_call state c).used
-used_called names state (call.Read offset n) same = same
-used_called names state (call.Write offset bytes) same = same
-used_called names state call.Ping same = same
-used_called names state (call.Other kind) same = same
-used_called names state (call.Command (command.Snapshot name)) same = names_in-with_name names name ∙ ap (λ l. with_used l name) same
-used_called names state (call.Command (command.Remove name)) same = names_in-marked name names ∙ same
-used_called names state (call.Command (command.Revert name)) same = same
-used_called names state (call.Command command.Purge) same = same
-used_called names state (call.Command command.Status) same = same
-used_called names state (call.Command (command.Fail r)) same = same
-used_called names state (call.Command (command.Add r)) same = same
-
-used_unless : (refused : Bool) (names : List UsedName) (state : PlainState) (c : Call) → names_in names ≡ state.used
-    → names_in (cond refused names (names_after_call names c)) ≡ (cond refused state (after_call state c)).used
-used_unless true names state c same = same
-used_unless false names state c same = used_called names state c same
-
-used_entry : (names : List UsedName) (state : PlainState) (e : Entry) → names_in names ≡ state.used → names_in (names_after_entry names e) ≡ (after_entry state e).used
-used_entry names state (entry.Answer a) same = used_unless (is_refusal a.reply) names state a.call same
-used_entry names state (entry.Mark (mark.Purged p)) same = same
-used_entry names state (entry.Mark (mark.Fault stream r count)) same = same
-used_entry names state (entry.Mark (mark.Failed r)) same = same
-used_entry names state (entry.Mark (mark.Added r source name)) same = names_in-with_name names name ∙ ap (λ l. with_used l name) same
-used_entry names state (entry.Mark (mark.Promoted r)) same = same
-used_entry names state (entry.Mark (mark.Aborted r)) same = same
-
--- behind these entries the names are those of the state
-pub names_in-after : (names : List UsedName) (state : PlainState) (es : List Entry) → names_in names ≡ state.used → names_in (names_after names es) ≡ (replay state es).used
-names_in-after names state [] same = same
-names_in-after names state (e ∷ es) same = names_in-after (names_after_entry names e) (after_entry state e) es (used_entry names state e same)
-
--- and those of two lists of entries, one behind the other
-pub names_after-append : (names : List UsedName) (xs ys : List Entry) → names_after names (xs ++ ys) ≡ names_after (names_after names xs) ys
-names_after-append names [] ys = refl
-names_after-append names (e ∷ es) ys = names_after-append (names_after_entry names e) es ys
-
 -- ---- the layers
 
 -- a part of a purge

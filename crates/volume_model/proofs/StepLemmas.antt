@@ -10,7 +10,6 @@ use Rattle.volume_model.specs.declared.call.Call.{Call}
 use Rattle.volume_model.specs.declared.call.Call.TheVariants as call
 use Rattle.volume_model.specs.declared.call.Refusal.{Refusal}
 use Rattle.volume_model.specs.declared.entry.Entry.{Entry}
-use Rattle.volume_model.specs.declared.entry.Entry.TheVariants as entry
 use Rattle.volume_model.specs.declared.mode.Mode.{Mode}
 use Rattle.volume_model.specs.declared.mode.Mode.TheVariants.{Rw, Wo, Err}
 use Rattle.volume_model.specs.declared.entry.Answer.{Answer}
@@ -19,7 +18,6 @@ use Rattle.volume_model.specs.declared.call.Reply.TheVariants as reply
 use Rattle.volume_model.specs.declared.call.Refusal.TheVariants.{TooLong, OutOfRange, NameUsed, ChainFull, NoSuchSnapshot}
 use Rattle.volume_model.specs.Disk.{is_good}
 use Rattle.volume_model.specs.Snapshots.{layer_count, is_live}
-use Rattle.volume_model.specs.Marks.{HasNoMark}
 use Rattle.volume_model.specs.History.{says_no_replica, IsAnswered}
 use Rattle.volume_model.specs.PlainState.{Volume, PlainState, is_used}
 use Rattle.volume_model.specs.PlainStep.{longest_call, most_layers, range_refusal, room_refusal, live_refusal, add_refusal, command_refusal, volume_refusal, name_refusal, refusal_of, after_call, reply_of, step_unless, plain_step}
@@ -39,19 +37,6 @@ replay-push opening before e = replay-append opening before (e ∷ [])
 pub modes_after-append : (modes : List Mode) (before after : List Entry) → modes_after modes (before ++ after) ≡ modes_after (modes_after modes before) after
 modes_after-append modes [] after = refl
 modes_after-append modes (e ∷ es) after = modes_after-append (modes_after_entry modes e) es after
-
--- ---- journals of answers alone
-
--- they leave the modes
-pub modes_after-no_mark : (modes : List Mode) (es : List Entry) → HasNoMark es → modes_after modes es ≡ modes
-modes_after-no_mark modes [] none = refl
-modes_after-no_mark modes (entry.Answer a ∷ es) none = modes_after-no_mark modes es none
-modes_after-no_mark modes (entry.Mark m ∷ es) none = absurd none
-
-pub no_mark-append : (xs ys : List Entry) → HasNoMark xs → HasNoMark ys → HasNoMark (xs ++ ys)
-no_mark-append [] ys c d = d
-no_mark-append (entry.Answer a ∷ xs) ys c d = no_mark-append xs ys c d
-no_mark-append (entry.Mark m ∷ xs) ys c d = absurd c
 
 -- ---- the plain disk has its replica
 
@@ -167,14 +152,3 @@ call_raises state (call.Command command.Purge) = omega arith
 call_raises state (call.Command command.Status) = omega arith
 call_raises state (call.Command (command.Fail r)) = omega arith
 call_raises state (call.Command (command.Add r)) = omega arith
-
-unless_raises :
-    (why : Option Refusal) (modes : List Mode) (state : PlainState) (c : Call)
-    → (step_unless why modes state c).0.volume.snapshots.number ≤ state.volume.snapshots.number + 1
-unless_raises (Some why) modes state c = omega arith
-unless_raises None modes state c = call_raises state c
-
-pub step_raises_number :
-    (modes : List Mode) (state : PlainState) (c : Call)
-    → (plain_step modes state c).0.volume.snapshots.number ≤ state.volume.snapshots.number + 1
-step_raises_number modes state c = unless_raises (refusal_of modes state c) modes state c

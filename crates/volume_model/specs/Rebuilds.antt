@@ -123,11 +123,3 @@ BehindFalls before (e ∷ es) = StandsBehindFall before e × BehindFalls (before
 -- so does each aborted mark of the journal
 abbrev pub AreBehindFalls : List Entry → Type 0
 AreBehindFalls journal = BehindFalls [] journal
-
--- ---- what a state that knows of its open rebuild keeps
-
--- of the journal this rebuild is open, the replica and its source, and no other; or none is
-abbrev pub IsOpenOnly : List Entry → Option (ℕ × ℕ) → Type 0
-IsOpenOnly journal None = (q s : ℕ) → rebuild_of q journal ≢ rebuild.Open s
-IsOpenOnly journal (Some b) =
-    (rebuild_of b.0 journal ≡ rebuild.Open b.1) × ((q s : ℕ) → rebuild_of q journal ≡ rebuild.Open s → q ≡ b.0)
