@@ -3,10 +3,9 @@
 
 mod copy;
 mod frames;
+pub mod laws;
 mod rooms;
 mod steps;
-#[cfg(test)]
-mod tests;
 
 pub use copy::{Copied, copy_all};
 pub use frames::put_number;
