@@ -8,11 +8,7 @@ mod disk;
 #[cfg(test)]
 mod head;
 #[cfg(test)]
-mod image;
-#[cfg(test)]
 mod journal;
-#[cfg(test)]
-mod layers;
 #[cfg(test)]
 mod lines;
 #[cfg(test)]
@@ -23,8 +19,6 @@ mod modes;
 mod runs;
 #[cfg(test)]
 mod script;
-#[cfg(test)]
-mod snapshots;
 #[cfg(test)]
 mod told;
 #[cfg(test)]

@@ -9,6 +9,3 @@ pub use rebuild_state::ListedPages;
 pub use rebuilding::Rebuilding;
 pub use replica_node::{LayerName, ReplicaNode};
 pub use vol_units::PageRef;
-
-#[cfg(test)]
-mod tests;

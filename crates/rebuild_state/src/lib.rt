@@ -7,6 +7,3 @@ mod listed_pages;
 pub use listed_pages::ListedPages;
 pub use open_calls::{Mode, Ticket};
 pub use replica_node::{BLOCK_BYTES, PAGE_BLOCKS, ReplicaNode};
-
-#[cfg(test)]
-mod tests;

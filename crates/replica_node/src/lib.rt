@@ -14,6 +14,3 @@ pub use snapshot_ops::Spare;
 pub use sparse_image::{BLOCK_BYTES, Block, PAGE_BLOCKS, Page};
 pub use vol_units::{BlockRange, LayerName, VolumeSize};
 pub use volume_model::FoldOrDrop;
-
-#[cfg(test)]
-mod tests;

@@ -1,0 +1,11 @@
+//! Public calls of the crates of one replica and of its rebuild, with ample memory.
+#![tactic(auto)]
+
+#[cfg(test)]
+mod layers;
+#[cfg(test)]
+mod node;
+#[cfg(test)]
+mod page;
+#[cfg(test)]
+mod rebuild;
