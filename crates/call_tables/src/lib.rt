@@ -16,11 +16,17 @@ mod meaning;
 #[cfg(test)]
 mod modes;
 #[cfg(test)]
+mod outside;
+#[cfg(test)]
 mod runs;
 #[cfg(test)]
 mod script;
 #[cfg(test)]
+mod streams;
+#[cfg(test)]
 mod told;
+#[cfg(test)]
+mod turns;
 #[cfg(test)]
 mod units;
 #[cfg(test)]

@@ -8,6 +8,3 @@ mod plan_wiring;
 pub use carry_plan::CarryPlan;
 pub use plan_line::PlanLine;
 pub use plan_wiring::PlanWiring;
-
-#[cfg(test)]
-mod tests;

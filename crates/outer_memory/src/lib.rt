@@ -22,6 +22,3 @@ pub use memory_wiring::MemoryWiring;
 pub use no_fault_line::{NoFaultLine, NoFaultWiring};
 pub use no_fault_sink::NoFaultSink;
 pub use no_fault_source::NoFaultSource;
-
-#[cfg(test)]
-mod tests;

@@ -8,6 +8,3 @@ mod source;
 pub use gate::OpenGate;
 pub use sink::StdSink;
 pub use source::StdSource;
-
-#[cfg(test)]
-mod tests;

@@ -7,6 +7,3 @@ mod turns;
 pub use ticket::{Kind, Ticket, TicketNumber};
 pub use turns::{MayStart, Turns};
 pub use vol_units::BlockRange;
-
-#[cfg(test)]
-mod tests;
