@@ -4,17 +4,11 @@
 #[cfg(test)]
 mod commands;
 #[cfg(test)]
-mod disk;
-#[cfg(test)]
 mod head;
 #[cfg(test)]
 mod journal;
 #[cfg(test)]
 mod lines;
-#[cfg(test)]
-mod meaning;
-#[cfg(test)]
-mod modes;
 #[cfg(test)]
 mod outside;
 #[cfg(test)]
