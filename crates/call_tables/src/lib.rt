@@ -4,17 +4,11 @@
 #[cfg(test)]
 mod commands;
 #[cfg(test)]
-mod head;
+mod digest;
 #[cfg(test)]
 mod journal;
 #[cfg(test)]
-mod lines;
-#[cfg(test)]
 mod outside;
-#[cfg(test)]
-mod runs;
-#[cfg(test)]
-mod script;
 #[cfg(test)]
 mod streams;
 #[cfg(test)]
