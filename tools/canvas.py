@@ -50,8 +50,9 @@ class Canvas:
         self.add('<text x="%.1f" y="%.1f" font-family="%s" font-size="%d" fill="%s"%s>%s</text>', left, base, family, size,
                  colour, weight, escape(text))
 
-    def svg(self, width, height):
-        """The whole picture."""
-        head = ('<svg xmlns="http://www.w3.org/2000/svg" width="%d" height="%d" viewBox="0 0 %d %d">'
+    def svg(self, width, height, title, description):
+        """The whole picture, with a title and a description for those who do not see it."""
+        head = ('<svg xmlns="http://www.w3.org/2000/svg" width="%d" height="%d" viewBox="0 0 %d %d" role="img">'
                 % (width, height, width, height))
-        return '\n'.join([head, '<rect width="100%" height="100%" fill="#ffffff"/>', *self.elements, '</svg>', ''])
+        words = '<title>%s</title>\n<desc>%s</desc>' % (escape(title), escape(description))
+        return '\n'.join([head, words, '<rect width="100%" height="100%" fill="#ffffff"/>', *self.elements, '</svg>', ''])

@@ -36,8 +36,9 @@ above the other overlap. Bars are coloured by kind; a refused one has a red bord
 a band goes on in the next. Each replica has a lane coloured by its mode, with its marks: where it falls, joined by a dashed line
 to the stream whose line to it failed, if that is why; and where its rebuild begins, joined to its source, and ends. What a purge
 takes out has a lane too. Below are the chain at the end and a legend. Where at most 4 streams have a journal of at most 40
-lines, bars have all that a call says; of at most 80 lines, the kind and range or names, and more where there is room; else a
-letter. Refusals then stand in words below. What has no room is left out in the middle, and the picture says how much that is.
+lines, bars have all that a call says, with its bytes; of at most 80 lines, the kind and the range or names; else a letter.
+Refusals then stand in words below, and all that a call says is shown where a pointer rests on its bar. What has no room is left
+out in the middle, and the picture says how much that is. Its title and its description are for those who do not see it.
 '''
 
 

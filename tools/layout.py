@@ -20,8 +20,8 @@ LEAST_COLUMN = 25
 # With no more streams each band shows all of them.
 FEW_STREAMS = 4
 MOST_LABEL = 18
-# How much the bars say: on lines below each other all that a call says, where few streams have few calls; or its kind and range
-# on one line; or a letter and its names.
+# How much the bars say: on lines below each other all that a call says, where few streams have few calls; or its kind, and its
+# range or names, on one line; or a letter and its names.
 ALL, ONE_LINE, LETTERS = 'all', 'one line', 'letters'
 MOST_LINES_OF_ALL = 40
 MOST_LINES_OF_ONE = 80
@@ -234,7 +234,7 @@ def needed_labels(entry, form):
     if form == ALL:
         return all_labels(entry)
     if form == ONE_LINE:
-        return (' '.join(one_line_words(entry)[:2]),)
+        return (' '.join(one_line_words(entry)),)
     names = () if entry.kind in ('read', 'write', 'unmap', 'other') else entry.call[1:]
     return (SHORT[entry.kind], *((shorten(' '.join(names), MOST_LABEL),) if names else ()))
 
@@ -267,16 +267,12 @@ def all_labels(entry):
 
 
 def one_line_words(entry):
-    """The words of a bar of one line: the kind, the range with its units or the names, and then what there may be room for."""
+    """The words of a bar of one line: the kind, and the range with its units or the names."""
     words = [SHORT[entry.kind]]
     if entry.kind in ('read', 'write', 'unmap'):
         words.append('%s+%s' % tuple(spell_size(int(number)) for number in entry.call[1:3]))
     elif entry.call[1:]:
         words.append(shorten(' '.join(entry.call[1:]), MOST_LABEL))
-    if entry.refusal:
-        words.append(entry.refusal)
-    elif entry.kind == 'write' or entry.runs:
-        words.append(shorten_runs(entry.runs or entry.call[3], 24))
     return words
 
 

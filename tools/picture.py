@@ -31,6 +31,9 @@ HEAD_FILL, LAYER_FILL, MARKED_FILL = '#fde3bd', '#cdeed9', '#f0f0f0'
 MODES = {RW: '#58a55c', WO: '#e8a800', ERR: RED}
 MODE_TEXTS = {RW: 'replica in mode RW', WO: 'replica in mode WO, being rebuilt', ERR: 'replica in mode ERR'}
 MODE_AFTER = {'fault': ERR, 'failed': ERR, 'aborted': ERR, 'added': WO, 'promoted': RW, 'salvaged': RW}
+# Of the description, what is said of the lanes.
+LANES = ('Each stream has a lane with a bar for each call, from what it saw when it was taken up to its place. '
+         'Each replica has a lane coloured by its mode, with its marks.')
 # What is said of the sign that marks have after which a replica has a mode.
 SIGNS = {WO: 'a rebuild begins', RW: 'a replica is read again', ERR: 'a replica falls'}
 
@@ -64,26 +67,48 @@ class Picture:
         top = self.draw_end(top + 6)
         if self.layout.form != ALL:
             top = self.draw_refusals(top)
-        return self.canvas.svg(self.width, self.draw_legend(top + 4) + 10)
+        height = self.draw_legend(top + 4) + 10
+        return self.canvas.svg(self.width, height, self.title(), ' '.join([*self.notes(), LANES, self.end_text()]).strip())
 
     def draw_title(self):
         """What the picture shows; gives the next free height."""
+        self.note(24, self.title(), size=15, bold=True)
+        lines, room = [''], (self.width - 24) / SMALL_LETTER
+        for note in self.notes():
+            if lines[-1] and len(lines[-1]) + 1 + len(note) > room:
+                lines.append('')
+            lines[-1] = (lines[-1] + ' ' + note).strip()
+        for number, line in enumerate(lines):
+            self.note(42 + 15 * number, line, FAINT)
+        return 41 + 15 * len(lines)
+
+    def title(self):
+        """How much the picture shows."""
         entries = self.report.entries
         refused, marks = sum(bool(entry.refusal) for entry in entries), len(self.layout.journal) - len(entries)
         title = '%s of %s on %s, %d refused' % (count_text(len(entries), 'call'), count_text(len(self.layout.streams), 'stream'),
                                                 count_text(self.report.replica_count, 'replica'), refused)
-        self.note(24, title + (', ' + count_text(marks, 'mark') if marks else ''), size=15, bold=True)
-        notes, most = ['Places from left to right.'], most_at_once(entries)
+        return title + (', ' + count_text(marks, 'mark') if marks else '')
+
+    def notes(self):
+        """Sentences that say how the picture is to be read."""
+        notes, most = ['Places from left to right.'], most_at_once(self.report.entries)
         if most > 1:
-            notes.append('Bars one above the other are calls that overlap: at most %d at once.' % most)
+            notes += ['Bars one above the other are calls that overlap: at most %d at once.' % most,
+                      'Another run may have another order.']
         if any(('stream', stream) not in band.lanes for band in self.bands for stream in self.layout.streams):
             notes.append('A band shows the streams that have a bar in it.')
         if self.left_out:
             notes.append('Left out in the middle: %d of %d places.' % (self.left_out, len(self.layout.journal)))
         if self.report.unread:
             notes.append('Of the report %s could not be read.' % count_text(len(self.report.unread), 'line'))
-        self.note(42, ' '.join(notes), FAINT)
-        return 56
+        return notes
+
+    def end_text(self):
+        """The modes at the end in a sentence, or the empty text where the report has none."""
+        modes = self.report.of_replicas('mode')
+        texts = ['r%d %s' % (replica, modes[replica]) for replica in sorted(modes)]
+        return 'At the end: %s.' % ', '.join(texts) if texts else ''
 
     def note(self, base, text, colour=INK, size=11, bold=False):
         """A line of text from the left edge."""

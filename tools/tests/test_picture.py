@@ -118,9 +118,20 @@ class Picture(unittest.TestCase):
                 overlap = one.saw <= other.place and other.saw <= one.place
                 (left, right), (begin, end) = bars[one.place], bars[other.place]
                 self.assertEqual(left < end and begin < right, overlap, (one, other))
+
+    def test_it_says_where_another_run_may_have_another_order(self):
         self.assertIn('Places from left to right.', texts(drawn(ONE_STREAM)))
-        self.assertIn('Places from left to right. Bars one above the other are calls that overlap: at most 2 at once.',
-                      texts(drawn(SIDE_BY_SIDE)))
+        noted = texts(drawn(SIDE_BY_SIDE))[1:3]
+        self.assertEqual(noted, ['Places from left to right. Bars one above the other are calls that overlap: at most 2 at once.',
+                                 'Another run may have another order.'])
+
+    def test_a_title_and_a_description_say_it_in_words(self):
+        title, description = list(drawn(REBUILD))[:2]
+        self.assertEqual((title.tag, description.tag), (SVG + 'title', SVG + 'desc'))
+        self.assertEqual(title.text, texts(drawn(REBUILD))[0])
+        self.assertTrue(description.text.startswith('Places from left to right. '))
+        self.assertTrue(description.text.endswith(' with its marks. At the end: r0 ERR, r1 ERR.'), description.text)
+        self.assertTrue(list(drawn(''))[1].text.endswith(' with its marks.'))
 
     def test_a_bar_goes_on_in_the_next_band(self):
         lines = ['%d %d 0 %d read 0 4096 ok 00*4096' % (place, place, place) for place in range(30)]
@@ -149,10 +160,12 @@ class Picture(unittest.TestCase):
         tree, entries = drawn(report), read_report(report).entries
         self.assertEqual(len(boxes(tree)), len(entries))
         self.assertLess(float(tree.get('height')), 1600)
-        # Each has its kind and its range or names on its bar at least.
+        # Each has its kind and its range or names on its bar, and none has bytes or a refusal there.
         for entry in entries:
-            needed = needed_labels(entry, ONE_LINE)[0]
-            self.assertTrue(any(text == needed or text.startswith(needed + ' ') for text in texts(tree)), needed)
+            self.assertIn(needed_labels(entry, ONE_LINE)[0], texts(tree))
+        calls = [text for text in texts(tree) if re.match('[RW] ', text)]
+        self.assertTrue(calls)
+        self.assertEqual([text for text in calls if not re.fullmatch(r'[RW] [0-9KMG-]+\+[0-9KMG]+', text)], [])
         self.assertTrue({'stream 0', 'stream 15', 'W: write', 'snap: snapshot'} <= set(texts(tree)))
 
     def test_300_calls_are_all_there(self):
@@ -179,7 +192,8 @@ class Picture(unittest.TestCase):
         for report in (ONE_STREAM, COMMANDS, REBUILD, ABORTED, SAVED, SIDE_BY_SIDE, long_run(70, 9), long_run(300, 16), ''):
             tree = drawn(report)
             width, height = float(tree.get('width')), float(tree.get('height'))
-            for element in list(tree)[1:]:
+            # All but the title, the description and the background.
+            for element in list(tree)[3:]:
                 right = float(element.get('x', element.get('x2', 0))) + float(element.get('width', 0))
                 if element.tag == SVG + 'text':
                     right += 6 * len(element.text)
