@@ -6,21 +6,16 @@ import unittest
 import asked
 import journal
 import script
+from built_program import LAUNCHER, ProgramTest
 from generated_runs import run_text
 from report import read_report
-from test_program import LAUNCHER
 
 SEEDS = 10
 # The order in which workers come to their steps is another one at each time.
 TIMES = 3
 
 
-class Each(unittest.TestCase):
-    @classmethod
-    def setUpClass(cls):
-        # The first call builds the program where it is not built, which is not to be a part of a test.
-        subprocess.run([LAUNCHER], stdin=subprocess.DEVNULL, capture_output=True)
-
+class Each(ProgramTest):
     def printed(self, given, words):
         """What the program prints of a script."""
         ended = subprocess.run([LAUNCHER, 'run', *words], input=given, capture_output=True, timeout=60)

@@ -24,13 +24,16 @@ END
 echo usage >&2
 '''
 BUILD = '''mkdir -p out && printf '#!/bin/sh\\necho "ran $*"\\n' > out/volume_cli && chmod +x out/volume_cli'''
-BEGIN = ('longhorn: proving and building, which takes some 10 to 15 minutes the first time\n'
+BEGIN = ('longhorn: proving and building the program first: README.md says how long that takes\n'
          'longhorn: vol_units: 8 of 72 functions checked\nlonghorn: vol_units is proved\n')
 
 
 class Launcher(unittest.TestCase):
-    def launched(self, said, build, times=1):
-        """The code, the output and the note of the last of so many runs of a copy, where `rt` says and builds that."""
+    def launched(self, said, build, may_build=('',)):
+        """The code, the output and the note of the last run of a copy, where `rt` says and builds that.
+
+        It is run once for each value of LONGHORN_BUILD.
+        """
         with tempfile.TemporaryDirectory() as folder:
             os.makedirs(os.path.join(folder, 'crates', 'volume_cli'))
             os.makedirs(os.path.join(folder, 'bin'))
@@ -41,8 +44,9 @@ class Launcher(unittest.TestCase):
                 file.write(RT % (said, build))
             os.chmod(rt, 0o755)
             path = os.path.join(folder, 'bin') + os.pathsep + os.environ['PATH']
-            for _ in range(times):
-                ended = subprocess.run([os.path.join(folder, 'longhorn'), 'run', 'x'], env=dict(os.environ, PATH=path),
+            for value in may_build:
+                ended = subprocess.run([os.path.join(folder, 'longhorn'), 'run', 'x'],
+                                       env=dict(os.environ, PATH=path, LONGHORN_BUILD=value),
                                        stdin=subprocess.DEVNULL, capture_output=True, text=True)
             return ended.returncode, ended.stdout, ended.stderr
 
@@ -52,7 +56,12 @@ class Launcher(unittest.TestCase):
         self.assertEqual(self.launched(said, BUILD), (0, 'ran run x\n', note))
 
     def test_what_is_built_is_only_run(self):
-        self.assertEqual(self.launched('', BUILD, times=2), (0, 'ran run x\n', ''))
+        for value in ('', 'no'):
+            self.assertEqual(self.launched('', BUILD, ('', value)), (0, 'ran run x\n', ''))
+
+    def test_it_builds_nothing_where_it_is_told_so(self):
+        note = 'longhorn: the program is not built, or older than its sources: ./longhorn proves and builds it\n'
+        self.assertEqual(self.launched('', BUILD, ('no',)), (1, '', note))
 
     def test_what_goes_wrong_is_shown(self):
         note = BEGIN + 'error: a goal is open\nlonghorn: the program could not be built\n'

@@ -5,10 +5,8 @@ import sys
 import tempfile
 import unittest
 
-import script
+from built_program import LAUNCHER, TOP, ProgramTest
 
-TOP = os.path.dirname(os.path.dirname(os.path.abspath(script.__file__)))
-LAUNCHER = os.path.join(TOP, 'longhorn')
 LINE = b'{"volume":"v","size":2097152,"replicas":1,"streams":[{"control":["status"]}]%s}\n'
 STATUS = LINE % b''
 HEAD = b'mode r0 RW\nchain r0 head\nhead r0 731859029215873fdac1c9f2f8bd25a334abf0f3a9e1b057cf2cacc2826d86b0\n'
@@ -41,12 +39,7 @@ SPELLED = (b'{"streams":[{"frames":0,"x":-0},{"control":["purge","revert \\u0062
 ANSWERED = b'0 0 1 0 purge ok\n1 1 1 1 revert b error no such snapshot\n'
 
 
-class Program(unittest.TestCase):
-    @classmethod
-    def setUpClass(cls):
-        # The first call builds the program where it is not built, which is not to be a part of a test.
-        subprocess.run([LAUNCHER], stdin=subprocess.DEVNULL, capture_output=True)
-
+class Program(ProgramTest):
     def run_with(self, words, stdin=subprocess.DEVNULL, stdout=subprocess.PIPE, given=None):
         """The code, what was printed, and the note."""
         streams = {'input': given} if given is not None else {'stdin': stdin}
