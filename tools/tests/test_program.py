@@ -1,5 +1,6 @@
 """Tests of the built program from outside: the codes and notes of its statuses, and the examples."""
 import os
+import re
 import subprocess
 import sys
 import tempfile
@@ -92,6 +93,12 @@ class Program(ProgramTest):
             given.write(STATUS)
             given.seek(0)
             self.assertEqual(self.run_with(['run'], stdin=given, stdout=full), (5, None, b'write fault\n'))
+
+    def test_the_readme_shows_what_its_command_prints(self):
+        with open(os.path.join(TOP, 'README.md'), encoding='utf-8') as file:
+            command, shown = re.search(r'`(\./longhorn [^`\n]+)` prints\n\n((?:    .+\n)+)', file.read()).groups()
+        ended = subprocess.run(command, shell=True, cwd=TOP, capture_output=True, text=True)
+        self.assertEqual((ended.returncode, ended.stdout, ended.stderr), (0, re.sub('^    ', '', shown, flags=re.MULTILINE), ''))
 
     def test_the_examples_print_what_stands_beside_them(self):
         ended = subprocess.run([sys.executable, os.path.join(TOP, 'examples', 'run_all')], capture_output=True, text=True)
