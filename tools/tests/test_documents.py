@@ -153,6 +153,23 @@ def shown(path, example):
     return '\n\n' + ''.join('    %s\n' % line for line in lines) + '\n' in read(TOP, path)
 
 
+def crates():
+    """What each crate of crates.txt stands on, of this repository and of the kit."""
+    lines = [line for line in read(TOP, 'crates.txt').splitlines() if line and not line.startswith('#')]
+    return {line.partition(':')[0].split()[0]: line.partition(':')[2].split() for line in lines}
+
+
+def storeys(drawing):
+    """The crates of each storey of a drawing, the uppermost first. A line of hyphens parts two storeys."""
+    found = [[]]
+    for line in drawing.splitlines():
+        if '|' in line:
+            found[-1] += line.partition('|')[2].split()
+        else:
+            found.append([])
+    return found
+
+
 def blocks(text):
     """The blocks of code of a document: lines that are four blanks in, without those."""
     return [re.sub('^    ', '', block, flags=re.MULTILINE) for block in re.findall(r'(?<=\n\n)(?:    .*\n)+', text)]
@@ -198,6 +215,25 @@ class Definitions(unittest.TestCase):
             self.assertTrue(defines(text, name), name)
         for name in ('is', 'good', 'IsNam', 'chain', 'even', 'name'):
             self.assertFalse(defines(text, name), name)
+
+
+class Map(unittest.TestCase):
+    def setUp(self):
+        self.text = read(TOP, 'docs/ARCHITECTURE.md')
+        self.storeys = storeys(blocks(self.text)[0])
+
+    def test_the_drawing_and_the_tables_have_each_crate_once(self):
+        self.assertEqual(sorted(sum(self.storeys, [])), sorted(crates()))
+        self.assertEqual(sorted(re.findall(r'^\| `(\w+)` \|', self.text, re.MULTILINE)), sorted(crates()))
+
+    def test_a_crate_stands_only_on_its_own_storey_and_on_those_below(self):
+        storey_of = {crate: number for number, storey in enumerate(self.storeys) for crate in storey}
+        wrong = ['%s stands on %s' % (crate, below) for crate, all_below in crates().items() for below in all_below
+                 if below in storey_of and (storey_of[below] < storey_of[crate] or storey_of[below] == 0)]
+        self.assertEqual(wrong, [])
+
+    def test_what_a_drawing_says(self):
+        self.assertEqual(storeys('a run  |  one  two\n       |  three\n-------+------\nbelow  |  four\n'), [['one', 'two', 'three'], ['four']])
 
 
 class Texts(unittest.TestCase):
