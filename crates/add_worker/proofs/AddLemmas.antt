@@ -1,5 +1,7 @@
 -- An add is answered as one worker answers it there, where no line failed.
-use Rattle.std.proofs.Common.{◌≡◌, ℕ, inl, inr, ⊎_elim, cond, eqb, is_ok, is_some, true, false, List, [], ◌∷◌, ◌++◌, Option, Some, None, IfSome, Result, Ok, Err, OnOk, subst, sym, refl, ap, ◌∙◌, append_assoc, append-nil}
+use Rattle.std.proofs.Common.{◌≡◌, ℕ, inl, inr, ⊎_elim, cond, eqb, is_ok, is_some, true, false, List, [], ◌∷◌, ◌++◌}
+use Rattle.std.proofs.Common.{Option, Some, None, IfSome, Result, Ok, Err, OnOk, subst, sym, refl, ap, ◌∙◌}
+use Rattle.std.proofs.Common.{append_assoc, append-nil}
 use Rattle.std.specs.Prelude.{All}
 use Rattle.std.proofs.lemmas.Bool.{eq-eqb}
 use Rattle.std.proofs.lemmas.List.Elements.{All-append}
@@ -40,20 +42,24 @@ use Rattle.add_worker.specs.Adding.{BeganRebuild, PassesTo, EndsRebuild, AddsTo,
 
 -- ---- refused
 
-module _ (r : ℕ) (o : OwnCall) (a c d : Mine) (from : c ≡ with_running a (o ∷ [])) (is : o.call ≡ call.Command (command.Add r)) (saw : IfSome (log_length a) (λ place. o.saw ≡ place)) where
+module _ (r : ℕ) (o : OwnCall) (a c d : Mine) (from : c ≡ with_running a (o ∷ []))
+    (is : o.call ≡ call.Command (command.Add r)) (saw : IfSome (log_length a) (λ place. o.saw ≡ place)) where
   stream_same : c.stream ≡ a.stream
   stream_same = ap (λ (m : Mine). m.stream) from
 
   log_same : c.log ≡ a.log
   log_same = ap (λ (m : Mine). m.log) from
 
-  refused_turn : (why : Refusal) (an : Answer) (log : Option Log) → IfSome log (λ l. refused_at l.spot o.call ≡ Some why) → an.call ≡ o.call → an.reply ≡ reply.Refused why → an.stream ≡ a.stream
-      → IfSome log (λ l. an.saw ≡ length_of l) → IfSome log (λ l. AreMarks [] → IsCommandAt a.stream (command.Add r) (entry.Answer an ∷ []) an l)
+  refused_turn : (why : Refusal) (an : Answer) (log : Option Log) → IfSome log (λ l. refused_at l.spot o.call ≡ Some why)
+      → an.call ≡ o.call → an.reply ≡ reply.Refused why → an.stream ≡ a.stream
+      → IfSome log (λ l. an.saw ≡ length_of l)
+      → IfSome log (λ l. AreMarks [] → IsCommandAt a.stream (command.Add r) (entry.Answer an ∷ []) an l)
   refused_turn why an None right asked says by seen = tt
   refused_turn why an (Some l) right asked says by seen = λ are.
       let c = call.Command (command.Add r) in
       let why_at : refused_at l.spot c ≡ Some why = subst (λ x. refused_at l.spot x ≡ Some why) is right in
-      command_at l.spot a.stream (length_of l) c [] an (ap (λ w. marks_unless w l.spot c) why_at) (asked ∙ is) (says ∙ sym (ap (λ w. reply_for w l.spot c) why_at)) seen by
+      command_at l.spot a.stream (length_of l) c [] an (ap (λ w. marks_unless w l.spot c) why_at) (asked ∙ is)
+      (says ∙ sym (ap (λ w. reply_for w l.spot c) why_at)) seen by
 
   pub grew_refused : RefusedWhole o c d → GrewByCommand (command.Add r) a d
   grew_refused s =
@@ -73,7 +79,9 @@ module _ (r : ℕ) (o : OwnCall) (a c d : Mine) (from : c ≡ with_running a (o 
           call = w.call ∙ is;
           by = by;
           saw = seen;
-          turn = refused_turn s.why w.answer a.log (subst (λ x. IfSome x (λ (l : Log). refused_at l.spot o.call ≡ Some s.why)) log_same s.right) w.call w.reply by seen;
+          turn = refused_turn s.why w.answer a.log
+              (subst (λ x. IfSome x (λ (l : Log). refused_at l.spot o.call ≡ Some s.why)) log_same s.right) w.call w.reply
+              by seen;
         };
       }
 
@@ -86,7 +94,8 @@ module _ (r : ℕ) (o : OwnCall) (a c d : Mine) (from : c ≡ with_running a (o 
     begun : d ≡ with_entries a g.own (entry.Mark (mark.Added r g.source g.name) ∷ g.marks) (o ∷ [])
     begun = g.is ∙ ap (λ (m : Mine). with_entries m g.own (entry.Mark (mark.Added r g.source g.name) ∷ g.marks) (o ∷ [])) from
 
-    added_comes : (es : List Entry) → All (MayComeBefore a.stream) es → All (MayComeBefore a.stream) (entry.Mark (mark.Added r g.source g.name) ∷ es)
+    added_comes : (es : List Entry) → All (MayComeBefore a.stream) es
+        → All (MayComeBefore a.stream) (entry.Mark (mark.Added r g.source g.name) ∷ es)
     added_comes es h = comes a.stream (entry.Mark (mark.Added r g.source g.name)) es (inr tt) h
 
     stands : IfSome a.log (λ l. refused_at l.spot o.call ≡ None)
@@ -98,10 +107,14 @@ module _ (r : ℕ) (o : OwnCall) (a c d : Mine) (from : c ≡ with_running a (o 
     under_name : IfSome a.log (λ l. g.name ≡ sys_name l.spot.state.volume.snapshots.number)
     under_name = subst (λ x. IfSome x (λ (l : Log). g.name ≡ sys_name l.spot.state.volume.snapshots.number)) log_same g.under
 
-    promoted_turn : (an : Answer) (log : Option Log) → IfSome log (λ l. refused_at l.spot o.call ≡ None) → IfSome log (λ l. source_of l.spot.modes ≡ Some g.source)
-        → IfSome log (λ l. g.name ≡ sys_name l.spot.state.volume.snapshots.number) → an.call ≡ o.call → an.reply ≡ reply.Done → an.stream ≡ a.stream → IfSome log (λ l. an.saw ≡ length_of l)
+    promoted_turn : (an : Answer) (log : Option Log) → IfSome log (λ l. refused_at l.spot o.call ≡ None)
+        → IfSome log (λ l. source_of l.spot.modes ≡ Some g.source)
+        → IfSome log (λ l. g.name ≡ sys_name l.spot.state.volume.snapshots.number) → an.call ≡ o.call
+        → an.reply ≡ reply.Done → an.stream ≡ a.stream → IfSome log (λ l. an.saw ≡ length_of l)
         → IfSome log (λ l. AreMarks (entry.Mark (mark.Added r g.source g.name) ∷ (g.marks ++ entry.Mark (mark.Promoted r) ∷ []))
-        → IsCommandAt a.stream (command.Add r) ((entry.Mark (mark.Added r g.source g.name) ∷ (g.marks ++ entry.Mark (mark.Promoted r) ∷ [])) ++ entry.Answer an ∷ []) an l)
+        → IsCommandAt a.stream (command.Add r)
+        ((entry.Mark (mark.Added r g.source g.name) ∷ (g.marks ++ entry.Mark (mark.Promoted r) ∷ [])) ++ entry.Answer an
+        ∷ []) an l)
     promoted_turn an None free source under asked says by seen = tt
     promoted_turn an (Some l) free source under asked says by seen = λ are.
         let c = call.Command (command.Add r) in
@@ -111,7 +124,9 @@ module _ (r : ℕ) (o : OwnCall) (a c d : Mine) (from : c ≡ with_running a (o 
         ap (λ w. marks_unless w l.spot c) free_at ∙ ap (add_marks l.spot.state r) source
         ∙ ap (λ n. entry.Mark (mark.Added r g.source n) ∷ entry.Mark (mark.Promoted r) ∷ []) (sym under)
         ∙ ap (λ ms. entry.Mark (mark.Added r g.source g.name) ∷ (ms ++ entry.Mark (mark.Promoted r) ∷ [])) (sym none) in
-        command_at l.spot a.stream (length_of l) c (entry.Mark (mark.Added r g.source g.name) ∷ (g.marks ++ entry.Mark (mark.Promoted r) ∷ [])) an marks_are (asked ∙ is)
+        command_at l.spot a.stream (length_of l) c
+        (entry.Mark (mark.Added r g.source g.name) ∷ (g.marks ++ entry.Mark (mark.Promoted r) ∷ [])) an marks_are
+        (asked ∙ is)
         (says ∙ sym (ap (λ w. reply_for w l.spot c) free_at)) seen by
 
     pub grew_promoted : (f : Mine) → Promotes r o d f → GrewByCommand (command.Add r) a f
@@ -127,18 +142,24 @@ module _ (r : ℕ) (o : OwnCall) (a c d : Mine) (from : c ≡ with_running a (o 
           all = first ++ last;
           is = p.is ∙ ap (λ (m : Mine). with_entries m own last []) begun ∙ entries_twice a g.own own first last (o ∷ []) [];
           same = has_both g.own own first last g.same refl;
-          done = record {
-            marks = entry.Mark (mark.Added r g.source g.name) ∷ (g.marks ++ promoted ∷ []);
-            answer = p.answer;
-            is = ap (λ es. entry.Mark (mark.Added r g.source g.name) ∷ es) (sym (append_assoc g.marks (promoted ∷ []) (entry.Answer p.answer ∷ [])));
-            are = added_comes (g.marks ++ promoted ∷ []) (All-append (MayComeBefore a.stream) g.marks (promoted ∷ []) falls_here.come (comes a.stream promoted [] (inr tt) (none_come a.stream)));
-            call = p.call ∙ is;
-            by = by;
-            saw = seen;
-            turn = subst (λ es. IfSome a.log (λ (l : Log). AreMarks (entry.Mark (mark.Added r g.source g.name) ∷ (g.marks ++ promoted ∷ [])) → IsCommandAt a.stream (command.Add r) es p.answer l))
-                (ap (λ es. entry.Mark (mark.Added r g.source g.name) ∷ es) (append_assoc g.marks (promoted ∷ []) (entry.Answer p.answer ∷ [])))
-                (promoted_turn p.answer a.log stands from_source under_name p.call p.reply by seen);
-          };
+          done =
+              let append_assoc_here = append_assoc g.marks (promoted ∷ []) (entry.Answer p.answer ∷ []) in
+              record {
+                marks = entry.Mark (mark.Added r g.source g.name) ∷ (g.marks ++ promoted ∷ []);
+                answer = p.answer;
+                is = ap (λ es. entry.Mark (mark.Added r g.source g.name) ∷ es) (sym append_assoc_here);
+                are = added_comes (g.marks ++ promoted ∷ [])
+                    (All-append (MayComeBefore a.stream) g.marks (promoted ∷ []) falls_here.come
+                    (comes a.stream promoted [] (inr tt) (none_come a.stream)));
+                call = p.call ∙ is;
+                by = by;
+                saw = seen;
+                turn = subst (λ es. IfSome a.log
+                    (λ (l : Log). AreMarks (entry.Mark (mark.Added r g.source g.name) ∷ (g.marks ++ promoted ∷ []))
+                    → IsCommandAt a.stream (command.Add r) es p.answer l))
+                    (ap (λ es. entry.Mark (mark.Added r g.source g.name) ∷ es) append_assoc_here)
+                    (promoted_turn p.answer a.log stands from_source under_name p.call p.reply by seen);
+              };
         }
 
     -- ---- aborted
@@ -149,12 +170,18 @@ module _ (r : ℕ) (o : OwnCall) (a c d : Mine) (from : c ≡ with_running a (o 
     not_open : (place : ℕ) → rebuild.Open g.source ≡ rebuild.Aborted place → ⊥
     not_open place h = cc
 
-    open_still : (l : Log) (place : ℕ) → rebuild_of r (l.entries ++ entry.Mark (mark.Added r g.source g.name) ∷ []) ≡ rebuild.Aborted place → ⊥
+    open_still : (l : Log) (place : ℕ)
+        → rebuild_of r (l.entries ++ entry.Mark (mark.Added r g.source g.name) ∷ []) ≡ rebuild.Aborted place → ⊥
     open_still l place e =
-        not_open place (sym (rebuild_of-push r l.entries (entry.Mark (mark.Added r g.source g.name)) ∙ same_test (rebuild.Open g.source) (rebuild_of r l.entries)) ∙ e)
+        not_open place (sym (rebuild_of-push r l.entries (entry.Mark (mark.Added r g.source g.name))
+        ∙ same_test (rebuild.Open g.source) (rebuild_of r l.entries)) ∙ e)
 
-    aborted_turn : (place : ℕ) (an : Answer) (log mid : Option Log) → mid ≡ longer log (entry.Mark (mark.Added r g.source g.name) ∷ g.marks) → IfSome mid (λ l. rebuild_of r l.entries ≡ rebuild.Aborted place)
-        → IfSome log (λ l. AreMarks (entry.Mark (mark.Added r g.source g.name) ∷ g.marks) → IsCommandAt a.stream (command.Add r) ((entry.Mark (mark.Added r g.source g.name) ∷ g.marks) ++ entry.Answer an ∷ []) an l)
+    aborted_turn : (place : ℕ) (an : Answer) (log mid : Option Log)
+        → mid ≡ longer log (entry.Mark (mark.Added r g.source g.name) ∷ g.marks)
+        → IfSome mid (λ l. rebuild_of r l.entries ≡ rebuild.Aborted place)
+        → IfSome log (λ l. AreMarks (entry.Mark (mark.Added r g.source g.name) ∷ g.marks)
+        → IsCommandAt a.stream (command.Add r)
+        ((entry.Mark (mark.Added r g.source g.name) ∷ g.marks) ++ entry.Answer an ∷ []) an l)
     aborted_turn place an None mid more right = tt
     aborted_turn place an (Some l) mid more right = λ are.
         let none : g.marks ≡ [] = falls_here.none are.1 in
@@ -172,7 +199,8 @@ module _ (r : ℕ) (o : OwnCall) (a c d : Mine) (from : c ≡ with_running a (o 
         record {
           own = g.own ++ own;
           all = first ++ entry.Answer w.answer ∷ [];
-          is = w.is ∙ ap (λ (m : Mine). with_more m own []) begun ∙ entries_twice a g.own own first (entry.Answer w.answer ∷ []) (o ∷ []) [];
+          is = w.is ∙ ap (λ (m : Mine). with_more m own []) begun
+              ∙ entries_twice a g.own own first (entry.Answer w.answer ∷ []) (o ∷ []) [];
           same = has_both g.own own first (entry.Answer w.answer ∷ []) g.same refl;
           done = record {
             marks = first;
@@ -208,9 +236,11 @@ module _ (r : ℕ) (o : OwnCall) (a c d : Mine) (from : c ≡ with_running a (o 
         own = g.own ++ own;
         marks = g.marks ++ w.marks;
         last = last;
-        is = w.is ∙ ap (λ (m : Mine). with_entries m own (w.marks ++ last) []) begun ∙ entries_twice a g.own own g.marks (w.marks ++ last) (o ∷ []) []
+        is = w.is ∙ ap (λ (m : Mine). with_entries m own (w.marks ++ last) []) begun
+            ∙ entries_twice a g.own own g.marks (w.marks ++ last) (o ∷ []) []
             ∙ ap (λ es. with_entries a (g.own ++ own) es []) (sym (append_assoc g.marks w.marks last));
-        same = has_both g.own own g.marks (w.marks ++ last) g.same (has_last a.stream w.modes w.answer w.marks (aborts_come a.stream w.marks w.are))
+        same = has_both g.own own g.marks (w.marks ++ last) g.same
+            (has_last a.stream w.modes w.answer w.marks (aborts_come a.stream w.marks w.are))
             ∙ ap answers_in (sym (append_assoc g.marks w.marks last));
         are = All-append (MayComeBefore a.stream) g.marks w.marks come (aborts_come a.stream w.marks w.are);
         left = inr (record {
@@ -228,7 +258,8 @@ module _ (r : ℕ) (o : OwnCall) (a c d : Mine) (from : c ≡ with_running a (o 
 
 -- ---- answered
 
-pub grew_added : (r : ℕ) (o : OwnCall) (a c d : Mine) → c ≡ with_running a (o ∷ []) → o.call ≡ call.Command (command.Add r) → IfSome (log_length a) (λ place. o.saw ≡ place) → AddsTo r o c d → GrewByCommand (command.Add r) a d
+pub grew_added : (r : ℕ) (o : OwnCall) (a c d : Mine) → c ≡ with_running a (o ∷ []) → o.call ≡ call.Command (command.Add r)
+    → IfSome (log_length a) (λ place. o.saw ≡ place) → AddsTo r o c d → GrewByCommand (command.Add r) a d
 grew_added r o a c d from is saw (inl refused) = grew_refused r o a c d from is saw refused
 grew_added r o a c d from is saw (inr done) =
     ⊎_elim (λ (p : Promotes r o done.mid d). grew_promoted r o a c done.mid from is saw done.goes d p)
@@ -270,13 +301,22 @@ rebuilds_goes r o a b g = record {
 -- ---- past its barrier
 
 pub rebuilding_has : (t r : ℕ) (o : OwnCall) (a b : Mine) → HasAdd t r o a → BeganRebuild r o a b → HasAdd t r o b
-rebuilding_has t r o a b h g = record { is = ap (λ (m : Mine). m.running) g.is; number = h.number; call = h.call; wants = h.wants; started = h.started }
+rebuilding_has t r o a b h g =
+    record {
+      is = ap (λ (m : Mine). m.running) g.is;
+      number = h.number;
+      call = h.call;
+      wants = h.wants;
+      started =
+          h.started;
+    }
 
 pub passed : (s : Option ℕ) (source r : ℕ) (o : OwnCall) (a b : Mine) → s ≡ Some source → PassesTo s r o a b → BeganRebuild r o a b
 passed s source r o a b e p = subst (λ x. PassesTo x r o a b) e p
 
 -- refused, as its barrier was
-pub refused_barrier : (o own : OwnCall) (a b c : Mine) → b ≡ with_running a (o ∷ own ∷ []) → own.call ≡ o.call → own.saw ≡ o.saw → RefusedWhole own b c → RefusedWhole o a c
+pub refused_barrier : (o own : OwnCall) (a b c : Mine) → b ≡ with_running a (o ∷ own ∷ []) → own.call ≡ o.call
+    → own.saw ≡ o.saw → RefusedWhole own b c → RefusedWhole o a c
 refused_barrier o own a b c e call saw s = record {
   why = s.why;
   answers = record {
@@ -294,7 +334,8 @@ refused_barrier o own a b c e call saw s = record {
 }
 
 -- begun, with its barrier started and ended
-pub begun_barrier : (r : ℕ) (o own : OwnCall) (a b c d : Mine) → b ≡ with_running a (o ∷ own ∷ []) → own.call ≡ o.call → (s : StartsBarrier r (o ∷ []) own b c) → EndsBehind (whole.Barrier r) (o ∷ []) s.own c d → BeganRebuild r o a d
+pub begun_barrier : (r : ℕ) (o own : OwnCall) (a b c d : Mine) → b ≡ with_running a (o ∷ own ∷ []) → own.call ≡ o.call
+    → (s : StartsBarrier r (o ∷ []) own b c) → EndsBehind (whole.Barrier r) (o ∷ []) s.own c d → BeganRebuild r o a d
 begun_barrier r o own a b c d e call s f =
     let os = o ∷ record s.own { parts = f.parts } ∷ [] in
     let first = entry.Mark (mark.Added r s.source s.name) ∷ [] in
@@ -306,10 +347,12 @@ begun_barrier r o own a b c d e call s f =
       own = f.goes.own;
       marks = f.goes.marks;
       falls = subst (λ n. AreFalls n f.goes.marks) (ap (λ (m : Mine). m.stream) begun) f.goes.falls;
-      is = f.ends ∙ ap (λ (m : Mine). with_running m (o ∷ [])) (f.goes.is ∙ ap (λ (m : Mine). with_entries m f.goes.own f.goes.marks os) begun
+      is = f.ends ∙ ap (λ (m : Mine). with_running m (o ∷ []))
+          (f.goes.is ∙ ap (λ (m : Mine). with_entries m f.goes.own f.goes.marks os) begun
           ∙ entries_twice a [] f.goes.own first f.goes.marks (o ∷ s.own ∷ []) os);
       same = f.goes.same;
-      free = subst (λ x. IfSome x (λ (l : Log). refused_at l.spot o.call ≡ None)) log (subst (λ x. IfSome b.log (λ (l : Log). refused_at l.spot x ≡ None)) call s.free);
+      free = subst (λ x. IfSome x (λ (l : Log). refused_at l.spot o.call ≡ None)) log
+          (subst (λ x. IfSome b.log (λ (l : Log). refused_at l.spot x ≡ None)) call s.free);
       from = subst (λ x. IfSome x (λ (l : Log). source_of l.spot.modes ≡ Some s.source)) log s.from;
       under = subst (λ x. IfSome x (λ (l : Log). s.name ≡ sys_name l.spot.state.volume.snapshots.number)) log s.under;
     }
@@ -327,16 +370,28 @@ none_holds (Some a) e = absurd cc
 -- ---- memory ran out
 
 pub adding_has : (t r : ℕ) (o : OwnCall) (a b : Mine) → HasAdd t r o a → GoesAdding o a b → HasAdd t r o b
-adding_has t r o a b h g = record { is = ap (λ (m : Mine). m.running) g.is; number = h.number; call = h.call; wants = h.wants; started = h.started }
+adding_has t r o a b h g =
+    record {
+      is = ap (λ (m : Mine). m.running) g.is;
+      number = h.number;
+      call = h.call;
+      wants = h.wants;
+      started =
+          h.started;
+    }
 
-pub leaves_shown : (r : ℕ) (o : OwnCall) (a b : Mine) → o.call ≡ call.Command (command.Add r) → LeavesAdd o a b → KeepsShown (with_running a []) b
+pub leaves_shown : (r : ℕ) (o : OwnCall) (a b : Mine) → o.call ≡ call.Command (command.Add r) → LeavesAdd o a b
+    → KeepsShown (with_running a []) b
 leaves_shown r o a b is (inl gone) = shown_same (with_running a []) b gone
-leaves_shown r o a b is (inr w) = idle_answer (command.Add r) w.modes w.answer (w.marks ++ entry.Answer w.answer ∷ []) a b w.is (w.call ∙ is)
+leaves_shown r o a b is (inr w) = idle_answer (command.Add r) w.modes w.answer (w.marks ++ entry.Answer w.answer ∷ []) a b
+    w.is (w.call ∙ is)
 
-pub ends_shown : (t r : ℕ) (o : OwnCall) (a b : Mine) → HasAdd t r o a → EndsRebuild r o a b → KeepsShown (with_running a []) (with_running b [])
+pub ends_shown : (t r : ℕ) (o : OwnCall) (a b : Mine) → HasAdd t r o a → EndsRebuild r o a b
+    → KeepsShown (with_running a []) (with_running b [])
 ends_shown t r o a b h (inl p) = λ counts carried k.
     subst (λ (m : Mine). IsShown m counts carried) (idle_of b (ap (λ (m : Mine). m.running) p.is))
-    (idle_answer (command.Add r) p.modes p.answer (entry.Mark (mark.Promoted r) ∷ entry.Answer p.answer ∷ []) a b p.is (p.call ∙ h.call) counts carried k)
+    (idle_answer (command.Add r) p.modes p.answer (entry.Mark (mark.Promoted r) ∷ entry.Answer p.answer ∷ []) a b p.is
+    (p.call ∙ h.call) counts carried k)
 ends_shown t r o a b h (inr e) = λ counts carried k.
     let w = e.1.answers in
     subst (λ (m : Mine). IsShown m counts carried) (idle_of b (ap (λ (m : Mine). m.running) w.is))
@@ -349,7 +404,8 @@ on_ok (Err e) h = tt
 pub turn_same : (t r : ℕ) (o : OwnCall) (a b : Mine) → HasAdd t r o a → b ≡ a → b ≡ with_running a (o ∷ [])
 turn_same t r o a b h e = e ∙ ap (with_running a) h.is
 
-pub barrier_has : (t r : ℕ) (turn : List OwnCall) (o : OwnCall) (a b : Mine) → HasWhole t (whole.Barrier r) turn o a → (s : StartsBarrier r turn o a b) → HasWhole t (whole.Barrier r) turn s.own b
+pub barrier_has : (t r : ℕ) (turn : List OwnCall) (o : OwnCall) (a b : Mine) → HasWhole t (whole.Barrier r) turn o a
+    → (s : StartsBarrier r turn o a b) → HasWhole t (whole.Barrier r) turn s.own b
 barrier_has t r turn o a b h s = record {
   is = ap (λ (m : Mine). m.running) s.is;
   number = ap (λ (x : OwnCall). x.number) s.same ∙ h.number;

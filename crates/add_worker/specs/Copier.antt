@@ -33,13 +33,15 @@ pub record AreLines (count source target : ℕ) : Type 0 where
   pub apart : source ≢ target
 
 -- the page in hand waits to be copied, and once it was read, these are its blocks
-pub record HasInHand (awaits : PageRef → Type 0) (is_page : PageRef → Table → Type 0) (hand : Option PageRef) (read : Bool) (blocks : Table) : Type 0 where
+pub record HasInHand (awaits : PageRef → Type 0) (is_page : PageRef → Table → Type 0) (hand : Option PageRef) (read : Bool)
+    (blocks : Table) : Type 0 where
   pub waits : (page : PageRef) → hand ≡ Some page → awaits page
   pub reads : (page : PageRef) → hand ≡ Some page → read ≡ true → is_page page blocks
 
 -- Of lines that tell these counts, and this of what they carried: the add of that ticket has the turn, what the lines show
 -- is shown, and the page in hand is as it should be.
-pub record IsCopying (t source target : ℕ) (m : Mine) (counts : List ℕ) (carried : List (Option (List (List ℕ)))) (awaits : PageRef → Type 0)
+pub record IsCopying (t source target : ℕ) (m : Mine) (counts : List ℕ) (carried : List (Option (List (List ℕ))))
+    (awaits : PageRef → Type 0)
     (is_page : PageRef → Table → Type 0) (hand : Option PageRef) (read : Bool) (blocks : Table) : Type 0 where
   pub turn : (r : ℕ) × (o : OwnCall) × HasAdd t r o m
   pub shown : IsShown (with_running m []) counts carried

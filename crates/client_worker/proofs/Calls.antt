@@ -19,7 +19,8 @@ short_by false false true r w p o x y z v = z
 short_by false false false r w p o x y z v = v
 
 pub asked_short : (f : Frame) → IsAsked f → IsShort (call_of f)
-asked_short f a = short_by (eqb f.head.kind 0) (eqb f.head.kind 1) (eqb f.head.kind 6) (call.Read f.head.offset f.head.size) (call.Write f.head.offset f.body) call.Ping (call.Other f.head.kind) tt a.short tt tt
+asked_short f a = short_by (eqb f.head.kind 0) (eqb f.head.kind 1) (eqb f.head.kind 6) (call.Read f.head.offset f.head.size)
+    (call.Write f.head.offset f.body) call.Ping (call.Other f.head.kind) tt a.short tt tt
 
 pub whole_next : {A : Type 0} (all xs ys rest : List A) (x : A) → xs ++ rest ≡ all → rest ≡ x ∷ ys → (xs ++ x ∷ []) ++ ys ≡ all
 whole_next all xs ys rest x whole is = append_assoc xs (x ∷ []) ys ∙ (ap (λ r. xs ++ r) (sym is) ∙ whole)

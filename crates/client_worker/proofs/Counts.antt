@@ -1,5 +1,7 @@
 -- No line has a mark above its count.
-use Rattle.std.proofs.Common.{zero, suc, Result, Ok, Err, is_ok, ◌≡◌, ℕ, ◌+◌, ◌<◌, ◌≤◌, Bool, true, false, cond, ◌&&◌, eqb, List, [], ◌∷◌, ◌++◌, length, map, get_or, set, ⊎_elim, subst, sym, refl, ap, ◌∙◌, arith, ne_eqb}
+use Rattle.std.proofs.Common.{zero, suc, Result, Ok, Err, is_ok, ◌≡◌, ℕ, ◌+◌, ◌<◌, ◌≤◌, Bool, true, false, cond, ◌&&◌}
+use Rattle.std.proofs.Common.{eqb, List, [], ◌∷◌, ◌++◌, length, map, get_or, set, ⊎_elim, subst, sym, refl, ap, ◌∙◌}
+use Rattle.std.proofs.Common.{arith, ne_eqb}
 use Rattle.std.proofs.lemmas.Bool.{cases_eq}
 use Rattle.outer_traits.specs.Causes.{HasLineCause}
 use Rattle.volume_model.specs.declared.entry.Answer.{Answer}
@@ -20,11 +22,14 @@ counted_later m before now later h r = omega (arith, h r, later r)
 
 -- ---- one entry more
 
-more_counts : (n r : ℕ) (xs : List Placed) (x : Placed) → last_count n r (entries_in (xs ++ x ∷ [])) ≡ last_in (last_count n r (entries_in xs)) (fault_counts n r (x.entry ∷ []))
+more_counts : (n r : ℕ) (xs : List Placed) (x : Placed)
+    → last_count n r (entries_in (xs ++ x ∷ [])) ≡ last_in (last_count n r (entries_in xs))
+    (fault_counts n r (x.entry ∷ []))
 more_counts n r xs x = ap (last_count n r) (entries-append xs (x ∷ [])) ∙ last_count-append n r (entries_in xs) (x.entry ∷ [])
 
 -- an answer tells no count
-pub counted_answer : (modes : List Mode) (answer : Answer) (os : List OwnCall) (a b : Mine) (counts : List ℕ) → b ≡ with_more a (answer_placed modes answer ∷ []) os → Counted a counts → Counted b counts
+pub counted_answer : (modes : List Mode) (answer : Answer) (os : List OwnCall) (a b : Mine) (counts : List ℕ)
+    → b ≡ with_more a (answer_placed modes answer ∷ []) os → Counted a counts → Counted b counts
 counted_answer modes answer os a b counts e h = counted_same (with_more a (answer_placed modes answer ∷ []) os) b counts e
     (λ r. subst (λ (n : ℕ). n ≤ get_or counts r 0) (sym (more_counts a.stream r a.entries (answer_placed modes answer))) (h r))
 
@@ -37,29 +42,36 @@ and_right true y e = e
 and_right false y e = absurd cc
 
 -- a mark tells the line's count
-pub counted_fault : (r count : ℕ) (a b : Mine) (counts : List ℕ) → FaultsTo r count a b → count ≤ get_or counts r 0 → Counted a counts → Counted b counts
-counted_fault r count a b counts s low h = counted_same (with_more a (fault_placed s.modes a.stream r count ∷ []) a.running) b counts s.is (λ k.
+pub counted_fault : (r count : ℕ) (a b : Mine) (counts : List ℕ) → FaultsTo r count a b → count ≤ get_or counts r 0
+    → Counted a counts → Counted b counts
+counted_fault r count a b counts s low h = counted_same (with_more a (fault_placed s.modes a.stream r count ∷ []) a.running)
+    b counts s.is (λ k.
     subst (λ (n : ℕ). n ≤ get_or counts k 0) (sym (more_counts a.stream k a.entries (fault_placed s.modes a.stream r count)))
     (first_of (eqb a.stream a.stream && eqb r k) count (last_count a.stream k (entries_in a.entries)) (get_or counts k 0) (h k)
-    (λ e. ⊎_elim (λ (same : r ≡ k). subst (λ (j : ℕ). count ≤ get_or counts j 0) same low) (λ other. let f : true ≡ false = sym (and_right (eqb a.stream a.stream) (eqb r k) e) ∙ ne_eqb r k other in absurd (cc)) (cases_eq r k))))
+    (λ e. ⊎_elim (λ (same : r ≡ k). subst (λ (j : ℕ). count ≤ get_or counts j 0) same low)
+    (λ other. let f : true ≡ false = sym (and_right (eqb a.stream a.stream) (eqb r k) e) ∙ ne_eqb r k other in
+    absurd (cc)) (cases_eq r k))))
 
 -- ---- the counts of lines
 
 -- one line's count rose
-pub later_set : {L : Type 0} (faults : L → ℕ) (xs : List L) (i : ℕ) (x d : L) → i < length xs → faults (get_or xs i d) ≤ faults x → (k : ℕ) → get_or (map faults xs) k 0 ≤ get_or (map faults (set xs i x)) k 0
+pub later_set : {L : Type 0} (faults : L → ℕ) (xs : List L) (i : ℕ) (x d : L) → i < length xs
+    → faults (get_or xs i d) ≤ faults x → (k : ℕ) → get_or (map faults xs) k 0 ≤ get_or (map faults (set xs i x)) k 0
 later_set faults [] i x d l h k = absurd (omega arith)
 later_set faults (y ∷ ys) zero x d l h zero = h
 later_set faults (y ∷ ys) zero x d l h (suc k) = omega arith
 later_set faults (y ∷ ys) (suc i) x d l h zero = omega arith
 later_set faults (y ∷ ys) (suc i) x d l h (suc k) = later_set faults ys i x d (omega arith) h k
 
-pub at_map : {L : Type 0} (faults : L → ℕ) (xs : List L) (i : ℕ) (d : L) → i < length xs → get_or (map faults xs) i 0 ≡ faults (get_or xs i d)
+pub at_map : {L : Type 0} (faults : L → ℕ) (xs : List L) (i : ℕ) (d : L) → i < length xs
+    → get_or (map faults xs) i 0 ≡ faults (get_or xs i d)
 at_map faults [] i d h = absurd (omega arith)
 at_map faults (x ∷ xs) zero d h = refl
 at_map faults (x ∷ xs) (suc i) d h = at_map faults xs i d (omega arith)
 
 -- and at the line itself
-pub rose_set : {L : Type 0} (faults : L → ℕ) (xs : List L) (i : ℕ) (x d : L) → i < length xs → faults (get_or xs i d) < faults x → get_or (map faults xs) i 0 < get_or (map faults (set xs i x)) i 0
+pub rose_set : {L : Type 0} (faults : L → ℕ) (xs : List L) (i : ℕ) (x d : L) → i < length xs
+    → faults (get_or xs i d) < faults x → get_or (map faults xs) i 0 < get_or (map faults (set xs i x)) i 0
 rose_set faults [] i x d l h = absurd (omega arith)
 rose_set faults (y ∷ ys) zero x d l h = h
 rose_set faults (y ∷ ys) (suc i) x d l h = rose_set faults ys i x d (omega arith) h

@@ -1,5 +1,6 @@
 -- How an open call goes on: what each step adds to what its worker knows.
-use Rattle.std.proofs.Common.{◌≡◌, ℕ, zero, suc, arith, List, [], ◌∷◌, ◌++◌, Result, Ok, Err, OnOk, OnErr, is_err, false, set, length, subst, sym, refl, ap, ◌∙◌}
+use Rattle.std.proofs.Common.{◌≡◌, ℕ, zero, suc, arith, List, [], ◌∷◌, ◌++◌, Result, Ok, Err, OnOk, OnErr, is_err}
+use Rattle.std.proofs.Common.{false, set, length, subst, sym, refl, ap, ◌∙◌}
 use Rattle.std.specs.Prelude.{All}
 use Rattle.std.proofs.lemmas.List.Elements.{All-append}
 use Rattle.volume_model.specs.declared.entry.Entry.TheVariants as entry
@@ -34,8 +35,18 @@ after o m m2 g = record o { buffer = g.buffer; parts = g.parts }
 pub goes_running : (o : OwnCall) (m m2 : Mine) (g : StaysOpen o m m2) → m2.running ≡ after o m m2 g ∷ []
 goes_running o m m2 g = ap (λ (x : Mine). x.running) g.is
 
-pub goes_step : (o : OwnCall) (buffer : List ℕ) (parts : List Part) (a b : Mine) → length buffer ≡ length o.buffer → b ≡ with_running a (record o { buffer = buffer; parts = parts } ∷ []) → StaysOpen o a b
-goes_step o buffer parts a b long e = record { marks = []; buffer = buffer; parts = parts; long = long; faults = no_faults a.stream; is = e ∙ sym (more_none a _) }
+pub goes_step : (o : OwnCall) (buffer : List ℕ) (parts : List Part) (a b : Mine) → length buffer ≡ length o.buffer
+    → b ≡ with_running a (record o { buffer = buffer; parts = parts } ∷ []) → StaysOpen o a b
+goes_step o buffer parts a b long e =
+    record {
+      marks = [];
+      buffer = buffer;
+      parts = parts;
+      long = long;
+      faults = no_faults a.stream;
+      is = e
+          ∙ sym (more_none a _);
+    }
 
 pub goes_same : (a b : Mine) → b ≡ a → KeepsOpen a b
 goes_same a b e = λ o r. goes_step o o.buffer o.parts a b refl (e ∙ ap (with_running a) r)
@@ -50,7 +61,8 @@ goes_then a b c f h = λ o r.
       parts = k.parts;
       long = k.long ∙ g.long;
       faults = subst (All (IsOwnFault a.stream)) (sym (entries-append g.marks k.marks))
-          (All-append (IsOwnFault a.stream) (entries_in g.marks) (entries_in k.marks) g.faults (subst (λ n. All (IsOwnFault n) (entries_in k.marks)) (ap (λ (m : Mine). m.stream) g.is) k.faults));
+          (All-append (IsOwnFault a.stream) (entries_in g.marks) (entries_in k.marks) g.faults
+          (subst (λ n. All (IsOwnFault n) (entries_in k.marks)) (ap (λ (m : Mine). m.stream) g.is) k.faults));
       is = k.is ∙ ap (λ (m : Mine). with_more m k.marks (after (after o a b g) b c k ∷ [])) g.is
           ∙ more_twice a g.marks k.marks (after o a b g ∷ []) (after (after o a b g) b c k ∷ []);
     }
@@ -65,18 +77,21 @@ goes_fault r count a b f = λ o e. record {
   is = f.is ∙ ap (with_more a (fault_placed f.modes a.stream r count ∷ [])) e;
 }
 
-pub goes_told : {E : Type 0} (res : Result (Unit {0}) E) (r count : ℕ) (a b : Mine) → OnOk res (FaultsTo r count a b) → OnErr res (b ≡ a) → KeepsOpen a b
+pub goes_told : {E : Type 0} (res : Result (Unit {0}) E) (r count : ℕ) (a b : Mine) → OnOk res (FaultsTo r count a b)
+    → OnErr res (b ≡ a) → KeepsOpen a b
 goes_told (Ok u) r count a b ok err = goes_fault r count a b ok
 goes_told (Err e) r count a b ok err = goes_same a b err
 
 -- a replica had its step
-pub goes_takes : (t r : ℕ) (buffer : List ℕ) (o : OwnCall) (a b : Mine) → IsOwn t o a → length buffer ≡ length o.buffer → TakesTo o r buffer a b → KeepsOpen a b
+pub goes_takes : (t r : ℕ) (buffer : List ℕ) (o : OwnCall) (a b : Mine) → IsOwn t o a → length buffer ≡ length o.buffer
+    → TakesTo o r buffer a b → KeepsOpen a b
 goes_takes t r buffer o a b own long e = λ x run.
     let same : o ≡ x = one_of o x (sym own.is ∙ run) in
     subst (λ y. StaysOpen y a b) same (goes_step o buffer (set o.parts r Taken) a b long e)
 
 -- and it is its stream's still
-pub taken_own : (t r : ℕ) (buffer : List ℕ) (o : OwnCall) (a b : Mine) → IsOwn t o a → TakesTo o r buffer a b → IsOwn t (record o { buffer = buffer; parts = set o.parts r Taken }) b
+pub taken_own : (t r : ℕ) (buffer : List ℕ) (o : OwnCall) (a b : Mine) → IsOwn t o a → TakesTo o r buffer a b
+    → IsOwn t (record o { buffer = buffer; parts = set o.parts r Taken }) b
 taken_own t r buffer o a b own e = record { is = ap (λ (m : Mine). m.running) e; number = own.number }
 
 pub done_well : {E P : Type 0} (res : Result (Unit {0}) E) → is_err res ≡ false → OnOk res P → P

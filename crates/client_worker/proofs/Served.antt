@@ -1,5 +1,6 @@
 -- A call is served, and then the next.
-use Rattle.std.proofs.Common.{◌≡◌, ℕ, List, [], ◌∷◌, ◌++◌, Option, Some, None, IfSome, Result, Ok, Err, OnOk, map, subst, sym, refl, ap, ◌∙◌, append_assoc, append-nil}
+use Rattle.std.proofs.Common.{◌≡◌, ℕ, List, [], ◌∷◌, ◌++◌, Option, Some, None, IfSome, Result, Ok, Err, OnOk, map}
+use Rattle.std.proofs.Common.{subst, sym, refl, ap, ◌∙◌, append_assoc, append-nil}
 use Rattle.std.specs.Prelude.{All}
 use Rattle.std.specs.Option.{option_map}
 use Rattle.std.proofs.lemmas.List.{map-append}
@@ -31,10 +32,14 @@ ends_answered o a b c g s = record {
   saw = s.saw;
 }
 
-pub ends_by : (t : ℕ) (a b c : Mine) → KeepsOpen a b → ((x : OwnCall) × IsOwn t x a) → ((x : OwnCall) → IsOwn t x b → Answers x b c) → (o : OwnCall) → IsOwn t o a → EndsTo o a c
+pub ends_by : (t : ℕ) (a b c : Mine) → KeepsOpen a b → ((x : OwnCall) × IsOwn t x a)
+    → ((x : OwnCall) → IsOwn t x b → Answers x b c) → (o : OwnCall) → IsOwn t o a → EndsTo o a c
 ends_by t a b c goes op done o own =
     let g = goes o own.is in
-    ends_answered o a b c g (done (after o a b g) (own_of t b (after o a b g) (after o a b g, record { is = goes_running o a b g; number = own.number }) (goes_running o a b g)))
+    ends_answered o a b c g
+    (done (after o a b g)
+    (own_of t b (after o a b g) (after o a b g, record { is = goes_running o a b g; number = own.number })
+    (goes_running o a b g)))
 
 -- with nothing carried no bytes are read
 no_bytes : (c : Call) (a : Reply) (bytes : List ℕ) → IsUncarried c a → a ≡ reply.Read bytes → ⊥
@@ -116,24 +121,34 @@ grew_now c a b s = record {
   };
 }
   where
-    saw_of : (log : Option Log) (n : ℕ) → IfSome (option_map length_of log) (λ place. n ≡ place) → IfSome (option_map length_of log) (λ p. n ≡ p)
+    saw_of : (log : Option Log) (n : ℕ) → IfSome (option_map length_of log) (λ place. n ≡ place)
+        → IfSome (option_map length_of log) (λ p. n ≡ p)
     saw_of log n h = h
 
-pub enrol_served : {E : Type 0} (res : Result (Unit {0}) E) (t : ℕ) (c : Call) (a b d : Mine) → EnrolsAt t c a b → OnOk res ((o : OwnCall) → IsOwn t o b → TakesUp o b d) → OnOk res (GrewBy c a d)
-enrol_served (Ok u) t c a b d e ends = grew_enrolled t c a b d e (ends e.own (record { is = ap (λ (m : Mine). m.running) e.is; number = e.number }))
+pub enrol_served : {E : Type 0} (res : Result (Unit {0}) E) (t : ℕ) (c : Call) (a b d : Mine) → EnrolsAt t c a b
+    → OnOk res ((o : OwnCall) → IsOwn t o b → TakesUp o b d) → OnOk res (GrewBy c a d)
+enrol_served (Ok u) t c a b d e ends =
+    grew_enrolled t c a b d e (ends e.own (record { is = ap (λ (m : Mine). m.running) e.is; number = e.number }))
 enrol_served (Err u) t c a b d e ends = tt
 
 -- ---- the next
 
-served_next : (stream : ℕ) (log : Option Log) (cs : List Call) (c : Call) (xs ys : List Entry) → AreServed stream log cs xs → Serves stream (longer log xs) c ys → AreServed stream log (cs ++ c ∷ []) (xs ++ ys)
-served_next stream log [] c xs ys none s =
-    (ys, [], ap (λ zs. zs ++ ys) none ∙ sym (append-nil ys), subst (λ p. Serves stream p c ys) (ap (longer log) none ∙ longer_none log) s, refl)
+served_next : (stream : ℕ) (log : Option Log) (cs : List Call) (c : Call) (xs ys : List Entry) → AreServed stream log cs xs
+    → Serves stream (longer log xs) c ys → AreServed stream log (cs ++ c ∷ []) (xs ++ ys)
+served_next stream log [] c xs ys none s = (
+  ys,
+  [],
+  ap (λ zs. zs ++ ys) none ∙ sym (append-nil ys),
+  subst (λ p. Serves stream p c ys) (ap (longer log) none ∙ longer_none log) s,
+  refl,
+)
 served_next stream log (d ∷ cs) c xs ys more s = (
   more.0,
   more.1 ++ ys,
   ap (λ zs. zs ++ ys) more.2 ∙ append_assoc more.0 more.1 ys,
   more.3,
-  served_next stream (longer log more.0) cs c more.1 ys more.4 (subst (λ p. Serves stream p c ys) (ap (longer log) more.2 ∙ sym (longer_twice log more.0 more.1)) s),
+  served_next stream (longer log more.0) cs c more.1 ys more.4
+      (subst (λ p. Serves stream p c ys) (ap (longer log) more.2 ∙ sym (longer_twice log more.0 more.1)) s),
 )
 
 pub grew_none : (m : Mine) → m.running ≡ [] → Grew [] m m
@@ -150,5 +165,6 @@ grew_next cs c a b d g h = record {
 }
 
 -- one ask more
-pub grew_ask : {A : Type 0} (f : A → Call) (xs : List A) (x : A) (a b d : Mine) → Grew (map f xs) a b → GrewBy (f x) b d → Grew (map f (xs ++ x ∷ [])) a d
+pub grew_ask : {A : Type 0} (f : A → Call) (xs : List A) (x : A) (a b d : Mine) → Grew (map f xs) a b → GrewBy (f x) b d
+    → Grew (map f (xs ++ x ∷ [])) a d
 grew_ask f xs x a b d g h = subst (λ (cs : List Call). Grew cs a d) (sym (map-append f xs (x ∷ []))) (grew_next (map f xs) (f x) a b d g h)

@@ -1,5 +1,6 @@
 -- What lines show of the stream, step after step.
-use Rattle.std.proofs.Common.{zero, suc, ◌≡◌, ℕ, ◌<◌, ◌≤◌, ◌⊎◌, inl, inr, List, [], ◌∷◌, get_or, set, Option, IfSome, Result, Ok, Err, OnOk, OnErr, subst, sym, refl, ap, ◌∙◌}
+use Rattle.std.proofs.Common.{zero, suc, ◌≡◌, ℕ, ◌<◌, ◌≤◌, ◌⊎◌, inl, inr, List, [], ◌∷◌, get_or, set, Option, IfSome}
+use Rattle.std.proofs.Common.{Result, Ok, Err, OnOk, OnErr, subst, sym, refl, ap, ◌∙◌}
 use Rattle.std.proofs.lemmas.List.Elements.{All-push}
 use Rattle.volume_model.specs.declared.call.Call.{Call}
 use Rattle.volume_model.specs.declared.call.Call.TheVariants as call
@@ -29,7 +30,8 @@ pub shown_from : (a b c : Mine) → b ≡ a → KeepsShown (with_running b []) c
 shown_from a b c e h = subst (λ (m : Mine). KeepsShown (with_running m []) c) e h
 
 -- lines that are further
-pub shown_later : (m : Mine) (before now : List ℕ) (told told2 : List (Option (List (List ℕ)))) → ((k : ℕ) → get_or before k 0 ≤ get_or now k 0) → TellOn told told2 → IsShown m before told → IsShown m now told2
+pub shown_later : (m : Mine) (before now : List ℕ) (told told2 : List (Option (List (List ℕ))))
+    → ((k : ℕ) → get_or before k 0 ≤ get_or now k 0) → TellOn told told2 → IsShown m before told → IsShown m now told2
 shown_later m before now told told2 later on h = record {
   counted = counted_later m before now later h.counted;
   answered = are_carried-on told told2 on m.replicas m.entries h.answered;
@@ -39,8 +41,10 @@ shown_later m before now told told2 later on h = record {
 -- ---- one entry more
 
 -- the stream has one entry more, and these calls open
-pub shown_more : (x : Placed) (os : List OwnCall) (a b : Mine) (counts : List ℕ) (carried : List (Option (List (List ℕ)))) → b ≡ with_more a (x ∷ []) os → Counted b counts → IsCarried a.replicas (told_in carried) x.modes x.entry
-    → AreCarried a.replicas (told_in carried) a.entries → ((o : OwnCall) → os ≡ o ∷ [] → AreAcked (told_in carried) o) → IsShown b counts carried
+pub shown_more : (x : Placed) (os : List OwnCall) (a b : Mine) (counts : List ℕ) (carried : List (Option (List (List ℕ))))
+    → b ≡ with_more a (x ∷ []) os → Counted b counts → IsCarried a.replicas (told_in carried) x.modes x.entry
+    → AreCarried a.replicas (told_in carried) a.entries → ((o : OwnCall) → os ≡ o ∷ [] → AreAcked (told_in carried) o)
+    → IsShown b counts carried
 shown_more x os a b counts carried e counted here before acked =
     subst (λ (m : Mine). IsShown m counts carried) (sym e) (record {
       counted = counted_same b (with_more a (x ∷ []) os) counts (sym e) counted;
@@ -48,11 +52,15 @@ shown_more x os a b counts carried e counted here before acked =
       acked = acked;
     })
 
-shown_fault : (r count : ℕ) (a b : Mine) (counts : List ℕ) (carried : List (Option (List (List ℕ)))) → FaultsTo r count a b → count ≤ get_or counts r 0 → IsShown a counts carried → IsShown b counts carried
+shown_fault : (r count : ℕ) (a b : Mine) (counts : List ℕ) (carried : List (Option (List (List ℕ)))) → FaultsTo r count a b
+    → count ≤ get_or counts r 0 → IsShown a counts carried → IsShown b counts carried
 shown_fault r count a b counts carried s low h =
-    shown_more (fault_placed s.modes a.stream r count) a.running a b counts carried s.is (counted_fault r count a b counts s low h.counted) tt h.answered h.acked
+    shown_more (fault_placed s.modes a.stream r count) a.running a b counts carried s.is
+    (counted_fault r count a b counts s low h.counted) tt h.answered h.acked
 
-pub shown_told : {E : Type 0} (res : Result (Unit {0}) E) (r count : ℕ) (a b : Mine) (counts : List ℕ) (carried : List (Option (List (List ℕ)))) → OnOk res (FaultsTo r count a b) → OnErr res (b ≡ a) → count ≤ get_or counts r 0 → IsShown a counts carried → IsShown b counts carried
+pub shown_told : {E : Type 0} (res : Result (Unit {0}) E) (r count : ℕ) (a b : Mine) (counts : List ℕ)
+    (carried : List (Option (List (List ℕ)))) → OnOk res (FaultsTo r count a b) → OnErr res (b ≡ a)
+    → count ≤ get_or counts r 0 → IsShown a counts carried → IsShown b counts carried
 shown_told (Ok u) r count a b counts carried ok err low h = shown_fault r count a b counts carried ok low h
 shown_told (Err e) r count a b counts carried ok err low h = shown_same a b err counts carried h
 
@@ -61,7 +69,8 @@ no_call o e = cc
 
 -- ---- an answer
 
-uncarried : (n : ℕ) (told : ℕ → Option (List (List ℕ))) (modes : List Mode) (c : Call) (a : Reply) → IsUncarried c a → CarriedOf n told modes c a
+uncarried : (n : ℕ) (told : ℕ → Option (List (List ℕ))) (modes : List Mode) (c : Call) (a : Reply) → IsUncarried c a
+    → CarriedOf n told modes c a
 uncarried n told modes (call.Read offset k) (reply.Read bytes) h = absurd h
 uncarried n told modes (call.Read offset k) reply.Done h = tt
 uncarried n told modes (call.Read offset k) (reply.Status layers ms) h = tt
@@ -77,12 +86,15 @@ uncarried n told modes (call.Other k) a h = tt
 uncarried n told modes (call.Command c) a h = tt
 
 -- what the replicas acknowledged is what was answered
-answered : (n : ℕ) (told : ℕ → Option (List (List ℕ))) (modes : List Mode) (c : Call) (a : Reply) (parts : List Part) (buffer : List ℕ) → ((r : ℕ) → part_at parts r ≡ Acked → IfSome (told r) (HasPart c buffer))
+answered : (n : ℕ) (told : ℕ → Option (List (List ℕ))) (modes : List Mode) (c : Call) (a : Reply) (parts : List Part)
+    (buffer : List ℕ) → ((r : ℕ) → part_at parts r ≡ Acked → IfSome (told r) (HasPart c buffer))
     → (a ≡ reply.Done → (r : ℕ) → mode_of modes r ≡ Rw → part_at parts r ≡ Acked)
-    → ((bytes : List ℕ) → a ≡ reply.Read bytes → (bytes ≡ buffer) × ((r : ℕ) × (r < n) × (part_at parts r ≡ Acked))) → CarriedOf n told modes c a
+    → ((bytes : List ℕ) → a ≡ reply.Read bytes → (bytes ≡ buffer) × ((r : ℕ) × (r < n) × (part_at parts r ≡ Acked)))
+    → CarriedOf n told modes c a
 answered n told modes (call.Read offset k) (reply.Read bytes) parts buffer h done read =
     let s = read bytes refl in
-    let p : IfSome (told s.1.0) (HasPart (call.Read offset k) bytes) = subst (λ b. IfSome (told s.1.0) (HasPart (call.Read offset k) b)) (sym s.0) (h s.1.0 s.1.2) in
+    let p : IfSome (told s.1.0) (HasPart (call.Read offset k) bytes) =
+    subst (λ b. IfSome (told s.1.0) (HasPart (call.Read offset k) b)) (sym s.0) (h s.1.0 s.1.2) in
     (s.1.0, s.1.1, p)
 answered n told modes (call.Read offset k) reply.Done parts buffer h done read = tt
 answered n told modes (call.Read offset k) (reply.Status layers ms) parts buffer h done read = tt
@@ -104,7 +116,8 @@ shown_answers o a b run s = λ counts carried h.
     (answered a.replicas (told_in carried) s.modes o.call s.answer.reply o.parts o.buffer (h.acked o run) s.done s.read))
     h.answered (λ p e. absurd (no_call p e))
 
-pub shown_done : {A E : Type 0} (res : Result A E) (t : ℕ) (a b : Mine) → ((o : OwnCall) × IsOwn t o a) → OnOk res ((o : OwnCall) → IsOwn t o a → Answers o a b) → OnErr res (b ≡ a) → KeepsShown a b
+pub shown_done : {A E : Type 0} (res : Result A E) (t : ℕ) (a b : Mine) → ((o : OwnCall) × IsOwn t o a)
+    → OnOk res ((o : OwnCall) → IsOwn t o a → Answers o a b) → OnErr res (b ≡ a) → KeepsShown a b
 shown_done (Ok x) t a b op ok err = shown_answers op.0 a b op.1.is (ok op.0 op.1)
 shown_done (Err e) t a b op ok err = shown_same a b err
 
@@ -127,7 +140,9 @@ shown_now c a b s = λ counts carried h.
 -- ---- another open call
 
 -- where that one shows what it has acknowledged
-shown_running : (o : OwnCall) (a b : Mine) (counts : List ℕ) (carried : List (Option (List (List ℕ)))) → b ≡ with_running a (o ∷ []) → Counted a counts → AreCarried a.replicas (told_in carried) a.entries → AreAcked (told_in carried) o → IsShown b counts carried
+shown_running : (o : OwnCall) (a b : Mine) (counts : List ℕ) (carried : List (Option (List (List ℕ))))
+    → b ≡ with_running a (o ∷ []) → Counted a counts → AreCarried a.replicas (told_in carried) a.entries
+    → AreAcked (told_in carried) o → IsShown b counts carried
 shown_running o a b counts carried e counted before acked =
     subst (λ (m : Mine). IsShown m counts carried) (sym e) (record {
       counted = counted;
@@ -163,23 +178,34 @@ acked_now (p ∷ ps) (suc r) (suc q) e = elim (acked_now ps r q e) [ inl same �
 
 pub shown_takes : (t r : ℕ) (o : OwnCall) (a b : Mine) → IsOwn t o a → TakesTo o r o.buffer a b → KeepsShown a b
 shown_takes t r o a b own e = λ counts carried h.
-    shown_running (record o { parts = set o.parts r Taken }) a b counts carried e h.counted h.answered (λ q was. h.acked o own.is q (acked_before o.parts r q was))
+    shown_running (record o { parts = set o.parts r Taken }) a b counts carried e h.counted h.answered
+    (λ q was. h.acked o own.is q (acked_before o.parts r q was))
 
 -- the bytes of a read may change while none has acknowledged it
-pub shown_reads : (t r : ℕ) (buffer : List ℕ) (o : OwnCall) (a b : Mine) → IsOwn t o a → NoneAcked a → TakesTo o r buffer a b → KeepsShown a b
+pub shown_reads : (t r : ℕ) (buffer : List ℕ) (o : OwnCall) (a b : Mine) → IsOwn t o a → NoneAcked a
+    → TakesTo o r buffer a b → KeepsShown a b
 shown_reads t r buffer o a b own none e = λ counts carried h.
-    shown_running (record o { buffer = buffer; parts = set o.parts r Taken }) a b counts carried e h.counted h.answered (λ q was. absurd (none o own.is q (acked_before o.parts r q was)))
+    shown_running (record o { buffer = buffer; parts = set o.parts r Taken }) a b counts carried e h.counted h.answered
+    (λ q was. absurd (none o own.is q (acked_before o.parts r q was)))
 
-shown_acks : (t r : ℕ) (o : OwnCall) (a b : Mine) (counts : List ℕ) (carried : List (Option (List (List ℕ)))) → IsOwn t o a → AcksTo o r a b → IfSome (told_in carried r) (HasPart o.call o.buffer) → IsShown a counts carried → IsShown b counts carried
+shown_acks : (t r : ℕ) (o : OwnCall) (a b : Mine) (counts : List ℕ) (carried : List (Option (List (List ℕ)))) → IsOwn t o a
+    → AcksTo o r a b → IfSome (told_in carried r) (HasPart o.call o.buffer) → IsShown a counts carried
+    → IsShown b counts carried
 shown_acks t r o a b counts carried own e part h =
-    shown_running (record o { parts = set o.parts r Acked }) a b counts carried e h.counted h.answered (λ q now. by q (acked_now o.parts r q now))
+    shown_running (record o { parts = set o.parts r Acked }) a b counts carried e h.counted h.answered
+    (λ q now. by q (acked_now o.parts r q now))
   where
     by : (q : ℕ) → (q ≡ r) ⊎ (part_at o.parts q ≡ Acked) → IfSome (told_in carried q) (HasPart o.call o.buffer)
     by q (inl same) = subst (λ k. IfSome (told_in carried k) (HasPart o.call o.buffer)) (sym same) part
     by q (inr was) = h.acked o own.is q was
 
 -- the reply of a replica came through
-pub shown_replied : {E : Type 0} (res : Result (Unit {0}) E) (t r : ℕ) (o : OwnCall) (a b : Mine) (counts : List ℕ) (before carried : List (Option (List (List ℕ)))) (reply : List ℕ) → IsOwn t o a
-    → LacksReply o (told_in before r) reply → TellsFrame before carried r reply → OnOk res ((x : OwnCall) → IsOwn t x a → AcksTo x r a b) → OnErr res (b ≡ a) → IsShown a counts carried → IsShown b counts carried
-shown_replied (Ok u) t r o a b counts before carried reply own lacks tells ok err h = shown_acks t r o a b counts carried own (ok o own) (has_part o (told_in before r) (told_in carried r) reply tells lacks) h
+pub shown_replied : {E : Type 0} (res : Result (Unit {0}) E) (t r : ℕ) (o : OwnCall) (a b : Mine) (counts : List ℕ)
+    (before carried : List (Option (List (List ℕ)))) (reply : List ℕ) → IsOwn t o a
+    → LacksReply o (told_in before r) reply → TellsFrame before carried r reply
+    → OnOk res ((x : OwnCall) → IsOwn t x a → AcksTo x r a b) → OnErr res (b ≡ a) → IsShown a counts carried
+    → IsShown b counts carried
+shown_replied (Ok u) t r o a b counts before carried reply own lacks tells ok err h =
+    shown_acks t r o a b counts carried own (ok o own) (has_part o (told_in before r) (told_in carried r) reply tells lacks)
+    h
 shown_replied (Err e) t r o a b counts before carried reply own lacks tells ok err h = shown_same a b err counts carried h

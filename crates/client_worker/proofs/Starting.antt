@@ -24,7 +24,8 @@ module _ (t : ℕ) (m0 m m2 : Mine) (a : Admit) (same : m ≡ m0) (ok : (o : Own
   pub starts_shown : (job : Job) → a ≡ admit.Go job → ((o : OwnCall) × IsOwn t o m0 × HasNotStarted o) → KeepsShown (with_running m0 []) m2
   starts_shown job e op = shown_starts op.0 job m0 m2 (starts job e op.0 op.1)
 
-  pub refused_shown : (place : ℕ) → a ≡ admit.NoReplica place → ((o : OwnCall) × IsOwn t o m0 × HasNotStarted o) → KeepsShown (with_running m0 []) m2
+  pub refused_shown : (place : ℕ) → a ≡ admit.NoReplica place → ((o : OwnCall) × IsOwn t o m0 × HasNotStarted o)
+      → KeepsShown (with_running m0 []) m2
   refused_shown place e op = shown_refuses op.0 m0 m2 (refused place e op.0 op.1)
 
 -- what the start says of the call

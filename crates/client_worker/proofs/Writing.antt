@@ -1,5 +1,7 @@
 -- A write is carried to each replica in its turn, in room that was made before it started.
-use Rattle.std.proofs.Common.{◌≡◌, ℕ, ◌+◌, ◌-◌, ◌*◌, ◌<◌, ◌≤◌, ℤ, List, [], ◌∷◌, ◌++◌, length, take, drop, get_or, set, is_some, true, vec_capacity, Option, Some, None, subst, sym, ap, ◌∙◌, length-append, arith, Bool, false}
+use Rattle.std.proofs.Common.{◌≡◌, ℕ, ◌+◌, ◌-◌, ◌*◌, ◌<◌, ◌≤◌, ℤ, List, [], ◌∷◌, ◌++◌, length, take, drop, get_or}
+use Rattle.std.proofs.Common.{set, is_some, true, vec_capacity, Option, Some, None, subst, sym, ap, ◌∙◌}
+use Rattle.std.proofs.Common.{length-append, arith, Bool, false}
 use Rattle.std.specs.List.{All}
 use Rattle.std.proofs.lemmas.List.{get_or-set_other, take_rest}
 use Rattle.std.proofs.lemmas.List.Elements.{All-get_or}
@@ -14,7 +16,8 @@ use Rattle.volume_core.specs.declared.job.Job.{Job}
 use Rattle.frame_wire.specs.Spelling.{header_length}
 use Rattle.client_worker.specs.declared.rooms.Rooms.{Rooms}
 use Rattle.stream_steps.specs.Mine.{Mine, OwnCall, IsOwn}
-use Rattle.stream_steps.specs.Steps.{Refuses, StartsCall, IsStarted, IsStartedWrite, IsWriteCall, IsRounded, IsJobFor, HasStarted, IsOnBlocks, IsReadCall, AreBlocksOfCall}
+use Rattle.stream_steps.specs.Steps.{Refuses, StartsCall, IsStarted, IsStartedWrite, IsWriteCall, IsRounded, IsJobFor}
+use Rattle.stream_steps.specs.Steps.{HasStarted, IsOnBlocks, IsReadCall, AreBlocksOfCall}
 use Rattle.client_worker.specs.Serving.{KeepsOpen}
 use Rattle.client_worker.specs.Ends.{StartsOr, EndsTo, TakesUp}
 use Rattle.client_worker.specs.Rooms.{AreBoxes, CarriesWrite, CarriesRead, HasWriteRoom, HoldsWrite, BeginsIn, BeginsOr, ReadsIn, ReadsOr}
@@ -25,11 +28,14 @@ use Rattle.client_worker.proofs.Starting.{begins, begun_own}
 -- ---- the turn of one replica
 
 -- the bytes of the blocks, as a replica takes them in boxes
-module _ (o : OwnCall) (block n : ℕ) (request : List ℕ) (boxes : List (Option (List ℕ))) (carries : CarriesWrite o block n request) (are : AreBoxes n boxes) where
+module _ (o : OwnCall) (block n : ℕ) (request : List ℕ) (boxes : List (Option (List ℕ)))
+    (carries : CarriesWrite o block n request) (are : AreBoxes n boxes) where
   pub fills : length (take (length request - header_length) (drop header_length request)) ≡ length boxes * BLOCK_BYTES
   fills = ap length (take_rest request header_length ∙ carries.whole) ∙ carries.size ∙ ap (λ k. k * BLOCK_BYTES) (sym are.count)
 
-  pub filled_boxes : (filled : List (Option (List ℕ))) → bytes_in filled ≡ take (length request - header_length) (drop header_length request) → All (λ b. is_some b ≡ true) filled → length filled ≡ length boxes → AreBlocksOfCall o filled
+  pub filled_boxes : (filled : List (Option (List ℕ)))
+      → bytes_in filled ≡ take (length request - header_length) (drop header_length request)
+      → All (λ b. is_some b ≡ true) filled → length filled ≡ length boxes → AreBlocksOfCall o filled
   filled_boxes filled bytes full count = record {
     full = full;
     count = omega (arith, carries.count, are.count, count);
@@ -37,7 +43,9 @@ module _ (o : OwnCall) (block n : ℕ) (request : List ℕ) (boxes : List (Optio
   }
 
 -- what counts of a request is all but its header
-pub write_same : (o : OwnCall) (block n : ℕ) (request request2 : List ℕ) → drop header_length request2 ≡ drop header_length request → length request2 ≡ length request → CarriesWrite o block n request → CarriesWrite o block n request2
+pub write_same : (o : OwnCall) (block n : ℕ) (request request2 : List ℕ)
+    → drop header_length request2 ≡ drop header_length request → length request2 ≡ length request
+    → CarriesWrite o block n request → CarriesWrite o block n request2
 write_same o block n request request2 same long c = record {
   writes = c.writes;
   rounded = c.rounded;
@@ -50,7 +58,8 @@ write_same o block n request request2 same long c = record {
 }
 
 -- a write that goes on is carried as before
-write_on : (o : OwnCall) (a b : Mine) (goes : KeepsOpen a b) (t block n : ℕ) (own : IsOwn t o a) (request : List ℕ) → CarriesWrite o block n request → CarriesWrite (after o a b (goes o own.is)) block n request
+write_on : (o : OwnCall) (a b : Mine) (goes : KeepsOpen a b) (t block n : ℕ) (own : IsOwn t o a) (request : List ℕ)
+    → CarriesWrite o block n request → CarriesWrite (after o a b (goes o own.is)) block n request
 write_on o a b goes t block n own request c = record {
   writes = c.writes;
   rounded = still_rounded o.call c.rounded;
@@ -69,8 +78,10 @@ write_on o a b goes t block n own request c = record {
     still_rounded (call.Other k) s = s
     still_rounded (call.Command x) s = s
 
-pub carries_one : (o : OwnCall) (a b : Mine) (goes : KeepsOpen a b) (t block n r : ℕ) (own : IsOwn t o a) (request request2 : List ℕ) (sets sets2 : List (List (Option (List ℕ)))) (d : List (Option (List ℕ)))
-    → CarriesWrite o block n request → All (AreBoxes n) sets → drop header_length request2 ≡ drop header_length request → length request2 ≡ length request → r < length sets → get_or sets2 r d ≡ get_or sets r d
+pub carries_one : (o : OwnCall) (a b : Mine) (goes : KeepsOpen a b) (t block n r : ℕ) (own : IsOwn t o a)
+    (request request2 : List ℕ) (sets sets2 : List (List (Option (List ℕ)))) (d : List (Option (List ℕ)))
+    → CarriesWrite o block n request → All (AreBoxes n) sets → drop header_length request2 ≡ drop header_length request
+    → length request2 ≡ length request → r < length sets → get_or sets2 r d ≡ get_or sets r d
     → (x : OwnCall) × (n : ℕ) × IsOwn t x b × CarriesWrite x block n request2 × AreBoxes n (get_or sets2 r d)
 carries_one o a b goes t block n r own request request2 sets sets2 d c boxes same long inside set' = (
   after o a b (goes o own.is),
@@ -82,7 +93,8 @@ carries_one o a b goes t block n r own request request2 sets sets2 d c boxes sam
 
 pub sets_left : {A : Type 0} (xs ys : List A) (r : ℕ) (x : A) → ((k : ℕ) (d : A) → r ≤ k → k < length ys → get_or ys k d ≡ get_or xs k d)
     → (k : ℕ) (d : A) → r + 1 ≤ k → k < length (set ys r x) → length (set ys r x) ≡ length ys → get_or (set ys r x) k d ≡ get_or xs k d
-sets_left xs ys r x left k d low high long = get_or-set_other ys r k x d (λ e. absurd (omega (arith, low, e))) ∙ left k d (omega (arith, low)) (omega (arith, high, long))
+sets_left xs ys r x left k d low high long = get_or-set_other ys r k x d (λ e. absurd (omega (arith, low, e)))
+    ∙ left k d (omega (arith, low)) (omega (arith, high, long))
 
 -- ---- the start
 
@@ -98,7 +110,8 @@ module _ (t : ℕ) (a b c : Mine) (j : Option Job) (same : b ≡ a) (ok : (o : O
   begun job e o h = subst (λ x. StartsOr o x a c) e (told o h)
 
 -- the bytes of a started write fill its blocks
-module _ (o : OwnCall) (job : Job) (a b : Mine) (s : StartsCall o job a b) (offset : ℤ) (bytes : List ℕ) (is : o.call ≡ call.Write offset bytes) where
+module _ (o : OwnCall) (job : Job) (a b : Mine) (s : StartsCall o job a b) (offset : ℤ) (bytes : List ℕ)
+    (is : o.call ≡ call.Write offset bytes) where
   pub whole_is : s.own.whole ≡ (job.front ++ bytes) ++ job.back
   whole_is = subst (λ c. IsJobFor c job s.own) is s.job
 
@@ -111,13 +124,18 @@ module _ (o : OwnCall) (job : Job) (a b : Mine) (s : StartsCall o job a b) (offs
   same_call : s.own.call ≡ o.call
   same_call = ap (λ (x : OwnCall). x.call) s.same
 
-  pub whole_long : o.range.first ≤ o.range.end → length job.front + length bytes + length job.back ≡ (o.range.end - o.range.first) * BLOCK_BYTES
+  pub whole_long : o.range.first ≤ o.range.end
+      → length job.front + length bytes + length job.back ≡ (o.range.end - o.range.first) * BLOCK_BYTES
   whole_long up =
-      let parts = ap length whole_is ∙ length-append (job.front ++ bytes) job.back ∙ ap (λ k. k + length job.back) (length-append job.front bytes) in
-      let count : o.range.first * BLOCK_BYTES + length s.own.whole ≡ o.range.end * BLOCK_BYTES = subst (λ (r : BlockRange). r.first * BLOCK_BYTES + length s.own.whole ≡ r.end * BLOCK_BYTES) same_range rounded.count in
+      let parts = ap length whole_is ∙ length-append (job.front ++ bytes) job.back
+      ∙ ap (λ k. k + length job.back) (length-append job.front bytes) in
+      let count : o.range.first * BLOCK_BYTES + length s.own.whole ≡ o.range.end * BLOCK_BYTES =
+      subst (λ (r : BlockRange). r.first * BLOCK_BYTES + length s.own.whole ≡ r.end * BLOCK_BYTES) same_range
+      rounded.count in
       omega (arith, parts, count, up)
 
-  pub begins_in : (block replicas : ℕ) (rooms filled : Rooms) → block ≡ o.range.first → o.range.first ≤ o.range.end → o.range.end * BLOCK_BYTES ≤ 1073741824 → HasWriteRoom (o.range.end - o.range.first) replicas rooms
+  pub begins_in : (block replicas : ℕ) (rooms filled : Rooms) → block ≡ o.range.first → o.range.first ≤ o.range.end
+      → o.range.end * BLOCK_BYTES ≤ 1073741824 → HasWriteRoom (o.range.end - o.range.first) replicas rooms
       → filled.sets.items ≡ rooms.sets.items → vec_capacity filled.arrivals ≡ vec_capacity rooms.arrivals
       → drop header_length filled.request.items ≡ (job.front ++ bytes) ++ job.back
       → length filled.request.items ≡ header_length + (length job.front + length bytes + length job.back)
@@ -137,7 +155,8 @@ module _ (o : OwnCall) (job : Job) (a b : Mine) (s : StartsCall o job a b) (offs
             whole = whole ∙ sym whole_is;
             first = ap (λ (r : BlockRange). r.first) same_range ∙ sym first;
             count = omega (arith, up, ap (λ (r : BlockRange). r.first) same_range, ap (λ (r : BlockRange). r.end) same_range);
-            size = ap length whole_is ∙ length-append (job.front ++ bytes) job.back ∙ ap (λ k. k + length job.back) (length-append job.front bytes) ∙ long;
+            size = ap length whole_is ∙ length-append (job.front ++ bytes) job.back
+                ∙ ap (λ k. k + length job.back) (length-append job.front bytes) ∙ long;
           };
           boxes = subst (All (AreBoxes (o.range.end - o.range.first))) (sym sets) fits.boxes;
           arrivals = omega (arith, count, long, fits.arrivals, arrivals);
@@ -145,11 +164,13 @@ module _ (o : OwnCall) (job : Job) (a b : Mine) (s : StartsCall o job a b) (offs
         };
       }
 
-pub reads_begun : (o : OwnCall) (job : Job) (offset : ℤ) (n : ℕ) (a b : Mine) → StartsCall o job a b → o.call ≡ call.Read offset n → ReadsIn o offset n a b
+pub reads_begun : (o : OwnCall) (job : Job) (offset : ℤ) (n : ℕ) (a b : Mine) → StartsCall o job a b
+    → o.call ≡ call.Read offset n → ReadsIn o offset n a b
 reads_begun o job offset n a b s is = record {
   own = s.own;
   begins = begins o job a b s;
-  none = λ p run r e. s.none r (subst (λ (x : OwnCall). part_at x.parts r ≡ Acked) (one_of p s.own (sym run ∙ ap (λ (m : Mine). m.running) s.is)) e);
+  none = λ p run r e. s.none r
+      (subst (λ (x : OwnCall). part_at x.parts r ≡ Acked) (one_of p s.own (sym run ∙ ap (λ (m : Mine). m.running) s.is)) e);
   started = ap (λ (x : OwnCall). x.started) s.same;
   call = ap (λ (x : OwnCall). x.call) s.same ∙ is;
   long = subst (λ c. IsStarted c s.own) is s.of;
@@ -160,33 +181,44 @@ reads_begun o job offset n a b s is = record {
 pub only_own : (t : ℕ) (m : Mine) (o p : OwnCall) → IsOwn t o m → IsOwn t p m → p ≡ o
 only_own t m o p a b = one_of p o (sym b.is ∙ a.is)
 
-pub begins_none : (t n : ℕ) (a b : Mine) (j : Option ℕ) (rooms : Rooms) → ((o : OwnCall) → IsOwn t o a → BeginsOr o j n rooms a b) → j ≡ None → (o : OwnCall) → IsOwn t o a → TakesUp o a b
+pub begins_none : (t n : ℕ) (a b : Mine) (j : Option ℕ) (rooms : Rooms)
+    → ((o : OwnCall) → IsOwn t o a → BeginsOr o j n rooms a b) → j ≡ None → (o : OwnCall) → IsOwn t o a → TakesUp o a b
 begins_none t n a b j rooms ok e o h = takes_refused o a b (subst (λ x. BeginsOr o x n rooms a b) e (ok o h))
 
-pub begins_some : (t n : ℕ) (a b : Mine) (j : Option ℕ) (block : ℕ) (rooms : Rooms) → ((o : OwnCall) → IsOwn t o a → BeginsOr o j n rooms a b) → j ≡ Some block → (o : OwnCall) → IsOwn t o a → BeginsIn o block n rooms a b
+pub begins_some : (t n : ℕ) (a b : Mine) (j : Option ℕ) (block : ℕ) (rooms : Rooms)
+    → ((o : OwnCall) → IsOwn t o a → BeginsOr o j n rooms a b) → j ≡ Some block → (o : OwnCall) → IsOwn t o a
+    → BeginsIn o block n rooms a b
 begins_some t n a b j block rooms ok e o h = subst (λ x. BeginsOr o x n rooms a b) e (ok o h)
 
-pub begins_own : (t n block : ℕ) (a b : Mine) (rooms : Rooms) (o : OwnCall) → IsOwn t o a → BeginsIn o block n rooms a b → (x : OwnCall) × IsOwn t x b × HoldsWrite x block n rooms
+pub begins_own : (t n block : ℕ) (a b : Mine) (rooms : Rooms) (o : OwnCall) → IsOwn t o a → BeginsIn o block n rooms a b
+    → (x : OwnCall) × IsOwn t x b × HoldsWrite x block n rooms
 begins_own t n block a b rooms o own s = (s.own, begun_own t o s.own a b own s.begins, s.filled)
 
-pub begins_ends : (t n block : ℕ) (a b c : Mine) (rooms : Rooms) → ((o : OwnCall) → IsOwn t o a → BeginsIn o block n rooms a b) → ((o : OwnCall) → IsOwn t o b → EndsTo o b c) → (o : OwnCall) → IsOwn t o a → TakesUp o a c
+pub begins_ends : (t n block : ℕ) (a b c : Mine) (rooms : Rooms)
+    → ((o : OwnCall) → IsOwn t o a → BeginsIn o block n rooms a b) → ((o : OwnCall) → IsOwn t o b → EndsTo o b c)
+    → (o : OwnCall) → IsOwn t o a → TakesUp o a c
 begins_ends t n block a b c rooms begins ends o own =
     let s = begins o own in
     takes_started o s.own a b c s.begins (ends s.own (begun_own t o s.own a b own s.begins))
 
-pub reads_none : (t : ℕ) (offset : ℤ) (n : ℕ) (a b : Mine) (started : Bool) (op : (o : OwnCall) × IsOwn t o a) → ReadsOr op.0 started offset n a b → started ≡ false → (o : OwnCall) → IsOwn t o a → TakesUp o a b
+pub reads_none : (t : ℕ) (offset : ℤ) (n : ℕ) (a b : Mine) (started : Bool) (op : (o : OwnCall) × IsOwn t o a)
+    → ReadsOr op.0 started offset n a b → started ≡ false → (o : OwnCall) → IsOwn t o a → TakesUp o a b
 reads_none t offset n a b started op ok e o h =
     subst (λ x. TakesUp x a b) (only_own t a o op.0 h op.1) (takes_refused op.0 a b (subst (λ x. ReadsOr op.0 x offset n a b) e ok))
 
-pub reads_some : (o : OwnCall) (offset : ℤ) (n : ℕ) (a b : Mine) (started : Bool) → ReadsOr o started offset n a b → started ≡ true → ReadsIn o offset n a b
+pub reads_some : (o : OwnCall) (offset : ℤ) (n : ℕ) (a b : Mine) (started : Bool) → ReadsOr o started offset n a b
+    → started ≡ true → ReadsIn o offset n a b
 reads_some o offset n a b started ok e = subst (λ x. ReadsOr o x offset n a b) e ok
 
-pub reads_ends : (t : ℕ) (offset : ℤ) (n : ℕ) (a b c : Mine) (op : (o : OwnCall) × IsOwn t o a) → ReadsIn op.0 offset n a b → ((o : OwnCall) → IsOwn t o b → EndsTo o b c) → (o : OwnCall) → IsOwn t o a → TakesUp o a c
+pub reads_ends : (t : ℕ) (offset : ℤ) (n : ℕ) (a b c : Mine) (op : (o : OwnCall) × IsOwn t o a) → ReadsIn op.0 offset n a b
+    → ((o : OwnCall) → IsOwn t o b → EndsTo o b c) → (o : OwnCall) → IsOwn t o a → TakesUp o a c
 reads_ends t offset n a b c op s ends o own =
-    subst (λ x. TakesUp x a c) (only_own t a o op.0 own op.1) (takes_started op.0 s.own a b c s.begins (ends s.own (begun_own t op.0 s.own a b op.1 s.begins)))
+    subst (λ x. TakesUp x a c) (only_own t a o op.0 own op.1)
+    (takes_started op.0 s.own a b c s.begins (ends s.own (begun_own t op.0 s.own a b op.1 s.begins)))
 
 -- in room for its bytes
-pub reads_own : (t : ℕ) (offset : ℤ) (n : ℕ) (a b : Mine) (reply : List ℕ) (o : OwnCall) → IsOwn t o a → n ≤ 1048576 → length reply ≡ header_length + n → ReadsIn o offset n a b → (x : OwnCall) × IsOwn t x b × CarriesRead x offset reply
+pub reads_own : (t : ℕ) (offset : ℤ) (n : ℕ) (a b : Mine) (reply : List ℕ) (o : OwnCall) → IsOwn t o a → n ≤ 1048576
+    → length reply ≡ header_length + n → ReadsIn o offset n a b → (x : OwnCall) × IsOwn t x b × CarriesRead x offset reply
 reads_own t offset n a b reply o own short fits s = (
   s.own,
   begun_own t o s.own a b own s.begins,
@@ -200,7 +232,8 @@ reads_own t offset n a b reply o own short fits s = (
 )
 
 -- a read that goes on is carried as before
-pub reads_on : (o : OwnCall) (a b : Mine) (goes : KeepsOpen a b) (t : ℕ) (own : IsOwn t o a) (offset : ℤ) (reply reply2 : List ℕ) → CarriesRead o offset reply → length reply2 ≡ length reply
+pub reads_on : (o : OwnCall) (a b : Mine) (goes : KeepsOpen a b) (t : ℕ) (own : IsOwn t o a) (offset : ℤ)
+    (reply reply2 : List ℕ) → CarriesRead o offset reply → length reply2 ≡ length reply
     → (x : OwnCall) × IsOwn t x b × CarriesRead x offset reply2
 reads_on o a b goes t own offset reply reply2 c long =
     let g = goes o own.is in (
@@ -229,14 +262,24 @@ on_blocks (call.Command x) w = w
 pub write_is_started : (o : OwnCall) → IsStartedWrite o → HasStarted o
 write_is_started o w = (w.0, on_blocks o.call w.1)
 
-pub write_started : (o : OwnCall) (t block n : ℕ) (a b : Mine) (rooms : Rooms) → IsOwn t o a → HoldsWrite o block n rooms → KeepsOpen a b → (x : OwnCall) × IsOwn t x b × HasStarted x
+pub write_started : (o : OwnCall) (t block n : ℕ) (a b : Mine) (rooms : Rooms) → IsOwn t o a → HoldsWrite o block n rooms
+    → KeepsOpen a b → (x : OwnCall) × IsOwn t x b × HasStarted x
 write_started o t block n a b rooms own f goes =
     let g = goes o own.is in
     (after o a b g, record { is = goes_running o a b g; number = own.number }, write_is_started o f.carries.writes)
 
-module _ (t : ℕ) (offset : ℤ) (a b : Mine) (reply : List ℕ) (goes : KeepsOpen a b) (op : (o : OwnCall) × IsOwn t o a × CarriesRead o offset reply) where
+module _ (t : ℕ) (offset : ℤ) (a b : Mine) (reply : List ℕ) (goes : KeepsOpen a b)
+    (op : (o : OwnCall) × IsOwn t o a × CarriesRead o offset reply) where
   pub read_started : (x : OwnCall) × IsOwn t x b × HasStarted x
-  read_started = (after op.0 a b (goes op.0 op.1.is), record { is = goes_running op.0 a b (goes op.0 op.1.is); number = op.1.number }, (op.2.started, subst IsOnBlocks (sym op.2.call) tt))
+  read_started = (
+    after op.0 a b (goes op.0 op.1.is),
+    record { is = goes_running op.0 a b (goes op.0 op.1.is); number = op.1.number },
+    (op.2.started, subst IsOnBlocks (sym op.2.call) tt),
+  )
 
   pub still_read : (x : OwnCall) × IsOwn t x b × IsReadCall x.call
-  still_read = (after op.0 a b (goes op.0 op.1.is), record { is = goes_running op.0 a b (goes op.0 op.1.is); number = op.1.number }, subst IsReadCall (sym op.2.call) tt)
+  still_read = (
+    after op.0 a b (goes op.0 op.1.is),
+    record { is = goes_running op.0 a b (goes op.0 op.1.is); number = op.1.number },
+    subst IsReadCall (sym op.2.call) tt,
+  )

@@ -1,5 +1,6 @@
 -- What a call is carried in.
-use Rattle.std.specs.Prelude.{◌≡◌, ℕ, ◌+◌, ◌*◌, ◌<◌, ◌≤◌, ◌^◌, ℤ, Bool, true, false, List, [], vec_capacity, length, drop, All, is_some, Option, Some, None}
+use Rattle.std.specs.Prelude.{◌≡◌, ℕ, ◌+◌, ◌*◌, ◌<◌, ◌≤◌, ◌^◌, ℤ, Bool, true, false, List, [], vec_capacity, length}
+use Rattle.std.specs.Prelude.{drop, All, is_some, Option, Some, None}
 use Rattle.vol_units.specs.declared.size.TheConstants.{BLOCK_BYTES}
 use Rattle.volume_model.specs.declared.call.Call.TheVariants as call
 use Rattle.frame_wire.specs.Spelling.{header_length}

@@ -1,5 +1,6 @@
 -- The names of what stands on a layer, and the places of these layers.
-use Rattle.std.proofs.Common.{◌≡◌, ◌≢◌, ◌⊎◌, inl, inr, ⊎_elim, ℕ, ◌<◌, zero, suc, Bool, true, false, cond, List, [], ◌∷◌, length, map, Option, None, Some, sym, refl, ap, ◌∙◌, subst, arith}
+use Rattle.std.proofs.Common.{◌≡◌, ◌≢◌, ◌⊎◌, inl, inr, ⊎_elim, ℕ, ◌<◌, zero, suc, Bool, true, false, cond, List, []}
+use Rattle.std.proofs.Common.{◌∷◌, length, map, Option, None, Some, sym, refl, ap, ◌∙◌, subst, arith}
 use Rattle.std.specs.Str.{bytes_eq}
 use Rattle.std.proofs.lemmas.Bool.{false_from_ne_true, false≢true}
 use Rattle.std.proofs.lemmas.Slice.Eq.{bytes_eq-Decides}
@@ -47,10 +48,12 @@ in_first m ms true e = inl refl
 in_first m ms false e = absurd (false≢true e)
 
 -- what stands on the name is one of its children
-in_children : (xs : List Layer) (p : List ℕ) (i : ℕ) → i < length xs → parent_of (layer_at xs i) ≡ Some p → In (name_of (layer_at xs i)) (children_of (told xs) p)
+in_children : (xs : List Layer) (p : List ℕ) (i : ℕ) → i < length xs → parent_of (layer_at xs i) ≡ Some p
+    → In (name_of (layer_at xs i)) (children_of (told xs) p)
 in_children [] p i h e = absurd (omega arith)
 in_children (x ∷ xs) p zero h e = in_first (name_of x) (children_of (told xs) p) (is_named (parent_of x) p) (is_named-yes (parent_of x) p e)
-in_children (x ∷ xs) p (suc i) h e = in_more (name_of (layer_at xs i)) (name_of x) (children_of (told xs) p) (is_named (parent_of x) p) (in_children xs p i (omega arith) e)
+in_children (x ∷ xs) p (suc i) h e = in_more (name_of (layer_at xs i)) (name_of x) (children_of (told xs) p)
+    (is_named (parent_of x) p) (in_children xs p i (omega arith) e)
 
 -- a layer of that name, on p
 pub record ChildAt (xs : List Layer) (p c : List ℕ) : Type 0 where
@@ -62,7 +65,9 @@ pub record ChildAt (xs : List Layer) (p c : List ℕ) : Type 0 where
 behind : (x : Layer) (xs : List Layer) (p c : List ℕ) → ChildAt xs p c → ChildAt (x ∷ xs) p c
 behind x xs p c a = record { place = suc a.place; within = omega (arith, a.within); on = a.on; named = a.named }
 
-child_among : (x : Layer) (xs : List Layer) (p c : List ℕ) (b : Bool) → is_named (parent_of x) p ≡ b → (In c (children_of (told xs) p) → ChildAt xs p c) → In c (cond b (name_of x ∷ children_of (told xs) p) (children_of (told xs) p)) → ChildAt (x ∷ xs) p c
+child_among : (x : Layer) (xs : List Layer) (p c : List ℕ) (b : Bool) → is_named (parent_of x) p ≡ b
+    → (In c (children_of (told xs) p) → ChildAt xs p c)
+    → In c (cond b (name_of x ∷ children_of (told xs) p) (children_of (told xs) p)) → ChildAt (x ∷ xs) p c
 child_among x xs p c true is more h =
     ⊎_elim
     (λ e. record { place = zero; within = omega arith; on = named_is (parent_of x) p is; named = e })
@@ -79,7 +84,8 @@ module _ (xs : List Layer) (p : List ℕ) where
   pub child_named : (c : List ℕ) → children_of (told xs) p ≡ c ∷ [] → ChildAt xs p c
   child_named c is = child_at xs p c (subst (λ (ms : List (List ℕ)). In c ms) (sym is) (inl refl))
 
-  pub child_only : (c : List ℕ) → children_of (told xs) p ≡ c ∷ [] → (i : ℕ) → i < length xs → parent_of (layer_at xs i) ≡ Some p → name_of (layer_at xs i) ≡ c
+  pub child_only : (c : List ℕ) → children_of (told xs) p ≡ c ∷ [] → (i : ℕ) → i < length xs
+      → parent_of (layer_at xs i) ≡ Some p → name_of (layer_at xs i) ≡ c
   child_only c is i h e =
       ⊎_elim
       (λ m. sym m)
@@ -92,17 +98,22 @@ module _ (xs : List Layer) (p : List ℕ) where
 
 -- ---- from the places to the names
 
-pub children_none : (xs : List Layer) (p : List ℕ) → ((i : ℕ) → i < length xs → parent_of (layer_at xs i) ≢ Some p) → children_of (told xs) p ≡ []
+pub children_none : (xs : List Layer) (p : List ℕ) → ((i : ℕ) → i < length xs → parent_of (layer_at xs i) ≢ Some p)
+    → children_of (told xs) p ≡ []
 children_none [] p none = refl
 children_none (x ∷ xs) p none =
     ap (λ b. cond b (name_of x ∷ children_of (told xs) p) (children_of (told xs) p)) (is_named-no (parent_of x) p (none zero (omega arith)))
     ∙ children_none xs p (λ i h. none (suc i) (omega arith))
 
-pub children_one : (xs : List Layer) (p : List ℕ) (j : ℕ) → j < length xs → parent_of (layer_at xs j) ≡ Some p → ((i : ℕ) → i < length xs → parent_of (layer_at xs i) ≡ Some p → i ≡ j) → children_of (told xs) p ≡ name_of (layer_at xs j) ∷ []
+pub children_one : (xs : List Layer) (p : List ℕ) (j : ℕ) → j < length xs → parent_of (layer_at xs j) ≡ Some p
+    → ((i : ℕ) → i < length xs → parent_of (layer_at xs i) ≡ Some p → i ≡ j)
+    → children_of (told xs) p ≡ name_of (layer_at xs j) ∷ []
 children_one [] p j h e only = absurd (omega arith)
 children_one (x ∷ xs) p zero h e only =
     ap (λ b. cond b (name_of x ∷ children_of (told xs) p) (children_of (told xs) p)) (is_named-yes (parent_of x) p e)
-    ∙ ap (λ (ms : List (List ℕ)). name_of x ∷ ms) (children_none xs p (λ i l f. let same : suc i ≡ zero = only (suc i) (omega arith) f in absurd (omega arith)))
+    ∙ ap (λ (ms : List (List ℕ)). name_of x ∷ ms)
+    (children_none xs p (λ i l f. let same : suc i ≡ zero = only (suc i) (omega arith) f in absurd (omega arith)))
 children_one (x ∷ xs) p (suc j) h e only =
-    ap (λ b. cond b (name_of x ∷ children_of (told xs) p) (children_of (told xs) p)) (is_named-no (parent_of x) p (λ f. let same : zero ≡ suc j = only zero (omega arith) f in absurd (omega arith)))
+    ap (λ b. cond b (name_of x ∷ children_of (told xs) p) (children_of (told xs) p))
+    (is_named-no (parent_of x) p (λ f. let same : zero ≡ suc j = only zero (omega arith) f in absurd (omega arith)))
     ∙ children_one xs p j (omega arith) e (λ i l f. let same : suc i ≡ suc j = only (suc i) (omega arith) f in omega arith)

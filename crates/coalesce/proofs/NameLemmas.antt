@@ -28,7 +28,8 @@ pub names_once : (t : Tree) → IsWholeTree t → NamesOnce (snapshots_in t)
 names_once t w = told_once t.layers w.layers
 
 -- the newest of the name of a layer that is marked is that layer
-marked_not_live : (xs : List Layer) (p : List ℕ) (i : ℕ) → i < length xs → name_of (layer_at xs i) ≡ p → (layer_at xs i).meta.marked ≡ true → IsLayers xs → is_live (told xs) p ≡ false
+marked_not_live : (xs : List Layer) (p : List ℕ) (i : ℕ) → i < length xs → name_of (layer_at xs i) ≡ p
+    → (layer_at xs i).meta.marked ≡ true → IsLayers xs → is_live (told xs) p ≡ false
 marked_not_live [] p i h is marked tree = absurd (omega arith)
 marked_not_live (x ∷ xs) p zero h is marked tree =
     ap (λ b. if b then not x.meta.marked else is_live (told xs) p) (ap (bytes_eq p) is ∙ same_name p) ∙ ap not marked

@@ -28,7 +28,8 @@ module _ (P : Snapshot → Type 0) (t : Tree) where
       (i, s, within, get_or-map (λ (l : Layer). snapshot_of l.meta) t.layers i _ s h, p)
 
 -- a name that is told of is a layer's
-pub named_there : (t : Tree) (name : List ℕ) (i : ℕ) → i < length t.layers → (layer_at t.layers i).meta.name ≡ name → IsThere (Some name) t.layers
+pub named_there : (t : Tree) (name : List ℕ) (i : ℕ) → i < length t.layers → (layer_at t.layers i).meta.name ≡ name
+    → IsThere (Some name) t.layers
 named_there t name i h is = there_at t.layers i name _ h is
 
 pub not_there : (t : Tree) (name : List ℕ) → IsNew name t.layers → IsThere (Some name) t.layers → ⊥
@@ -42,7 +43,8 @@ parent_there t p c can = let a = any_at (λ m. (m.name ≡ p) × (m.marked ≡ t
 pub child_there : (t : Tree) (p c : List ℕ) → CanFold (snapshots_in t) t.on p c → IsThere (Some c) t.layers
 child_there t p c can = let a = child_named t.layers p c can.child in named_there t c a.place a.within a.named
 
-module _ (t : Tree) (p c : List ℕ) (i j : ℕ) (w : IsWholeTree t) (at : AreAt t.layers p c i j) (can : CanFold (snapshots_in t) t.on p c) where
+module _ (t : Tree) (p c : List ℕ) (i j : ℕ) (w : IsWholeTree t) (at : AreAt t.layers p c i j)
+    (can : CanFold (snapshots_in t) t.on p c) where
   some_p : Some (name_of (layer_at t.layers i)) ≡ Some p
   some_p = ap (λ (n : List ℕ). Some n) at.parent.named
 
@@ -73,7 +75,8 @@ module _ (t : Tree) (p c : List ℕ) (i j : ℕ) (w : IsWholeTree t) (at : AreAt
 pub leaf_there : (t : Tree) (p : List ℕ) → CanDrop (snapshots_in t) t.on p → IsThere (Some p) t.layers
 leaf_there t p can = let a = any_at (λ m. (m.name ≡ p) × (m.marked ≡ true)) t can.marked in named_there t p a.0 a.1 a.2.0
 
-no_child : (t : Tree) (p : List ℕ) (i : ℕ) → IsAt t.layers p i → CanDrop (snapshots_in t) t.on p → (b : Child) → Stands t.layers t.on (length t.layers) i b → ⊥
+no_child : (t : Tree) (p : List ℕ) (i : ℕ) → IsAt t.layers p i → CanDrop (snapshots_in t) t.on p → (b : Child)
+    → Stands t.layers t.on (length t.layers) i b → ⊥
 no_child t p i at can child.Head s = can.head (s ∙ ap (λ (n : List ℕ). Some n) at.named)
 no_child t p i at can (child.Layer k) s = child_none t.layers p can.leaf k s.0 (s.1 ∙ ap (λ (n : List ℕ). Some n) at.named)
 

@@ -35,12 +35,14 @@ HasSomeAdd t m = (r : ℕ) × (o : OwnCall) × HasAdd t r o m
 
 -- ---- the seat s takes the World x
 
-module _ (d : Desk WorldOnDesk) (s : Seat WorldOnDesk) (n k : ℕ) (x : WorldOnDesk) (work : IsAtDesk d s n k) (fits : Fits world_account x (known s)) (t : ℕ) (add : HasSomeAdd t (mine_at n (laid (last_of s)))) where
+module _ (d : Desk WorldOnDesk) (s : Seat WorldOnDesk) (n k : ℕ) (x : WorldOnDesk) (work : IsAtDesk d s n k)
+    (fits : Fits world_account x (known s)) (t : ℕ) (add : HasSomeAdd t (mine_at n (laid (last_of s)))) where
   pub add_found : HasSomeAdd t (mine_at n (laid x))
   add_found = found_in d s n k x work fits (HasSomeAdd t) add
 
   pub add_kept : IsRebuildKept (laid (last_of s)).rebuild (laid (last_of s)) (laid x)
-  add_kept = found_kept n t (command.Add add_found.0) add_found.1 (laid (last_of s)) (laid x) (later d s n k x work fits) fits.sound add_found.2
+  add_kept = found_kept n t (command.Add add_found.0) add_found.1 (laid (last_of s)) (laid x) (later d s n k x work fits)
+      fits.sound add_found.2
 
   -- what was known is known
   pub add_known : IsStillKnown (laid (last_of s)) (laid x)
@@ -48,17 +50,20 @@ module _ (d : Desk WorldOnDesk) (s : Seat WorldOnDesk) (n k : ℕ) (x : WorldOnD
 
   -- and as many pages are left
   pub add_left : k ≡ left_in k (laid x).rebuild (laid x).ended
-  add_left = found_left n t (command.Add add_found.0) add_found.1 (laid (last_of s)) (laid x) (later d s n k x work fits) fits.sound add_found.2 k work.left
+  add_left = found_left n t (command.Add add_found.0) add_found.1 (laid (last_of s)) (laid x) (later d s n k x work fits)
+      fits.sound add_found.2 k work.left
 
   -- a step for the command that has the turn is the stream's
   pub add_may : (z : State) → MayGo (command_at (laid x).commands 0).stream (laid x) z → MayGo n (laid x) z
-  add_may z may = subst (λ m. MayGo m (laid x) z) (turn_stream n t (laid x) fits.sound (command.Add add_found.0) add_found.1 add_found.2) may
+  add_may z may = subst (λ m. MayGo m (laid x) z)
+      (turn_stream n t (laid x) fits.sound (command.Add add_found.0) add_found.1 add_found.2) may
 
   pub add_counted : (z : State) → AreOthersCounted n (laid x) z
   add_counted z = counted_turn n t (laid x) z fits.sound (command.Add add_found.0) add_found.1 add_found.2
 
   -- and leaves it as y
-  module _ (turn_seat : Seat WorldOnDesk) (y : WorldOnDesk) (turn : IsInTurn s x turn_seat) (may : MayGo n (laid x) (laid y)) (u : Seat WorldOnDesk) (left : HasLeft turn_seat y u) where
+  module _ (turn_seat : Seat WorldOnDesk) (y : WorldOnDesk) (turn : IsInTurn s x turn_seat)
+      (may : MayGo n (laid x) (laid y)) (u : Seat WorldOnDesk) (left : HasLeft turn_seat y u) where
     pub known_over : IsStillKnown (laid x) (laid y) → IsStillKnown (laid (last_of s)) (laid (last_of u))
     known_over then =
         at_last d s n k x work fits turn_seat y turn may u left (λ z. IsStillKnown (laid (last_of s)) z)
@@ -67,7 +72,8 @@ module _ (d : Desk WorldOnDesk) (s : Seat WorldOnDesk) (n k : ℕ) (x : WorldOnD
     pub kept_over : AreKept (IsEndedAt (laid x)) (IsEndedAt (laid y)) (IsPageIn (laid x)) (IsPageIn (laid y))
         → AreKept (IsEndedAt (laid (last_of s))) (IsEndedAt (laid (last_of u))) (IsPageIn (laid (last_of s))) (IsPageIn (laid (last_of u)))
     kept_over then =
-        at_last d s n k x work fits turn_seat y turn may u left (λ z. AreKept (IsEndedAt (laid (last_of s))) (IsEndedAt z) (IsPageIn (laid (last_of s))) (IsPageIn z))
+        at_last d s n k x work fits turn_seat y turn may u left
+        (λ z. AreKept (IsEndedAt (laid (last_of s))) (IsEndedAt z) (IsPageIn (laid (last_of s))) (IsPageIn z))
         (record {
           ended = λ place is. then.ended place (add_known.kept.ended place is);
           pages = λ page table is. then.pages page table (add_known.kept.pages page table is);
@@ -81,7 +87,8 @@ known_same s = record { kept = record { ended = λ place is. is; pages = λ page
 pub takes_left : (p : NextPage) (s : State) (left : ℕ) → left ≡ left_in left s.rebuild s.ended
     → ((seen : ℕ) → TakesNext p (λ page. AwaitsAt s.rebuild s.ended page) (λ place. IsEndedAt s place) (left_in seen s.rebuild s.ended))
     → TakesNext p (λ page. AwaitsAt s.rebuild s.ended page) (λ place. IsEndedAt s place) left
-takes_left p s left is takes = subst (TakesNext p (λ page. AwaitsAt s.rebuild s.ended page) (λ place. IsEndedAt s place)) (sym is) (takes left)
+takes_left p s left is takes = subst (TakesNext p (λ page. AwaitsAt s.rebuild s.ended page) (λ place. IsEndedAt s place))
+    (sym is) (takes left)
 
 -- ---- a page comes in
 
@@ -93,7 +100,8 @@ module _ (n left : ℕ) (s s2 : State) (page : PageRef) (old new : Table) (ok : 
   pub puts_left : (p : PageIn) (now : ℕ) → PutsAt p page old new s s2 → FewerBy p left now → IsLeftAt n s2 now
   puts_left put.Listed now y less = left_fewer n left s s2 page old new ok y now less is
   puts_left (put.Ended place) now y less =
-      left_same n s2 now (less ∙ is ∙ ap (λ (z : State). left_in left z.rebuild z.ended) (sym y.1) ∙ ap (λ k. left_in k s2.rebuild s2.ended) (sym less))
+      left_same n s2 now (less ∙ is ∙ ap (λ (z : State). left_in left z.rebuild z.ended) (sym y.1)
+      ∙ ap (λ k. left_in k s2.rebuild s2.ended) (sym less))
 
   pub puts_in : (p : PageIn) (now : ℕ) → PutsAt p page old new s s2 → FewerBy p left now → PutsIn p (IsEndedAt s2) left now
   puts_in put.Listed now y less = less

@@ -30,12 +30,21 @@ use Rattle.command_desk.specs.Rebuild.{IsLeftAt}
 pub later_same : (n : ℕ) (s t : State) → IsLater n s t → mine_at n t ≡ mine_at n s
 later_same n s t later =
     let entries : (client.mine_at n t) ≡ (client.mine_at n s) = client_turn.later_same n s t later in
-    let calls : map (own_at t.whole) (running t n) ≡ map (own_at s.whole) (running s n) = made_same own_with s.whole t.whole (running s n) (running t n) later.calls later.parts in
-    λ i. record { stream = n; replicas = (entries i).replicas; entries = (entries i).entries; running = map own_turn (later.turns i) ++ calls i; log = None }
+    let calls : map (own_at t.whole) (running t n) ≡ map (own_at s.whole) (running s n) =
+    made_same own_with s.whole t.whole (running s n) (running t n) later.calls later.parts in
+    λ i. record {
+      stream = n;
+      replicas = (entries i).replicas;
+      entries = (entries i).entries;
+      running =
+          map own_turn (later.turns i) ++ calls i;
+      log = None;
+    }
 
 -- ---- a seat s of a stream's takes the World x
 
-module _ (d : Desk WorldOnDesk) (s : Seat WorldOnDesk) (n k : ℕ) (x : WorldOnDesk) (work : IsAtDesk d s n k) (fits : Fits world_account x (known s)) where
+module _ (d : Desk WorldOnDesk) (s : Seat WorldOnDesk) (n k : ℕ) (x : WorldOnDesk) (work : IsAtDesk d s n k)
+    (fits : Fits world_account x (known s)) where
   pub later : IsLater n (laid (last_of s)) (laid x)
   later = found_later n x (last_of s) (finds_own world_account s x n fits work.number)
 
@@ -51,8 +60,10 @@ module _ (d : Desk WorldOnDesk) (s : Seat WorldOnDesk) (n k : ℕ) (x : WorldOnD
 
   -- and leaves it as y
   module _ (turn_seat : Seat WorldOnDesk) (y : WorldOnDesk) (turn : IsInTurn s x turn_seat) (may : MayGo n (laid x) (laid y)) where
-    pub may_go : ((m : ℕ) → m ≢ n → parts_of (laid y) m ≡ parts_of (laid x) m) → AreOthersCounted n (laid x) (laid y) → MayLeave world_account (number_of turn_seat) (last_of turn_seat) y
-    may_go parts counted = may_leave_at world_account s turn_seat x y turn (subst (λ m. MayLeave world_account m x y) (sym work.number) (may_leave n x y may parts counted))
+    pub may_go : ((m : ℕ) → m ≢ n → parts_of (laid y) m ≡ parts_of (laid x) m) → AreOthersCounted n (laid x) (laid y)
+        → MayLeave world_account (number_of turn_seat) (last_of turn_seat) y
+    may_go parts counted = may_leave_at world_account s turn_seat x y turn
+        (subst (λ m. MayLeave world_account m x y) (sym work.number) (may_leave n x y may parts counted))
 
     -- then the seat is u
     module _ (u : Seat WorldOnDesk) (left : HasLeft turn_seat y u) where
@@ -68,13 +79,15 @@ module _ (d : Desk WorldOnDesk) (s : Seat WorldOnDesk) (n k : ℕ) (x : WorldOnD
       at_desk pages is = record {
         seat = (left.0 ∙ (turn.0 ∙ work.seat.0), (ap (λ (k : Known WorldOnDesk). k.stage) left.1, left.2));
         number = ap (λ (k : Known WorldOnDesk). k.number) left.1 ∙ (ap (λ (k : Known WorldOnDesk). k.number) turn.1.1 ∙ work.number);
-        there = subst (λ (w : WorldOnDesk). n < length (laid w).indices) (sym last_is) (subst (λ k. n < k) (sym (ap (λ (o : Origin). o.streams) may.origin)) found_there);
+        there = subst (λ (w : WorldOnDesk). n < length (laid w).indices) (sym last_is)
+            (subst (λ k. n < k) (sym (ap (λ (o : Origin). o.streams) may.origin)) found_there);
         left = subst (λ (w : WorldOnDesk). IsLeftAt n (laid w) pages) (sym last_is) is;
       }
 
       -- what is so of the World in the turn is so of what the seat knew and knows
       pub over : (P : Mine → State → Type 0) → P (mine_at n (laid x)) (laid y) → P (mine_at n (laid (last_of s))) (laid (last_of u))
-      over P h = subst (λ (m : Mine). P m (laid (last_of u))) found (subst (λ (z : WorldOnDesk). P (mine_at n (laid x)) (laid z)) (sym last_is) h)
+      over P h = subst (λ (m : Mine). P m (laid (last_of u))) found
+          (subst (λ (z : WorldOnDesk). P (mine_at n (laid x)) (laid z)) (sym last_is) h)
 
 -- where nothing came of a step
 pub unchanged : {A E : Type 0} (n : ℕ) (s s2 : State) (res : Result A E) → OnErr res (s2 ≡ s) → OnErr res (mine_at n s2 ≡ mine_at n s)
@@ -86,9 +99,11 @@ unchanged n s s2 (Failed e) h = ap (mine_at n) h
 none_open : (n : ℕ) (s : State) → turning s n ≡ [] → (client.mine_at n s).running ≡ [] → (mine_at n s).running ≡ []
 none_open n s turns calls = by (turning s n) (running s n) turns calls
   where
-    by : (ms : List (Ticket × MaintCall)) (cs : List (Ticket × OpenCall)) → ms ≡ [] → map own_call cs ≡ [] → map own_turn ms ++ map (own_at s.whole) cs ≡ []
+    by : (ms : List (Ticket × MaintCall)) (cs : List (Ticket × OpenCall)) → ms ≡ [] → map own_call cs ≡ []
+        → map own_turn ms ++ map (own_at s.whole) cs ≡ []
     by ms [] a b = ap (λ l. map own_turn l ++ []) a
     by ms (c ∷ cs) a b = absurd cc
 
-pub idle_of : (d : Desk WorldOnDesk) (s : Seat WorldOnDesk) (n : ℕ) → client.IsAtWork d s n → (client.mine_at n (laid (last_of s))).running ≡ [] → (mine_at n (laid (last_of s))).running ≡ []
+pub idle_of : (d : Desk WorldOnDesk) (s : Seat WorldOnDesk) (n : ℕ) → client.IsAtWork d s n
+    → (client.mine_at n (laid (last_of s))).running ≡ [] → (mine_at n (laid (last_of s))).running ≡ []
 idle_of d s n work idle = none_open n (laid (last_of s)) work.turns idle

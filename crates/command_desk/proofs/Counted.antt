@@ -1,6 +1,7 @@
 -- What a step of a stream of commands leaves of what other streams' commands count on: the rebuild that is open stays, or
 -- it was aborted; or the stream has the turn itself, so that no other has.
-use Rattle.std.proofs.Common.{◌≡◌, ℕ, ◌+◌, ◌<◌, Bool, true, false, cond, List, length, set, Option, Some, None, Result, Ok, OnOk, OnErr, IfOk, refl, sym, ap, ◌∙◌, subst, arith}
+use Rattle.std.proofs.Common.{◌≡◌, ℕ, ◌+◌, ◌<◌, Bool, true, false, cond, List, length, set, Option, Some, None}
+use Rattle.std.proofs.Common.{Result, Ok, OnOk, OnErr, IfOk, refl, sym, ap, ◌∙◌, subst, arith}
 use Rattle.std.proofs.Common.{Err as Failed}
 use Rattle.std.specs.Prelude.{Contains}
 use Rattle.std.specs.Str.{bytes_eq}
@@ -54,12 +55,15 @@ use Rattle.command_desk.proofs.Wholes.{HasSome, same_op, whole_op}
 
 -- nor anything else
 pub counted_same : (n : ℕ) (s s2 : State) → s2 ≡ s → AreOthersCounted n s s2
-counted_same n s s2 e = others_kept n s s2 (kept_same s s2 (ap (λ (x : State). x.rebuild) e) (ap (λ (x : State). x.ended) e) (ap (λ (x : State). x.nodes) e))
+counted_same n s s2 e =
+    others_kept n s s2 (kept_same s s2 (ap (λ (x : State). x.rebuild) e) (ap (λ (x : State). x.ended) e)
+    (ap (λ (x : State). x.nodes) e))
 
 -- the World becomes one that has the rebuild and the replicas of s
 counted_by : (n : ℕ) (s s2 x : State) → s2 ≡ x → x.rebuild ≡ s.rebuild → x.ended ≡ s.ended → x.nodes ≡ s.nodes → AreOthersCounted n s s2
 counted_by n s s2 x e rebuild ended nodes =
-    others_kept n s s2 (kept_same s s2 (ap (λ (x : State). x.rebuild) e ∙ rebuild) (ap (λ (x : State). x.ended) e ∙ ended) (ap (λ (x : State). x.nodes) e ∙ nodes))
+    others_kept n s s2 (kept_same s s2 (ap (λ (x : State). x.rebuild) e ∙ rebuild) (ap (λ (x : State). x.ended) e ∙ ended)
+    (ap (λ (x : State). x.nodes) e ∙ nodes))
 
 -- ---- its own turn
 
@@ -72,12 +76,16 @@ module _ (n t : ℕ) (s s2 : State) (ok : IsSound s) where
 
 -- ---- replicas fail
 
-pub counted_now : {E : Type 0} (n : ℕ) (c : Call) (s s2 : State) (res : Result ℕ E) → IfOk res (λ at. IsAnsweredNow s n c at s2) → OnErr res (s2 ≡ s) → AreOthersCounted n s s2
+pub counted_now : {E : Type 0} (n : ℕ) (c : Call) (s s2 : State) (res : Result ℕ E)
+    → IfOk res (λ at. IsAnsweredNow s n c at s2) → OnErr res (s2 ≡ s) → AreOthersCounted n s s2
 counted_now n c s s2 (Ok at) is err = others_kept n s s2 (kept_answered n c at s s2 is)
 counted_now n c s s2 (Failed e) is err = counted_same n s s2 err
 
-pub counted_fault : {E : Type 0} (n r count : ℕ) (s s2 : State) (res : Result (Unit {0}) E) → OnOk res (s2 ≡ faulted s n r count) → OnErr res (s2 ≡ s) → AreOthersCounted n s s2
-counted_fault n r count s s2 (Ok u) e err = others_kept n s s2 (subst (IsRebuildKept s.rebuild s) (sym e) (kept_fall s (marked s (mark.Fault n r count)) refl refl refl r))
+pub counted_fault : {E : Type 0} (n r count : ℕ) (s s2 : State) (res : Result (Unit {0}) E)
+    → OnOk res (s2 ≡ faulted s n r count) → OnErr res (s2 ≡ s) → AreOthersCounted n s s2
+counted_fault n r count s s2 (Ok u) e err =
+    others_kept n s s2 (subst (IsRebuildKept s.rebuild s) (sym e)
+    (kept_fall s (marked s (mark.Fault n r count)) refl refl refl r))
 counted_fault n r count s s2 (Failed x) e err = counted_same n s s2 err
 
 -- ---- the turn is asked for, and given
@@ -85,43 +93,59 @@ counted_fault n r count s s2 (Failed x) e err = counted_same n s s2 err
 abbrev asked : ℕ → Command → State → MaintCall
 asked n c s = record { stream = n; saw = length s.book.entries; command = c }
 
-pub counted_enrolled : {E : Type 0} (n : ℕ) (c : Command) (s s2 : State) (res : Result ℕ E) → IfOk res (λ number. s2 ≡ maint_enrolled s number (asked n c s)) → OnErr res (s2 ≡ s) → AreOthersCounted n s s2
+pub counted_enrolled : {E : Type 0} (n : ℕ) (c : Command) (s s2 : State) (res : Result ℕ E)
+    → IfOk res (λ number. s2 ≡ maint_enrolled s number (asked n c s)) → OnErr res (s2 ≡ s) → AreOthersCounted n s s2
 counted_enrolled n c s s2 (Ok number) e err = counted_by n s s2 (maint_enrolled s number (asked n c s)) e refl refl refl
 counted_enrolled n c s s2 (Failed x) e err = counted_same n s s2 err
 
 pub counted_admitted : (n t : ℕ) (s s2 : State) (a : MayStart) → world.TurnsTo s t a s2 → AreOthersCounted n s s2
-counted_admitted n t s s2 may_start.Yes x = others_kept n s s2 (kept_same s s2 (ap (λ (z : State). z.rebuild) x.1) (ap (λ (z : State). z.ended) x.1) (ap (λ (z : State). z.nodes) x.1))
+counted_admitted n t s s2 may_start.Yes x =
+    others_kept n s s2 (kept_same s s2 (ap (λ (z : State). z.rebuild) x.1) (ap (λ (z : State). z.ended) x.1)
+    (ap (λ (z : State). z.nodes) x.1))
 counted_admitted n t s s2 (may_start.After number) x = counted_same n s s2 x.4
 
 -- ---- the whole volume
 
-pub counted_snapshot : {E : Type 0} (n : ℕ) (op : WholeOp) (s s2 : State) (res : Result ℕ E) → IfOk res (λ k. world.EnrolsWhole s n op (Some k) s2) → OnErr res (s2 ≡ s) → AreOthersCounted n s s2
-counted_snapshot n op s s2 (Ok k) x err = others_kept n s s2 (kept_same s s2 (ap (λ (z : State). z.rebuild) x.1) (ap (λ (z : State). z.ended) x.1) (ap (λ (z : State). z.nodes) x.1))
+pub counted_snapshot : {E : Type 0} (n : ℕ) (op : WholeOp) (s s2 : State) (res : Result ℕ E)
+    → IfOk res (λ k. world.EnrolsWhole s n op (Some k) s2) → OnErr res (s2 ≡ s) → AreOthersCounted n s s2
+counted_snapshot n op s s2 (Ok k) x err =
+    others_kept n s s2 (kept_same s s2 (ap (λ (z : State). z.rebuild) x.1) (ap (λ (z : State). z.ended) x.1)
+    (ap (λ (z : State). z.nodes) x.1))
 counted_snapshot n op s s2 (Failed e) x err = counted_same n s s2 err
 
 pub counted_withdrawn : (n t : ℕ) (s s2 : State) → (i : ℕ) × place.AwaitsWhole s t i × (s2 ≡ without_call s i) → AreOthersCounted n s s2
 counted_withdrawn n t s s2 y = counted_by n s s2 (without_call s y.0) y.2 refl refl refl
 
 -- an operation that ends with its answer
-counted_ended : (n : ℕ) (s s1 s2 : State) (i : ℕ) (op : WholeOp) (y : Reply) → s1.rebuild ≡ s.rebuild → s1.ended ≡ s.ended → s1.nodes ≡ s.nodes → s2 ≡ whole_ended s1 i op y → AreOthersCounted n s s2
-counted_ended n s s1 s2 i (whole.Snapshot name) y rebuild ended nodes e = counted_by n s s2 (whole_ended s1 i (whole.Snapshot name) y) e rebuild ended nodes
-counted_ended n s s1 s2 i (whole.Remove name) y rebuild ended nodes e = counted_by n s s2 (whole_ended s1 i (whole.Remove name) y) e rebuild ended nodes
-counted_ended n s s1 s2 i (whole.Revert name) y rebuild ended nodes e = counted_by n s s2 (whole_ended s1 i (whole.Revert name) y) e rebuild ended nodes
-counted_ended n s s1 s2 i (whole.Purge f) y rebuild ended nodes e = counted_by n s s2 (whole_ended s1 i (whole.Purge f) y) e rebuild ended nodes
-counted_ended n s s1 s2 i (whole.Barrier r) y rebuild ended nodes e = counted_by n s s2 (whole_ended s1 i (whole.Barrier r) y) e rebuild ended nodes
+counted_ended : (n : ℕ) (s s1 s2 : State) (i : ℕ) (op : WholeOp) (y : Reply) → s1.rebuild ≡ s.rebuild → s1.ended ≡ s.ended
+    → s1.nodes ≡ s.nodes → s2 ≡ whole_ended s1 i op y → AreOthersCounted n s s2
+counted_ended n s s1 s2 i (whole.Snapshot name) y rebuild ended nodes e =
+    counted_by n s s2 (whole_ended s1 i (whole.Snapshot name) y) e rebuild ended nodes
+counted_ended n s s1 s2 i (whole.Remove name) y rebuild ended nodes e =
+    counted_by n s s2 (whole_ended s1 i (whole.Remove name) y) e rebuild ended nodes
+counted_ended n s s1 s2 i (whole.Revert name) y rebuild ended nodes e =
+    counted_by n s s2 (whole_ended s1 i (whole.Revert name) y) e rebuild ended nodes
+counted_ended n s s1 s2 i (whole.Purge f) y rebuild ended nodes e =
+    counted_by n s s2 (whole_ended s1 i (whole.Purge f) y) e rebuild ended nodes
+counted_ended n s s1 s2 i (whole.Barrier r) y rebuild ended nodes e =
+    counted_by n s s2 (whole_ended s1 i (whole.Barrier r) y) e rebuild ended nodes
 
 unlike_bytes : (n m : List ℕ) → (n ≡ m → ⊥) → bytes_eq n m ≡ false
 unlike_bytes n m apart = false_from_ne_true (bytes_eq n m) (λ t. apart ((bytes_eq-Decides n m).0 t))
 
 -- a page of another layer is not changed by a snapshot
-snapped_block : (node : Node) (name other : List ℕ) (block : ℕ) → (other ≡ name → ⊥) → block_named (snapped_node node name).layers other block ≡ block_named node.layers other block
-snapped_block node name other block apart = ap (λ (b : Bool). cond b (head_block node block) (block_named node.layers other block)) (unlike_bytes other name apart)
+snapped_block : (node : Node) (name other : List ℕ) (block : ℕ) → (other ≡ name → ⊥)
+    → block_named (snapped_node node name).layers other block ≡ block_named node.layers other block
+snapped_block node name other block apart =
+    ap (λ (b : Bool). cond b (head_block node block) (block_named node.layers other block)) (unlike_bytes other name apart)
 
 -- nor on any replica by one that takes its part
 parted_block : (ns : List Node) (r q : ℕ) (name other : List ℕ) (block : ℕ) → r < length ns → (other ≡ name → ⊥)
-    → block_named (node_at (set ns r (snapped_node (node_at ns r) name)) q).layers other block ≡ block_named (node_at ns q).layers other block
+    → block_named (node_at (set ns r (snapped_node (node_at ns r) name)) q).layers other block ≡ block_named
+    (node_at ns q).layers other block
 parted_block ns r q name other block within apart =
-    at_set (λ (x : Node). block_named x.layers other block ≡ block_named (node_at ns q).layers other block) ns r q (snapped_node (node_at ns r) name) (blank 0) within
+    at_set (λ (x : Node). block_named x.layers other block ≡ block_named (node_at ns q).layers other block) ns r q
+    (snapped_node (node_at ns r) name) (blank 0) within
     (λ same. snapped_block (node_at ns r) name other block apart ∙ ap (λ k. block_named (node_at ns k).layers other block) (sym same))
     (λ not. refl)
 
@@ -130,7 +154,8 @@ module _ (n t : ℕ) (s s2 : State) (ok : IsSound s) where
   node_there r h = omega (arith, h, ok.on.clients.agree.as_many, length-forms s.whole s.nodes)
 
   -- the layers that a rebuild copies have other names than a snapshot beside it
-  unlike : (b : Rebuilding) (w : Whole) (name other : List ℕ) → s.rebuild ≡ Some b → b.may_copy ≡ true → s.whole ≡ Some w → w.op ≡ whole.Snapshot name → Contains b.frozen other → other ≡ name → ⊥
+  unlike : (b : Rebuilding) (w : Whole) (name other : List ℕ) → s.rebuild ≡ Some b → b.may_copy ≡ true → s.whole ≡ Some w
+      → w.op ≡ whole.Snapshot name → Contains b.frozen other → other ≡ name → ⊥
   unlike b w name other begun may is op there same =
       let claim = subst (λ x. IsRebuilding s.size (modes_in s) s.tickets s.calls s.whole s.nodes x) begun ok.rebuild in
       let beside : IsBesideThese b.frozen w.op = subst (IsBesideStarted b) is (claim.claim.beside may) in
@@ -142,15 +167,19 @@ module _ (n t : ℕ) (s s2 : State) (ok : IsSound s) where
     asked_as p e = subst (IsAskedBy s.maint s.commands n) (sym e) x.asked
 
     starts_counted : (i : ℕ) (p : WholeOp) → p ≡ op → world.BeginsWhole s i p s2 → AreOthersCounted n s s2
-    starts_counted i (whole.Snapshot name) e y = others_kept n s s2 (kept_same s s2 (ap (λ (z : State). z.rebuild) y.2) (ap (λ (z : State). z.ended) y.2) (ap (λ (z : State). z.nodes) y.2))
+    starts_counted i (whole.Snapshot name) e y =
+        others_kept n s s2 (kept_same s s2 (ap (λ (z : State). z.rebuild) y.2) (ap (λ (z : State). z.ended) y.2)
+        (ap (λ (z : State). z.nodes) y.2))
     starts_counted i (whole.Remove name) e y = own_turn n s s2 ok (asked_as (whole.Remove name) e).own
     starts_counted i (whole.Revert name) e y = own_turn n s s2 ok (asked_as (whole.Revert name) e).own
     starts_counted i (whole.Purge f) e y = own_turn n s s2 ok (asked_as (whole.Purge f) e).own
     starts_counted i (whole.Barrier r) e y = own_turn n s s2 ok (asked_as (whole.Barrier r) e).own
 
-    parts_counted : (w : Whole) (r : ℕ) (p : WholeOp) → w.op ≡ p → p ≡ op → s.whole ≡ Some w → r < length s.nodes → s2 ≡ whole_parted s w r → AreOthersCounted n s s2
+    parts_counted : (w : Whole) (r : ℕ) (p : WholeOp) → w.op ≡ p → p ≡ op → s.whole ≡ Some w → r < length s.nodes
+        → s2 ≡ whole_parted s w r → AreOthersCounted n s s2
     parts_counted w r (whole.Snapshot name) is e kept within f =
-        others_kept n s s2 (kept_pages s s2 (ap (λ (z : State). z.rebuild) f) (ap (λ (z : State). z.ended) f) (λ b begun may other block there.
+        others_kept n s s2 (kept_pages s s2 (ap (λ (z : State). z.rebuild) f) (ap (λ (z : State). z.ended) f)
+        (λ b begun may other block there.
         ap (λ (z : State). block_named (node_at z.nodes b.source).layers other block) f
         ∙ ap (λ (q : WholeOp). block_named (node_at (set s.nodes r (part_on q (node_at s.nodes r))) b.source).layers other block) is
         ∙ parted_block s.nodes r b.source name other block within (unlike b w name other begun may kept is there)))
@@ -180,21 +209,29 @@ module _ (n t : ℕ) (s s2 : State) (ok : IsSound s) where
       starts_counted w.0 w.1 w.2 x y.0 y.1 (same_op n s t w.0 w.1 w.2 x y.0 y.1 y.2.awaits.stands y.2.asks) y.5
   admit_counted (admit.After number) y w = counted_same n s s2 y.3
   admit_counted admit.Never y w = counted_same n s s2 y.4
-  admit_counted (admit.Refused why place) y w = counted_ended n s (record s { book = record s.book { spare = s.book.spare + 1 } }) s2 y.0 y.1 (reply.Refused why) refl refl refl y.6
+  admit_counted (admit.Refused why place) y w =
+      counted_ended n s (record s { book = record s.book { spare = s.book.spare + 1 } }) s2 y.0 y.1 (reply.Refused why) refl
+      refl refl y.6
 
-  pub counted_admit : {E : Type 0} (res : Result AdmitWhole E) → IfOk res (λ a. world.AdmitsWhole s t a s2) → OnErr res (s2 ≡ s) → HasSome n t s → AreOthersCounted n s s2
+  pub counted_admit : {E : Type 0} (res : Result AdmitWhole E) → IfOk res (λ a. world.AdmitsWhole s t a s2)
+      → OnErr res (s2 ≡ s) → HasSome n t s → AreOthersCounted n s s2
   counted_admit (Ok a) y err w = admit_counted a y w
   counted_admit (Failed e) y err w = counted_same n s s2 err
 
   -- a replica takes its part, and acknowledges it
-  pub counted_part : {E : Type 0} (q : ℕ) (res : Result (Unit {0}) E) → OnOk res (world.TakesPart s t q s2) → OnErr res (s2 ≡ s) → HasSome n t s → AreOthersCounted n s s2
+  pub counted_part : {E : Type 0} (q : ℕ) (res : Result (Unit {0}) E) → OnOk res (world.TakesPart s t q s2)
+      → OnErr res (s2 ≡ s) → HasSome n t s → AreOthersCounted n s s2
   counted_part q (Ok u) y err w =
       let x = has_call n s t w.0 w.1 w.2 ok w.3 in
-      parts_counted w.0 w.1 w.2 x y.w q y.w.op refl (whole_op n s t w.0 w.1 w.2 x ok y.w y.at.is y.at.number) y.at.is (node_there q (up_in (modes_in s) q y.up)) y.state
+      parts_counted w.0 w.1 w.2 x y.w q y.w.op refl (whole_op n s t w.0 w.1 w.2 x ok y.w y.at.is y.at.number) y.at.is
+      (node_there q (up_in (modes_in s) q y.up)) y.state
   counted_part q (Failed e) y err w = counted_same n s s2 err
 
-  pub counted_ack : {E : Type 0} (q : ℕ) (res : Result (Unit {0}) E) → OnOk res (world.AcksPart s t q s2) → OnErr res (s2 ≡ s) → AreOthersCounted n s s2
-  counted_ack q (Ok u) y err = others_kept n s s2 (kept_same s s2 (ap (λ (z : State). z.rebuild) y.state) (ap (λ (z : State). z.ended) y.state) (ap (λ (z : State). z.nodes) y.state))
+  pub counted_ack : {E : Type 0} (q : ℕ) (res : Result (Unit {0}) E) → OnOk res (world.AcksPart s t q s2)
+      → OnErr res (s2 ≡ s) → AreOthersCounted n s s2
+  counted_ack q (Ok u) y err =
+      others_kept n s s2 (kept_same s s2 (ap (λ (z : State). z.rebuild) y.state) (ap (λ (z : State). z.ended) y.state)
+      (ap (λ (z : State). z.nodes) y.state))
   counted_ack q (Failed e) y err = counted_same n s s2 err
 
   -- it ends
@@ -206,6 +243,7 @@ module _ (n t : ℕ) (s s2 : State) (ok : IsSound s) where
       let x = has_call n s t w.0 w.1 w.2 ok w.3 in
       lost_counted w.0 w.1 w.2 x y.i y.w.op (whole_op n s t w.0 w.1 w.2 x ok y.w y.at.is y.at.number) (y.lost (no_source (modes_in s) e))
 
-  pub counted_end : {E : Type 0} (res : Result ℕ E) → OnOk res (world.EndsWhole s t s2) → OnErr res (s2 ≡ s) → HasSome n t s → AreOthersCounted n s s2
+  pub counted_end : {E : Type 0} (res : Result ℕ E) → OnOk res (world.EndsWhole s t s2) → OnErr res (s2 ≡ s) → HasSome n t s
+      → AreOthersCounted n s s2
   counted_end (Ok at) y err w = ends_counted y w (source_of (modes_in s)) refl
   counted_end (Failed e) y err w = counted_same n s s2 err

@@ -35,7 +35,8 @@ use Rattle.command_desk.proofs.AtTurn.{later}
 
 -- ---- a seat s of a stream's takes the World x and leaves it as y, and is u then
 
-module _ (d : Desk WorldOnDesk) (s : Seat WorldOnDesk) (n k : ℕ) (x : WorldOnDesk) (work : IsAtDesk d s n k) (fits : Fits world_account x (known s)) where
+module _ (d : Desk WorldOnDesk) (s : Seat WorldOnDesk) (n k : ℕ) (x : WorldOnDesk) (work : IsAtDesk d s n k)
+    (fits : Fits world_account x (known s)) where
   module _ (turn_seat : Seat WorldOnDesk) (y : WorldOnDesk) (u : Seat WorldOnDesk) (left : HasLeft turn_seat y u) where
     -- the flag of the stream is the same, where the turn changed none
     pub flag_over : (laid y).gave_up ≡ (laid x).gave_up → gave_up_at (laid (last_of u)).gave_up n ≡ gave_up_at (laid (last_of s)).gave_up n
@@ -45,11 +46,13 @@ module _ (d : Desk WorldOnDesk) (s : Seat WorldOnDesk) (n k : ℕ) (x : WorldOnD
         ∙ (later d s n k x work fits).gave_up
 
     pub home_over : (laid y).gave_up ≡ (laid x).gave_up
-        → ◌≡◌ {A = Desk WorldOnDesk × ℕ × Bool} (d, n, gave_up_at (laid (last_of u)).gave_up n) (d, n, gave_up_at (laid (last_of s)).gave_up n)
+        → ◌≡◌ {A = Desk WorldOnDesk × ℕ × Bool} (d, n, gave_up_at (laid (last_of u)).gave_up n)
+        (d, n, gave_up_at (laid (last_of s)).gave_up n)
     home_over same = λ i. (d, n, flag_over same i)
 
 -- home after one turn, and after two
-pub home_once : (d d1 : Desk WorldOnDesk) (n n1 : ℕ) (a a1 : Bool) → (d1 ≡ d) × (n1 ≡ n) → a1 ≡ a → ◌≡◌ {A = Desk WorldOnDesk × ℕ × Bool} (d1, n1, a1) (d, n, a)
+pub home_once : (d d1 : Desk WorldOnDesk) (n n1 : ℕ) (a a1 : Bool) → (d1 ≡ d) × (n1 ≡ n) → a1 ≡ a
+    → ◌≡◌ {A = Desk WorldOnDesk × ℕ × Bool} (d1, n1, a1) (d, n, a)
 home_once d d1 n n1 a a1 h f = λ i. (h.0 i, h.1 i, f i)
 
 pub home_then : (d d1 d2 : Desk WorldOnDesk) (n n1 n2 : ℕ) (a a1 a2 : Bool) → (d1 ≡ d) × (n1 ≡ n) → a1 ≡ a → (d2 ≡ d1) × (n2 ≡ n1) → a2 ≡ a1
@@ -61,7 +64,8 @@ home_then d d1 d2 n n1 n2 a a1 a2 h f h2 f2 =
 
 module _ (s s2 : State) where
   pub enrols_gave : {E : Type 0} (n : ℕ) (c : Command) (res : Result ℕ E)
-      → IfOk res (λ number. s2 ≡ maint_enrolled s number (record { stream = n; saw = length s.book.entries; command = c })) → OnErr res (s2 ≡ s) → s2.gave_up ≡ s.gave_up
+      → IfOk res (λ number. s2 ≡ maint_enrolled s number (record { stream = n; saw = length s.book.entries; command = c }))
+      → OnErr res (s2 ≡ s) → s2.gave_up ≡ s.gave_up
   enrols_gave n c (Ok number) e err = ap (λ (z : State). z.gave_up) e
   enrols_gave n c (Failed x) e err = ap (λ (z : State). z.gave_up) err
 
@@ -69,13 +73,15 @@ module _ (s s2 : State) where
   admits_gave t may_start.Yes x = ap (λ (z : State). z.gave_up) x.1
   admits_gave t (may_start.After number) x = ap (λ (z : State). z.gave_up) x.4
 
-  pub ends_gave : {E : Type 0} (t : ℕ) (y : Reply) (res : Result ℕ E) → OnOk res (world.EndsTurn s t y s2) → OnErr res (s2 ≡ s) → s2.gave_up ≡ s.gave_up
+  pub ends_gave : {E : Type 0} (t : ℕ) (y : Reply) (res : Result ℕ E) → OnOk res (world.EndsTurn s t y s2)
+      → OnErr res (s2 ≡ s) → s2.gave_up ≡ s.gave_up
   ends_gave t y (Ok at) x err = ap (λ (z : State). z.gave_up) x.state
   ends_gave t y (Failed e) x err = ap (λ (z : State). z.gave_up) err
 
   -- ---- the whole volume
 
-  pub snap_gave : {E : Type 0} (n : ℕ) (op : WholeOp) (res : Result ℕ E) → IfOk res (λ k. world.EnrolsWhole s n op (Some k) s2) → OnErr res (s2 ≡ s) → s2.gave_up ≡ s.gave_up
+  pub snap_gave : {E : Type 0} (n : ℕ) (op : WholeOp) (res : Result ℕ E)
+      → IfOk res (λ k. world.EnrolsWhole s n op (Some k) s2) → OnErr res (s2 ≡ s) → s2.gave_up ≡ s.gave_up
   snap_gave n op (Ok k) x err = ap (λ (z : State). z.gave_up) x.1
   snap_gave n op (Failed e) x err = ap (λ (z : State). z.gave_up) err
 
@@ -83,7 +89,8 @@ module _ (s s2 : State) where
   asks_gave n op (Some k) x = ap (λ (z : State). z.gave_up) x.1
   asks_gave n op None x = ap (λ (z : State). z.gave_up) x.1
 
-  pub whole_gave : {E : Type 0} (n : ℕ) (op : WholeOp) (res : Result (Option ℕ) E) → IfOk res (λ v. world.EnrolsWhole s n op v s2) → OnErr res (s2 ≡ s) → s2.gave_up ≡ s.gave_up
+  pub whole_gave : {E : Type 0} (n : ℕ) (op : WholeOp) (res : Result (Option ℕ) E)
+      → IfOk res (λ v. world.EnrolsWhole s n op v s2) → OnErr res (s2 ≡ s) → s2.gave_up ≡ s.gave_up
   whole_gave n op (Ok v) x err = asks_gave n op v x
   whole_gave n op (Failed e) x err = ap (λ (z : State). z.gave_up) err
 
@@ -107,18 +114,21 @@ module _ (s s2 : State) where
   starts_gave t admit.Never y = ap (λ (z : State). z.gave_up) y.4
   starts_gave t (admit.Refused why place) y = ap (λ (z : State). z.gave_up) y.6 ∙ over_gave y.1 (without_whole (with_place s) y.0)
 
-  pub admit_gave : {E : Type 0} (t : ℕ) (res : Result AdmitWhole E) → IfOk res (λ a. world.AdmitsWhole s t a s2) → OnErr res (s2 ≡ s) → s2.gave_up ≡ s.gave_up
+  pub admit_gave : {E : Type 0} (t : ℕ) (res : Result AdmitWhole E) → IfOk res (λ a. world.AdmitsWhole s t a s2)
+      → OnErr res (s2 ≡ s) → s2.gave_up ≡ s.gave_up
   admit_gave t (Ok a) y err = starts_gave t a y
   admit_gave t (Failed e) y err = ap (λ (z : State). z.gave_up) err
 
   pub withdraws_gave : (t : ℕ) → (i : ℕ) × place.AwaitsWhole s t i × (s2 ≡ without_call s i) → s2.gave_up ≡ s.gave_up
   withdraws_gave t y = ap (λ (z : State). z.gave_up) y.2
 
-  pub takes_gave : {E : Type 0} (t q : ℕ) (res : Result (Unit {0}) E) → OnOk res (world.TakesPart s t q s2) → OnErr res (s2 ≡ s) → s2.gave_up ≡ s.gave_up
+  pub takes_gave : {E : Type 0} (t q : ℕ) (res : Result (Unit {0}) E) → OnOk res (world.TakesPart s t q s2)
+      → OnErr res (s2 ≡ s) → s2.gave_up ≡ s.gave_up
   takes_gave t q (Ok u) y err = ap (λ (z : State). z.gave_up) y.state
   takes_gave t q (Failed e) y err = ap (λ (z : State). z.gave_up) err
 
-  pub acks_gave : {E : Type 0} (t q : ℕ) (res : Result (Unit {0}) E) → OnOk res (world.AcksPart s t q s2) → OnErr res (s2 ≡ s) → s2.gave_up ≡ s.gave_up
+  pub acks_gave : {E : Type 0} (t q : ℕ) (res : Result (Unit {0}) E) → OnOk res (world.AcksPart s t q s2)
+      → OnErr res (s2 ≡ s) → s2.gave_up ≡ s.gave_up
   acks_gave t q (Ok u) y err = ap (λ (z : State). z.gave_up) y.state
   acks_gave t q (Failed e) y err = ap (λ (z : State). z.gave_up) err
 
@@ -143,11 +153,13 @@ module _ (s s2 : State) where
       by (Some q) e = ap (λ (z : State). z.gave_up) (y.done (has_source (modes_in s) q e)) ∙ done_gave y.i y.w.op
       by None e = ap (λ (z : State). z.gave_up) (y.lost (no_source (modes_in s) e)) ∙ lost_gave y.i y.w.op
 
-  pub completes_gave : {E : Type 0} (t : ℕ) (res : Result ℕ E) → OnOk res (world.EndsWhole s t s2) → OnErr res (s2 ≡ s) → s2.gave_up ≡ s.gave_up
+  pub completes_gave : {E : Type 0} (t : ℕ) (res : Result ℕ E) → OnOk res (world.EndsWhole s t s2) → OnErr res (s2 ≡ s)
+      → s2.gave_up ≡ s.gave_up
   completes_gave t (Ok at) y err = over_whole_gave t y
   completes_gave t (Failed e) y err = ap (λ (z : State). z.gave_up) err
 
-  pub folds_gave : {E : Type 0} (q page : ℕ) (p : List ℕ) (res : Result (Unit {0}) E) → OnOk res (world.FoldsPage s q p page s2) → OnErr res (s2 ≡ s) → s2.gave_up ≡ s.gave_up
+  pub folds_gave : {E : Type 0} (q page : ℕ) (p : List ℕ) (res : Result (Unit {0}) E)
+      → OnOk res (world.FoldsPage s q p page s2) → OnErr res (s2 ≡ s) → s2.gave_up ≡ s.gave_up
   folds_gave q page p (Ok u) y err = ap (λ (z : State). z.gave_up) y.state
   folds_gave q page p (Failed e) y err = ap (λ (z : State). z.gave_up) err
 
@@ -161,6 +173,7 @@ module _ (s s2 : State) where
   promotes_gave t (Some at) y same = ap (λ (z : State). z.gave_up) y.state
   promotes_gave t None y same = ap (λ (z : State). z.gave_up) (same refl)
 
-  pub ends_aborted_gave : (t : ℕ) (y : Reply) (res : Option ℕ) → IfSome res (λ at. world.EndsTurn s t y s2) → (res ≡ None → s2 ≡ s) → s2.gave_up ≡ s.gave_up
+  pub ends_aborted_gave : (t : ℕ) (y : Reply) (res : Option ℕ) → IfSome res (λ at. world.EndsTurn s t y s2)
+      → (res ≡ None → s2 ≡ s) → s2.gave_up ≡ s.gave_up
   ends_aborted_gave t y (Some at) x same = ap (λ (z : State). z.gave_up) x.state
   ends_aborted_gave t y None x same = ap (λ (z : State). z.gave_up) (same refl)

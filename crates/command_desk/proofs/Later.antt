@@ -28,7 +28,8 @@ some_same a b e = cc
 
 module _ (s t : State) where
   awaits_still : (x : Option Rebuilding) → IsRebuildKept x s t → (p : PageRef) → AwaitsAt x s.ended p → AwaitsAt t.rebuild t.ended p
-  awaits_still None kept p is = subst (λ (y : Option Rebuilding × Option EndedRebuild). AwaitsAt y.0 y.1 p) (λ i. (sym kept.none i, sym kept.ended i)) is
+  awaits_still None kept p is = subst (λ (y : Option Rebuilding × Option EndedRebuild). AwaitsAt y.0 y.1 p)
+      (λ i. (sym kept.none i, sym kept.ended i)) is
   awaits_still (Some b) (inl on) p is = subst (λ (y : Option Rebuilding). AwaitsAt y t.ended p) (sym on.is) is
   awaits_still (Some b) (inr off) p is = subst (λ (y : Option Rebuilding). AwaitsAt y t.ended p) (sym off.none) (any t.ended off.ended)
     where
@@ -36,7 +37,8 @@ module _ (s t : State) where
       any (Some e) some = tt
       any None some = absurd (false≢true some)
 
-  pages_still : (x : Option Rebuilding) → s.rebuild ≡ x → IsRebuildKept x s t → (p : PageRef) (table : Table) → IsPageIn s p table → IsPageIn t p table
+  pages_still : (x : Option Rebuilding) → s.rebuild ≡ x → IsRebuildKept x s t → (p : PageRef) (table : Table)
+      → IsPageIn s p table → IsPageIn t p table
   pages_still None here kept p table is b begun frozen = absurd (not_some b (sym kept.none ∙ begun))
   pages_still (Some a) here (inr off) p table is b begun frozen = absurd (not_some b (sym off.none ∙ begun))
   pages_still (Some a) here (inl on) p table is b begun frozen =
@@ -46,10 +48,16 @@ module _ (s t : State) where
       λ i h. was i h ∙ sym (pages.pages frozen.may p.layer (p.page * 512 + i) frozen.layer)
 
   ended_still : (x : Option Rebuilding) → s.rebuild ≡ x → IsRebuildKept x s t → (place : ℕ) → IsEndedAt s place → IsEndedAt t place
-  ended_still None here kept place is = record { closed = kept.none; ended = subst (λ (g : Option EndedRebuild). IsAbortedAt g place) (sym kept.ended) is.ended }
+  ended_still None here kept place is =
+      record {
+        closed = kept.none;
+        ended = subst (λ (g : Option EndedRebuild). IsAbortedAt g place) (sym kept.ended)
+            is.ended;
+      }
   ended_still (Some a) here kept place is = absurd (not_some a (sym is.closed ∙ here))
 
-  left_still : (x : Option Rebuilding) → s.rebuild ≡ x → IsRebuildKept x s t → (left : ℕ) → left ≡ left_in left s.rebuild s.ended → left ≡ left_in left t.rebuild t.ended
+  left_still : (x : Option Rebuilding) → s.rebuild ≡ x → IsRebuildKept x s t → (left : ℕ)
+      → left ≡ left_in left s.rebuild s.ended → left ≡ left_in left t.rebuild t.ended
   left_still None here kept left is = is ∙ (λ i. left_in left (here i) s.ended) ∙ (λ i. left_in left (sym kept.none i) (sym kept.ended i))
   left_still (Some a) here (inl on) left is = is ∙ (λ i. left_in left (here i) s.ended) ∙ (λ i. left_in left (sym on.is i) t.ended)
   left_still (Some a) here (inr off) left is = any t.ended off.ended ∙ ap (λ (y : Option Rebuilding). left_in left y t.ended) (sym off.none)

@@ -16,7 +16,8 @@ use Rattle.command_desk.specs.Rebuild.{IsLeftAt}
 use Rattle.command_desk.proofs.Places.{turn_place, first}
 
 -- the command of a stream that has the turn is the first
-pub first_own : (n : ℕ) (s : State) (p : Ticket × MaintCall) → IsSound s → turning s n ≡ p ∷ [] → p.0.started ≡ true → (0 < length s.commands) × ((command_at s.commands 0).stream ≡ n)
+pub first_own : (n : ℕ) (s : State) (p : Ticket × MaintCall) → IsSound s → turning s n ≡ p ∷ [] → p.0.started ≡ true
+    → (0 < length s.commands) × ((command_at s.commands 0).stream ≡ n)
 first_own n s p ok turns started =
     let at = turn_place n s p ok turns in
     let here : at.place ≡ 0 = first n s p at ok started in (
@@ -28,7 +29,8 @@ true_false : true ≡ false → ⊥
 true_false e = cc
 
 -- so where the first is another's, it has not the turn
-pub not_first : (n m : ℕ) (s : State) → IsSound s → (command_at s.commands 0).stream ≡ m → eqb m n ≡ false → (p : Ticket × MaintCall) → turning s n ≡ p ∷ [] → p.0.started ≡ true → ⊥
+pub not_first : (n m : ℕ) (s : State) → IsSound s → (command_at s.commands 0).stream ≡ m → eqb m n ≡ false
+    → (p : Ticket × MaintCall) → turning s n ≡ p ∷ [] → p.0.started ≡ true → ⊥
 not_first n m s ok is other p turns started = true_false (sym (eq-eqb m n (sym is ∙ (first_own n s p ok turns started).1)) ∙ other)
 
 -- of a stream without a command of the turn nothing is said

@@ -33,7 +33,8 @@ not_some b e = cc
 
 module _ (n : ℕ) (s s2 : State) (may : MayGo n s s2) (page : PageRef) (old new : Table) where
   pub puts_mine : (p : PageIn) → PutsAt p page old new s s2 → mine_at n s2 ≡ mine_at n s
-  puts_mine put.Listed y = only_open n s s2 may (mine_at n s).running (ap (λ (z : State). z.book.entries) y.state) (ap (λ (z : State). (mine_at n z).running) y.state)
+  puts_mine put.Listed y = only_open n s s2 may (mine_at n s).running (ap (λ (z : State). z.book.entries) y.state)
+      (ap (λ (z : State). (mine_at n z).running) y.state)
   puts_mine (put.Ended place) y = ap (mine_at n) y.1
 
   pub puts_parts : (p : PageIn) → PutsAt p page old new s s2 → (m : ℕ) → m ≢ n → parts_of s2 m ≡ parts_of s m
@@ -52,15 +53,18 @@ module _ (n : ℕ) (s s2 : State) (may : MayGo n s s2) (page : PageRef) (old new
 
 -- ---- a line fails
 
-module _ {E : Type 0} (n r count : ℕ) (s s2 : State) (res : Result (Unit {0}) E) (e : OnOk res (s2 ≡ faulted s n r count)) (err : OnErr res (s2 ≡ s)) where
+module _ {E : Type 0} (n r count : ℕ) (s s2 : State) (res : Result (Unit {0}) E) (e : OnOk res (s2 ≡ faulted s n r count))
+    (err : OnErr res (s2 ≡ s)) where
   pub fall_kept : IsRebuildKept s.rebuild s s2
   fall_kept = by res e err
     where
       by : (res : Result (Unit {0}) E) → OnOk res (s2 ≡ faulted s n r count) → OnErr res (s2 ≡ s) → IsRebuildKept s.rebuild s s2
       by (Ok u) e err = subst (IsRebuildKept s.rebuild s) (sym e) (kept_fall s (marked s (mark.Fault n r count)) refl refl refl r)
-      by (Failed x) e err = kept_same s s2 (ap (λ (z : State). z.rebuild) err) (ap (λ (z : State). z.ended) err) (ap (λ (z : State). z.nodes) err)
+      by (Failed x) e err = kept_same s s2 (ap (λ (z : State). z.rebuild) err) (ap (λ (z : State). z.ended) err)
+          (ap (λ (z : State). z.nodes) err)
 
-pub fell : {E : Type 0} (n r count : ℕ) (s s2 : State) (res : Result (Unit {0}) E) → OnOk res (s2 ≡ faulted s n r count) → OnErr res (s2 ≡ s) → MayGo n s s2
+pub fell : {E : Type 0} (n r count : ℕ) (s s2 : State) (res : Result (Unit {0}) E) → OnOk res (s2 ≡ faulted s n r count)
+    → OnErr res (s2 ≡ s) → MayGo n s s2
     → FallsTo r count (mine_at n s) (mine_at n s2) ⊎ (mine_at n s2 ≡ mine_at n s)
 fell n r count s s2 (Ok u) e err may = inl (falls {E = Unit {0}} n r count s s2 (Ok u) may e)
 fell n r count s s2 (Failed x) e err may = inr (ap (mine_at n) err)

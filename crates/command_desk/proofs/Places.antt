@@ -1,5 +1,6 @@
 -- Where the open call and the command of a stream stand in a World.
-use Rattle.std.proofs.Common.{◌≡◌, ◌≢◌, ℕ, ◌<◌, ⊎_elim, Bool, cond, true, List, [], ◌∷◌, length, map, Option, None, Some, IfSome, subst, sym, refl, ap, ◌∙◌, arith, ne_eqb}
+use Rattle.std.proofs.Common.{◌≡◌, ◌≢◌, ℕ, ◌<◌, ⊎_elim, Bool, cond, true, List, [], ◌∷◌, length, map, Option, None}
+use Rattle.std.proofs.Common.{Some, IfSome, subst, sym, refl, ap, ◌∙◌, arith, ne_eqb}
 use Rattle.std.proofs.lemmas.Bool.{cases_order}
 use Rattle.range_turns.specs.declared.ticket.Kind.TheVariants as kind
 use Rattle.range_turns.specs.declared.ticket.Ticket.{Ticket}
@@ -18,11 +19,15 @@ use Rattle.desk_lock.specs.Account.{Each}
 use Rattle.world_desk.specs.Laid.{parts_for, parts_of}
 use Rattle.command_desk.proofs.Queue.{commands-one, commands-place, none_numbered}
 
-unique : (ts : List Ticket) → AreNumbered ts → (i j : ℕ) → i < length ts → j < length ts → (ticket_at ts j).number ≡ (ticket_at ts i).number → j ≡ i
+unique : (ts : List Ticket) → AreNumbered ts → (i j : ℕ) → i < length ts → j < length ts
+    → (ticket_at ts j).number ≡ (ticket_at ts i).number → j ≡ i
 unique ts numbered i j a b e =
-    ⊎_elim (λ same. same) (λ other. ⊎_elim (λ below. absurd (numbered j i below a e)) (λ above. absurd (numbered i j above b (sym e))) other) (cases_order j i)
+    ⊎_elim (λ same. same)
+    (λ other. ⊎_elim (λ below. absurd (numbered j i below a e)) (λ above. absurd (numbered i j above b (sym e))) other)
+    (cases_order j i)
 
-stands_there : (ts : List Ticket) → AreNumbered ts → (i number : ℕ) → i < length ts → (ticket_at ts i).number ≡ number → StandsAt ts number i
+stands_there : (ts : List Ticket) → AreNumbered ts → (i number : ℕ) → i < length ts → (ticket_at ts i).number ≡ number
+    → StandsAt ts number i
 stands_there ts numbered i number within is = record {
   within = within;
   is = is;
@@ -55,7 +60,8 @@ call_place n s q ok e =
 module _ (n : ℕ) (s : State) (q : Ticket × OpenCall) (at : IsCallOf n s q) where
   -- what is so for the caller of the ticket is so for the stream
   pub caller : (t : ℕ) (fact : ℕ → Type 0) → q.0.number ≡ t → ForCaller s t fact → fact n
-  caller t fact number held = subst fact (ap (λ (c : OpenCall). c.stream) at.call ∙ at.by) (held at.place (subst (λ k. StandsAt s.tickets k at.place) number at.stands))
+  caller t fact number held = subst fact (ap (λ (c : OpenCall). c.stream) at.call ∙ at.by)
+      (held at.place (subst (λ k. StandsAt s.tickets k at.place) number at.stands))
 
   -- and no other place has it
   pub place_of : (t i : ℕ) → q.0.number ≡ t → StandsAt s.tickets t i → i ≡ at.place
@@ -87,7 +93,8 @@ turn_place n s p ok e =
 module _ (n : ℕ) (s : State) (p : Ticket × MaintCall) (at : IsTurnOf n s p) where
   -- what is so for the asker of the ticket is so for the stream
   pub asker : (t : ℕ) (fact : ℕ → Type 0) → p.0.number ≡ t → ForAsker s t fact → fact n
-  asker t fact number held = subst fact (ap (λ (c : MaintCall). c.stream) at.command ∙ at.by) (held at.place (subst (λ k. StandsAt s.maint k at.place) number at.stands))
+  asker t fact number held = subst fact (ap (λ (c : MaintCall). c.stream) at.command ∙ at.by)
+      (held at.place (subst (λ k. StandsAt s.maint k at.place) number at.stands))
 
   -- and no other place has it
   pub turn_of : (t k : ℕ) → p.0.number ≡ t → StandsAt s.maint t k → k ≡ at.place
@@ -95,7 +102,8 @@ module _ (n : ℕ) (s : State) (p : Ticket × MaintCall) (at : IsTurnOf n s p) w
 
   -- it has the turn, so it is the first
   pub first : IsSound s → p.0.started ≡ true → at.place ≡ 0
-  first ok started = ⊎_elim (λ same. same) (λ other. ⊎_elim (λ below. omega (arith, below)) (λ above. absurd (waits above)) other) (cases_order at.place 0)
+  first ok started = ⊎_elim (λ same. same)
+      (λ other. ⊎_elim (λ below. omega (arith, below)) (λ above. absurd (waits above)) other) (cases_order at.place 0)
     where
       conflict : (a b : Ticket) → a.kind ≡ kind.Whole → Conflict a b
       conflict a b whole = subst (λ k. ConflictBy k b.kind a.range b.range) (sym whole) tt
@@ -116,12 +124,15 @@ none_of : (t : ℕ) (w : Option Whole) → IsOf t w → (u : Ticket) → u.numbe
 none_of t None of u other = refl
 none_of t (Some v) of u other = ap (λ (b : Bool). cond b v.parts []) (ne_eqb v.number u.number (λ e. other (sym e ∙ of)))
 
-none_for : (t : ℕ) (w : Option Whole) → IsOf t w → (ps : List (Ticket × OpenCall)) → Each (λ (p : Ticket × OpenCall). p.0.number ≢ t) ps → map (λ (p : Ticket × OpenCall). parts_for w p.0) ps ≡ map (λ (p : Ticket × OpenCall). []) ps
+none_for : (t : ℕ) (w : Option Whole) → IsOf t w → (ps : List (Ticket × OpenCall))
+    → Each (λ (p : Ticket × OpenCall). p.0.number ≢ t) ps
+    → map (λ (p : Ticket × OpenCall). parts_for w p.0) ps ≡ map (λ (p : Ticket × OpenCall). []) ps
 none_for t w of [] each = refl
 none_for t w of (p ∷ ps) each = λ i. none_of t w of p.0 each.0 i ∷ none_for t w of ps each.1 i
 
 -- a step on the operation of a stream's call leaves them as they are
-pub parts_apart : (n : ℕ) (s s2 : State) (q : Ticket × OpenCall) (t : ℕ) → IsCallOf n s q → q.0.number ≡ t → MayGo n s s2 → IsOf t s.whole → IsOf t s2.whole → (m : ℕ) → m ≢ n → parts_of s2 m ≡ parts_of s m
+pub parts_apart : (n : ℕ) (s s2 : State) (q : Ticket × OpenCall) (t : ℕ) → IsCallOf n s q → q.0.number ≡ t → MayGo n s s2
+    → IsOf t s.whole → IsOf t s2.whole → (m : ℕ) → m ≢ n → parts_of s2 m ≡ parts_of s m
 parts_apart n s s2 q t at number may before after m other =
     let each : Each (λ (p : Ticket × OpenCall). p.0.number ≢ t) (running s m) =
     none_numbered m t s.tickets s.calls (λ j within is of.

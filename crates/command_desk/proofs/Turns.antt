@@ -43,12 +43,14 @@ module _ (n : ℕ) (c : Command) (s s2 : State) where
   abbrev asked : MaintCall
   asked = record { stream = n; saw = length s.book.entries; command = c }
 
-  enrolled_mine : (number : ℕ) → IsSound s → MayGo n s s2 → HasNone n s → s2 ≡ maint_enrolled s number asked → EnrolsAt number (call.Command c) (mine_at n s) (mine_at n s2)
+  enrolled_mine : (number : ℕ) → IsSound s → MayGo n s s2 → HasNone n s → s2 ≡ maint_enrolled s number asked
+      → EnrolsAt number (call.Command c) (mine_at n s) (mine_at n s2)
   enrolled_mine number ok may none e = record {
     own = own_turn (whole_ticket number, asked);
     is = only_open n s s2 may (own_turn (whole_ticket number, asked) ∷ []) (ap (λ (x : State). x.book.entries) e)
         (runs n s2 ((whole_ticket number, asked) ∷ []) [] s2.whole
-        (ap (λ (x : State). turning x n) e ∙ commands-push_own n s.maint s.commands (whole_ticket number) asked ok.maint.queued.paired refl none.turns)
+        (ap (λ (x : State). turning x n) e ∙ commands-push_own n s.maint s.commands (whole_ticket number) asked
+        ok.maint.queued.paired refl none.turns)
         (ap (λ (x : State). running x n) e ∙ none.calls)
         refl);
     number = refl;
@@ -57,11 +59,15 @@ module _ (n : ℕ) (c : Command) (s s2 : State) where
     saw = tt;
   }
 
-  pub enrols : {E : Type 0} (res : Result ℕ E) → IsSound s → MayGo n s s2 → (mine_at n s).running ≡ [] → IfOk res (λ number. s2 ≡ maint_enrolled s number asked) → IfOk res (λ t. EnrolsAt t (call.Command c) (mine_at n s) (mine_at n s2))
+  pub enrols : {E : Type 0} (res : Result ℕ E) → IsSound s → MayGo n s s2 → (mine_at n s).running ≡ []
+      → IfOk res (λ number. s2 ≡ maint_enrolled s number asked)
+      → IfOk res (λ t. EnrolsAt t (call.Command c) (mine_at n s) (mine_at n s2))
   enrols (Ok number) ok may idle e = enrolled_mine number ok may (has_none n s idle) e
   enrols (Failed x) ok may idle e = tt
 
-  pub enrols_parts : {E : Type 0} (res : Result ℕ E) → MayGo n s s2 → IfOk res (λ number. s2 ≡ maint_enrolled s number asked) → OnErr res (s2 ≡ s) → (m : ℕ) → m ≢ n → parts_of s2 m ≡ parts_of s m
+  pub enrols_parts : {E : Type 0} (res : Result ℕ E) → MayGo n s s2
+      → IfOk res (λ number. s2 ≡ maint_enrolled s number asked) → OnErr res (s2 ≡ s) → (m : ℕ) → m ≢ n
+      → parts_of s2 m ≡ parts_of s m
   enrols_parts (Ok number) may e err = parts_stay n s s2 may (ap (λ (x : State). x.whole) e)
   enrols_parts (Failed x) may e err = parts_stay n s s2 may (ap (λ (x : State). x.whole) err)
 
@@ -106,8 +112,14 @@ module _ (n t : ℕ) (s : State) (ok : IsSound s) where
 
   pub waiting : ((c : Command) × (o : OwnCall) × AwaitsTurn t c o (mine_at n s)) → (k : ℕ) × place.AwaitsTurn s t k
   waiting w =
-      let one = waits_one w.0 w.1 w.2 in
-      (one.at.place, record { stands = its_stand w.1 one w.2.number; waits = ap (λ (x : Ticket). x.started) one.at.ticket ∙ ap (λ (x : OwnCall). x.started) one.is ∙ w.2.waits })
+      let one = waits_one w.0 w.1 w.2 in (
+        one.at.place,
+        record {
+          stands = its_stand w.1 one w.2.number;
+          waits = ap (λ (x : Ticket). x.started) one.at.ticket
+              ∙ ap (λ (x : OwnCall). x.started) one.is ∙ w.2.waits;
+        },
+      )
 
   pub waits_owner : ((c : Command) × (o : OwnCall) × AwaitsTurn t c o (mine_at n s)) → (fact : ℕ → Type 0) → ForAsker s t fact → fact n
   waits_owner w fact held = its_owner w.1 (waits_one w.0 w.1 w.2) w.2.number fact held
@@ -138,25 +150,30 @@ module _ (n t : ℕ) (s : State) (ok : IsSound s) where
       let here = its_first c o h in
       record {
         stands = subst (StandsAt s.maint t) (sym here) (its_stand o one h.number);
-        started = ap (λ k. (ticket_at s.maint k).started) here ∙ ap (λ (x : Ticket). x.started) one.at.ticket ∙ ap (λ (x : OwnCall). x.started) one.is ∙ h.started;
+        started = ap (λ k. (ticket_at s.maint k).started) here ∙ ap (λ (x : Ticket). x.started) one.at.ticket
+            ∙ ap (λ (x : OwnCall). x.started) one.is ∙ h.started;
         idle = subst (λ k. IsIdle k s.calls) (sym (turn_stream c o h)) (idle-calls n s.tickets s.calls ok.on.clients.paired one.calls);
       }
 
 -- ---- it is given
 
 module _ (n t : ℕ) (s s2 : State) (ok : IsSound s) where
-  begun_mine : MayGo n s s2 → (c : Command) (o : OwnCall) → AwaitsTurn t c o (mine_at n s) → place.AwaitsTurn s t 0 → s2 ≡ turn_begun s → mine_at n s2 ≡ with_running (mine_at n s) (record o { started = true } ∷ [])
+  begun_mine : MayGo n s s2 → (c : Command) (o : OwnCall) → AwaitsTurn t c o (mine_at n s) → place.AwaitsTurn s t 0
+      → s2 ≡ turn_begun s → mine_at n s2 ≡ with_running (mine_at n s) (record o { started = true } ∷ [])
   begun_mine may c o w at e =
       let one = waits_one n t s ok c o w in
       let here = its_place n t s ok o one w.number 0 at.stands in
       only_open n s s2 may (record (own_turn one.p) { started = true } ∷ []) (ap (λ (x : State). x.book.entries) e)
       (runs n s2 ((record one.p.0 { started = true }, one.p.1) ∷ []) [] s2.whole
-      (ap (λ (x : State). turning x n) e ∙ first_begun n s.maint s.commands one.p one.turns (some_ticket n t s ok o one w.number) (some_command n t s ok o one w.number) (first_stream n t s ok o one w.number here))
+      (ap (λ (x : State). turning x n) e ∙ first_begun n s.maint s.commands one.p one.turns
+      (some_ticket n t s ok o one w.number) (some_command n t s ok o one w.number)
+      (first_stream n t s ok o one w.number here))
       (ap (λ (x : State). running x n) e ∙ one.calls)
       refl)
       ∙ ap (λ (x : OwnCall). with_running (mine_at n s) (record x { started = true } ∷ [])) one.is
 
-  pub admits : (a : MayStart) → MayGo n s s2 → world.TurnsTo s t a s2 → (c : Command) (o : OwnCall) → AwaitsTurn t c o (mine_at n s) → TurnsTo o a (mine_at n s) (mine_at n s2)
+  pub admits : (a : MayStart) → MayGo n s s2 → world.TurnsTo s t a s2 → (c : Command) (o : OwnCall)
+      → AwaitsTurn t c o (mine_at n s) → TurnsTo o a (mine_at n s) (mine_at n s2)
   admits may_start.Yes may x c o w = begun_mine may c o w x.0 x.1
   admits (may_start.After number) may x c o w = ap (mine_at n) x.4
 
@@ -176,7 +193,8 @@ module _ (n t : ℕ) (s s2 : State) (ok : IsSound s) (may : MayGo n s s2) where
     stream = (command_at s.commands 0).stream;
   }
 
-  pub ended_mine : (y : Reply) (c : Command) (o : OwnCall) → HasTurn t c o (mine_at n s) → s2 ≡ turn_ended s y → AnswersWhole o y (mine_at n s) (mine_at n s2)
+  pub ended_mine : (y : Reply) (c : Command) (o : OwnCall) → HasTurn t c o (mine_at n s) → s2 ≡ turn_ended s y
+      → AnswersWhole o y (mine_at n s) (mine_at n s2)
   ended_mine y c o h e =
       let one = turn_one n t s ok c o h in
       let here = its_first n t s ok c o h in
@@ -185,7 +203,8 @@ module _ (n t : ℕ) (s s2 : State) (ok : IsSound s) (may : MayGo n s s2) where
       record {
         modes = modes_in s;
         answer = ended_answer y;
-        is = grown n s s2 may (answer_placed (modes_in s) (ended_answer y) ∷ []) [] (entry.Answer (ended_answer y) ∷ []) (ap (λ (x : State). x.book.entries) e) (own_answer n (modes_in s) (ended_answer y) by)
+        is = grown n s s2 may (answer_placed (modes_in s) (ended_answer y) ∷ []) [] (entry.Answer (ended_answer y) ∷ [])
+            (ap (λ (x : State). x.book.entries) e) (own_answer n (modes_in s) (ended_answer y) by)
             (runs n s2 [] [] s2.whole
             (ap (λ (x : State). turning x n) e ∙ none_left n t s ok o one h.number here)
             (ap (λ (x : State). running x n) e ∙ one.calls)
@@ -197,16 +216,19 @@ module _ (n t : ℕ) (s s2 : State) (ok : IsSound s) (may : MayGo n s s2) where
         reply = refl;
       }
 
-  pub ends : {E : Type 0} (y : Reply) (res : Result ℕ E) → OnOk res (world.EndsTurn s t y s2) → OnOk res ((o : OwnCall) → HasTurn t command.Purge o (mine_at n s) → AnswersWhole o y (mine_at n s) (mine_at n s2))
+  pub ends : {E : Type 0} (y : Reply) (res : Result ℕ E) → OnOk res (world.EndsTurn s t y s2)
+      → OnOk res ((o : OwnCall) → HasTurn t command.Purge o (mine_at n s) → AnswersWhole o y (mine_at n s) (mine_at n s2))
   ends y (Ok at) x = λ o h. ended_mine y command.Purge o h x.state
   ends y (Failed e) x = tt
 
-  pub ends_parts : {E : Type 0} (y : Reply) (res : Result ℕ E) → OnOk res (world.EndsTurn s t y s2) → OnErr res (s2 ≡ s) → (m : ℕ) → m ≢ n → parts_of s2 m ≡ parts_of s m
+  pub ends_parts : {E : Type 0} (y : Reply) (res : Result ℕ E) → OnOk res (world.EndsTurn s t y s2) → OnErr res (s2 ≡ s)
+      → (m : ℕ) → m ≢ n → parts_of s2 m ≡ parts_of s m
   ends_parts y (Ok at) x err = parts_stay n s s2 may (ap (λ (z : State). z.whole) x.state)
   ends_parts y (Failed e) x err = parts_stay n s s2 may (ap (λ (z : State). z.whole) err)
 
   -- it is given back
-  pub gone_without : (c : Command) (o : OwnCall) → HasTurn t c o (mine_at n s) → s2 ≡ without_command s 0 → mine_at n s2 ≡ with_running (mine_at n s) []
+  pub gone_without : (c : Command) (o : OwnCall) → HasTurn t c o (mine_at n s) → s2 ≡ without_command s 0
+      → mine_at n s2 ≡ with_running (mine_at n s) []
   gone_without c o h e =
       let one = turn_one n t s ok c o h in
       only_open n s s2 may [] (ap (λ (x : State). x.book.entries) e)

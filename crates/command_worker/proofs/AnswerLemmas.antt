@@ -48,7 +48,8 @@ source_there None e = absurd cc
 source_there (Some s) e = (s, refl)
 
 -- where a replica is read and written, what is done to the whole volume is done
-done_where : (spot : Spot) (why : Option Refusal) (r : Reply) → option_or why (want_of_replica true (source_of spot.modes)) ≡ None → IsWholeReply spot.modes r → r ≡ reply.Done
+done_where : (spot : Spot) (why : Option Refusal) (r : Reply)
+    → option_or why (want_of_replica true (source_of spot.modes)) ≡ None → IsWholeReply spot.modes r → r ≡ reply.Done
 done_where spot why reply.Done free right = refl
 done_where spot why (reply.Refused x) free right =
     let s = source_there (source_of spot.modes) (none_behind why (want_of_replica true (source_of spot.modes)) free) in
@@ -57,13 +58,18 @@ done_where spot why (reply.Read bytes) free right = absurd right
 done_where spot why (reply.Status layers modes) free right = absurd right
 done_where spot why (reply.Aborted place) free right = absurd right
 
-pub whole_reply : (op : WholeOp) → IsNoPart op → (spot : Spot) (r : Reply) → refused_at spot (call.Command (command_of op)) ≡ None → IsWholeReply spot.modes r → r ≡ reply_at spot (call.Command (command_of op))
+pub whole_reply : (op : WholeOp) → IsNoPart op → (spot : Spot) (r : Reply)
+    → refused_at spot (call.Command (command_of op)) ≡ None → IsWholeReply spot.modes r
+    → r ≡ reply_at spot (call.Command (command_of op))
 whole_reply (whole.Snapshot name) n spot r free right =
-    done_where spot (refusal_of spot.modes spot.state (call.Command (command_of (whole.Snapshot name)))) r free right ∙ sym (ap (λ w. reply_for w spot (call.Command (command_of (whole.Snapshot name)))) free)
+    done_where spot (refusal_of spot.modes spot.state (call.Command (command_of (whole.Snapshot name)))) r free right
+    ∙ sym (ap (λ w. reply_for w spot (call.Command (command_of (whole.Snapshot name)))) free)
 whole_reply (whole.Remove name) n spot r free right =
-    done_where spot (refusal_of spot.modes spot.state (call.Command (command_of (whole.Remove name)))) r free right ∙ sym (ap (λ w. reply_for w spot (call.Command (command_of (whole.Remove name)))) free)
+    done_where spot (refusal_of spot.modes spot.state (call.Command (command_of (whole.Remove name)))) r free right
+    ∙ sym (ap (λ w. reply_for w spot (call.Command (command_of (whole.Remove name)))) free)
 whole_reply (whole.Revert name) n spot r free right =
-    done_where spot (refusal_of spot.modes spot.state (call.Command (command_of (whole.Revert name)))) r free right ∙ sym (ap (λ w. reply_for w spot (call.Command (command_of (whole.Revert name)))) free)
+    done_where spot (refusal_of spot.modes spot.state (call.Command (command_of (whole.Revert name)))) r free right
+    ∙ sym (ap (λ w. reply_for w spot (call.Command (command_of (whole.Revert name)))) free)
 whole_reply (whole.Purge f) n spot r free right = absurd n
 whole_reply (whole.Barrier q) n spot r free right = absurd n
 
@@ -87,7 +93,8 @@ refused_call o a b s = record {
   right = at a.log s.right;
 }
   where
-    at : (log : Option Log) → IfSome log (λ l. refused_at l.spot o.call ≡ Some s.why) → IfSome log (λ l. AreMarks [] → s.answers.answer.reply ≡ reply_at l.spot o.call)
+    at : (log : Option Log) → IfSome log (λ l. refused_at l.spot o.call ≡ Some s.why)
+        → IfSome log (λ l. AreMarks [] → s.answers.answer.reply ≡ reply_at l.spot o.call)
     at None h = tt
     at (Some l) h = λ are. s.answers.reply ∙ sym (ap (λ w. reply_for w l.spot o.call) h)
 
@@ -99,8 +106,10 @@ ends_whole (whole.Revert name) n turn o a b h = h
 ends_whole (whole.Purge f) n turn o a b h = absurd n
 ends_whole (whole.Barrier r) n turn o a b h = absurd n
 
-right_of : (stream : ℕ) (op : WholeOp) (n : IsNoPart op) (c : Call) (r said : Reply) (marks : List Entry) (log mid : Option Log) → c ≡ call.Command (command_of op) → AreFalls stream marks → mid ≡ longer log marks
-    → IfSome log (λ l. refused_at l.spot c ≡ None) → said ≡ r → IfSome mid (λ l. IsWholeReply l.spot.modes r) → IfSome log (λ l. AreMarks marks → said ≡ reply_at l.spot c)
+right_of : (stream : ℕ) (op : WholeOp) (n : IsNoPart op) (c : Call) (r said : Reply) (marks : List Entry)
+    (log mid : Option Log) → c ≡ call.Command (command_of op) → AreFalls stream marks → mid ≡ longer log marks
+    → IfSome log (λ l. refused_at l.spot c ≡ None) → said ≡ r → IfSome mid (λ l. IsWholeReply l.spot.modes r)
+    → IfSome log (λ l. AreMarks marks → said ≡ reply_at l.spot c)
 right_of stream op n c r said marks None mid is falls more free says right = tt
 right_of stream op n c r said marks (Some l) mid is falls more free says right = λ are.
     let same : mid ≡ Some l = more ∙ ap (longer (Some l)) (falls.none are) ∙ longer_none (Some l) in
@@ -108,7 +117,8 @@ right_of stream op n c r said marks (Some l) mid is falls more free says right =
     says ∙ whole_reply op n l.spot r (subst (λ x. refused_at l.spot x ≡ None) is free) here ∙ sym (ap (reply_at l.spot) is)
 
 -- it started, and ended behind faults
-pub started_call : (t : ℕ) (op : WholeOp) → IsNoPart op → (turn : List OwnCall) (o : OwnCall) (a b c : Mine) → HasWhole t op turn o a → (s : StartsWhole turn o a b) → EndsBehind op turn s.own b c → AnswersCall o a c
+pub started_call : (t : ℕ) (op : WholeOp) → IsNoPart op → (turn : List OwnCall) (o : OwnCall) (a b c : Mine)
+    → HasWhole t op turn o a → (s : StartsWhole turn o a b) → EndsBehind op turn s.own b c → AnswersCall o a c
 started_call t op n turn o a b c h s e =
     let end = ends_whole op n turn (record s.own { parts = e.parts }) e.mid c e.ends in
     let w = end.answers in
@@ -131,18 +141,21 @@ started_call t op n turn o a b c h s e =
         by = w.by ∙ ap (λ (m : Mine). m.stream) mid;
         saw = w.saw ∙ ap (λ (x : OwnCall). x.saw) s.same;
       };
-      right = right_of a.stream op n o.call end.reply w.answer.reply g.marks a.log e.mid.log h.call falls (ap (λ (m : Mine). m.log) mid) s.free w.reply end.right;
+      right = right_of a.stream op n o.call end.reply w.answer.reply g.marks a.log e.mid.log h.call falls
+          (ap (λ (m : Mine). m.log) mid) s.free w.reply end.right;
     }
 
 -- ---- a command
 
 -- what one worker makes of it
-pub command_at : (spot : Spot) (stream place : ℕ) (c : Call) (marks : List Entry) (a : Answer) → marks_before spot c ≡ marks → a.call ≡ c → a.reply ≡ reply_at spot c → a.saw ≡ place → a.stream ≡ stream
+pub command_at : (spot : Spot) (stream place : ℕ) (c : Call) (marks : List Entry) (a : Answer) → marks_before spot c ≡ marks
+    → a.call ≡ c → a.reply ≡ reply_at spot c → a.saw ≡ place → a.stream ≡ stream
     → marks ++ entry.Answer a ∷ [] ≡ entries_at spot stream place a.index c
 command_at spot stream place c marks a are is says saw by =
     λ i. sym are i ++ entry.Answer (record { call = is i; reply = says i; index = a.index; saw = saw i; stream = by i }) ∷ []
 
-no_marks_of : (op : WholeOp) → IsNoPart op → (why : Option Refusal) (spot : Spot) → marks_unless why spot (call.Command (command_of op)) ≡ []
+no_marks_of : (op : WholeOp) → IsNoPart op → (why : Option Refusal) (spot : Spot)
+    → marks_unless why spot (call.Command (command_of op)) ≡ []
 no_marks_of op n (Some w) spot = refl
 no_marks_of (whole.Snapshot name) n None spot = refl
 no_marks_of (whole.Remove name) n None spot = refl
@@ -154,7 +167,8 @@ pub known : (log : Option Log) (k n : ℕ) → n ≡ k → IfSome (option_map le
 known None k n e h = tt
 known (Some l) k n e h = e ∙ h
 
-turn_of : (stream : ℕ) (op : WholeOp) (n : IsNoPart op) (oc : Call) (marks : List Entry) (a : Answer) (log : Option Log) → AreFalls stream marks → oc ≡ call.Command (command_of op) → a.call ≡ oc → a.stream ≡ stream
+turn_of : (stream : ℕ) (op : WholeOp) (n : IsNoPart op) (oc : Call) (marks : List Entry) (a : Answer) (log : Option Log)
+    → AreFalls stream marks → oc ≡ call.Command (command_of op) → a.call ≡ oc → a.stream ≡ stream
     → IfSome log (λ l. a.saw ≡ length_of l) → IfSome log (λ l. AreMarks marks → a.reply ≡ reply_at l.spot oc)
     → IfSome log (λ l. AreMarks marks → IsCommandAt stream (command_of op) (marks ++ entry.Answer a ∷ []) a l)
 turn_of stream op n oc marks a None falls same is by saw right = tt
@@ -164,7 +178,8 @@ turn_of stream op n oc marks a (Some l) falls same is by saw right = λ are.
     (right are ∙ ap (reply_at l.spot) same) saw by
 
 -- an enrolled call that is answered, with these calls open before
-pub grew_call : (op : WholeOp) → IsNoPart op → (p : OwnCall) (os : List OwnCall) (a b c : Mine) → b ≡ with_running a os → p.call ≡ call.Command (command_of op)
+pub grew_call : (op : WholeOp) → IsNoPart op → (p : OwnCall) (os : List OwnCall) (a b c : Mine) → b ≡ with_running a os
+    → p.call ≡ call.Command (command_of op)
     → IfSome (log_length a) (λ place. p.saw ≡ place) → AnswersCall p b c → GrewByCommand (command_of op) a c
 grew_call op n p os a b c e is saw s =
     let d = s.ends in
@@ -211,6 +226,7 @@ grew_now c a b s = record {
   };
 }
   where
-    at : (log : Option Log) → IfSome log (IsCommandAt a.stream c (s.marks ++ entry.Answer s.answer ∷ []) s.answer) → IfSome log (λ l. AreMarks s.marks → IsCommandAt a.stream c (s.marks ++ entry.Answer s.answer ∷ []) s.answer l)
+    at : (log : Option Log) → IfSome log (IsCommandAt a.stream c (s.marks ++ entry.Answer s.answer ∷ []) s.answer)
+        → IfSome log (λ l. AreMarks s.marks → IsCommandAt a.stream c (s.marks ++ entry.Answer s.answer ∷ []) s.answer l)
     at None h = tt
     at (Some l) h = λ are. h

@@ -1,5 +1,6 @@
 -- What a worker knows of its stream, step after step.
-use Rattle.std.proofs.Common.{◌≡◌, ℕ, zero, suc, inl, inr, arith, List, [], ◌∷◌, ◌++◌, Result, Ok, Err, OnOk, OnErr, subst, sym, refl, ap, ◌∙◌}
+use Rattle.std.proofs.Common.{◌≡◌, ℕ, zero, suc, inl, inr, arith, List, [], ◌∷◌, ◌++◌, Result, Ok, Err, OnOk, OnErr}
+use Rattle.std.proofs.Common.{subst, sym, refl, ap, ◌∙◌}
 use Rattle.std.specs.Prelude.{All}
 use Rattle.std.proofs.lemmas.List.Elements.{All-append}
 use Rattle.volume_model.specs.declared.entry.Entry.{Entry}
@@ -26,7 +27,8 @@ are_second [] ys h = h
 are_second (entry.Answer a ∷ xs) ys h = absurd h
 are_second (entry.Mark m ∷ xs) ys h = are_second xs ys h.1
 
-pub comes : (stream : ℕ) (e : Entry) (es : List Entry) → MayComeBefore stream e → All (MayComeBefore stream) es → All (MayComeBefore stream) (e ∷ es)
+pub comes : (stream : ℕ) (e : Entry) (es : List Entry) → MayComeBefore stream e → All (MayComeBefore stream) es
+    → All (MayComeBefore stream) (e ∷ es)
 comes stream e es h all zero d l = h
 comes stream e es h all (suc k) d l = all k d (omega (arith, l))
 
@@ -47,7 +49,8 @@ aborts_come stream es (inl none) = subst (All (MayComeBefore stream)) (sym none)
 aborts_come stream es (inr one) =
     subst (All (MayComeBefore stream)) (sym one.1) (comes stream (entry.Mark (mark.Aborted one.0)) [] (inr tt) (none_come stream))
 
-one_fall : (stream r count : ℕ) (aborted : List Entry) → AreAborts aborted → AreFalls stream (entry.Mark (mark.Fault stream r count) ∷ aborted)
+one_fall : (stream r count : ℕ) (aborted : List Entry) → AreAborts aborted
+    → AreFalls stream (entry.Mark (mark.Fault stream r count) ∷ aborted)
 one_fall stream r count aborted are = record {
   come = comes stream (entry.Mark (mark.Fault stream r count)) aborted (inl refl) (aborts_come stream aborted are);
   none = λ no. absurd no.0;
@@ -88,10 +91,21 @@ goes_fall r count a b f = record {
   is = f.is;
 }
 
-pub goes_told : {E : Type 0} (res : Result (Unit {0}) E) (r count : ℕ) (a b : Mine) → OnOk res (FallsTo r count a b) → OnErr res (b ≡ a) → GoesOn a b
+pub goes_told : {E : Type 0} (res : Result (Unit {0}) E) (r count : ℕ) (a b : Mine) → OnOk res (FallsTo r count a b)
+    → OnErr res (b ≡ a) → GoesOn a b
 goes_told (Ok u) r count a b ok err = goes_fall r count a b ok
 goes_told (Err e) r count a b ok err = goes_same a b err
 
 -- the command has the turn still
 pub turn_kept : (t : ℕ) (c : Command) (a b : Mine) → GoesOn a b → ((o : OwnCall) × HasTurn t c o a) → (o : OwnCall) × HasTurn t c o b
-turn_kept t c a b g op = (op.0, record { is = goes_running a.running a b g ∙ op.1.is; number = op.1.number; call = op.1.call; wants = op.1.wants; started = op.1.started })
+turn_kept t c a b g op = (
+  op.0,
+  record {
+    is = goes_running a.running a b g ∙ op.1.is;
+    number = op.1.number;
+    call = op.1.call;
+    wants =
+        op.1.wants;
+    started = op.1.started;
+  },
+)

@@ -1,5 +1,6 @@
 -- A command is answered, and then the next.
-use Rattle.std.proofs.Common.{◌≡◌, ℕ, zero, suc, arith, inl, ◌+◌, ◌<◌, List, [], ◌∷◌, ◌++◌, length, take, drop, Option, subst, sym, refl, ap, ◌∙◌, append_assoc, append-nil}
+use Rattle.std.proofs.Common.{◌≡◌, ℕ, zero, suc, arith, inl, ◌+◌, ◌<◌, List, [], ◌∷◌, ◌++◌, length, take, drop}
+use Rattle.std.proofs.Common.{Option, subst, sym, refl, ap, ◌∙◌, append_assoc, append-nil}
 use Rattle.std.specs.Prelude.{All}
 use Rattle.std.proofs.lemmas.List.{take_more, take-append-drop}
 use Rattle.std.proofs.Math.ListN.{get_or}
@@ -9,7 +10,8 @@ use Rattle.stream_steps.specs.Mine.{Mine, Log, with_entries, with_running, longe
 use Rattle.stream_steps.proofs.MineLemmas.{entries_none, entries_twice, longer_none, longer_twice}
 use Rattle.command_worker.specs.OwnAnswers.{answers_in}
 use Rattle.command_worker.specs.Purges.{MayComeBefore}
-use Rattle.command_worker.specs.Serving.{Commands, AreCommanded, GrewByCommand, GaveUp, EndsUndone, LeftUndone, IsFirstLeft, Commanded, CommandedSome}
+use Rattle.command_worker.specs.Serving.{Commands, AreCommanded, GrewByCommand, GaveUp, EndsUndone, LeftUndone}
+use Rattle.command_worker.specs.Serving.{IsFirstLeft, Commanded, CommandedSome}
 use Rattle.command_worker.proofs.Goes.{none_come}
 use Rattle.command_worker.proofs.OwnAnswers.{has_both}
 
@@ -21,32 +23,43 @@ pub commanded_idle : (cs : List Command) (a b : Mine) → Commanded cs a b → b
 commanded_idle cs a b g = ap (λ (m : Mine). m.running) g.is
 
 -- a command behind others
-commanded_push : (stream : ℕ) (log : Option Log) (cs : List Command) (c : Command) (es fs : List Entry) → AreCommanded stream log cs es → Commands stream (longer log es) c fs
+commanded_push : (stream : ℕ) (log : Option Log) (cs : List Command) (c : Command) (es fs : List Entry)
+    → AreCommanded stream log cs es → Commands stream (longer log es) c fs
     → AreCommanded stream log (cs ++ c ∷ []) (es ++ fs)
-commanded_push stream log [] c es fs none k =
-    (fs, [], ap (λ xs. xs ++ fs) none ∙ sym (append-nil fs), subst (λ l. Commands stream l c fs) (ap (longer log) none ∙ longer_none log) k, refl)
+commanded_push stream log [] c es fs none k = (
+  fs,
+  [],
+  ap (λ xs. xs ++ fs) none ∙ sym (append-nil fs),
+  subst (λ l. Commands stream l c fs) (ap (longer log) none ∙ longer_none log) k,
+  refl,
+)
 commanded_push stream log (x ∷ cs) c es fs d k = (
   d.0,
   d.1 ++ fs,
   ap (λ xs. xs ++ fs) d.2 ∙ append_assoc d.0 d.1 fs,
   d.3,
-  commanded_push stream (longer log d.0) cs c d.1 fs d.4 (subst (λ l. Commands stream l c fs) (ap (longer log) d.2 ∙ sym (longer_twice log d.0 d.1)) k),
+  commanded_push stream (longer log d.0) cs c d.1 fs d.4
+      (subst (λ l. Commands stream l c fs) (ap (longer log) d.2 ∙ sym (longer_twice log d.0 d.1)) k),
 )
 
-pub commanded_next : (cs : List Command) (c : Command) (a b d : Mine) → Commanded cs a b → GrewByCommand c b d → Commanded (cs ++ c ∷ []) a d
+pub commanded_next : (cs : List Command) (c : Command) (a b d : Mine) → Commanded cs a b → GrewByCommand c b d
+    → Commanded (cs ++ c ∷ []) a d
 commanded_next cs c a b d g s = record {
   own = g.own ++ s.own;
   all = g.all ++ s.all;
   is = s.is ∙ ap (λ (m : Mine). with_entries m s.own s.all []) g.is ∙ entries_twice a g.own s.own g.all s.all [] [];
   same = has_both g.own s.own g.all s.all g.same s.same;
   done = commanded_push a.stream a.log cs c g.all s.all g.done
-      (subst (λ l. Commands a.stream l c s.all) (ap (λ (m : Mine). m.log) g.is) (subst (λ (n : ℕ). Commands n b.log c s.all) (ap (λ (m : Mine). m.stream) g.is) s.done));
+      (subst (λ l. Commands a.stream l c s.all) (ap (λ (m : Mine). m.log) g.is)
+      (subst (λ (n : ℕ). Commands n b.log c s.all) (ap (λ (m : Mine). m.stream) g.is) s.done));
 }
 
 -- and so of the first of a list
-pub commanded_more : (cs : List Command) (i : ℕ) (c : Command) (a b d : Mine) → i < length cs → Commanded (take i cs) a b → GrewByCommand (get_or cs i c) b d
+pub commanded_more : (cs : List Command) (i : ℕ) (c : Command) (a b d : Mine) → i < length cs → Commanded (take i cs) a b
+    → GrewByCommand (get_or cs i c) b d
     → Commanded (take (i + 1) cs) a d
-commanded_more cs i c a b d h g s = subst (λ xs. Commanded xs a d) (sym (take_more cs i c h)) (commanded_next (take i cs) (get_or cs i c) a b d g s)
+commanded_more cs i c a b d h g s = subst (λ xs. Commanded xs a d) (sym (take_more cs i c h))
+    (commanded_next (take i cs) (get_or cs i c) a b d g s)
 
 -- ---- as far as memory lasted
 
@@ -66,12 +79,14 @@ none_left stream log [] = refl
 none_left stream log (c ∷ cs) = inl refl
 
 -- of a list that has that command at i
-first_left : (stream : ℕ) (log : Option Log) (cs : List Command) (i : ℕ) (c : Command) (es : List Entry) → i < length cs → EndsUndone stream log (get_or cs i c) es → IsFirstLeft stream log (drop i cs) es
+first_left : (stream : ℕ) (log : Option Log) (cs : List Command) (i : ℕ) (c : Command) (es : List Entry) → i < length cs
+    → EndsUndone stream log (get_or cs i c) es → IsFirstLeft stream log (drop i cs) es
 first_left stream log [] i c es h l = absurd (omega (arith, h))
 first_left stream log (x ∷ cs) zero c es h l = l
 first_left stream log (x ∷ cs) (suc i) c es h l = first_left stream log cs i c es (omega (arith, h)) l
 
-pub commanded_some : (cs : List Command) (i : ℕ) (c : Command) (a b d : Mine) → i < length cs → Commanded (take i cs) a b → LeftUndone (get_or cs i c) b d → CommandedSome cs a d
+pub commanded_some : (cs : List Command) (i : ℕ) (c : Command) (a b d : Mine) → i < length cs → Commanded (take i cs) a b
+    → LeftUndone (get_or cs i c) b d → CommandedSome cs a d
 commanded_some cs i c a b d h g s = record {
   some = take i cs;
   left = drop i cs;
@@ -80,7 +95,8 @@ commanded_some cs i c a b d h g s = record {
   all = g.all;
   marks = s.marks;
   last = s.last;
-  is = s.is ∙ ap (λ (m : Mine). with_entries m s.own (s.marks ++ s.last) []) g.is ∙ entries_twice a g.own s.own g.all (s.marks ++ s.last) [] [];
+  is = s.is ∙ ap (λ (m : Mine). with_entries m s.own (s.marks ++ s.last) []) g.is
+      ∙ entries_twice a g.own s.own g.all (s.marks ++ s.last) [] [];
   same = has_both g.own s.own g.all (s.marks ++ s.last) g.same s.same;
   done = g.done;
   more = subst (λ (n : ℕ). All (MayComeBefore n) s.marks) (ap (λ (m : Mine). m.stream) g.is) s.are;

@@ -1,5 +1,6 @@
 -- A round of a purge: a layer goes, or the purge is answered.
-use Rattle.std.proofs.Common.{◌≡◌, ℕ, List, [], ◌∷◌, Option, Some, None, IfSome, Result, Ok, Err, OnOk, OnErr, is_ok, subst, sym, refl, ap, ◌∙◌}
+use Rattle.std.proofs.Common.{◌≡◌, ℕ, List, [], ◌∷◌, Option, Some, None, IfSome, Result, Ok, Err, OnOk, OnErr, is_ok}
+use Rattle.std.proofs.Common.{subst, sym, refl, ap, ◌∙◌}
 use Rattle.std.specs.Prelude.{All}
 use Rattle.volume_model.specs.declared.call.Call.TheVariants as call
 use Rattle.volume_model.specs.declared.call.Refusal.TheVariants.{NoReplica}
@@ -56,7 +57,8 @@ module _ (t : ℕ) (o : OwnCall) (a0 a : Mine) (f : FoldOrDrop) (h : HasTurn t c
     pub out_refused : (c : Mine) → RefusedWhole w.whole.own b c → PurgeEnds o a0 c
     out_refused c s = ends_refused w.whole.own o open_now a0 b c enrolled s w.whole.call (w.whole.call ∙ sym h.call) w.saw
 
-    pub out_done : (c d : Mine) (s : StartsWhole (o ∷ []) w.whole.own b c) → EndsBehind (whole.Purge f) (o ∷ []) s.own c d → GoesNext f a0 → PurgesOn (o ∷ []) a0 d
+    pub out_done : (c d : Mine) (s : StartsWhole (o ∷ []) w.whole.own b c) → EndsBehind (whole.Purge f) (o ∷ []) s.own c d
+        → GoesNext f a0 → PurgesOn (o ∷ []) a0 d
     out_done c d s e next =
         let started = o ∷ s.own ∷ [] in
         let asked = o ∷ record s.own { parts = e.parts } ∷ [] in
@@ -72,43 +74,60 @@ pub round_waits : (t : ℕ) (o : OwnCall) (a b : Mine) → HasTurn t command.Pur
 round_waits t o a b h e = none_open t o a b h e
 
 -- the end was asked for
-pub round_ends : {A E : Type 0} (res : Result A E) (t : ℕ) (o : OwnCall) (r : Reply) (a b c : Mine) → HasTurn t command.Purge o a → b ≡ a → IfSome a.log (λ l. IsPurgeReply l.spot r)
+pub round_ends : {A E : Type 0} (res : Result A E) (t : ℕ) (o : OwnCall) (r : Reply) (a b c : Mine)
+    → HasTurn t command.Purge o a → b ≡ a → IfSome a.log (λ l. IsPurgeReply l.spot r)
     → OnOk res ((o : OwnCall) → HasTurn t command.Purge o b → AnswersWhole o r b c) → OnErr res (c ≡ b) → RoundTo o (is_ok res) a c
 round_ends (Ok x) t o r a b c h e right ok err = ends_now o o r a b c e (ok o (subst (HasTurn t command.Purge o) (sym e) h)) refl refl right
 round_ends (Err x) t o r a b c h e right ok err = none_open t o a c h (err ∙ e)
 
 -- and what lines show is shown still
-pub round_shown : {A E : Type 0} (res : Result A E) (t : ℕ) (r : Reply) (a b c : Mine) → ((o : OwnCall) × HasTurn t command.Purge o a) → b ≡ a
+pub round_shown : {A E : Type 0} (res : Result A E) (t : ℕ) (r : Reply) (a b c : Mine)
+    → ((o : OwnCall) × HasTurn t command.Purge o a) → b ≡ a
     → OnOk res ((o : OwnCall) → HasTurn t command.Purge o b → AnswersWhole o r b c) → OnErr res (c ≡ b) → KeepsIdle a c
 round_shown (Ok x) t r a b c op e ok err = λ counts carried h.
     let s = ok op.0 (subst (HasTurn t command.Purge op.0) (sym e) op.1) in
     subst (λ (m : Mine). IsShown m counts carried) (idle_of c (ap (λ (m : Mine). m.running) s.is))
-    (idle_answer command.Purge s.modes s.answer (entries_in (answer_placed s.modes s.answer ∷ [])) b c s.is (s.call ∙ op.1.call) counts carried (idle_same a b e counts carried h))
+    (idle_answer command.Purge s.modes s.answer (entries_in (answer_placed s.modes s.answer ∷ [])) b c s.is
+    (s.call ∙ op.1.call) counts carried (idle_same a b e counts carried h))
 round_shown (Err x) t r a b c op e ok err = idle_same a c (err ∙ e)
 
 -- what goes next says how it may end
-pub next_done : (log : Option Log) (x : NextPart) → x ≡ next.Nothing → IfSome log (IsNext x) → IfSome log (λ l. IsPurgeReply l.spot reply.Done)
+pub next_done : (log : Option Log) (x : NextPart) → x ≡ next.Nothing → IfSome log (IsNext x)
+    → IfSome log (λ l. IsPurgeReply l.spot reply.Done)
 next_done None x e h = tt
 next_done (Some l) x e h = subst (λ y. IsNext y l) e h
 
-pub next_refused : (log : Option Log) (x : NextPart) → x ≡ next.NoReplica → IfSome log (IsNext x) → IfSome log (λ l. IsPurgeReply l.spot (reply.Refused NoReplica))
+pub next_refused : (log : Option Log) (x : NextPart) → x ≡ next.NoReplica → IfSome log (IsNext x)
+    → IfSome log (λ l. IsPurgeReply l.spot (reply.Refused NoReplica))
 next_refused None x e h = tt
 next_refused (Some l) x e h = (refl, subst (λ y. IsNext y l) e h)
 
 -- ---- round after round
 
 pub on_turn : (t : ℕ) (o : OwnCall) (a b : Mine) → HasTurn t command.Purge o a → PurgesOn (o ∷ []) a b → HasTurn t command.Purge o b
-on_turn t o a b h f = record { is = ap (λ (m : Mine). m.running) f.is; number = h.number; call = h.call; wants = h.wants; started = h.started }
+on_turn t o a b h f = record {
+  is = ap (λ (m : Mine). m.running) f.is;
+  number = h.number;
+  call = h.call;
+  wants =
+      h.wants;
+  started = h.started;
+}
 
-pub rounds_on : (t : ℕ) (a b c : Mine) → ((o : OwnCall) → HasTurn t command.Purge o a → PurgesOn (o ∷ []) a b) → ((o : OwnCall) → HasTurn t command.Purge o b → PurgesOn (o ∷ []) b c) → (o : OwnCall) → HasTurn t command.Purge o a → PurgesOn (o ∷ []) a c
+pub rounds_on : (t : ℕ) (a b c : Mine) → ((o : OwnCall) → HasTurn t command.Purge o a → PurgesOn (o ∷ []) a b)
+    → ((o : OwnCall) → HasTurn t command.Purge o b → PurgesOn (o ∷ []) b c) → (o : OwnCall) → HasTurn t command.Purge o a
+    → PurgesOn (o ∷ []) a c
 rounds_on t a b c f g o h = on_then (o ∷ []) (o ∷ []) a b c (f o h) (g o (on_turn t o a b h (f o h)))
 
-pub rounds_end : (t : ℕ) (a b c : Mine) → ((o : OwnCall) → HasTurn t command.Purge o a → PurgesOn (o ∷ []) a b) → ((o : OwnCall) → HasTurn t command.Purge o b → PurgeEnds o b c) → (o : OwnCall) → HasTurn t command.Purge o a → PurgesWhole o a c
+pub rounds_end : (t : ℕ) (a b c : Mine) → ((o : OwnCall) → HasTurn t command.Purge o a → PurgesOn (o ∷ []) a b)
+    → ((o : OwnCall) → HasTurn t command.Purge o b → PurgeEnds o b c) → (o : OwnCall) → HasTurn t command.Purge o a
+    → PurgesWhole o a c
 rounds_end t a b c f g o h = record { mid = b; on = f o h; ends = g o (on_turn t o a b h (f o h)) }
 
 -- ---- from its call to its answer
 
-pub purge_grew : {E : Type 0} (res : Result (Unit {0}) E) (t : ℕ) (a b c d : Mine) → (e : EnrolsAt t (call.Command command.Purge) a b) → TurnBegins e.own b c → HasTurn t command.Purge (with_turn e.own) c
+pub purge_grew : {E : Type 0} (res : Result (Unit {0}) E) (t : ℕ) (a b c d : Mine)
+    → (e : EnrolsAt t (call.Command command.Purge) a b) → TurnBegins e.own b c → HasTurn t command.Purge (with_turn e.own) c
     → OnOk res ((o : OwnCall) → HasTurn t command.Purge o c → PurgesWhole o c d) → OnOk res (GrewByCommand command.Purge a d)
 purge_grew (Ok u) t a b c d e turn h done =
     let o = with_turn e.own in
@@ -117,7 +136,8 @@ purge_grew (Ok u) t a b c d e turn h done =
     grew_purge o (o ∷ []) a s.mid d (on_then (o ∷ []) (o ∷ []) a c s.mid since s.on) s.ends e.call e.saw
 purge_grew (Err x) t a b c d e turn h done = tt
 
-pub purge_left : {E : Type 0} (res : Result (Unit {0}) E) (t : ℕ) (a b c d : Mine) → (e : EnrolsAt t (call.Command command.Purge) a b) → TurnBegins e.own b c
+pub purge_left : {E : Type 0} (res : Result (Unit {0}) E) (t : ℕ) (a b c d : Mine)
+    → (e : EnrolsAt t (call.Command command.Purge) a b) → TurnBegins e.own b c
     → OnErr res (GaveUp c d) → OnErr res (GaveUp a d)
 purge_left (Ok u) t a b c d e turn left = tt
 purge_left (Err x) t a b c d e turn left =
@@ -130,6 +150,7 @@ purge_left (Err x) t a b c d e turn left =
       are = subst (λ n. All (MayComeBefore n) left.marks) (ap (λ (m : Mine). m.stream) from) left.are;
     }
 
-pub purge_closed : {E : Type 0} (res : Result (Unit {0}) E) (a d : Mine) → OnOk res (GrewByCommand command.Purge a d) → OnErr res (GaveUp a d) → d.running ≡ []
+pub purge_closed : {E : Type 0} (res : Result (Unit {0}) E) (a d : Mine) → OnOk res (GrewByCommand command.Purge a d)
+    → OnErr res (GaveUp a d) → d.running ≡ []
 purge_closed (Ok u) a d ok err = ap (λ (m : Mine). m.running) ok.is
 purge_closed (Err x) a d ok err = ap (λ (m : Mine). m.running) err.is

@@ -36,11 +36,13 @@ pub idle_of : (m : Mine) → m.running ≡ [] → m ≡ with_running m []
 idle_of m e = ap (with_running m) e
 
 -- entries that are not the stream's show nothing
-pub shown_log : (a : Mine) (own : List Placed) (es fs : List Entry) (counts : List ℕ) (carried : List (Option (List (List ℕ)))) → IsShown (with_entries a own es []) counts carried → IsShown (with_entries a own fs []) counts carried
+pub shown_log : (a : Mine) (own : List Placed) (es fs : List Entry) (counts : List ℕ) (carried : List (Option (List (List ℕ))))
+    → IsShown (with_entries a own es []) counts carried → IsShown (with_entries a own fs []) counts carried
 shown_log a own es fs counts carried h = record { counted = h.counted; answered = h.answered; acked = h.acked }
 
 -- a line failed
-pub idle_told : {E : Type 0} (res : Result (Unit {0}) E) (r count : ℕ) (a b : Mine) (counts : List ℕ) (carried : List (Option (List (List ℕ)))) → OnOk res (FallsTo r count a b) → OnErr res (b ≡ a)
+pub idle_told : {E : Type 0} (res : Result (Unit {0}) E) (r count : ℕ) (a b : Mine) (counts : List ℕ)
+    (carried : List (Option (List (List ℕ)))) → OnOk res (FallsTo r count a b) → OnErr res (b ≡ a)
     → count ≤ get_or counts r 0 → IsShown (with_running a []) counts carried → IsShown (with_running b []) counts carried
 idle_told (Ok u) r count a b counts carried ok err low h =
     let own = fault_placed ok.modes a.stream r count ∷ [] in
@@ -56,7 +58,9 @@ idle_others es os a b e = λ counts carried h.
     (shown_log a [] [] es counts carried (subst (λ (m : Mine). IsShown m counts carried) (sym (entries_none a [])) h))
 
 -- a command is answered, whatever other entries came
-pub idle_answer : (c : Command) (modes : List Mode) (answer : Answer) (es : List Entry) (a b : Mine) → b ≡ with_entries a (answer_placed modes answer ∷ []) es [] → answer.call ≡ call.Command c → KeepsShown (with_running a []) b
+pub idle_answer : (c : Command) (modes : List Mode) (answer : Answer) (es : List Entry) (a b : Mine)
+    → b ≡ with_entries a (answer_placed modes answer ∷ []) es [] → answer.call ≡ call.Command c
+    → KeepsShown (with_running a []) b
 idle_answer c modes answer es a b e is = λ counts carried h.
     let own = answer_placed modes answer ∷ [] in
     subst (λ (m : Mine). IsShown m counts carried) (sym e)

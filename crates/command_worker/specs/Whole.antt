@@ -73,7 +73,8 @@ AreAsked told op o = (r : ℕ) → part_at o.parts r ≡ Acked → IfSome (told 
 -- the line has carried the request for the part last, by that number
 abbrev pub IsAskedLast : ℕ → WholeOp → Option (List (List ℕ)) → Type 0
 IsAskedLast seq op told =
-    IfSome told (λ frames. (before : List (List ℕ)) × (text : List ℕ) × IsPartText op text × (frames ≡ before ++ part_request seq text ∷ []))
+    IfSome told (λ frames. (before : List (List ℕ)) × (text : List ℕ) × IsPartText op text
+    × (frames ≡ before ++ part_request seq text ∷ []))
 
 -- of lines that tell these counts, and this of what they carried
 pub record WholeShown (t : ℕ) (m : Mine) (counts : List ℕ) (carried : List (Option (List (List ℕ)))) : Type 0 where

@@ -1,5 +1,6 @@
 -- The end of an add, as the one worker that there is sees it.
-use Rattle.std.proofs.Common.{◌≡◌, ◌≢◌, ℕ, ◌+◌, ◌<◌, Bool, List, [], ◌∷◌, ◌++◌, length, length-set, set, inl, inr, Option, Some, None, subst, sym, refl, ap, ◌∙◌, cond, eq-eqb, append_assoc}
+use Rattle.std.proofs.Common.{◌≡◌, ◌≢◌, ℕ, ◌+◌, ◌<◌, Bool, List, [], ◌∷◌, ◌++◌, length, length-set, set, inl, inr}
+use Rattle.std.proofs.Common.{Option, Some, None, subst, sym, refl, ap, ◌∙◌, cond, eq-eqb, append_assoc}
 use Rattle.std.specs.List.{remove}
 use Rattle.command_text.specs.declared.command.Command.{Command}
 use Rattle.command_text.specs.declared.command.Command.TheVariants as command
@@ -39,12 +40,20 @@ use Rattle.commands_in_hand.proofs.TurnSteps.{turn_one, turn_is, free_turn, ende
 
 -- ---- behind one mark the command that has the turn is answered
 
-module _ (n : ℕ) (s s2 : State) (r : IsReady n s) (ok : IsSound s2) (p : Ticket × MaintCall) (h : Has n s (p ∷ []) []) (m : Entry) (are : AreMarks (m ∷ [])) (y : Reply) where
+module _ (n : ℕ) (s s2 : State) (r : IsReady n s) (ok : IsSound s2) (p : Ticket × MaintCall) (h : Has n s (p ∷ []) [])
+    (m : Entry) (are : AreMarks (m ∷ [])) (y : Reply) where
   abbrev its : MaintCall
   its = command_at s.commands 0
 
   abbrev its_answer : Answer
-  its_answer = record { call = call.Command its.command; reply = y; index = index_at s.indices its.stream; saw = its.saw; stream = its.stream }
+  its_answer = record {
+    call = call.Command its.command;
+    reply = y;
+    index = index_at s.indices its.stream;
+    saw =
+        its.saw;
+    stream = its.stream;
+  }
 
   its_is : its ≡ p.1
   its_is = ap (λ cs. command_at cs 0) h.commands
@@ -87,7 +96,8 @@ module _ (n : ℕ) (s s2 : State) (r : IsReady n s) (ok : IsSound s2) (p : Ticke
     abbrev its_modes : List Mode
     its_modes = modes_after (modes_in s) (m ∷ [])
 
-    pub marked_mine : mine_in n s2 ≡ with_entries (mine_in n s) (answer_placed its_modes its_answer ∷ []) (m ∷ entry.Answer its_answer ∷ []) []
+    pub marked_mine : mine_in n s2 ≡ with_entries (mine_in n s) (answer_placed its_modes its_answer ∷ [])
+        (m ∷ entry.Answer its_answer ∷ []) []
     marked_mine = grown_by n s s2 e.origin (answer_placed its_modes its_answer ∷ []) [] (m ∷ entry.Answer its_answer ∷ []) e.entries
         (own_behind n (modes_in s) (m ∷ []) its_answer are its_stream) (has_running n s2 [] [] marked_has)
 
@@ -98,7 +108,8 @@ module _ (n : ℕ) (s s2 : State) (r : IsReady n s) (ok : IsSound s2) (p : Ticke
       its_saw : its_answer.saw ≡ o.saw
       its_saw = ap (λ (x : MaintCall). x.saw) its_is ∙ ap (λ (x : OwnCall). x.saw) is
 
-      pub as_abandoned : (q place : ℕ) → m ≡ entry.Mark (mark.Aborted q) → y ≡ reply.Aborted place → AbandonsAdd o (mine_in n s) (mine_in n s2)
+      pub as_abandoned : (q place : ℕ) → m ≡ entry.Mark (mark.Aborted q) → y ≡ reply.Aborted place
+          → AbandonsAdd o (mine_in n s) (mine_in n s2)
       as_abandoned q place marked told = record {
         place = place;
         marks = m ∷ [];
@@ -116,7 +127,9 @@ module _ (n : ℕ) (s s2 : State) (r : IsReady n s) (ok : IsSound s2) (p : Ticke
       as_promoted q marked told = record {
         modes = its_modes;
         answer = its_answer;
-        is = marked_mine ∙ ap (λ x. with_entries (mine_in n s) (answer_placed its_modes its_answer ∷ []) (x ∷ entry.Answer its_answer ∷ []) []) marked;
+        is = marked_mine ∙ ap
+            (λ x. with_entries (mine_in n s) (answer_placed its_modes its_answer ∷ []) (x ∷ entry.Answer its_answer ∷ []) [])
+            marked;
         call = its_call;
         by = its_stream;
         saw = its_saw;
@@ -147,7 +160,9 @@ module _ (n t : ℕ) (s s2 : State) (r : IsReady n s) (ok : IsSound s2) where
       tickets = ap (λ (x : State). x.tickets) e;
       calls = ap (λ (x : State). x.calls) e;
       origin = ap origin_of e ∙ as_many;
-      entries = ap (λ (x : State). x.book.entries) e ∙ append_assoc s.book.entries (entry.Mark (mark.Promoted q) ∷ []) (entry.Answer (its_answer n s s2 r ok p h (entry.Mark (mark.Promoted q)) (tt, tt) reply.Done) ∷ []);
+      entries = ap (λ (x : State). x.book.entries) e
+          ∙ append_assoc s.book.entries (entry.Mark (mark.Promoted q) ∷ [])
+          (entry.Answer (its_answer n s s2 r ok p h (entry.Mark (mark.Promoted q)) (tt, tt) reply.Done) ∷ []);
     }
 
     given_ends : s2 ≡ gives_up s q → Ends n s s2 r ok p h (entry.Mark (mark.Aborted q)) (tt, tt) (reply.Aborted (length s.book.entries))
@@ -158,34 +173,42 @@ module _ (n t : ℕ) (s s2 : State) (r : IsReady n s) (ok : IsSound s2) where
       calls = ap (λ (x : State). x.calls) e;
       origin = ap origin_of e ∙ as_many;
       entries = ap (λ (x : State). x.book.entries) e
-          ∙ append_assoc s.book.entries (entry.Mark (mark.Aborted q) ∷ []) (entry.Answer (its_answer n s s2 r ok p h (entry.Mark (mark.Aborted q)) (tt, tt) (reply.Aborted (length s.book.entries))) ∷ []);
+          ∙ append_assoc s.book.entries (entry.Mark (mark.Aborted q) ∷ [])
+          (entry.Answer (its_answer n s s2 r ok p h (entry.Mark (mark.Aborted q)) (tt, tt) (reply.Aborted (length s.book.entries)))
+          ∷ []);
     }
 
   pub promotes_one : again.Promotes s t s2 → (q : ℕ) (o : OwnCall) → HasAdd t q o (mine_in n s) → Promotes q o (mine_in n s) (mine_in n s2)
   promotes_one y q o a =
       let one = turn_one n t (command.Add q) o s r a in
-      let adds : AreAdds s.maint s.commands (Some y.b) s.ended = subst (λ x. AreAdds s.maint s.commands x s.ended) y.past.begun r.sound.adds in
+      let adds : AreAdds s.maint s.commands (Some y.b) s.ended =
+      subst (λ x. AreAdds s.maint s.commands x s.ended) y.past.begun r.sound.adds in
       let same : y.b.target ≡ q = same_add y.b.target q (sym adds.of_begun.turn.command ∙ turn_is n t (command.Add q) o s r a) in
-      as_promoted n s s2 r ok one.p one.has (entry.Mark (mark.Promoted y.b.target)) (tt, tt) reply.Done (promoted_ends one.p one.has y.b.target y.state) o one.is q (ap (λ k. entry.Mark (mark.Promoted k)) same) refl
+      as_promoted n s s2 r ok one.p one.has (entry.Mark (mark.Promoted y.b.target)) (tt, tt) reply.Done
+      (promoted_ends one.p one.has y.b.target y.state) o one.is q (ap (λ k. entry.Mark (mark.Promoted k)) same) refl
 
   pub promotes_kept : again.Promotes s t s2 → (q : ℕ) (o : OwnCall) → HasAdd t q o (mine_in n s) → Kept n s s2
   promotes_kept y q o a =
       let one = turn_one n t (command.Add q) o s r a in
-      marked_kept n s s2 r ok one.p one.has (entry.Mark (mark.Promoted y.b.target)) (tt, tt) reply.Done (promoted_ends one.p one.has y.b.target y.state) (ap gave_up_of y.state)
+      marked_kept n s s2 r ok one.p one.has (entry.Mark (mark.Promoted y.b.target)) (tt, tt) reply.Done
+      (promoted_ends one.p one.has y.b.target y.state) (ap gave_up_of y.state)
 
   -- ---- aborted
 
   told_so : (q place : ℕ) → s.ended ≡ Some (record { target = q; place = place }) → rebuild_of q s.book.entries ≡ rebuild.Aborted place
   told_so q place e =
-      let adds : AreAdds s.maint s.commands s.rebuild (Some (record { target = q; place = place })) = subst (AreAdds s.maint s.commands s.rebuild) e r.sound.adds in
-      r.sound.on.told.ordered.rebuild q ∙ ap (λ x. how_far s.rebuild x q) e ∙ ap (λ x. how_far x (Some (record { target = q; place = place })) q) (none_open s.rebuild adds)
+      let adds : AreAdds s.maint s.commands s.rebuild (Some (record { target = q; place = place })) =
+      subst (AreAdds s.maint s.commands s.rebuild) e r.sound.adds in
+      r.sound.on.told.ordered.rebuild q ∙ ap (λ x. how_far s.rebuild x q) e
+      ∙ ap (λ x. how_far x (Some (record { target = q; place = place })) q) (none_open s.rebuild adds)
       ∙ ap (λ (b : Bool). cond b (rebuild.Aborted place) rebuild.Unasked) (eq-eqb q q refl)
     where
       none_open : (x : Option Rebuilding) → AreAdds s.maint s.commands x (Some (record { target = q; place = place })) → x ≡ None
       none_open None adds = refl
       none_open (Some b) adds = absurd cc
 
-  pub ends_one : (place : ℕ) → world.EndsTurn s t (reply.Aborted place) s2 → (q : ℕ) (o : OwnCall) → HasAdd t q o (mine_in n s) → EndsAborted q place o (mine_in n s) (mine_in n s2)
+  pub ends_one : (place : ℕ) → world.EndsTurn s t (reply.Aborted place) s2 → (q : ℕ) (o : OwnCall)
+      → HasAdd t q o (mine_in n s) → EndsAborted q place o (mine_in n s) (mine_in n s2)
   ends_one place y q o a =
       let one = turn_one n t (command.Add q) o s r a in
       let same : y.may.0 ≡ q = same_add y.may.0 q (sym y.may.1 ∙ turn_is n t (command.Add q) o s r a) in
@@ -194,15 +217,30 @@ module _ (n t : ℕ) (s s2 : State) (r : IsReady n s) (ok : IsSound s2) where
         right = told_so q place (y.may.2 ∙ ap (λ k. Some (record { target = k; place = place })) same);
       }
 
-  pub ends_aborted_kept : (place : ℕ) → world.EndsTurn s t (reply.Aborted place) s2 → (q : ℕ) (o : OwnCall) → HasAdd t q o (mine_in n s) → Kept n s s2
+  pub ends_aborted_kept : (place : ℕ) → world.EndsTurn s t (reply.Aborted place) s2 → (q : ℕ) (o : OwnCall)
+      → HasAdd t q o (mine_in n s) → Kept n s s2
   ends_aborted_kept place y q o a =
       let one = turn_one n t (command.Add q) o s r a in
       ended_kept n s s2 r ok one.p one.has (reply.Aborted place) y.state
 
   -- ---- abandoned
 
-  one_more_answer : (place : ℕ) (o : OwnCall) → AnswersWhole o (reply.Aborted place) (mine_in n s) (mine_in n s2) → AbandonsAdd o (mine_in n s) (mine_in n s2)
-  one_more_answer place o x = record { place = place; marks = []; are = inl refl; modes = x.modes; answer = x.answer; is = x.is; call = x.call; by = x.by; saw = x.saw; reply = x.reply }
+  one_more_answer : (place : ℕ) (o : OwnCall) → AnswersWhole o (reply.Aborted place) (mine_in n s) (mine_in n s2)
+      → AbandonsAdd o (mine_in n s) (mine_in n s2)
+  one_more_answer place o x =
+      record {
+        place = place;
+        marks = [];
+        are = inl refl;
+        modes = x.modes;
+        answer = x.answer;
+        is = x.is;
+        call = x.call;
+        by =
+            x.by;
+        saw = x.saw;
+        reply = x.reply;
+      }
 
   pub leaves_one : s2 ≡ turn_abandoned s → (q : ℕ) (o : OwnCall) → HasAdd t q o (mine_in n s) → LeavesAdd o (mine_in n s) (mine_in n s2)
   leaves_one e q o a = by s.rebuild s.ended e
@@ -211,7 +249,10 @@ module _ (n t : ℕ) (s s2 : State) (r : IsReady n s) (ok : IsSound s2) where
       one = turn_one n t (command.Add q) o s r a
 
       by : (x : Option Rebuilding) (g : Option EndedRebuild) → s2 ≡ abandoned_with x g s → LeavesAdd o (mine_in n s) (mine_in n s2)
-      by (Some b) g f = inr (as_abandoned n s s2 r ok one.p one.has (entry.Mark (mark.Aborted b.target)) (tt, tt) (reply.Aborted (length s.book.entries)) (given_ends one.p one.has b.target f) o one.is b.target (length s.book.entries) refl refl)
+      by (Some b) g f = inr
+          (as_abandoned n s s2 r ok one.p one.has (entry.Mark (mark.Aborted b.target)) (tt, tt)
+          (reply.Aborted (length s.book.entries)) (given_ends one.p one.has b.target f) o one.is b.target
+          (length s.book.entries) refl refl)
       by None (Some g) f = inr (one_more_answer g.place o (ended_mine n s s2 r ok one.p one.has (reply.Aborted g.place) f o one.is))
       by None None f = inl (gone_mine n s s2 r ok one.p one.has f)
 
@@ -222,12 +263,15 @@ module _ (n t : ℕ) (s s2 : State) (r : IsReady n s) (ok : IsSound s2) where
       one = turn_one n t (command.Add q) o s r a
 
       by : (x : Option Rebuilding) (g : Option EndedRebuild) → s2 ≡ abandoned_with x g s → IsReady n s2
-      by (Some b) g f = marked_ready n s s2 r ok one.p one.has (entry.Mark (mark.Aborted b.target)) (tt, tt) (reply.Aborted (length s.book.entries)) (given_ends one.p one.has b.target f) may
+      by (Some b) g f = marked_ready n s s2 r ok one.p one.has (entry.Mark (mark.Aborted b.target)) (tt, tt)
+          (reply.Aborted (length s.book.entries)) (given_ends one.p one.has b.target f) may
       by None (Some g) f = (ended_kept n s s2 r ok one.p one.has (reply.Aborted g.place) f).ready
       by None None f = (gone_kept n s s2 r ok one.p one.has f).ready
 
 -- what the step may make of the World for the stream whose command has the turn
-pub asked_may : (n t : ℕ) (s s2 : State) → IsReady n s → (q : ℕ) (o : OwnCall) → HasAdd t q o (mine_in n s) → ForAsker s t (λ k. MayGo k s s2) → MayGo n s s2
+pub asked_may : (n t : ℕ) (s s2 : State) → IsReady n s → (q : ℕ) (o : OwnCall) → HasAdd t q o (mine_in n s)
+    → ForAsker s t (λ k. MayGo k s s2) → MayGo n s s2
 asked_may n t s s2 r q o a may =
     let one = turn_one n t (command.Add q) o s r a in
-    subst (λ k. MayGo k s s2) (ap (λ cs. (command_at cs 0).stream) one.has.commands ∙ one.has.turns_own) (may 0 (free_turn n t (command.Add q) o s r a).stands)
+    subst (λ k. MayGo k s s2) (ap (λ cs. (command_at cs 0).stream) one.has.commands ∙ one.has.turns_own)
+    (may 0 (free_turn n t (command.Add q) o s r a).stands)

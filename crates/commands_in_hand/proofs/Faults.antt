@@ -1,5 +1,6 @@
 -- A line of the stream fails while pages are copied: the rebuild goes on as it was, or it is aborted.
-use Rattle.std.proofs.Common.{◌≡◌, ◌⊎◌, ℕ, Option, Some, None, Result, Ok, Err as Failed, OnOk, OnErr, IfSome, length, inl, inr, ⊎_elim, subst, sym, refl, ap, ◌∙◌}
+use Rattle.std.proofs.Common.{◌≡◌, ◌⊎◌, ℕ, Option, Some, None, Result, Ok, Err as Failed, OnOk, OnErr, IfSome, length}
+use Rattle.std.proofs.Common.{inl, inr, ⊎_elim, subst, sym, refl, ap, ◌∙◌}
 use Rattle.sparse_image.specs.Image.{Table}
 use Rattle.vol_units.specs.declared.page_ref.PageRef.{PageRef}
 use Rattle.volume_model.specs.declared.mark.Mark.TheVariants as mark
@@ -33,7 +34,8 @@ pub record IsCutOff (s s2 : State) : Type 0 where
   pub rebuild : s2.rebuild ≡ None
   pub ended : s2.ended ≡ Some end
 
-pub splits : {E : Type 0} (n r count : ℕ) (s s2 : State) (res : Result (Unit {0}) E) → OnOk res (s2 ≡ faulted s n r count) → OnErr res (s2 ≡ s) → IsAsBefore s s2 ⊎ IsCutOff s s2
+pub splits : {E : Type 0} (n r count : ℕ) (s s2 : State) (res : Result (Unit {0}) E) → OnOk res (s2 ≡ faulted s n r count)
+    → OnErr res (s2 ≡ s) → IsAsBefore s s2 ⊎ IsCutOff s s2
 splits n r count s s2 (Ok u) e err =
     ⊎_elim
     (λ on. inl (record {
@@ -55,7 +57,8 @@ splits n r count s s2 (Failed x) e err = inl (record {
   nodes = ap (λ (x : State). x.nodes) err;
 })
 
-pub fell : {E : Type 0} (n r count : ℕ) (s s2 : State) (res : Result (Unit {0}) E) → MayGo n s s2 → OnOk res (s2 ≡ faulted s n r count) → OnErr res (s2 ≡ s)
+pub fell : {E : Type 0} (n r count : ℕ) (s s2 : State) (res : Result (Unit {0}) E) → MayGo n s s2
+    → OnOk res (s2 ≡ faulted s n r count) → OnErr res (s2 ≡ s)
     → FallsTo r count (mine_in n s) (mine_in n s2) ⊎ (mine_in n s2 ≡ mine_in n s)
 fell n r count s s2 (Ok u) goes e err = inl (faults {E = Unit {0}} n r count s s2 (Ok u) goes e)
 fell n r count s s2 (Failed x) goes e err = inr (mine_same n s s2 err)

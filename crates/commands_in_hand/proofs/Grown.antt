@@ -31,7 +31,8 @@ pub begins_none : (n : ℕ) (s : State) (ms : List (Ticket × MaintCall)) → Ha
 begins_none n s ms h i r within is waits = absurd (omega (arith, within, ap length h.tickets))
 
 -- the one call
-pub begins_one : (n : ℕ) (s : State) (ms : List (Ticket × MaintCall)) (q : Ticket × OpenCall) → Has n s ms (q ∷ []) → ((r : ℕ) → q.1.op ≡ Some (whole.Barrier r) → q.0.started ≡ false → MayBeginOf s r) → CanBegin s
+pub begins_one : (n : ℕ) (s : State) (ms : List (Ticket × MaintCall)) (q : Ticket × OpenCall) → Has n s ms (q ∷ [])
+    → ((r : ℕ) → q.1.op ≡ Some (whole.Barrier r) → q.0.started ≡ false → MayBeginOf s r) → CanBegin s
 begins_one n s ms q h may i r within is waits =
     let first : i ≡ 0 = omega (arith, within, ap length h.tickets) in
     let ticket : ticket_at s.tickets i ≡ q.0 = ap (ticket_at s.tickets) first ∙ ap (λ ts. ticket_at ts 0) h.tickets in
@@ -39,7 +40,8 @@ begins_one n s ms q h may i r within is waits =
     may r (sym (ap (λ (c : OpenCall). c.op) here) ∙ is) (sym (ap (λ (t : Ticket). t.started) ticket) ∙ waits)
 
 -- it has started
-pub begins_started : (n : ℕ) (s : State) (ms : List (Ticket × MaintCall)) (q : Ticket × OpenCall) → Has n s ms (q ∷ []) → q.0.started ≡ true → CanBegin s
+pub begins_started : (n : ℕ) (s : State) (ms : List (Ticket × MaintCall)) (q : Ticket × OpenCall) → Has n s ms (q ∷ [])
+    → q.0.started ≡ true → CanBegin s
 begins_started n s ms q h started = begins_one n s ms q h (λ r is waits. absurd (not_both q.0.started started waits))
   where
     not_both : (b : Bool) → b ≡ true → b ≡ false → ⊥
@@ -59,11 +61,13 @@ begins_of s = record { tickets = s.tickets; calls = s.calls; rebuild = s.rebuild
 
 -- and all that it is
 abbrev CanBeginIn : Begins → Type 0
-CanBeginIn x = (i r : ℕ) → i < length x.tickets → (open_at x.calls i).op ≡ Some (whole.Barrier r) → (ticket_at x.tickets i).started ≡ false → (x.rebuild ≡ None) × (x.ended ≡ None) × (r < x.count)
+CanBeginIn x = (i r : ℕ) → i < length x.tickets → (open_at x.calls i).op ≡ Some (whole.Barrier r)
+    → (ticket_at x.tickets i).started ≡ false → (x.rebuild ≡ None) × (x.ended ≡ None) × (r < x.count)
 
 pub begins_same : (s s2 : State) → begins_of s2 ≡ begins_of s → CanBegin s → CanBegin s2
 begins_same s s2 e can i r within is waits =
-    let was = subst CanBeginIn (sym e) (λ i r within is waits. let c = can i r within is waits in (c.closed, c.first, c.there)) i r within is waits in
+    let was = subst CanBeginIn (sym e) (λ i r within is waits. let c = can i r within is waits in
+    (c.closed, c.first, c.there)) i r within is waits in
     record { closed = was.0; first = was.1; there = was.2 }
 
 -- ---- the next step can be taken, of the same volume
@@ -78,12 +82,19 @@ abbrev pub gave_up_of : State → List Bool
 gave_up_of s = s.gave_up
 
 pub kept_same : (n : ℕ) (s s2 : State) → IsReady n s → s2 ≡ s → Kept n s s2
-kept_same n s s2 r e = record { ready = subst (IsReady n) (sym e) r; origin = ap origin_of e; gave_up = ap (λ (x : State). gave_up_at x.gave_up n) e }
+kept_same n s s2 r e =
+    record {
+      ready = subst (IsReady n) (sym e) r;
+      origin = ap origin_of e;
+      gave_up =
+          ap (λ (x : State). gave_up_at x.gave_up n) e;
+    }
 
 pub same_streams : (s s2 : State) → origin_of s2 ≡ origin_of s → length s2.indices ≡ length s.indices
 same_streams s s2 e = ap (λ (o : Origin). o.streams) e
 
-pub kept_has : (n : ℕ) (s s2 : State) → IsReady n s → IsSound s2 → origin_of s2 ≡ origin_of s → gave_up_of s2 ≡ gave_up_of s → (ms : List (Ticket × MaintCall)) (cs : List (Ticket × OpenCall)) → Has n s2 ms cs → CanBegin s2 → Kept n s s2
+pub kept_has : (n : ℕ) (s s2 : State) → IsReady n s → IsSound s2 → origin_of s2 ≡ origin_of s → gave_up_of s2 ≡ gave_up_of s
+    → (ms : List (Ticket × MaintCall)) (cs : List (Ticket × OpenCall)) → Has n s2 ms cs → CanBegin s2 → Kept n s s2
 kept_has n s s2 r ok origin gave_up ms cs h begins = record {
   ready = record {
     sound = ok;
@@ -101,7 +112,11 @@ kept_by n s s2 r may same begins = record {
   ready = record {
     sound = may.sound;
     there = subst (λ k. n < k) (sym (same_streams s s2 may.origin)) r.there;
-    alone = record { calls = λ m other. may.others m other ∙ r.alone.calls m other; turns = λ m other. may.turns m other ∙ r.alone.turns m other };
+    alone = record {
+      calls = λ m other. may.others m other ∙ r.alone.calls m other;
+      turns = λ m other. may.turns m other
+          ∙ r.alone.turns m other;
+    };
     begins = begins;
     gave_up = λ m other. may.gave_up m other ∙ r.gave_up m other;
   };
@@ -109,7 +124,8 @@ kept_by n s s2 r may same begins = record {
   gave_up = ap (λ (x : Rest). gave_up_at x.gave_up n) same;
 }
 
-pub home_same : (n : ℕ) (s s2 : State) → Kept n s s2 → ◌≡◌ {A = Origin × ℕ × Bool} (origin_of s2, n, gave_up_at s2.gave_up n) (origin_of s, n, gave_up_at s.gave_up n)
+pub home_same : (n : ℕ) (s s2 : State) → Kept n s s2
+    → ◌≡◌ {A = Origin × ℕ × Bool} (origin_of s2, n, gave_up_at s2.gave_up n) (origin_of s, n, gave_up_at s.gave_up n)
 home_same n s s2 k = λ i. (k.origin i, n, k.gave_up i)
 
 pub mine_same : (n : ℕ) (s s2 : State) → s2 ≡ s → mine_in n s2 ≡ mine_in n s
@@ -125,30 +141,46 @@ module _ (n : ℕ) (s s2 : State) (origin : origin_of s2 ≡ origin_of s) where
   same_modes = ap (λ (o : Origin). o.opening.modes) origin
 
   same_began : opening_of s2 ≡ opening_of s
-  same_began = ap (λ (o : Origin). record { state = record { volume = volume_of_node o.first; used = names_in o.opening.names }; modes = o.opening.modes }) origin
+  same_began = ap (λ (o : Origin). record
+      { state = record { volume = volume_of_node o.first; used = names_in o.opening.names }; modes = o.opening.modes })
+      origin
 
-  same_log : s2.book.entries ≡ s.book.entries → ◌≡◌ {A = Log} (record { spot = spot_of s2; entries = s2.book.entries }) (record { spot = spot_of s; entries = s.book.entries })
+  same_log : s2.book.entries ≡ s.book.entries
+      → ◌≡◌ {A = Log} (record { spot = spot_of s2; entries = s2.book.entries })
+      (record { spot = spot_of s; entries = s.book.entries })
   same_log e = λ i. record { spot = behind_entries (same_began i) (e i); entries = e i }
 
   more_log : (es : List Entry) → s2.book.entries ≡ s.book.entries ++ es
-      → ◌≡◌ {A = Log} (record { spot = spot_of s2; entries = s2.book.entries }) (record { spot = behind_entries (spot_of s) es; entries = s.book.entries ++ es })
+      → ◌≡◌ {A = Log} (record { spot = spot_of s2; entries = s2.book.entries })
+      (record { spot = behind_entries (spot_of s) es; entries = s.book.entries ++ es })
   more_log es e =
-      let there : spot_of s2 ≡ behind_entries (spot_of s) es = (λ i. behind_entries (same_began i) (e i)) ∙ behind-append (opening_of s) s.book.entries es in
+      let there : spot_of s2 ≡ behind_entries (spot_of s) es = (λ i. behind_entries (same_began i) (e i))
+      ∙ behind-append (opening_of s) s.book.entries es in
       λ i. record { spot = there i; entries = e i }
 
   -- the same entries, and these calls open
-  pub only_open : (os : List OwnCall) → s2.book.entries ≡ s.book.entries → (mine_in n s2).running ≡ os → mine_in n s2 ≡ with_running (mine_in n s) os
-  only_open os e r = λ i. record { stream = n; replicas = same_replicas i; entries = own_entries n (same_modes i) (e i); running = r i; log = Some (same_log e i) }
+  pub only_open : (os : List OwnCall) → s2.book.entries ≡ s.book.entries → (mine_in n s2).running ≡ os
+      → mine_in n s2 ≡ with_running (mine_in n s) os
+  only_open os e r = λ i. record {
+    stream = n;
+    replicas = same_replicas i;
+    entries = own_entries n (same_modes i) (e i);
+    running = r i;
+    log = Some (same_log e i);
+  }
 
   -- these entries more, of which these are own
-  pub grown_by : (ps : List Placed) (os : List OwnCall) (es : List Entry) → s2.book.entries ≡ s.book.entries ++ es → own_entries n (modes_in s) es ≡ ps → (mine_in n s2).running ≡ os
+  pub grown_by : (ps : List Placed) (os : List OwnCall) (es : List Entry) → s2.book.entries ≡ s.book.entries ++ es
+      → own_entries n (modes_in s) es ≡ ps → (mine_in n s2).running ≡ os
       → mine_in n s2 ≡ with_entries (mine_in n s) ps es os
   grown_by ps os es e own r =
       let more : own_entries n s2.book.opening.modes s2.book.entries ≡ own_entries n s.book.opening.modes s.book.entries ++ ps =
-      (λ i. own_entries n (same_modes i) (e i)) ∙ own-append n s.book.opening.modes s.book.entries es ∙ ap (λ l. own_entries n s.book.opening.modes s.book.entries ++ l) own in
+      (λ i. own_entries n (same_modes i) (e i)) ∙ own-append n s.book.opening.modes s.book.entries es
+      ∙ ap (λ l. own_entries n s.book.opening.modes s.book.entries ++ l) own in
       λ i. record { stream = n; replicas = same_replicas i; entries = more i; running = r i; log = Some (more_log es e i) }
 
   -- these entries more, all of them own
-  pub grown : (ps : List Placed) (os : List OwnCall) (es : List Entry) → s2.book.entries ≡ s.book.entries ++ es → own_entries n (modes_in s) es ≡ ps → entries_in ps ≡ es → (mine_in n s2).running ≡ os
+  pub grown : (ps : List Placed) (os : List OwnCall) (es : List Entry) → s2.book.entries ≡ s.book.entries ++ es
+      → own_entries n (modes_in s) es ≡ ps → entries_in ps ≡ es → (mine_in n s2).running ≡ os
       → mine_in n s2 ≡ with_more (mine_in n s) ps os
   grown ps os es e own back r = grown_by ps os es e own r ∙ ap (λ (l : List Entry). with_entries (mine_in n s) ps l os) (sym back)

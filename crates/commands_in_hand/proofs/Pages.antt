@@ -1,5 +1,7 @@
 -- The pages of a rebuild, as the one worker that there is sees them.
-use Rattle.std.proofs.Common.{◌≡◌, ◌≢◌, ℕ, zero, suc, ◌+◌, ◌*◌, ◌/◌, ◌%◌, ◌<◌, ◌≤◌, ⊎_elim, Bool, true, false, cond, nat_lt, List, [], ◌∷◌, length, length-set, set, get_or-set_other, Option, Some, None, subst, sym, refl, ap, ◌∙◌, arith}
+use Rattle.std.proofs.Common.{◌≡◌, ◌≢◌, ℕ, zero, suc, ◌+◌, ◌*◌, ◌/◌, ◌%◌, ◌<◌, ◌≤◌, ⊎_elim, Bool, true, false, cond}
+use Rattle.std.proofs.Common.{nat_lt, List, [], ◌∷◌, length, length-set, set, get_or-set_other, Option, Some, None}
+use Rattle.std.proofs.Common.{subst, sym, refl, ap, ◌∙◌, arith}
 use Rattle.std.specs.Prelude.{not, count_by, ◌&&◌, is_some}
 use Rattle.std.proofs.lemmas.Bool.{lt-ltb, false≢true}
 use Rattle.std.proofs.lemmas.List.Sums.{sum_by-set}
@@ -36,7 +38,11 @@ use Rattle.commands_in_hand.specs.Rebuild.{left_of, left_in, IsPageIn, IsAborted
 
 set_left : (bits : List Bool) (i : ℕ) → i < length bits → flag_at bits i ≡ false → count_by not (set bits i true) + 1 ≡ count_by not bits
 set_left bits i within left =
-    omega (arith, sum_by-set (λ (b : Bool). cond {A = ℕ} (not b) 1 0) bits i true false within, ap (λ (b : Bool). cond {A = ℕ} (not b) 1 0) left)
+    omega (
+      arith,
+      sum_by-set (λ (b : Bool). cond {A = ℕ} (not b) 1 0) bits i true false within,
+      ap (λ (b : Bool). cond {A = ℕ} (not b) 1 0) left,
+    )
 
 none_left : (bits : List Bool) → AreListed bits (length bits) → count_by not bits ≡ 0
 none_left [] all = refl
@@ -89,7 +95,8 @@ takes_all seen s first none = by s.rebuild refl
 
 -- ---- a page that comes in
 
-pub fewer_left : (seen : ℕ) (s s2 : State) (page : PageRef) (old new : Table) → IsSound s → CopiesIn s page old new s2 → left_in seen s2.rebuild s2.ended + 1 ≡ left_in seen s.rebuild s.ended
+pub fewer_left : (seen : ℕ) (s s2 : State) (page : PageRef) (old new : Table) → IsSound s → CopiesIn s page old new s2
+    → left_in seen s2.rebuild s2.ended + 1 ≡ left_in seen s.rebuild s.ended
 fewer_left seen s s2 page old new ok y =
     ap (λ n. n + 1) (open_left seen (with_page y.b page.layer page.page) s2.rebuild s2.ended (ap (λ (z : State). z.rebuild) y.state))
     ∙ one_fewer s y.b page ok y.is.begun y.is.left ∙ sym (open_left seen y.b s.rebuild s.ended y.is.begun)
@@ -107,9 +114,11 @@ same_open : (a b : Rebuilding) → Some a ≡ Some b → a ≡ b
 same_open a b e = cc
 
 -- what was true of the source's pages is true still
-pub pages_kept : (s s2 : State) (page : PageRef) (old new : Table) → IsSound s → CopiesIn s page old new s2 → (p : PageRef) (table : Table) → IsPageIn s p table → IsPageIn s2 p table
+pub pages_kept : (s s2 : State) (page : PageRef) (old new : Table) → IsSound s → CopiesIn s page old new s2
+    → (p : PageRef) (table : Table) → IsPageIn s p table → IsPageIn s2 p table
 pages_kept s s2 page old new ok y p table is b begun frozen =
-    let here : with_page y.b page.layer page.page ≡ b = same_open (with_page y.b page.layer page.page) b (sym (ap (λ (z : State). z.rebuild) y.state) ∙ begun) in
+    let here : with_page y.b page.layer page.page ≡ b =
+    same_open (with_page y.b page.layer page.page) b (sym (ap (λ (z : State). z.rebuild) y.state) ∙ begun) in
     let was_frozen : IsFrozenPage (with_page y.b page.layer page.page) p = subst (λ (z : Rebuilding). IsFrozenPage z p) (sym here) frozen in
     let was = is y.b y.is.begun (record { may = was_frozen.may; layer = was_frozen.layer; page = was_frozen.page }) in
     subst (λ (node : Node). IsPageOf node p.layer p.page table) (same_source here) was
@@ -121,12 +130,20 @@ pages_kept s s2 page old new ok y p table is b begun frozen =
 
 -- ---- the next step can be taken
 
-pub copies_kept : (n : ℕ) (s s2 : State) (page : PageRef) (old new : Table) → IsReady n s → IsSound s2 → CopiesIn s page old new s2 → Kept n s s2
+pub copies_kept : (n : ℕ) (s s2 : State) (page : PageRef) (old new : Table) → IsReady n s → IsSound s2
+    → CopiesIn s page old new s2 → Kept n s s2
 copies_kept n s s2 page old new r ok y =
     let h = shape_of n s r in
     let e = y.state in
     kept_has n s s2 r ok
-    (ap origin_of e ∙ ap (λ k. record { first = s.first; opening = s.book.opening; size = s.size; streams = length s.indices; replicas = k }) (length-set s.nodes y.b.target y.after))
+    (ap origin_of e ∙ ap (λ k. record {
+      first = s.first;
+      opening = s.book.opening;
+      size = s.size;
+      streams =
+          length s.indices;
+      replicas = k;
+    }) (length-set s.nodes y.b.target y.after))
     (ap gave_up_of e) h.ms h.cs (record {
       maint = ap (λ (z : State). z.maint) e ∙ h.has.maint;
       commands = ap (λ (z : State). z.commands) e ∙ h.has.commands;
@@ -145,16 +162,20 @@ copies_kept n s s2 page old new r ok y =
     begins : (y : CopiesIn s page old new s2) → CanBegin s2
     begins y i q within asks waits =
         let e = y.state in
-        let was = r.begins i q (subst (λ ts. i < length ts) (ap (λ (z : State). z.tickets) e) within) (sym (ap (λ (z : State). (open_at z.calls i).op) e) ∙ asks) (sym (ap (λ (z : State). (ticket_at z.tickets i).started) e) ∙ waits) in
+        let was = r.begins i q (subst (λ ts. i < length ts) (ap (λ (z : State). z.tickets) e) within)
+        (sym (ap (λ (z : State). (open_at z.calls i).op) e) ∙ asks)
+        (sym (ap (λ (z : State). (ticket_at z.tickets i).started) e) ∙ waits) in
         absurd (both y.b s.rebuild was.closed y.is.begun)
 
 -- nor does an end of a rebuild change
-pub same_ended : (s s2 : State) (page : PageRef) (old new : Table) → CopiesIn s page old new s2 → (place : ℕ) → IsAbortedAt s.ended place → IsAbortedAt s2.ended place
+pub same_ended : (s s2 : State) (page : PageRef) (old new : Table) → CopiesIn s page old new s2 → (place : ℕ)
+    → IsAbortedAt s.ended place → IsAbortedAt s2.ended place
 same_ended s s2 page old new y place is = subst (λ (z : State). IsAbortedAt z.ended place) (sym y.state) is
 
 -- ---- a page that goes out
 
-some_named : (ks : List Layer) (name : List ℕ) (block : ℕ) → has_own (own_named ks name) block ≡ true → is_some (block_named ks name block) ≡ true
+some_named : (ks : List Layer) (name : List ℕ) (block : ℕ) → has_own (own_named ks name) block ≡ true
+    → is_some (block_named ks name block) ≡ true
 some_named [] name block e = absurd (false≢true (sym (no_bits block) ∙ e))
   where
     no_bits : (block : ℕ) → has_own (own_named [] name) block ≡ false
@@ -162,21 +183,28 @@ some_named [] name block e = absurd (false≢true (sym (no_bits block) ∙ e))
     no_bits (suc k) = refl
 some_named (k ∷ ks) name block e = by (bytes_eq name k.meta.name) e (some_named ks name block)
   where
-    by : (b : Bool) → has_own (cond b k.own (own_named ks name)) block ≡ true → (has_own (own_named ks name) block ≡ true → is_some (block_named ks name block) ≡ true)
+    by : (b : Bool) → has_own (cond b k.own (own_named ks name)) block ≡ true
+        → (has_own (own_named ks name) block ≡ true → is_some (block_named ks name block) ≡ true)
         → is_some (cond b (own_block k.disk k.own block) (block_named ks name block)) ≡ true
     by true f rest = ap (λ t. is_some (cond t (Some (block_of k.disk block)) None)) f
     by false f rest = rest f
 
-pub out_block : (node : Node) (page : PageRef) (table : Table) → HasBlockOf node page.layer page.page → IsPageOf node page.layer page.page table → HasBlock table
+pub out_block : (node : Node) (page : PageRef) (table : Table) → HasBlockOf node page.layer page.page
+    → IsPageOf node page.layer page.page table → HasBlock table
 out_block node page table has is =
     let block = has.0 in
     let of : block / 512 ≡ page.page = grind (arith, nat_tests, has.1) in
-    let here : page.page * 512 + block % 512 ≡ block = omega (arith, of) in
-    (block % 512, omega arith, ap is_some (is (block % 512) (omega arith)) ∙ ap (λ k. is_some (block_named node.layers page.layer k)) here ∙ some_named node.layers page.layer block has.2)
+    let here : page.page * 512 + block % 512 ≡ block = omega (arith, of) in (
+      block % 512,
+      omega arith,
+      ap is_some (is (block % 512) (omega arith))
+          ∙ ap (λ k. is_some (block_named node.layers page.layer k)) here ∙ some_named node.layers page.layer block has.2,
+    )
 
 pub out_page : (s : State) (page : PageRef) (old new : Table) → CopiesOut s page true old new → IsPageIn s page new
 out_page s page old new out b begun frozen =
-    subst (λ (x : Rebuilding). IsPageOf (node_at s.nodes x.source) page.layer page.page new) (same_open out.b b (sym out.is.begun ∙ begun)) out.out.1
+    subst (λ (x : Rebuilding). IsPageOf (node_at s.nodes x.source) page.layer page.page new)
+    (same_open out.b b (sym out.is.begun ∙ begun)) out.out.1
 
 pub out_none : (s : State) (page : PageRef) (old new : Table) → CopiesOut s page false old new → IsPageIn s page []
 out_none s page old new out b begun frozen =

@@ -1,5 +1,6 @@
 -- While no command is an add no rebuild is open, so the mark of a replica that fails stands alone.
-use Rattle.std.proofs.Common.{◌≡◌, ℕ, List, [], ◌∷◌, ◌++◌, ◌<◌, length, Option, None, Some, Result, Ok, Err as Failed, OnOk, OnErr, IfOk, false, ⊎_elim, refl, sym, ap, subst, ◌∙◌, arith, append_assoc}
+use Rattle.std.proofs.Common.{◌≡◌, ℕ, List, [], ◌∷◌, ◌++◌, ◌<◌, length, Option, None, Some, Result, Ok, Err as Failed}
+use Rattle.std.proofs.Common.{OnOk, OnErr, IfOk, false, ⊎_elim, refl, sym, ap, subst, ◌∙◌, arith, append_assoc}
 use Rattle.std.proofs.lemmas.Bool.{cases_eq}
 use Rattle.volume_model.specs.declared.call.Call.{Call}
 use Rattle.volume_model.specs.declared.call.Reply.{Reply}
@@ -43,12 +44,18 @@ failed_alone Err s r none = refl
 
 -- the entries of a command that lets a replica fail
 pub fail_entries : (m : Mode) (s : State) (n r saw : ℕ) (c : Call) (y : Reply) → s.rebuild ≡ None
-    → (answered (failed_in m s r) n saw c y).book.entries ≡ s.book.entries ++ (fail_marks r m ++ entry.Answer (record { call = c; reply = y; index = index_at s.indices n; saw = saw; stream = n }) ∷ [])
+    → (answered (failed_in m s r) n saw c y).book.entries ≡ s.book.entries
+    ++ (fail_marks r m ++ entry.Answer (record { call = c; reply = y; index = index_at s.indices n; saw = saw; stream = n })
+    ∷ [])
 fail_entries m s n r saw c y none = ap (λ (x : State). (answered x n saw c y).book.entries) (failed_alone m s r none) ∙ by m
   where
-    by : (m : Mode) → (answered (marked_in m s r) n saw c y).book.entries ≡ s.book.entries ++ (fail_marks r m ++ entry.Answer (record { call = c; reply = y; index = index_at s.indices n; saw = saw; stream = n }) ∷ [])
-    by Rw = append_assoc s.book.entries (entry.Mark (mark.Failed r) ∷ []) (entry.Answer (record { call = c; reply = y; index = index_at s.indices n; saw = saw; stream = n }) ∷ [])
-    by Wo = append_assoc s.book.entries (entry.Mark (mark.Failed r) ∷ []) (entry.Answer (record { call = c; reply = y; index = index_at s.indices n; saw = saw; stream = n }) ∷ [])
+    by : (m : Mode) → (answered (marked_in m s r) n saw c y).book.entries ≡ s.book.entries
+        ++ (fail_marks r m ++ entry.Answer (record { call = c; reply = y; index = index_at s.indices n; saw = saw; stream = n })
+        ∷ [])
+    by Rw = append_assoc s.book.entries (entry.Mark (mark.Failed r) ∷ [])
+        (entry.Answer (record { call = c; reply = y; index = index_at s.indices n; saw = saw; stream = n }) ∷ [])
+    by Wo = append_assoc s.book.entries (entry.Mark (mark.Failed r) ∷ [])
+        (entry.Answer (record { call = c; reply = y; index = index_at s.indices n; saw = saw; stream = n }) ∷ [])
     by Err = refl
 
 -- ---- no rebuild is open or was aborted
@@ -81,13 +88,16 @@ after_tickets : (s : State) (f : Option ℕ) → (after_fail s f).tickets ≡ s.
 after_tickets s None = refl
 after_tickets s (Some r) = failed_tickets s r (mode_of (modes_in s) r)
 
-answered_tickets : {E : Type 0} (n : ℕ) (c : Call) (s s2 : State) (res : Result ℕ E) → IfOk res (λ place. IsAnsweredNow s n c place s2) → OnErr res (s2 ≡ s) → s2.tickets ≡ s.tickets
+answered_tickets : {E : Type 0} (n : ℕ) (c : Call) (s s2 : State) (res : Result ℕ E)
+    → IfOk res (λ place. IsAnsweredNow s n c place s2) → OnErr res (s2 ≡ s) → s2.tickets ≡ s.tickets
 answered_tickets n c s s2 (Ok place) is err = ap (λ (x : State). x.tickets) is.state ∙ after_tickets (with_place s) (failed_by c)
 answered_tickets n c s s2 (Failed e) is err = ap (λ (x : State). x.tickets) err
 
 -- a call was answered where none was open
-pub answered_begins : {E : Type 0} (n : ℕ) (c : Call) (s s2 : State) (res : Result ℕ E) → s.tickets ≡ [] → IfOk res (λ place. IsAnsweredNow s n c place s2) → OnErr res (s2 ≡ s) → CanBegin s2
-answered_begins n c s s2 res rest is err i r within asks waits = absurd (omega (arith, within, ap length (answered_tickets n c s s2 res is err), ap length rest))
+pub answered_begins : {E : Type 0} (n : ℕ) (c : Call) (s s2 : State) (res : Result ℕ E) → s.tickets ≡ []
+    → IfOk res (λ place. IsAnsweredNow s n c place s2) → OnErr res (s2 ≡ s) → CanBegin s2
+answered_begins n c s s2 res rest is err i r within asks waits =
+    absurd (omega (arith, within, ap length (answered_tickets n c s s2 res is err), ap length rest))
 
 -- a line failed: then no rebuild was open that could be aborted
 fault_begins : (n r count : ℕ) (s s2 : State) → s2 ≡ faulted s n r count → CanBegin s → CanBegin s2
@@ -95,7 +105,8 @@ fault_begins n r count s s2 e can i q within asks waits =
     let a = fall_appends n s (mark.Fault n r count) r refl in
     let tickets : s2.tickets ≡ s.tickets = ap (λ (x : State). x.tickets) e ∙ a.tickets in
     let calls : s2.calls ≡ s.calls = ap (λ (x : State). x.calls) e ∙ a.calls in
-    let c = can i q (subst (λ ts. i < length ts) tickets within) (sym (ap (λ cs. (open_at cs i).op) calls) ∙ asks) (sym (ap (λ ts. (ticket_at ts i).started) tickets) ∙ waits) in
+    let c = can i q (subst (λ ts. i < length ts) tickets within) (sym (ap (λ cs. (open_at cs i).op) calls) ∙ asks)
+    (sym (ap (λ ts. (ticket_at ts i).started) tickets) ∙ waits) in
     let alone : s2 ≡ marked s (mark.Fault n r count) = e ∙ fall_alone (marked s (mark.Fault n r count)) r c.closed in
     record {
       closed = ap (λ (x : State). x.rebuild) alone ∙ c.closed;
@@ -103,7 +114,8 @@ fault_begins n r count s s2 e can i q within asks waits =
       there = subst (λ k. q < k) (sym (ap (λ (x : State). length x.nodes) alone)) c.there;
     }
 
-pub faults_begins : {E : Type 0} (n r count : ℕ) (s s2 : State) (res : Result (Unit {0}) E) → OnOk res (s2 ≡ faulted s n r count) → OnErr res (s2 ≡ s) → CanBegin s → CanBegin s2
+pub faults_begins : {E : Type 0} (n r count : ℕ) (s s2 : State) (res : Result (Unit {0}) E)
+    → OnOk res (s2 ≡ faulted s n r count) → OnErr res (s2 ≡ s) → CanBegin s → CanBegin s2
 faults_begins n r count s s2 (Ok u) e err can = fault_begins n r count s s2 e can
 faults_begins n r count s s2 (Failed x) e err can = subst CanBegin (sym err) can
 

@@ -14,7 +14,8 @@ use Rattle.desk_lock.proofs.Lists.{outs-set, outs-le, seats_stay, apart_stays}
 use Rattle.desk_lock.proofs.Stages.{wraps, knows_is, ticket_within, more_drawn, R, Sits, lies_still}
 
 module _ {S Entry OpenCall Origin : Type 0} (account : Account S Entry OpenCall Origin) where
-  pub draws : (slots id : ℕ) (me : Place S) (v : Known S) → me.0 ≡ Knows v → v.stage ≡ Idle → Allows (R account) slots id me 0 (λ n. (n + 1) % 2 ^ 64) (drew (step slots 0 1 0 maybe.none) me)
+  pub draws : (slots id : ℕ) (me : Place S) (v : Known S) → me.0 ≡ Knows v → v.stage ≡ Idle
+      → Allows (R account) slots id me 0 (λ n. (n + 1) % 2 ^ 64) (drew (step slots 0 1 0 maybe.none) me)
   draws slots id me v is idle s r _ at _ =
       let a : ℕ = r.drawn in
       let w : Known S = staged v (Waits a) in
@@ -33,11 +34,13 @@ module _ {S Entry OpenCall Origin : Type 0} (account : Account S Entry OpenCall 
           made = r.made;
           seat_of = r.seat_of;
           now = r.now;
-          words = ap (λ (ws : List ℕ). set ws 0 ((get_or ws 0 0 + 1) % 2 ^ 64)) r.words ∙ ap (λ (z : ℕ). z ∷ (r.served % 2 ^ 64) ∷ []) (wraps a);
+          words = ap (λ (ws : List ℕ). set ws 0 ((get_or ws 0 0 + 1) % 2 ^ 64)) r.words
+              ∙ ap (λ (z : ℕ). z ∷ (r.served % 2 ^ 64) ∷ []) (wraps a);
           counted = omega arith;
           wide = length-set s.views id (Knows w) ∙ r.wide;
           few = r.few;
-          lies = lies_still r.now s 0 ((get_or s.words 0 0 + 1) % 2 ^ 64) id me.1 (Knows v) (Knows w) r.lies at' (λ u e. ap (λ (z : Known S). holds_it z.stage) (sym (knows_is v u e)) ∙ ap holds_it idle);
+          lies = lies_still r.now s 0 ((get_or s.words 0 0 + 1) % 2 ^ 64) id me.1 (Knows v) (Knows w) r.lies at'
+              (λ u e. ap (λ (z : Known S). holds_it z.stage) (sym (knows_is v u e)) ∙ ap holds_it idle);
           sound = r.sound;
           each_seat = seats_stay (Sits account r.served (a + 1) r.made r.seat_of r.now s.homes) s.views id (Knows w)
               (λ u e. subst (Sits account r.served (a + 1) r.made r.seat_of r.now s.homes id) (knows_is w u e)
@@ -46,8 +49,16 @@ module _ {S Entry OpenCall Origin : Type 0} (account : Account S Entry OpenCall 
               record { finds = t.finds; on_stage = more_drawn r.served a r.now s.homes u.last u.stage t.on_stage; placed = t.placed });
           apart = apart_stays s.views id (Knows w) r.apart (λ x u b j e xt ne there ut.
               let f : Some a ≡ Some b = ap (λ (z : Known S). ticket z.stage) (knows_is w x e) ∙ xt in let g : a ≡ b = cc in
-              let t = r.each_seat j u there in let h = (ticket_within r.served a r.now s.homes u.last u.stage b t.on_stage ut).1 in omega arith);
+              let t = r.each_seat j u there in let h = (ticket_within r.served a r.now s.homes u.last u.stage b t.on_stage ut).1 in
+              omega arith);
           silent = r.silent;
         },
-        (refl, λ u e. (a, ap (λ (ws : List ℕ). get_or ws 0 0) r.words, ap (λ (z : Known S). Knows (staged z (Waits a))) (knows_is v u (sym is ∙ e)))),
+        (
+          refl,
+          λ u e. (
+            a,
+            ap (λ (ws : List ℕ). get_or ws 0 0) r.words,
+            ap (λ (z : Known S). Knows (staged z (Waits a))) (knows_is v u (sym is ∙ e)),
+          ),
+        ),
       )

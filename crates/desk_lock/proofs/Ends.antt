@@ -1,5 +1,6 @@
 -- What a new desk meets, and what one that is closed met.
-use Rattle.std.proofs.Common.{◌≡◌, ◌≢◌, ℕ, zero, suc, ◌<◌, true, false, List, [], ◌∷◌, Option, Some, None, refl, sym, ap, ◌∙◌, subst, inl, inr, ⊎_elim, arith}
+use Rattle.std.proofs.Common.{◌≡◌, ◌≢◌, ℕ, zero, suc, ◌<◌, true, false, List, [], ◌∷◌, Option, Some, None, refl, sym}
+use Rattle.std.proofs.Common.{ap, ◌∙◌, subst, inl, inr, ⊎_elim, arith}
 use mathlib.Core.Option.{some, some-injective}
 use mathlib.Core.Option as maybe
 use mathlib.Core.Logic.{dite}
@@ -38,12 +39,15 @@ module _ {S Entry OpenCall Origin : Type 0} (account : Account S Entry OpenCall 
       first_only zero v e = refl
       first_only (suc j) v e = absurd (maybe.some-ne-none (Knows v) (sym e))
 
-      at_first : (j : ℕ) (v : Known S) → get_elem? (starting x ∷ []) j ≡ some (Knows v) → Sits account 0 0 0 (λ n. 0) x (some (Some x) ∷ []) j v
-      at_first zero v e = subst (Sits account 0 0 0 (λ n. 0) x (some (Some x) ∷ []) 0) (knows_is (known_with None x Idle 0 []) v (some-injective _ _ e))
+      at_first : (j : ℕ) (v : Known S) → get_elem? (starting x ∷ []) j ≡ some (Knows v)
+          → Sits account 0 0 0 (λ n. 0) x (some (Some x) ∷ []) j v
+      at_first zero v e = subst (Sits account 0 0 0 (λ n. 0) x (some (Some x) ∷ []) 0)
+          (knows_is (known_with None x Idle 0 []) v (some-injective _ _ e))
           record { finds = finds_self account None x; on_stage = tt; placed = (refl, refl, tt, tt, λ n le. silent n) }
       at_first (suc j) v e = absurd (maybe.some-ne-none (Knows v) (sym e))
 
-  pub closes : (id : ℕ) (v : Known S) (ws : List ℕ) (xs : List (Option S)) → v.number ≡ None → v.stage ≡ Idle → ((n : ℕ) → n < v.made → HasNumber n v.joined) → Final (Seen (R account) id (Knows v)) ws xs
+  pub closes : (id : ℕ) (v : Known S) (ws : List ℕ) (xs : List (Option S)) → v.number ≡ None → v.stage ≡ Idle
+      → ((n : ℕ) → n < v.made → HasNumber n v.joined) → Final (Seen (R account) id (Knows v)) ws xs
       → (x : S) × (get_elem? xs 0 ≡ some (Some x)) × Fits account x v
   closes id v ws xs first idle all_joined fin =
       let s : State (Option S) (View S) = fin.0 in
@@ -57,20 +61,25 @@ module _ {S Entry OpenCall Origin : Type 0} (account : Account S Entry OpenCall 
         finds account r.served r.drawn r.made r.seat_of r.now s.homes id v mine r.sound r.silent,
       )
     where
-      joined_is : (seat_of : ℕ → ℕ) (made n : ℕ) (js : List (ℕ × S)) → Each (λ (p : ℕ × S). (p.0 < made) × (seat_of p.0 ≡ 0)) js → HasNumber n js → seat_of n ≡ 0
+      joined_is : (seat_of : ℕ → ℕ) (made n : ℕ) (js : List (ℕ × S))
+          → Each (λ (p : ℕ × S). (p.0 < made) × (seat_of p.0 ≡ 0)) js → HasNumber n js → seat_of n ≡ 0
       joined_is seat_of made n [] h has = absurd has
       joined_is seat_of made n (p ∷ ps) h (inl e) = ap seat_of (sym e) ∙ h.0.1
       joined_is seat_of made n (p ∷ ps) h (inr has) = joined_is seat_of made n ps h.1 has
 
-      no_holder : (s : State (Option S) (View S)) (r : R account s) (j : ℕ) (u : Known S) → j ≢ id → id ≡ 0 → v.made ≡ r.made → Each (λ (p : ℕ × S). (p.0 < r.made) × (r.seat_of p.0 ≡ 0)) v.joined → (m : Option ℕ)
+      no_holder : (s : State (Option S) (View S)) (r : R account s) (j : ℕ) (u : Known S) → j ≢ id → id ≡ 0
+          → v.made ≡ r.made → Each (λ (p : ℕ × S). (p.0 < r.made) × (r.seat_of p.0 ≡ 0)) v.joined → (m : Option ℕ)
           → Placed account r.made r.seat_of r.now j u m → ⊥
       no_holder s r j u ne zero_is top each None p = ne (p.0 ∙ sym zero_is)
-      no_holder s r j u ne zero_is top each (Some m) p = let h = p.0 in p.2 (sym p.1 ∙ joined_is r.seat_of r.made m v.joined each (all_joined m (omega arith)))
+      no_holder s r j u ne zero_is top each (Some m) p = let h = p.0 in
+          p.2 (sym p.1 ∙ joined_is r.seat_of r.made m v.joined each (all_joined m (omega arith)))
 
-      at_home : (s : State (Option S) (View S)) (r : R account s) → get_elem? s.views id ≡ some (Knows v) → Placed account r.made r.seat_of r.now id v v.number
+      at_home : (s : State (Option S) (View S)) (r : R account s) → get_elem? s.views id ≡ some (Knows v)
+          → Placed account r.made r.seat_of r.now id v v.number
           → s.homes ≡ some (Some r.now) ∷ []
       at_home s r at placed = let place = subst (Placed account r.made r.seat_of r.now id v) first placed in ⊎_elim (λ h. h)
-          (λ (h : (s.homes ≡ maybe.none ∷ []) × ((j : ℕ) × (u : Known S) × (get_elem? s.views j ≡ some (Knows u)) × (holds_it u.stage ≡ true))).
+          (λ (h : (s.homes ≡ maybe.none ∷ [])
+          × ((j : ℕ) × (u : Known S) × (get_elem? s.views j ≡ some (Knows u)) × (holds_it u.stage ≡ true))).
           absurd (dite (ℕ_discrete h.1.0 id)
           (λ e. let same : h.1.1 ≡ v = knows_is h.1.1 v (some-injective _ _ (sym h.1.2 ∙ (ap (λ (z : ℕ). get_elem? s.views z) e ∙ at))) in
           let f : true ≡ false = sym h.1.3 ∙ (ap (λ (z : Known S). holds_it z.stage) same ∙ ap holds_it idle) in cc)

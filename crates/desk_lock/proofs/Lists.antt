@@ -1,5 +1,7 @@
 -- Lists of entries, and of views.
-use Rattle.std.proofs.Common.{◌≡◌, ◌≢◌, ℕ, zero, suc, ◌+◌, ◌<◌, ◌≤◌, Bool, false, cond, List, [], ◌∷◌, ◌++◌, length, set, Option, Some, None, refl, sym, ap, ◌∙◌, subst, ◌⊎◌, inl, inr, ⊎_elim, arith, append_assoc, append-nil, ne_eqb}
+use Rattle.std.proofs.Common.{◌≡◌, ◌≢◌, ℕ, zero, suc, ◌+◌, ◌<◌, ◌≤◌, Bool, false, cond, List, [], ◌∷◌, ◌++◌, length}
+use Rattle.std.proofs.Common.{set, Option, Some, None, refl, sym, ap, ◌∙◌, subst, ◌⊎◌, inl, inr, ⊎_elim, arith}
+use Rattle.std.proofs.Common.{append_assoc, append-nil, ne_eqb}
 use Rattle.std.proofs.lemmas.List.Elements.{filter-append}
 use mathlib.Core.Option.{some, some-injective, some-ne-none}
 use lib.ListN.{get_elem?}
@@ -26,10 +28,12 @@ not_of number n other None may = refl
 not_of number n other (Some m) may = ne_eqb n m (λ e. other (may ∙ ap Some (sym e)))
 
 module _ {S Entry OpenCall Origin : Type 0} (account : Account S Entry OpenCall Origin) where
-  pub entries_of-append : (n : ℕ) (xs ys : List Entry) → entries_of account n (xs ++ ys) ≡ entries_of account n xs ++ entries_of account n ys
+  pub entries_of-append : (n : ℕ) (xs ys : List Entry) → entries_of account n (xs ++ ys) ≡ entries_of account n xs
+      ++ entries_of account n ys
   entries_of-append n xs ys = filter-append (λ e. is_stream n (account.stream_of e)) xs ys
 
-  pub entries_of-others : (number : Option ℕ) (n : ℕ) → number ≢ Some n → (es : List Entry) → Each (λ e. MayAdd number (account.stream_of e)) es
+  pub entries_of-others : (number : Option ℕ) (n : ℕ) → number ≢ Some n → (es : List Entry)
+      → Each (λ e. MayAdd number (account.stream_of e)) es
       → entries_of account n es ≡ []
   entries_of-others number n other [] may = refl
   entries_of-others number n other (e ∷ es) may =
@@ -59,7 +63,8 @@ at_below (x ∷ xs) zero a e = omega arith
 at_below (x ∷ xs) (suc i) a e = let r = at_below xs i a e in omega arith
 
 -- the last of a longer list stands at the other's length
-pub at_end : {A : Type 0} (l : List A) (a b : A) (j : ℕ) → get_elem? (l ++ a ∷ []) j ≡ some b → (get_elem? l j ≡ some b) ⊎ ((j ≡ length l) × (a ≡ b))
+pub at_end : {A : Type 0} (l : List A) (a b : A) (j : ℕ) → get_elem? (l ++ a ∷ []) j ≡ some b → (get_elem? l j ≡ some b)
+    ⊎ ((j ≡ length l) × (a ≡ b))
 at_end [] a b zero e = inr (refl, some-injective a b e)
 at_end [] a b (suc j) e = absurd (some-ne-none b (sym e))
 at_end (x ∷ xs) a b zero e = inl e
@@ -91,11 +96,13 @@ module _ {S : Type 0} where
       (λ (t : (j ≢ me) × (get_elem? vs j ≡ some (Knows v))). others j v t.0 t.1) (at_set vs me j w (Knows v) e)
 
   abbrev pub Apart : List (View S) → Type 0
-  Apart vs = (i j : ℕ) (v w : Known S) (a : ℕ) → get_elem? vs i ≡ some (Knows v) → get_elem? vs j ≡ some (Knows w) → ticket v.stage ≡ Some a → ticket w.stage ≡ Some a → i ≡ j
+  Apart vs = (i j : ℕ) (v w : Known S) (a : ℕ) → get_elem? vs i ≡ some (Knows v) → get_elem? vs j ≡ some (Knows w)
+      → ticket v.stage ≡ Some a → ticket w.stage ≡ Some a → i ≡ j
 
   -- one seat's ticket becomes one that no other has
   pub apart_stays : (vs : List (View S)) (me : ℕ) (w : View S) → Apart vs
-      → ((x u : Known S) (a j : ℕ) → w ≡ Knows x → ticket x.stage ≡ Some a → j ≢ me → get_elem? vs j ≡ some (Knows u) → ticket u.stage ≡ Some a → ⊥)
+      → ((x u : Known S) (a j : ℕ) → w ≡ Knows x → ticket x.stage ≡ Some a → j ≢ me → get_elem? vs j ≡ some (Knows u)
+      → ticket u.stage ≡ Some a → ⊥)
       → Apart (set vs me w)
   apart_stays vs me w was new i j v u a at bt vt ut = ⊎_elim
       (λ (t : (i ≡ me) × (w ≡ Knows v)). ⊎_elim
@@ -108,7 +115,8 @@ module _ {S : Type 0} where
       (at_set vs me j w (Knows u) bt))
       (at_set vs me i w (Knows v) at)
 
-  pub apart_snoc : (vs : List (View S)) (w : View S) → Apart vs → ((x : Known S) → w ≡ Knows x → ticket x.stage ≡ None) → Apart (vs ++ w ∷ [])
+  pub apart_snoc : (vs : List (View S)) (w : View S) → Apart vs → ((x : Known S) → w ≡ Knows x → ticket x.stage ≡ None)
+      → Apart (vs ++ w ∷ [])
   apart_snoc vs w was none i j v u a at bt vt ut = ⊎_elim
       (λ (p : get_elem? vs i ≡ some (Knows v)). ⊎_elim (λ (q : get_elem? vs j ≡ some (Knows u)). was i j v u a p q vt ut)
       (λ (q : (j ≡ length vs) × (w ≡ Knows u)). let e : None ≡ Some a = sym (none u q.1) ∙ ut in absurd (cc)) (at_end vs w (Knows u) j bt))

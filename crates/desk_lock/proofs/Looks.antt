@@ -1,5 +1,6 @@
 -- A look at whose turn it is keeps the rule of a desk, and takes the state where it is the own.
-use Rattle.std.proofs.Common.{◌≡◌, ℕ, ◌%◌, ◌^◌, ◌<◌, ◌≤◌, true, false, List, [], ◌∷◌, length, set, get_or, Option, Some, None, refl, sym, ap, ◌∙◌, subst, inr, ⊎_elim, arith, length-set}
+use Rattle.std.proofs.Common.{◌≡◌, ℕ, ◌%◌, ◌^◌, ◌<◌, ◌≤◌, true, false, List, [], ◌∷◌, length, set, get_or, Option}
+use Rattle.std.proofs.Common.{Some, None, refl, sym, ap, ◌∙◌, subst, inr, ⊎_elim, arith, length-set}
 use mathlib.Core.Option.{some, some-injective}
 use mathlib.Core.Option as maybe
 use mathlib.Core.Logic.{dite}
@@ -19,7 +20,8 @@ use Rattle.desk_lock.proofs.Lists.{outs-set, outs-le, seats_stay, apart_stays, a
 use Rattle.desk_lock.proofs.Stages.{ticket_of_holder, knows_is, ticket_within, taken, R, Sits, finds, unmoved, finds_self}
 
 module _ {S Entry OpenCall Origin : Type 0} (account : Account S Entry OpenCall Origin) where
-  looks_in_turn : (s : State (Option S) (View S)) (r : R account s) (id : ℕ) (cs : List (ℕ × Option S)) (v : Known S) → get_elem? s.views id ≡ some (Knows v) → v.stage ≡ Waits r.served → s.homes ≡ some (Some r.now) ∷ []
+  looks_in_turn : (s : State (Option S) (View S)) (r : R account s) (id : ℕ) (cs : List (ℕ × Option S)) (v : Known S)
+      → get_elem? s.views id ≡ some (Knows v) → v.stage ≡ Waits r.served → s.homes ≡ some (Some r.now) ∷ []
       → R account (stepped s 1 (get_or s.words 1 0) id cs (Knows (knowing v r.now (Holds r.served))) (takes 0 (Some r.now)))
   looks_in_turn s r id cs v at waits home =
       let w : Known S = knowing v r.now (Holds r.served) in
@@ -60,12 +62,14 @@ module _ {S Entry OpenCall Origin : Type 0} (account : Account S Entry OpenCall 
         silent = r.silent;
       }
     where
-      again : (m : Option ℕ) → Placed account r.made r.seat_of r.now id v m → Placed account r.made r.seat_of r.now id (knowing v r.now (Holds r.served)) m
+      again : (m : Option ℕ) → Placed account r.made r.seat_of r.now id v m
+          → Placed account r.made r.seat_of r.now id (knowing v r.now (Holds r.served)) m
       again None p = (p.0, p.1, p.2, p.3, r.silent)
       again (Some m) p = p
 
   -- where a ticket is served whose seat waits, the state is at home
-  home_in_turn : (s : State (Option S) (View S)) (r : R account s) (id : ℕ) (v : Known S) → get_elem? s.views id ≡ some (Knows v) → v.stage ≡ Waits r.served → s.homes ≡ some (Some r.now) ∷ []
+  home_in_turn : (s : State (Option S) (View S)) (r : R account s) (id : ℕ) (v : Known S)
+      → get_elem? s.views id ≡ some (Knows v) → v.stage ≡ Waits r.served → s.homes ≡ some (Some r.now) ∷ []
   home_in_turn s r id v at waits = ⊎_elim (λ h. h)
       (λ (h : (s.homes ≡ maybe.none ∷ []) × ((j : ℕ) × (u : Known S) × (get_elem? s.views j ≡ some (Knows u)) × (holds_it u.stage ≡ true))).
       let j = h.1.0 in let u = h.1.1 in let there = h.1.2 in let b = ticket_of_holder u.stage h.1.3 in
@@ -93,26 +97,29 @@ module _ {S Entry OpenCall Origin : Type 0} (account : Account S Entry OpenCall 
         takes 0 (Some r.now),
         ap (λ (hs : List (maybe.Option (Option S))). get_elem? hs 0) home,
         looks_in_turn s r id me.1 v at' waits' home,
-        λ u b e ub. let same : v ≡ u = knows_is v u (sym is ∙ e) in let f : Waits a ≡ Waits b = sym waits ∙ (ap (λ (z : Known S). z.stage) same ∙ ub) in let g : a ≡ b = cc in (
-          (λ _. (
-            r.now,
-            subst (Fits account r.now) same (finds account r.served r.drawn r.made r.seat_of r.now s.homes id v mine r.sound r.silent),
-            (λ i. Knows (knowing (same i) r.now (Holds ((turn ∙ g) i)))),
-            refl,
-          )),
-          (λ miss. absurd (miss (hit ∙ ap (λ (z : ℕ). z % 2 ^ 64) g))),
-        ),
+        λ u b e ub. let same : v ≡ u = knows_is v u (sym is ∙ e) in
+            let f : Waits a ≡ Waits b = sym waits ∙ (ap (λ (z : Known S). z.stage) same ∙ ub) in let g : a ≡ b = cc in (
+              (λ _. (
+                r.now,
+                subst (Fits account r.now) same (finds account r.served r.drawn r.made r.seat_of r.now s.homes id v mine r.sound r.silent),
+                (λ i. Knows (knowing (same i) r.now (Holds ((turn ∙ g) i)))),
+                refl,
+              )),
+              (λ miss. absurd (miss (hit ∙ ap (λ (z : ℕ). z % 2 ^ 64) g))),
+            ),
       ))
       (λ miss. (
         me.0,
         keeps,
         tt,
         unmoved account s 1 id me.1 me.0 r at,
-        λ u b e ub. let same : v ≡ u = knows_is v u (sym is ∙ e) in let f : Waits a ≡ Waits b = sym waits ∙ (ap (λ (z : Known S). z.stage) same ∙ ub) in let g : a ≡ b = cc in
+        λ u b e ub. let same : v ≡ u = knows_is v u (sym is ∙ e) in
+            let f : Waits a ≡ Waits b = sym waits ∙ (ap (λ (z : Known S). z.stage) same ∙ ub) in let g : a ≡ b = cc in
             ((λ hit. absurd (miss (hit ∙ ap (λ (z : ℕ). z % 2 ^ 64) (sym g)))), (λ _. refl)),
       ))
 
-  pub recalls : (slots id : ℕ) (me : Place S) → Allows (R account) slots id me 1 (λ n. n) (recalled account (step slots 1 0 0 maybe.none) me)
+  pub recalls : (slots id : ℕ) (me : Place S)
+      → Allows (R account) slots id me 1 (λ n. n) (recalled account (step slots 1 0 0 maybe.none) me)
   recalls slots id me s r _ at _ = (
     me.0,
     keeps,
@@ -121,6 +128,7 @@ module _ {S Entry OpenCall Origin : Type 0} (account : Account S Entry OpenCall 
     (refl, λ v is first n le. told v.number v first (r.each_seat id v (at ∙ ap some is)).placed n le),
   )
     where
-      told : (m : Option ℕ) (v : Known S) → m ≡ None → Placed account r.made r.seat_of r.now id v m → (n : ℕ) → v.made ≤ n → IsSilent account n v.last
+      told : (m : Option ℕ) (v : Known S) → m ≡ None → Placed account r.made r.seat_of r.now id v m → (n : ℕ) → v.made ≤ n
+          → IsSilent account n v.last
       told None v e p n le = let top = p.1 in p.4 n (omega arith)
       told (Some m) v e p n le = let f : Some m ≡ None = e in absurd (cc)

@@ -1,5 +1,7 @@
 -- Splitting a seat off the first, and joining one into it, keep the rule of a desk.
-use Rattle.std.proofs.Common.{◌≡◌, ◌≢◌, ℕ, ◌+◌, ◌^◌, ◌<◌, Bool, true, false, cond, eqb, List, [], ◌∷◌, ◌++◌, length, set, Option, Some, None, refl, sym, ap, ◌∙◌, subst, ⊎_elim, arith, length-set, length-append, eq-eqb, ne_eqb}
+use Rattle.std.proofs.Common.{◌≡◌, ◌≢◌, ℕ, ◌+◌, ◌^◌, ◌<◌, Bool, true, false, cond, eqb, List, [], ◌∷◌, ◌++◌, length}
+use Rattle.std.proofs.Common.{set, Option, Some, None, refl, sym, ap, ◌∙◌, subst, ⊎_elim, arith, length-set}
+use Rattle.std.proofs.Common.{length-append, eq-eqb, ne_eqb}
 use mathlib.Core.Option.{some, some-injective}
 use mathlib.Core.Logic.{dite}
 use native.Mathlib.Decide.{ℕ_discrete}
@@ -37,7 +39,8 @@ split_zero made seat_of n is = either_way (eqb n made)
     either_way false = is
 
 module _ {S Entry OpenCall Origin : Type 0} (account : Account S Entry OpenCall Origin) where
-  pub splits : (id : ℕ) (v : Known S) → v.number ≡ None → v.made + 1 < 2 ^ 64 → Splits (R account) id (Knows v) (first_after (Knows v)) (newcomer (Knows v))
+  pub splits : (id : ℕ) (v : Known S) → v.number ≡ None → v.made + 1 < 2 ^ 64
+      → Splits (R account) id (Knows v) (first_after (Knows v)) (newcomer (Knows v))
   splits id v first room s r at =
       let mine = r.each_seat id v at in
       let place = subst (Placed account r.made r.seat_of r.now id v) first mine.placed in
@@ -66,8 +69,12 @@ module _ {S Entry OpenCall Origin : Type 0} (account : Account S Entry OpenCall 
         wide = omega arith;
         few = omega arith;
         lies = lies_moved r.now s.words s.homes s.views (vs ++ Knows right ∷ []) (λ j u there h. dite (ℕ_discrete j id)
-            (λ e. let is : u ≡ v = knows_is u v (some-injective _ _ (sym there ∙ (ap (λ (z : ℕ). get_elem? s.views z) e ∙ at))) in
-            (id, left, at_longer vs (Knows right ∷ []) id (Knows left) (set_here s.views id (Knows left) inside), ap (λ (z : Known S). holds_it z.stage) (sym is) ∙ h))
+            (λ e. let is : u ≡ v = knows_is u v (some-injective _ _ (sym there ∙ (ap (λ (z : ℕ). get_elem? s.views z) e ∙ at))) in (
+              id,
+              left,
+              at_longer vs (Knows right ∷ []) id (Knows left) (set_here s.views id (Knows left) inside),
+              ap (λ (z : Known S). holds_it z.stage) (sym is) ∙ h,
+            ))
             (λ ne. (j, u, at_longer vs (Knows right ∷ []) j (Knows u) (set_else s.views id j (Knows left) ne ∙ there), h))) r.lies;
         sound = r.sound;
         each_seat = λ j u e. ⊎_elim
@@ -87,15 +94,31 @@ module _ {S Entry OpenCall Origin : Type 0} (account : Account S Entry OpenCall 
             })
             (λ j u ne there. let t = r.each_seat j u there in
             record { finds = t.finds; on_stage = t.on_stage; placed = placed_other j u ne place.0 u.number t.placed }) j u)
-            (λ (q : (j ≡ length vs) × (Knows right ≡ Knows u)). subst (λ (z : ℕ × Known S). Sits account r.served r.drawn made seat_of r.now s.homes z.0 z.1) (λ i. (sym q.0 i, knows_is right u q.1 i))
-            record { finds = newly mine.finds was_silent last_silent; on_stage = tt; placed = (omega arith, split_new r.made (length s.views) r.seat_of v.made top ∙ sym long, (λ (e : length vs ≡ 0). omega arith), refl) })
+            (λ (q : (j ≡ length vs) × (Knows right ≡ Knows u)). subst
+            (λ (z : ℕ × Known S). Sits account r.served r.drawn made seat_of r.now s.homes z.0 z.1)
+            (λ i. (sym q.0 i, knows_is right u q.1 i))
+            record {
+              finds = newly mine.finds was_silent last_silent;
+              on_stage = tt;
+              placed = (
+                omega arith,
+                split_new r.made (length s.views) r.seat_of v.made top
+                    ∙ sym long,
+                (λ (e : length vs ≡ 0). omega arith),
+                refl,
+              );
+            })
             (at_end vs (Knows right) (Knows u) j e);
-        apart = apart_snoc vs (Knows right) (apart_stays s.views id (Knows left) r.apart (λ x u b j e xt ne there ut. ne (r.apart j id u v b there at ut (ap (λ (z : Known S). ticket z.stage) (knows_is left x e) ∙ xt))))
+        apart = apart_snoc vs (Knows right)
+            (apart_stays s.views id (Knows left) r.apart
+            (λ x u b j e xt ne there ut. ne
+            (r.apart j id u v b there at ut (ap (λ (z : Known S). ticket z.stage) (knows_is left x e) ∙ xt))))
             (λ x e. ap (λ (z : Known S). ticket z.stage) (sym (knows_is right x e)));
         silent = λ n le. r.silent n (omega arith);
       }
     where
-      newly : Finds account v.number r.now v.last → IsSilent account v.made r.now → IsSilent account v.made v.last → Finds account (Some v.made) r.now v.last
+      newly : Finds account v.number r.now v.last → IsSilent account v.made r.now → IsSilent account v.made v.last
+          → Finds account (Some v.made) r.now v.last
       newly f was before = record {
         same_origin = f.same_origin;
         seen = f.seen;
@@ -107,7 +130,8 @@ module _ {S Entry OpenCall Origin : Type 0} (account : Account S Entry OpenCall 
       placed_other : (j : ℕ) (u : Known S) → j ≢ id → id ≡ 0 → (m : Option ℕ) → Placed account r.made r.seat_of r.now j u m
           → Placed account (r.made + 1) (split_seats r.made (length s.views) r.seat_of) r.now j u m
       placed_other j u ne zero_is None p = absurd (ne (p.0 ∙ sym zero_is))
-      placed_other j u ne zero_is (Some m) p = let h = p.0 in (omega arith, split_old r.made (length s.views) r.seat_of m p.0 ∙ p.1, p.2, p.3)
+      placed_other j u ne zero_is (Some m) p = let h = p.0 in
+          (omega arith, split_old r.made (length s.views) r.seat_of m p.0 ∙ p.1, p.2, p.3)
 
   pub joins : (id : ℕ) (v : Known S) (other : ℕ) (w : Known S) (n : ℕ) → v.number ≡ None → w.number ≡ Some n → w.stage ≡ Idle
       → Joins (R account) id (Knows v) other (Knows w) (both_of (Knows v) (Knows w)) Spent
@@ -136,15 +160,21 @@ module _ {S Entry OpenCall Origin : Type 0} (account : Account S Entry OpenCall 
         wide = length-set vs other Spent ∙ (length-set s.views id (Knows both) ∙ r.wide);
         few = r.few;
         lies = lies_moved r.now s.words s.homes s.views (set vs other Spent) (λ j u at_j h. dite (ℕ_discrete j id)
-            (λ e. let same : u ≡ v = knows_is u v (some-injective _ _ (sym at_j ∙ (ap (λ (z : ℕ). get_elem? s.views z) e ∙ at))) in
-            (id, both, set_else vs other id Spent (λ f. apart (sym f)) ∙ set_here s.views id (Knows both) inside, ap (λ (z : Known S). holds_it z.stage) (sym same) ∙ h))
+            (λ e. let same : u ≡ v = knows_is u v (some-injective _ _ (sym at_j ∙ (ap (λ (z : ℕ). get_elem? s.views z) e ∙ at))) in (
+              id,
+              both,
+              set_else vs other id Spent (λ f. apart (sym f)) ∙ set_here s.views id (Knows both) inside,
+              ap (λ (z : Known S). holds_it z.stage) (sym same) ∙ h,
+            ))
             (λ ne. dite (ℕ_discrete j other)
             (λ e. let same : u ≡ w = knows_is u w (some-injective _ _ (sym at_j ∙ (ap (λ (z : ℕ). get_elem? s.views z) e ∙ there'))) in
             let f : true ≡ false = sym h ∙ (ap (λ (z : Known S). holds_it z.stage) same ∙ ap holds_it idle) in absurd (cc))
             (λ ne'. (j, u, set_else vs other j Spent ne' ∙ (set_else s.views id j (Knows both) ne ∙ at_j), h)))) r.lies;
         sound = r.sound;
-        each_seat = seats_stay (Sits account r.served r.drawn r.made seat_of r.now s.homes) vs other Spent (λ u e. absurd (spent_not_known u e))
-            (λ j u ne' at_j. seats_stay (λ j u. j ≢ other → Sits account r.served r.drawn r.made seat_of r.now s.homes j u) s.views id (Knows both)
+        each_seat = seats_stay (Sits account r.served r.drawn r.made seat_of r.now s.homes) vs other Spent
+            (λ u e. absurd (spent_not_known u e))
+            (λ j u ne' at_j. seats_stay (λ j u. j ≢ other → Sits account r.served r.drawn r.made seat_of r.now s.homes j u)
+            s.views id (Knows both)
             (λ u e _. subst (Sits account r.served r.drawn r.made seat_of r.now s.homes id) (knows_is both u e)
             record {
               finds = mine.finds;
@@ -164,12 +194,16 @@ module _ {S Entry OpenCall Origin : Type 0} (account : Account S Entry OpenCall 
             (λ j u ne there ne'. let t = r.each_seat j u there in
             record { finds = t.finds; on_stage = t.on_stage; placed = placed_other j u ne ne' place.0 place'.1 u.number t.placed })
             j u at_j ne');
-        apart = apart_stays vs other Spent (apart_stays s.views id (Knows both) r.apart (λ x u b j e xt ne there ut. ne (r.apart j id u v b there at ut (ap (λ (z : Known S). ticket z.stage) (knows_is both x e) ∙ xt))))
+        apart = apart_stays vs other Spent
+            (apart_stays s.views id (Knows both) r.apart
+            (λ x u b j e xt ne there ut. ne
+            (r.apart j id u v b there at ut (ap (λ (z : Known S). ticket z.stage) (knows_is both x e) ∙ xt))))
             (λ x u b j e xt ne there ut. spent_not_known x e);
         silent = r.silent;
       }
     where
-      placed_other : (j : ℕ) (u : Known S) → j ≢ id → j ≢ other → id ≡ 0 → r.seat_of n ≡ other → (m : Option ℕ) → Placed account r.made r.seat_of r.now j u m
+      placed_other : (j : ℕ) (u : Known S) → j ≢ id → j ≢ other → id ≡ 0 → r.seat_of n ≡ other → (m : Option ℕ)
+          → Placed account r.made r.seat_of r.now j u m
           → Placed account r.made (split_seats n 0 r.seat_of) r.now j u m
       placed_other j u ne ne' zero_is theirs None p = absurd (ne (p.0 ∙ sym zero_is))
       placed_other j u ne ne' zero_is theirs (Some m) p =

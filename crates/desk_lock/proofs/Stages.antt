@@ -1,5 +1,6 @@
 -- Facts of a stage, of a view and of where the state lies.
-use Rattle.std.proofs.Common.{◌≡◌, ℕ, ◌+◌, ◌%◌, ◌^◌, ◌<◌, ◌≤◌, true, false, List, [], ◌∷◌, get_or, Option, Some, None, refl, sym, ap, ◌∙◌, subst, inl, inr, arith}
+use Rattle.std.proofs.Common.{◌≡◌, ℕ, ◌+◌, ◌%◌, ◌^◌, ◌<◌, ◌≤◌, true, false, List, [], ◌∷◌, get_or, Option, Some, None}
+use Rattle.std.proofs.Common.{refl, sym, ap, ◌∙◌, subst, inl, inr, arith}
 use mathlib.Core.Option.{some, some-injective}
 use mathlib.Core.Option as maybe
 use mathlib.Core.Logic.{dite}
@@ -33,10 +34,13 @@ module _ {S : Type 0} where
   pub ticket_within : (served drawn : ℕ) (now : S) (homes : List (maybe.Option (Option S))) (last : S) (st : Stage) (a : ℕ)
       → OnStage served drawn now homes last st → ticket st ≡ Some a → (served ≤ a) × (a < drawn)
   ticket_within served drawn now homes last Idle a on e = let f : None ≡ Some a = e in absurd (cc)
-  ticket_within served drawn now homes last (Waits b) a on e = let f : Some b ≡ Some a = e in let g : b ≡ a = cc in let h = on.0 in let h' = on.1 in (omega arith, omega arith)
-  ticket_within served drawn now homes last (Holds b) a on e = let f : Some b ≡ Some a = e in let g : b ≡ a = cc in let h = on.0 in let h' = on.1 in (omega arith, omega arith)
+  ticket_within served drawn now homes last (Waits b) a on e = let f : Some b ≡ Some a = e in let g : b ≡ a = cc in
+      let h = on.0 in let h' = on.1 in (omega arith, omega arith)
+  ticket_within served drawn now homes last (Holds b) a on e = let f : Some b ≡ Some a = e in let g : b ≡ a = cc in
+      let h = on.0 in let h' = on.1 in (omega arith, omega arith)
 
-  pub more_drawn : (served drawn : ℕ) (now : S) (homes : List (maybe.Option (Option S))) (last : S) (st : Stage) → OnStage served drawn now homes last st → OnStage served (drawn + 1) now homes last st
+  pub more_drawn : (served drawn : ℕ) (now : S) (homes : List (maybe.Option (Option S))) (last : S) (st : Stage)
+      → OnStage served drawn now homes last st → OnStage served (drawn + 1) now homes last st
   more_drawn served drawn now homes last Idle on = tt
   more_drawn served drawn now homes last (Waits b) on = let h' = on.1 in (on.0, omega arith)
   more_drawn served drawn now homes last (Holds b) on = let h' = on.1 in (on.0, omega arith, on.2, on.3)
@@ -52,7 +56,8 @@ module _ {S : Type 0} where
   slot_is x y l m e f g = some_is x y (ap (second x) (sym e ∙ (g ∙ f)))
 
   -- the slot is empty
-  pub taken : (served drawn : ℕ) (now : S) (homes : List (maybe.Option (Option S))) (last : S) (st : Stage) (homes' : List (maybe.Option (Option S))) → homes' ≡ maybe.none ∷ []
+  pub taken : (served drawn : ℕ) (now : S) (homes : List (maybe.Option (Option S))) (last : S) (st : Stage)
+      (homes' : List (maybe.Option (Option S))) → homes' ≡ maybe.none ∷ []
       → OnStage served drawn now homes last st → OnStage served drawn now homes' last st
   taken served drawn now homes last Idle homes' e on = tt
   taken served drawn now homes last (Waits b) homes' e on = on
@@ -63,13 +68,15 @@ module _ {S : Type 0} where
 
   -- the state stays where it lies, where each seat that holds it is still among the views
   pub lies_moved : (now : S) (ws : List ℕ) (hs : List (maybe.Option (Option S))) (vs ws' : List (View S))
-      → ((j : ℕ) (u : Known S) → get_elem? vs j ≡ some (Knows u) → holds_it u.stage ≡ true → (i : ℕ) × (x : Known S) × (get_elem? ws' i ≡ some (Knows x)) × (holds_it x.stage ≡ true))
+      → ((j : ℕ) (u : Known S) → get_elem? vs j ≡ some (Knows u) → holds_it u.stage ≡ true → (i : ℕ) × (x : Known S)
+      × (get_elem? ws' i ≡ some (Knows x)) × (holds_it x.stage ≡ true))
       → Lies now record { words = ws; homes = hs; views = vs } → Lies now record { words = ws; homes = hs; views = ws' }
   lies_moved now ws hs vs ws' f (inl h) = inl h
   lies_moved now ws hs vs ws' f (inr h) = inr (h.0, f h.1.0 h.1.1 h.1.2 h.1.3)
 
   -- the state stays where it lies, while a seat that does not hold it changes
-  pub lies_still : (now : S) (s : State (Option S) (View S)) (i n id : ℕ) (cs : List (ℕ × Option S)) (v w : View S) → Lies now s → get_elem? s.views id ≡ some v
+  pub lies_still : (now : S) (s : State (Option S) (View S)) (i n id : ℕ) (cs : List (ℕ × Option S)) (v w : View S)
+      → Lies now s → get_elem? s.views id ≡ some v
       → ((u : Known S) → v ≡ Knows u → holds_it u.stage ≡ false) → Lies now (stepped s i n id cs w keeps)
   lies_still now s i n id cs v w (inl h) at not = inl h
   lies_still now s i n id cs v w (inr h) at not = inr (
@@ -78,7 +85,8 @@ module _ {S : Type 0} where
       h.1.0,
       h.1.1,
       dite (ℕ_discrete h.1.0 id)
-          (λ e. let there = subst (λ (z : ℕ). get_elem? s.views z ≡ some (Knows h.1.1)) e h.1.2 in let f : true ≡ false = sym h.1.3 ∙ not h.1.1 (some-injective _ _ (sym at ∙ there)) in absurd (cc))
+          (λ e. let there = subst (λ (z : ℕ). get_elem? s.views z ≡ some (Knows h.1.1)) e h.1.2 in
+          let f : true ≡ false = sym h.1.3 ∙ not h.1.1 (some-injective _ _ (sym at ∙ there)) in absurd (cc))
           (λ ne. set_else s.views id h.1.0 w ne ∙ h.1.2),
       h.1.3,
     ),
@@ -88,7 +96,8 @@ module _ {S Entry OpenCall Origin : Type 0} (account : Account S Entry OpenCall 
   abbrev pub R : State (Option S) (View S) → Type 0
   R = Ruled account
 
-  abbrev pub Sits : (served drawn made : ℕ) (seat_of : ℕ → ℕ) (now : S) (homes : List (maybe.Option (Option S))) (j : ℕ) (v : Known S) → Type 0
+  abbrev pub Sits : (served drawn made : ℕ) (seat_of : ℕ → ℕ) (now : S) (homes : List (maybe.Option (Option S))) (j : ℕ)
+      (v : Known S) → Type 0
   Sits = Seated account
 
   pub finds_self : (number : Option ℕ) (x : S) → Finds account number x x
@@ -101,7 +110,8 @@ module _ {S Entry OpenCall Origin : Type 0} (account : Account S Entry OpenCall 
   }
 
   -- what the view of a seat shows of a state that it takes, or that is closed
-  pub finds : (served drawn made : ℕ) (seat_of : ℕ → ℕ) (now : S) (homes : List (maybe.Option (Option S))) (j : ℕ) (v : Known S) → Sits served drawn made seat_of now homes j v
+  pub finds : (served drawn made : ℕ) (seat_of : ℕ → ℕ) (now : S) (homes : List (maybe.Option (Option S))) (j : ℕ)
+      (v : Known S) → Sits served drawn made seat_of now homes j v
       → account.sound now → ((n : ℕ) → made ≤ n → IsSilent account n now) → Fits account now v
   finds served drawn made seat_of now homes j v t ok silent = record {
     sound = ok;
@@ -110,7 +120,8 @@ module _ {S Entry OpenCall Origin : Type 0} (account : Account S Entry OpenCall 
     rest = λ none n le. left v.number none t.placed n le;
   }
     where
-      by_number : (m : Option ℕ) (js : List (ℕ × S)) → Placed account made seat_of now j (known_with m v.last v.stage v.made js) m → FindsEach account now js
+      by_number : (m : Option ℕ) (js : List (ℕ × S))
+          → Placed account made seat_of now j (known_with m v.last v.stage v.made js) m → FindsEach account now js
       by_number None js p = p.2
       by_number (Some m) js p = subst (FindsEach account now) (sym p.3) tt
 
@@ -118,5 +129,7 @@ module _ {S Entry OpenCall Origin : Type 0} (account : Account S Entry OpenCall 
       left None e p n le = let same = p.1 in silent n (omega arith)
       left (Some m) e p n le = let f : Some m ≡ None = e in absurd (cc)
 
-  pub unmoved : (s : State (Option S) (View S)) (i id : ℕ) (cs : List (ℕ × Option S)) (x : View S) → R s → get_elem? s.views id ≡ some x → R (stepped s i (get_or s.words i 0) id cs x keeps)
-  unmoved s i id cs x r at = subst (λ (z : List ℕ × List (View S)). R (record { words = z.0; homes = s.homes; views = z.1 })) (λ h. (sym (set-get_or s.words i 0) h, sym (set_again s.views id x at) h)) r
+  pub unmoved : (s : State (Option S) (View S)) (i id : ℕ) (cs : List (ℕ × Option S)) (x : View S) → R s
+      → get_elem? s.views id ≡ some x → R (stepped s i (get_or s.words i 0) id cs x keeps)
+  unmoved s i id cs x r at = subst (λ (z : List ℕ × List (View S)). R (record { words = z.0; homes = s.homes; views = z.1 }))
+      (λ h. (sym (set-get_or s.words i 0) h, sym (set_again s.views id x at) h)) r

@@ -40,8 +40,10 @@ module _ {S : Type 0} where
   turn_known w e h = ticket_of_holder (known_of w e).stage (sym (ap in_turn (is_known w e)) ∙ h)
 
 module _ {S Entry OpenCall Origin : Type 0} (account : Account S Entry OpenCall Origin) where
-  pub takes_told : (v : Known S) (a : ℕ) (x y : S) (m0 m1 m2 m3 m4 : Place S) (r : Option S) → m0.0 ≡ Knows v → m0.1 ≡ [] → m1.1 ≡ m0.1 → m2 ≡ m1
-      → Fits account x (staged v (Waits a)) → m3.0 ≡ Knows (knowing v x (Holds a)) → m3.1 ≡ (0, Some x) ∷ m2.1 → m3.1 ≡ (0, r) ∷ rest m3.1 → r ≡ Some y
+  pub takes_told : (v : Known S) (a : ℕ) (x y : S) (m0 m1 m2 m3 m4 : Place S) (r : Option S) → m0.0 ≡ Knows v → m0.1 ≡ []
+      → m1.1 ≡ m0.1 → m2 ≡ m1
+      → Fits account x (staged v (Waits a)) → m3.0 ≡ Knows (knowing v x (Holds a)) → m3.1 ≡ (0, Some x) ∷ m2.1
+      → m3.1 ≡ (0, r) ∷ rest m3.1 → r ≡ Some y
       → m4 ≡ (m3.0, (0, None) ∷ rest m3.1) → Takes account m0 y m4
   takes_told v a x y m0 m1 m2 m3 m4 r is bare still same f has got read unwrapped now u e =
       let is_x : x ≡ y = some_is x y (ap (head (Some x)) (sym got ∙ read) ∙ unwrapped) in
@@ -56,23 +58,32 @@ module _ {S Entry OpenCall Origin : Type 0} (account : Account S Entry OpenCall 
       head d [] = d
       head d (p ∷ ps) = p.1
 
-  pub splits_at : (id : ℕ) (w : View S) (e : is_live w ≡ true) (x : View S) → x ≡ w → (known_of w e).number ≡ None → (known_of w e).made + 1 < 2 ^ 64
+  pub splits_at : (id : ℕ) (w : View S) (e : is_live w ≡ true) (x : View S) → x ≡ w → (known_of w e).number ≡ None
+      → (known_of w e).made + 1 < 2 ^ 64
       → Splits (Ruled account) id x (first_after x) (newcomer x)
   splits_at id Spent e x is first room = absurd (false≢true e)
-  splits_at id (Knows v) e x is first room = subst (λ (z : View S). Splits (Ruled account) id z (first_after z) (newcomer z)) (sym is) (splits account id v first room)
+  splits_at id (Knows v) e x is first room =
+      subst (λ (z : View S). Splits (Ruled account) id z (first_after z) (newcomer z)) (sym is)
+      (splits account id v first room)
 
-  pub joins_at : (id : ℕ) (w : View S) (e : is_live w ≡ true) (other : ℕ) (x : View S) (f : is_live x ≡ true) (n : ℕ) → (known_of w e).number ≡ None → (known_of x f).number ≡ Some n → (known_of x f).stage ≡ Idle
+  pub joins_at : (id : ℕ) (w : View S) (e : is_live w ≡ true) (other : ℕ) (x : View S) (f : is_live x ≡ true) (n : ℕ)
+      → (known_of w e).number ≡ None → (known_of x f).number ≡ Some n → (known_of x f).stage ≡ Idle
       → Joins (Ruled account) id w other x (both_of w x) Spent
   joins_at id Spent e other x f n first is idle = absurd (false≢true e)
   joins_at id (Knows v) e other Spent f n first is idle = absurd (false≢true f)
   joins_at id (Knows v) e other (Knows w) f n first is idle = joins account id v other w n first is idle
 
-  pub closes_at : (id : ℕ) (w : View S) (e : is_live w ≡ true) (ws : List ℕ) (xs : List (Option S)) → (known_of w e).number ≡ None → (known_of w e).stage ≡ Idle
+  pub closes_at : (id : ℕ) (w : View S) (e : is_live w ≡ true) (ws : List ℕ) (xs : List (Option S))
+      → (known_of w e).number ≡ None → (known_of w e).stage ≡ Idle
       → ((n : ℕ) → n < (known_of w e).made → HasNumber n (known_of w e).joined) → Final (Seen (Ruled account) id w) ws xs
       → (x : S) × (get_elem? xs 0 ≡ some (Some x)) × Fits account x (known_of w e)
   closes_at id Spent e ws xs first idle all fin = absurd (false≢true e)
   closes_at id (Knows v) e ws xs first idle all fin = closes account id v ws xs first idle all fin
 
-  pub opens_at : (x y : S) (xs : List (Option S)) → account.sound x → account.journal x ≡ [] → ((n : ℕ) → account.running x n ≡ []) → xs ≡ Some x ∷ [] → y ≡ x → Ruled account (opening (0 ∷ 0 ∷ []) xs (starting y))
-  opens_at x y xs ok none idle is same = subst (λ (z : List (Option S) × S). Ruled account (opening (0 ∷ 0 ∷ []) z.0 (starting z.1))) (λ i. (sym is i, sym same i))
+  pub opens_at : (x y : S) (xs : List (Option S)) → account.sound x → account.journal x ≡ []
+      → ((n : ℕ) → account.running x n ≡ []) → xs ≡ Some x ∷ [] → y ≡ x
+      → Ruled account (opening (0 ∷ 0 ∷ []) xs (starting y))
+  opens_at x y xs ok none idle is same =
+      subst (λ (z : List (Option S) × S). Ruled account (opening (0 ∷ 0 ∷ []) z.0 (starting z.1)))
+      (λ i. (sym is i, sym same i))
       (opens account x ok (λ n. record { entries = ap (entries_of account n) none; running = idle n }))

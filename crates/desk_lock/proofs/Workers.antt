@@ -8,7 +8,8 @@ use Rattle.desk_lock.specs.Seats.{known, number_of, last_of, IsInTurn}
 
 module _ {S Entry OpenCall Origin : Type 0} (account : Account S Entry OpenCall Origin) where
   -- the condition of `leave`, where the seat s took the state x and is t in its turn
-  pub may_leave_at : (s t : Seat S) (x y : S) → IsInTurn s x t → MayLeave account (number_of s) x y → MayLeave account (number_of t) (last_of t) y
+  pub may_leave_at : (s t : Seat S) (x y : S) → IsInTurn s x t → MayLeave account (number_of s) x y
+      → MayLeave account (number_of t) (last_of t) y
   may_leave_at s t x y turn may = subst (λ (k : Known S). MayLeave account k.number k.last y) (sym turn.1.1) may
 
   -- what a seat with a number finds of its own, by that number

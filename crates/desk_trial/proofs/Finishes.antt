@@ -1,5 +1,7 @@
 -- What a call of `finish` leaves, for a seat of the stream.
-use Rattle.std.proofs.Common.{◌≡◌, ◌≢◌, ℕ, List, [], ◌∷◌, ◌++◌, length, get_or, set, Option, Some, None, Result, Ok, Err, OnOk, OnErr, refl, sym, ap, ◌∙◌, subst, append-nil, length-set, get_or-set_other, cond, Bool, eq-eqb}
+use Rattle.std.proofs.Common.{◌≡◌, ◌≢◌, ℕ, List, [], ◌∷◌, ◌++◌, length, get_or, set, Option, Some, None, Result, Ok}
+use Rattle.std.proofs.Common.{Err, OnOk, OnErr, refl, sym, ap, ◌∙◌, subst, append-nil, length-set, get_or-set_other}
+use Rattle.std.proofs.Common.{cond, Bool, eq-eqb}
 use Rattle.desk_lock.specs.Account.{Each, entries_of, Finds, MayLeave}
 use Rattle.desk_lock.specs.Known.{Fits}
 use Rattle.desk_lock.specs.declared.views.Known.{Known}
@@ -23,7 +25,8 @@ counts_on_nothing : (x y : Book) (n : ℕ) → (m : ℕ) → Some n ≢ Some m �
 counts_on_nothing x y n m other = Each-all (λ c. book_account.counts_on c x y) (λ c. tt) (book_account.running x m)
 
 pub finished : {E : Type 0} (x y : Book) (n v : ℕ) (r : Result (Unit {0}) E) → book_account.sound y → call_of x n ≡ Some v
-    → OnOk r ((z : ℕ) → call_of x n ≡ Some z → (y.notes.items ≡ x.notes.items ++ note_of n z ∷ []) × (y.begun.items ≡ set x.begun.items n None))
+    → OnOk r ((z : ℕ) → call_of x n ≡ Some z → (y.notes.items ≡ x.notes.items ++ note_of n z ∷ [])
+    × (y.begun.items ≡ set x.begun.items n None))
     → OnErr r ((y.notes.items ≡ x.notes.items) × (y.begun.items ≡ x.begun.items)) → Finished x y n v r
 finished x y n v (Ok u) ok is done err = let t = done v is in record {
   may = record {
@@ -35,7 +38,8 @@ finished x y n v (Ok u) ok is done err = let t = done v is in record {
     counted = counts_on_nothing x y n;
   };
   inside = ap length t.1 ∙ length-set x.begun.items n None;
-  mine = ap (entries_of book_account n) t.0 ∙ (entries_of-append book_account n x.notes.items (note_of n v ∷ []) ∙ ap (λ es. notes_in n x ++ es) (own-one n v));
+  mine = ap (entries_of book_account n) t.0
+      ∙ (entries_of-append book_account n x.notes.items (note_of n v ∷ []) ∙ ap (λ es. notes_in n x ++ es) (own-one n v));
   err = tt;
 }
 finished x y n v (Err e) ok is done err = record {
@@ -58,7 +62,8 @@ some_of (Some w) v e = let f : w ∷ [] ≡ v ∷ [] = e in let g : w ≡ v = cc
 -- a turn in which the call of the seat's stream was ended: s before it, t in it, u after it
 module _ {E : Type 0} (s t : Seat Book) (x y : Book) (n v : ℕ) (r : Result (Unit {0}) E) (turn : IsInTurn s x t) (me : number_of s ≡ Some n)
     (fits : Fits book_account x (known s)) (begun : call_of (last_of s) n ≡ Some v) (ok : book_account.sound y)
-    (done : OnOk r ((z : ℕ) → call_of x n ≡ Some z → (y.notes.items ≡ x.notes.items ++ note_of n z ∷ []) × (y.begun.items ≡ set x.begun.items n None)))
+    (done : OnOk r ((z : ℕ) → call_of x n ≡ Some z → (y.notes.items ≡ x.notes.items ++ note_of n z ∷ [])
+    × (y.begun.items ≡ set x.begun.items n None)))
     (err : OnErr r ((y.notes.items ≡ x.notes.items) × (y.begun.items ≡ x.begun.items))) where
   own : Finds book_account (Some n) x (last_of s)
   own = finds_own book_account s x n fits me
@@ -85,13 +90,15 @@ module _ {E : Type 0} (s t : Seat Book) (x y : Book) (n v : ℕ) (r : Result (Un
         z_is : v ≡ z
         z_is = let f : Some v ≡ Some z = sym begun ∙ is in cc
 
-        by_result : (r : Result (Unit {0}) E) → OnOk r (notes_in n y ≡ notes_in n x ++ note_of n v ∷ []) → OnOk r (notes_in n (last_of u) ≡ notes_in n (last_of s) ++ note_of n z ∷ [])
+        by_result : (r : Result (Unit {0}) E) → OnOk r (notes_in n y ≡ notes_in n x ++ note_of n v ∷ [])
+            → OnOk r (notes_in n (last_of u) ≡ notes_in n (last_of s) ++ note_of n z ∷ [])
         by_result (Ok _) h = ap (notes_in n) last_is ∙ (h ∙ (λ i. own.mine i ++ note_of n (z_is i) ∷ []))
         by_result (Err _) h = tt
 
     pub none_more : OnErr r (notes_in n (last_of u) ≡ notes_in n (last_of s))
     none_more = by_result r end.err
       where
-        by_result : (r : Result (Unit {0}) E) → OnErr r (notes_in n y ≡ notes_in n x) → OnErr r (notes_in n (last_of u) ≡ notes_in n (last_of s))
+        by_result : (r : Result (Unit {0}) E) → OnErr r (notes_in n y ≡ notes_in n x)
+            → OnErr r (notes_in n (last_of u) ≡ notes_in n (last_of s))
         by_result (Ok _) h = tt
         by_result (Err _) h = ap (notes_in n) last_is ∙ (h ∙ own.mine)

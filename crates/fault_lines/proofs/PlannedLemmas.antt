@@ -7,21 +7,33 @@ use Rattle.std.proofs.lemmas.List.Elements.{Contains-get_or}
 use Rattle.outer_traits.specs.Causes.{one_more}
 use Rattle.fault_lines.specs.Planned.{AreSmall, FollowsCarries, IsMet, IsNext, Planned, rising_above}
 
-above_cons : (last n : ℕ) (more kept : List ℕ) (k : ℕ) → ((i : ℕ) → i < length more → n < slice_index_or more i 0) → ((i : ℕ) → i < length kept → last < slice_index_or kept i 0) → k < length (if ltb last n then n ∷ more else kept) → last < slice_index_or (if ltb last n then n ∷ more else kept) k 0
+above_cons : (last n : ℕ) (more kept : List ℕ) (k : ℕ) → ((i : ℕ) → i < length more → n < slice_index_or more i 0)
+    → ((i : ℕ) → i < length kept → last < slice_index_or kept i 0) → k < length (if ltb last n then n ∷ more else kept)
+    → last < slice_index_or (if ltb last n then n ∷ more else kept) k 0
 above_cons last n more kept k above below h = grind (arith, common_steps, nat_tests, above (k - 1), below k)
 
-rises_cons : (last n : ℕ) (more kept : List ℕ) (j k : ℕ) → ((i : ℕ) → i < length more → n < slice_index_or more i 0) → ((i l : ℕ) → i < l → l < length more → slice_index_or more i 0 < slice_index_or more l 0) → ((i l : ℕ) → i < l → l < length kept → slice_index_or kept i 0 < slice_index_or kept l 0) → j < k → k < length (if ltb last n then n ∷ more else kept) → slice_index_or (if ltb last n then n ∷ more else kept) j 0 < slice_index_or (if ltb last n then n ∷ more else kept) k 0
-rises_cons last n more kept j k above rises others h below = grind (arith, common_steps, nat_tests, above (k - 1), rises (j - 1) (k - 1), others j k)
+rises_cons : (last n : ℕ) (more kept : List ℕ) (j k : ℕ) → ((i : ℕ) → i < length more → n < slice_index_or more i 0)
+    → ((i l : ℕ) → i < l → l < length more → slice_index_or more i 0 < slice_index_or more l 0)
+    → ((i l : ℕ) → i < l → l < length kept → slice_index_or kept i 0 < slice_index_or kept l 0) → j < k
+    → k < length (if ltb last n then n ∷ more else kept)
+    → slice_index_or (if ltb last n then n ∷ more else kept) j 0 < slice_index_or (if ltb last n then n ∷ more else kept) k
+    0
+rises_cons last n more kept j k above rises others h below =
+    grind (arith, common_steps, nat_tests, above (k - 1), rises (j - 1) (k - 1), others j k)
 
 -- what rises above a number is above it
-pub rising_above-above : (last : ℕ) (numbers : List ℕ) (k : ℕ) → k < length (rising_above last numbers) → last < slice_index_or (rising_above last numbers) k 0
+pub rising_above-above : (last : ℕ) (numbers : List ℕ) (k : ℕ) → k < length (rising_above last numbers)
+    → last < slice_index_or (rising_above last numbers) k 0
 rising_above-above last [] k h = absurd (omega arith)
-rising_above-above last (n ∷ ns) k h = above_cons last n (rising_above n ns) (rising_above last ns) k (rising_above-above n ns) (rising_above-above last ns) h
+rising_above-above last (n ∷ ns) k h = above_cons last n (rising_above n ns) (rising_above last ns) k
+    (rising_above-above n ns) (rising_above-above last ns) h
 
 -- and rises
-pub rising_above-rises : (last : ℕ) (numbers : List ℕ) (j k : ℕ) → j < k → k < length (rising_above last numbers) → slice_index_or (rising_above last numbers) j 0 < slice_index_or (rising_above last numbers) k 0
+pub rising_above-rises : (last : ℕ) (numbers : List ℕ) (j k : ℕ) → j < k → k < length (rising_above last numbers)
+    → slice_index_or (rising_above last numbers) j 0 < slice_index_or (rising_above last numbers) k 0
 rising_above-rises last [] j k h below = absurd (omega arith)
-rising_above-rises last (n ∷ ns) j k h below = rises_cons last n (rising_above n ns) (rising_above last ns) j k (rising_above-above n ns) (rising_above-rises n ns) (rising_above-rises last ns) h below
+rising_above-rises last (n ∷ ns) j k h below = rises_cons last n (rising_above n ns) (rising_above last ns) j k
+    (rising_above-above n ns) (rising_above-rises n ns) (rising_above-rises last ns) h below
 
 -- before the first carry no planned number has come
 pub IsMet-new : (numbers : List ℕ) → AreSmall (rising_above 0 numbers) → IsMet (rising_above 0 numbers) 0 0
@@ -34,7 +46,8 @@ IsMet-new numbers small = record {
 }
 
 -- The next carry is planned exactly where its number is the next of the plan.
-pub planned-next : (fails : List ℕ) (carries met : ℕ) → IsMet fails carries met → IsNext fails met (one_more carries) ↔ Contains fails (one_more carries)
+pub planned-next : (fails : List ℕ) (carries met : ℕ) → IsMet fails carries met
+    → IsNext fails met (one_more carries) ↔ Contains fails (one_more carries)
 planned-next fails carries met m = (there, next)
   where
     there : IsNext fails met (one_more carries) → Contains fails (one_more carries)
@@ -53,7 +66,9 @@ planned-next fails carries met m = (there, next)
         (omega arith, sym (ap (λ i. slice_index_or fails i 0) place) ∙ is)
 
 -- so what is found out by the next number follows the plan
-pub FollowsPlan-next : (old new : Planned) (fails : Bool) → IsMet old.fails old.carries old.count → (IsTrue fails ↔ IsNext old.fails old.count (one_more old.carries)) → new.carries ≡ one_more old.carries → new.fails ≡ old.fails → FollowsCarries old new (IsTrue fails)
+pub FollowsPlan-next : (old new : Planned) (fails : Bool) → IsMet old.fails old.carries old.count
+    → (IsTrue fails ↔ IsNext old.fails old.count (one_more old.carries)) → new.carries ≡ one_more old.carries
+    → new.fails ≡ old.fails → FollowsCarries old new (IsTrue fails)
 FollowsPlan-next old new fails m found carries plan = record {
   fails = (λ h. planned.0 (found.0 h), λ h. found.1 (planned.1 h));
   carries = carries;

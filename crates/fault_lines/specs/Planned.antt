@@ -1,5 +1,6 @@
 -- The carries of a line that are planned to fail.
-use Rattle.std.specs.Prelude.{◌≡◌, ◌↔◌, ℕ, ◌<◌, ◌≤◌, ◌^◌, List, [], ◌∷◌, length, ltb, if◌then◌else◌, slice_index_or, Contains, Option, None, Some}
+use Rattle.std.specs.Prelude.{◌≡◌, ◌↔◌, ℕ, ◌<◌, ◌≤◌, ◌^◌, List, [], ◌∷◌, length, ltb, if◌then◌else◌, slice_index_or}
+use Rattle.std.specs.Prelude.{Contains, Option, None, Some}
 use Rattle.outer_traits.specs.Causes.{one_more}
 
 -- the numbers of the carries that fail, counted from 1; how many carries there were; and how many of these failed

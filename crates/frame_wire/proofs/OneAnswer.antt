@@ -50,7 +50,8 @@ only_long bytes most m (BadMagic n) p q = sym (only_bad bytes most n (TooLong m)
 only_long bytes most m (TooLong n) p q = ap TooLong (sym p.3 ∙ same_len _ _ (same_begin bytes p.1 q.1 p.0 q.0 p.2 q.2).0 ∙ q.3)
 only_long bytes most m (Frame h u) p q = absurd (omega (arith, same_len _ _ (same_begin bytes p.1 q.0.0 p.0 h p.2 q.0.1).0))
 
-only_frame : (bytes : List ℕ) (most : ℕ) (g : Head) (t : ℕ) (b : Decoded) → Decodes bytes most (Frame g t) → Decodes bytes most b → Frame g t ≡ b
+only_frame : (bytes : List ℕ) (most : ℕ) (g : Head) (t : ℕ) (b : Decoded) → Decodes bytes most (Frame g t)
+    → Decodes bytes most b → Frame g t ≡ b
 only_frame bytes most g t Short p q = sym (only_short bytes most (Frame g t) q p)
 only_frame bytes most g t (BadMagic n) p q = sym (only_bad bytes most n (Frame g t) q p)
 only_frame bytes most g t (TooLong n) p q = sym (only_long bytes most n (Frame g t) q p)

@@ -13,7 +13,8 @@ same_32 : (m n : ℕ) → m < 2 ^ 32 → n < 2 ^ 32 → to_le_bytes w32 m ≡ to
 same_32 m n p q e = sym (from_le_bytes-to_le_bytes_4 m p) ∙ ap (from_le_bytes w32) e ∙ from_le_bytes-to_le_bytes_4 n q
 
 -- the same of signed numbers
-same_signed : (y z : ℤ) → FitsSigned w64 y → FitsSigned w64 z → to_le_bytes w64 (cast_unsigned w64 y) ≡ to_le_bytes w64 (cast_unsigned w64 z) → y ≡ z
+same_signed : (y z : ℤ) → FitsSigned w64 y → FitsSigned w64 z
+    → to_le_bytes w64 (cast_unsigned w64 y) ≡ to_le_bytes w64 (cast_unsigned w64 z) → y ≡ z
 same_signed y z p q e =
     let back : (x : ℤ) → FitsSigned w64 x → cast_signed w64 (from_le_bytes w64 (to_le_bytes w64 (cast_unsigned w64 x))) ≡ x =
     λ x fits. ap (cast_signed w64) (from_le_bytes-to_le_bytes_8 (cast_unsigned w64 x) (Fits-lt-pow (Fits-of_z fits))) ∙ to_z-of_z fits in
@@ -30,8 +31,10 @@ same_fields a b c d e = cc
 -- Bytes begin with one header at most.
 pub same_head : (g h : Head) (x y : List ℕ) → IsHead g → IsHead h → header g ++ x ≡ header h ++ y → (g ≡ h) × (x ≡ y)
 same_head g h x y p q e = (
-  same_fields (same_32 g.seq h.seq p.seq q.seq (ap (λ l. take 4 (drop 2 l)) e)) (same_32 g.kind h.kind p.kind q.kind (ap (λ l. take 4 (drop 6 l)) e))
-      (same_signed g.offset h.offset p.offset q.offset (ap (λ l. take 8 (drop 10 l)) e)) (same_32 g.size h.size p.size q.size (ap (λ l. take 4 (drop 18 l)) e))
+  same_fields (same_32 g.seq h.seq p.seq q.seq (ap (λ l. take 4 (drop 2 l)) e))
+      (same_32 g.kind h.kind p.kind q.kind (ap (λ l. take 4 (drop 6 l)) e))
+      (same_signed g.offset h.offset p.offset q.offset (ap (λ l. take 8 (drop 10 l)) e))
+      (same_32 g.size h.size p.size q.size (ap (λ l. take 4 (drop 18 l)) e))
       (same_32 g.len h.len p.len q.len (ap (λ l. take 4 (drop 22 l)) e)),
   ap (drop 26) e,
 )

@@ -11,7 +11,8 @@ run_bytes-put_byte : (b : ℕ) (rs : List ByteRun) → run_bytes (put_byte b rs)
 run_bytes-put_byte b [] = refl
 run_bytes-put_byte b (r ∷ rs) = by_test (eqb r.byte b) (λ e. eqb-true r.byte b e)
   where
-    by_test : (t : Bool) → (t ≡ true → r.byte ≡ b) → run_bytes (cond t (run_of b (suc r.count) ∷ rs) (run_of b 1 ∷ r ∷ rs)) ≡ b ∷ run_bytes (r ∷ rs)
+    by_test : (t : Bool) → (t ≡ true → r.byte ≡ b)
+        → run_bytes (cond t (run_of b (suc r.count) ∷ rs) (run_of b 1 ∷ r ∷ rs)) ≡ b ∷ run_bytes (r ∷ rs)
     by_test true same = ap (λ x. b ∷ (replicate r.count x ++ run_bytes rs)) (sym (same refl))
     by_test false same = refl
 
@@ -47,7 +48,8 @@ put_byte_apart : (b : ℕ) (rs : List ByteRun) → NeighboursDiffer rs → Neigh
 put_byte_apart b [] apart = tt
 put_byte_apart b (r ∷ rs) apart = by_test (eqb r.byte b) (λ e. eqb-true r.byte b e) (λ e. eqb-false r.byte b e)
   where
-    by_test : (t : Bool) → (t ≡ true → r.byte ≡ b) → (t ≡ false → r.byte ≢ b) → NeighboursDiffer (cond t (run_of b (suc r.count) ∷ rs) (run_of b 1 ∷ r ∷ rs))
+    by_test : (t : Bool) → (t ≡ true → r.byte ≡ b) → (t ≡ false → r.byte ≢ b)
+        → NeighboursDiffer (cond t (run_of b (suc r.count) ∷ rs) (run_of b 1 ∷ r ∷ rs))
     by_test true same other = same_byte b (suc r.count) r rs (same refl) apart
     by_test false same other = (λ e. other refl (sym e), apart)
 

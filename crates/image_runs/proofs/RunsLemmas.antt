@@ -1,5 +1,7 @@
 -- The runs of bytes from left to right, and their text.
-use Rattle.std.proofs.Common.{◌≡◌, ◌≢◌, ℕ, zero, suc, ◌+◌, ◌<◌, Bool, true, false, cond, eqb, List, [], ◌∷◌, ◌++◌, length, get_or, take, drop, map, codes, refl, sym, ap, ◌∙◌, arith, append-nil, append_assoc, one-add, add-one, ◌-◌}
+use Rattle.std.proofs.Common.{◌≡◌, ◌≢◌, ℕ, zero, suc, ◌+◌, ◌<◌, Bool, true, false, cond, eqb, List, [], ◌∷◌, ◌++◌}
+use Rattle.std.proofs.Common.{length, get_or, take, drop, map, codes, refl, sym, ap, ◌∙◌, arith, append-nil}
+use Rattle.std.proofs.Common.{append_assoc, one-add, add-one, ◌-◌}
 use Rattle.std.specs.List.{prefix_len, flat_map, join_with_byte}
 use Rattle.std.specs.Fmt.{digits}
 use Rattle.std.proofs.lemmas.List.{take_at, length_push}
@@ -31,13 +33,15 @@ put_byte-other b c [] other starts = absurd starts
 put_byte-other b c (r ∷ rs) other starts = rw (ne_eqb r.byte b (λ e. other (sym e ∙ starts))) refl
 
 -- The first run is as long as its byte stands in a row.
-pub runs-cons : (b : ℕ) (bs : List ℕ) → runs (b ∷ bs) ≡ run_of b (suc (prefix_len (λ x. eqb x b) bs)) ∷ runs (drop (prefix_len (λ x. eqb x b) bs) bs)
+pub runs-cons : (b : ℕ) (bs : List ℕ) → runs (b ∷ bs) ≡ run_of b (suc (prefix_len (λ x. eqb x b) bs))
+    ∷ runs (drop (prefix_len (λ x. eqb x b) bs) bs)
 runs-cons b [] = refl
 runs-cons b (c ∷ cs) = by_test (eqb c b) (λ e. eqb-true c b e) (λ e. eqb-false c b e) (runs-cons b cs)
   where
     by_test : (t : Bool) → (t ≡ true → c ≡ b) → (t ≡ false → c ≢ b)
         → runs (b ∷ cs) ≡ run_of b (suc (prefix_len (λ x. eqb x b) cs)) ∷ runs (drop (prefix_len (λ x. eqb x b) cs) cs)
-        → runs (b ∷ c ∷ cs) ≡ run_of b (suc (cond t (1 + prefix_len (λ x. eqb x b) cs) 0)) ∷ runs (drop (cond t (1 + prefix_len (λ x. eqb x b) cs) 0) (c ∷ cs))
+        → runs (b ∷ c ∷ cs) ≡ run_of b (suc (cond t (1 + prefix_len (λ x. eqb x b) cs) 0))
+        ∷ runs (drop (cond t (1 + prefix_len (λ x. eqb x b) cs) 0) (c ∷ cs))
     by_test true same other rest =
         ap (λ x. put_byte b (put_byte x (runs cs))) (same refl) ∙ ap (put_byte b) rest ∙ put_byte-same b _ _
         ∙ ap (λ n. run_of b (suc n) ∷ runs (drop n (c ∷ cs))) (sym (one-add (prefix_len (λ x. eqb x b) cs)))
@@ -97,11 +101,13 @@ joined b (r ∷ q ∷ qs) starts =
     ∙ sym (append_assoc (run_text r) (44 ∷ join_with_byte 44 (map run_text (q ∷ qs))) (codes ","))
 
 -- What is printed is the text, but for the last comma.
-pub runs_text-printed : (old bytes all : List ℕ) → 0 < length bytes → all ≡ old ++ with_commas (runs bytes) → take (length all - 1) all ≡ old ++ runs_text bytes
+pub runs_text-printed : (old bytes all : List ℕ) → 0 < length bytes → all ≡ old ++ with_commas (runs bytes)
+    → take (length all - 1) all ≡ old ++ runs_text bytes
 runs_text-printed old [] all some text = absurd (omega arith)
 runs_text-printed old (b ∷ bs) all some text =
     let prefix = old ++ runs_text (b ∷ bs) in
     let whole : all ≡ prefix ++ 44 ∷ [] =
-    text ∙ ap (λ l. old ++ l) (joined b (runs (b ∷ bs)) (put_byte_starts b (runs bs))) ∙ sym (append_assoc old (runs_text (b ∷ bs)) (codes ",")) in
+    text ∙ ap (λ l. old ++ l) (joined b (runs (b ∷ bs)) (put_byte_starts b (runs bs)))
+    ∙ sym (append_assoc old (runs_text (b ∷ bs)) (codes ",")) in
     let long : length prefix ≡ length all - 1 = omega (arith, ap length whole, length_push prefix 44) in
     ap (take (length all - 1)) whole ∙ take_at prefix (44 ∷ []) (length all - 1) long

@@ -1,5 +1,6 @@
 -- The text of bytes says which bytes they are: cut at the commas, each piece gives its run back.
-use Rattle.std.proofs.Common.{◌≡◌, ℕ, suc, ◌+◌, ◌*◌, ◌/◌, ◌%◌, ◌^◌, ◌<◌, ◌≤◌, Bool, true, false, cond, eqb, List, [], ◌∷◌, ◌++◌, length, get_or, drop, map, decimal, refl, sym, ap, ◌∙◌, arith}
+use Rattle.std.proofs.Common.{◌≡◌, ℕ, suc, ◌+◌, ◌*◌, ◌/◌, ◌%◌, ◌^◌, ◌<◌, ◌≤◌, Bool, true, false, cond, eqb, List, []}
+use Rattle.std.proofs.Common.{◌∷◌, ◌++◌, length, get_or, drop, map, decimal, refl, sym, ap, ◌∙◌, arith}
 use Rattle.std.specs.Prelude.{replicate}
 use Rattle.std.specs.List.{All, AllByRecursion, flat_map, join_with_byte, slice_split}
 use Rattle.std.specs.Char.{digit_value}
@@ -24,16 +25,19 @@ total [] = 0
 total (r ∷ rs) = r.count + total rs
 
 -- one byte more keeps them so
-put_byte_small : (b n : ℕ) (rs : List ByteRun) → b < 256 → n + 1 < 2 ^ 64 → AreRuns rs → total rs ≤ n → AreRuns (put_byte b rs) × (total (put_byte b rs) ≤ n + 1)
+put_byte_small : (b n : ℕ) (rs : List ByteRun) → b < 256 → n + 1 < 2 ^ 64 → AreRuns rs → total rs ≤ n
+    → AreRuns (put_byte b rs) × (total (put_byte b rs) ≤ n + 1)
 put_byte_small b n [] small room ok most = (((small, omega arith), tt), omega arith)
 put_byte_small b n (r ∷ rs) small room ok most = by_test (eqb r.byte b)
   where
-    by_test : (t : Bool) → AreRuns (cond t (run_of b (suc r.count) ∷ rs) (run_of b 1 ∷ r ∷ rs)) × (total (cond t (run_of b (suc r.count) ∷ rs) (run_of b 1 ∷ r ∷ rs)) ≤ n + 1)
+    by_test : (t : Bool) → AreRuns (cond t (run_of b (suc r.count) ∷ rs) (run_of b 1 ∷ r ∷ rs))
+        × (total (cond t (run_of b (suc r.count) ∷ rs) (run_of b 1 ∷ r ∷ rs)) ≤ n + 1)
     by_test true = (((small, omega arith), ok.1), omega arith)
     by_test false = (((small, omega arith), (ok.0, ok.1)), omega arith)
 
 -- the runs of few enough bytes
-runs_small : (bytes : List ℕ) → All (λ b. b < 256) bytes → length bytes < 2 ^ 64 → AreRuns (runs bytes) × (total (runs bytes) ≤ length bytes)
+runs_small : (bytes : List ℕ) → All (λ b. b < 256) bytes → length bytes < 2 ^ 64 → AreRuns (runs bytes)
+    × (total (runs bytes) ≤ length bytes)
 runs_small [] ok short = (tt, omega arith)
 runs_small (b ∷ bs) ok short =
     let t = runs_small bs (All-tail (λ b. b < 256) b bs ok) (omega arith) in
@@ -59,7 +63,8 @@ read_run-run_text r small short =
     let high = glyph_value (r.byte / 16) (omega arith) in
     let low = glyph_value (r.byte % 16) (omega arith) in
     let count = (decimal_is_IsNumeral r.count short).1 in
-    let byte : 16 * digit_value (digit_glyph false (r.byte / 16)) + digit_value (digit_glyph false (r.byte % 16)) ≡ r.byte = rw (high, low) (omega arith) in
+    let byte : 16 * digit_value (digit_glyph false (r.byte / 16)) + digit_value (digit_glyph false (r.byte % 16)) ≡ r.byte =
+    rw (high, low) (omega arith) in
     rw (count, byte) refl
 
 -- no text of a run has a comma
@@ -70,7 +75,8 @@ glyph_no_comma : (d : ℕ) → d < 16 → eqb (digit_glyph false d) 44 ≡ false
 glyph_no_comma d small = grind (arith, nat_tests)
 
 digits_no_comma : (ds : List ℕ) → AllDigits 10 ds → LacksComma ds
-digits_no_comma ds ok = All-from_get_or (λ x. eqb x 44 ≡ false) ds 0 (λ i inside. let digit = digit_at ds i ok inside in ne_eqb _ 44 (λ e. omega (arith, digit, e)))
+digits_no_comma ds ok = All-from_get_or (λ x. eqb x 44 ≡ false) ds 0 (λ i inside. let digit = digit_at ds i ok inside in
+    ne_eqb _ 44 (λ e. omega (arith, digit, e)))
 
 run_text_no_comma : (r : ByteRun) → r.byte < 256 → r.count < 2 ^ 64 → LacksComma (run_text r)
 run_text_no_comma r small short =
@@ -80,12 +86,14 @@ run_text_no_comma r small short =
     All-cons P (digit_glyph false (r.byte / 16)) (low ∷ 42 ∷ decimal r.count) (glyph_no_comma (r.byte / 16) (omega arith))
     (All-cons P low (42 ∷ decimal r.count) (glyph_no_comma (r.byte % 16) (omega arith)) behind)
 
-read_runs-joined : (r : ByteRun) (rs : List ByteRun) → AreRuns (r ∷ rs) → read_runs (join_with_byte 44 (map run_text (r ∷ rs))) ≡ run_bytes (r ∷ rs)
+read_runs-joined : (r : ByteRun) (rs : List ByteRun) → AreRuns (r ∷ rs)
+    → read_runs (join_with_byte 44 (map run_text (r ∷ rs))) ≡ run_bytes (r ∷ rs)
 read_runs-joined r [] ok =
     ap (flat_map read_run) (slice_split_none (λ b. eqb b 44) (run_text r) (run_text_no_comma r ok.0.0 ok.0.1))
     ∙ ap (λ l. l ++ []) (read_run-run_text r ok.0.0 ok.0.1)
 read_runs-joined r (q ∷ qs) ok =
-    ap (flat_map read_run) (slice_split_at (λ b. eqb b 44) (run_text r) 44 (join_with_byte 44 (map run_text (q ∷ qs))) (run_text_no_comma r ok.0.0 ok.0.1) refl)
+    ap (flat_map read_run) (slice_split_at (λ b. eqb b 44) (run_text r) 44 (join_with_byte 44 (map run_text (q ∷ qs)))
+    (run_text_no_comma r ok.0.0 ok.0.1) refl)
     ∙ ap (λ l. l ++ read_runs (join_with_byte 44 (map run_text (q ∷ qs)))) (read_run-run_text r ok.0.0 ok.0.1)
     ∙ ap (λ l. replicate r.count r.byte ++ l) (read_runs-joined q qs ok.1)
 

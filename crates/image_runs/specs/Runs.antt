@@ -1,6 +1,7 @@
 -- Bytes as runs, each as long as can be: `HH*COUNT`, parted by commas, and `-` for no bytes.
 -- The format is this project's own.
-use Rattle.std.specs.Prelude.{ℕ, suc, ◌/◌, ◌%◌, ◌==◌, ◌≢◌, ⊤, false, List, [], ◌∷◌, ◌++◌, map, flat_map, replicate, codes, decimal, if◌then◌else◌}
+use Rattle.std.specs.Prelude.{ℕ, suc, ◌/◌, ◌%◌, ◌==◌, ◌≢◌, ⊤, false, List, [], ◌∷◌, ◌++◌, map, flat_map, replicate}
+use Rattle.std.specs.Prelude.{codes, decimal, if◌then◌else◌}
 use Rattle.std.specs.List.{join_with_byte}
 use Rattle.std.specs.Fmt.{digit_glyph}
 

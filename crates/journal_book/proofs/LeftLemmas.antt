@@ -30,4 +30,5 @@ names_left opening ns ns2 es es2 e left more pushed =
 pub lines_left : (ls ls2 : List LastCount) (es es2 : List Entry) (e : Entry) → AreLast ls es
     → ((s r : ℕ) → count_in s r ls2 ≡ last_in (count_in s r ls) (fault_counts s r (e ∷ []))) → es2 ≡ es ++ e ∷ [] → AreLast ls2 es2
 lines_left ls ls2 es es2 e left more pushed s r =
-    more s r ∙ ap (λ n. last_in n (fault_counts s r (e ∷ []))) (left s r) ∙ sym (last_count-append s r es (e ∷ [])) ∙ ap (last_count s r) (sym pushed)
+    more s r ∙ ap (λ n. last_in n (fault_counts s r (e ∷ []))) (left s r) ∙ sym (last_count-append s r es (e ∷ []))
+    ∙ ap (last_count s r) (sym pushed)

@@ -46,18 +46,21 @@ first_place p ls i at = one (nat_lt (position_or_len p ls) (length ls)) at
     one true e = cc
     one false e = absurd cc
 
-pub count_found : (s r : ℕ) (ls : List LastCount) (i : ℕ) (d : LastCount) → position (is_line s r) ls ≡ Some i → (get_or ls i d).count ≡ count_in s r ls
+pub count_found : (s r : ℕ) (ls : List LastCount) (i : ℕ) (d : LastCount) → position (is_line s r) ls ≡ Some i
+    → (get_or ls i d).count ≡ count_in s r ls
 count_found s r ls i d at =
     let there = position-Some (is_line s r) ls i d at in
     sym (ap (λ o. option_map_or (λ (l : LastCount). l.count) o 0)
     (find_at (is_line s r) ls ∙ ap (slice_get ls) (sym (first_place (is_line s r) ls i at)) ∙ slice_get-get_or ls i d there.0))
 
-pub count_changed : (line old y : LastCount) (ls : List LastCount) (i : ℕ) → position (is_line line.stream line.replica) ls ≡ Some i → old ≡ get_or ls i old
+pub count_changed : (line old y : LastCount) (ls : List LastCount) (i : ℕ)
+    → position (is_line line.stream line.replica) ls ≡ Some i → old ≡ get_or ls i old
     → y ≡ record { stream = old.stream; replica = old.replica; count = line.count }
     → (s r : ℕ) → count_in s r (set ls i y) ≡ cond (is_line s r line) line.count (count_in s r ls)
 count_changed line old y ls i at is made s r = one (is_line s r line) refl
   where
-    there : (i < length ls) × (is_line line.stream line.replica (get_or ls i old) ≡ true) × ((k : ℕ) → k < i → is_line line.stream line.replica (get_or ls k old) ≡ false)
+    there : (i < length ls) × (is_line line.stream line.replica (get_or ls i old) ≡ true)
+        × ((k : ℕ) → k < i → is_line line.stream line.replica (get_or ls k old) ≡ false)
     there = position-Some (is_line line.stream line.replica) ls i old at
 
     is_old : is_line line.stream line.replica old ≡ true
@@ -66,19 +69,23 @@ count_changed line old y ls i at is made s r = one (is_line s r line) refl
     one : (b : Bool) → is_line s r line ≡ b → count_in s r (set ls i y) ≡ cond b line.count (count_in s r ls)
     one true e =
         let first : i ≡ position_or_len (is_line s r) ls =
-        first_place (is_line line.stream line.replica) ls i at ∙ ap (λ (p : LastCount → Bool). position_or_len p ls) (sym (asked s r line e)) in
+        first_place (is_line line.stream line.replica) ls i at
+        ∙ ap (λ (p : LastCount → Bool). position_or_len p ls) (sym (asked s r line e)) in
         ap (λ o. option_map_or (λ (l : LastCount). l.count) o 0)
-        (find-set (is_line s r) ls i y first there.0 (ap (is_line s r) made ∙ same_line s r line old e ∙ is_old)) ∙ ap (λ (l : LastCount). l.count) made
+        (find-set (is_line s r) ls i y first there.0 (ap (is_line s r) made ∙ same_line s r line old e ∙ is_old))
+        ∙ ap (λ (l : LastCount). l.count) made
     one false e =
         let old_other : is_line s r old ≡ false = other_line s r line old e is_old in
-        ap (λ o. option_map_or (λ (l : LastCount). l.count) o 0) (find_past (is_line s r) ls i y old (ap (is_line s r) (sym is) ∙ old_other) (ap (is_line s r) made ∙ old_other))
+        ap (λ o. option_map_or (λ (l : LastCount). l.count) o 0)
+        (find_past (is_line s r) ls i y old (ap (is_line s r) (sym is) ∙ old_other) (ap (is_line s r) made ∙ old_other))
 
 -- ---- a line that has not
 
 absent : (p : LastCount → Bool) (ls : List LastCount) → position p ls ≡ None → find p ls ≡ None
 absent p ls none = find_at p ls ∙ past (nat_lt (position_or_len p ls) (length ls)) refl none
   where
-    past : (b : Bool) → nat_lt (position_or_len p ls) (length ls) ≡ b → cond b (Some (position_or_len p ls)) None ≡ None → slice_get ls (position_or_len p ls) ≡ None
+    past : (b : Bool) → nat_lt (position_or_len p ls) (length ls) ≡ b → cond b (Some (position_or_len p ls)) None ≡ None
+        → slice_get ls (position_or_len p ls) ≡ None
     past true e is = absurd cc
     past false e is = slice_get_past ls (position_or_len p ls) (ltb-false (position_or_len p ls) (length ls) e)
 
@@ -91,10 +98,12 @@ or_none (Some l) = refl
 
 pub count_new : (line : LastCount) (ls : List LastCount) → position (is_line line.stream line.replica) ls ≡ None
     → (s r : ℕ) → count_in s r (ls ++ line ∷ []) ≡ cond (is_line s r line) line.count (count_in s r ls)
-count_new line ls none s r = ap (λ o. option_map_or (λ (l : LastCount). l.count) o 0) (find-append (is_line s r) ls (line ∷ [])) ∙ one (is_line s r line) refl
+count_new line ls none s r = ap (λ o. option_map_or (λ (l : LastCount). l.count) o 0)
+    (find-append (is_line s r) ls (line ∷ [])) ∙ one (is_line s r line) refl
   where
     one : (b : Bool) → is_line s r line ≡ b
-        → option_map_or (λ (l : LastCount). l.count) (option_or (find (is_line s r) ls) (cond b (Some line) None)) 0 ≡ cond b line.count (count_in s r ls)
+        → option_map_or (λ (l : LastCount). l.count) (option_or (find (is_line s r) ls) (cond b (Some line) None)) 0 ≡ cond
+        b line.count (count_in s r ls)
     one true e =
         ap (λ (o : Option LastCount). option_map_or (λ (l : LastCount). l.count) (option_or o (Some line)) 0)
         (ap (λ (p : LastCount → Bool). find p ls) (asked s r line e) ∙ absent (is_line line.stream line.replica) ls none)

@@ -42,12 +42,14 @@ pub used_there : (es : List (List ℕ × Bool)) (q : List ℕ) → is_used_in (t
 used_there es q = is_used-taken es q ∙ sym (is_some-lookup (bytes_eq q) es)
 
 -- a key is in the map once
-alone : (q k : List ℕ) (ks : List (List ℕ)) → bytes_eq q k ≡ true → AllByRecursion (λ y. bytes_eq k y ≡ false) ks → list_any (bytes_eq q) ks ≡ false
+alone : (q k : List ℕ) (ks : List (List ℕ)) → bytes_eq q k ≡ true → AllByRecursion (λ y. bytes_eq k y ≡ false) ks
+    → list_any (bytes_eq q) ks ≡ false
 alone q k [] same none = refl
 alone q k (x ∷ xs) same none =
     ap (λ b. b || list_any (bytes_eq q) xs) (ap (λ p. bytes_eq p x) ((bytes_eq-Decides q k).0 same) ∙ none.0) ∙ alone q k xs same none.1
 
-unused : (q : List ℕ) (e : List ℕ × Bool) (es : List (List ℕ × Bool)) → bytes_eq q e.0 ≡ true → IsDistinct bytes_eq (keys_of (e ∷ es)) → is_used_in (taken_of es) q ≡ false
+unused : (q : List ℕ) (e : List ℕ × Bool) (es : List (List ℕ × Bool)) → bytes_eq q e.0 ≡ true
+    → IsDistinct bytes_eq (keys_of (e ∷ es)) → is_used_in (taken_of es) q ≡ false
 unused q e es same distinct = is_used-taken es q ∙ alone q e.0 (keys_of es) same (IsDistinct-head bytes_eq e.0 (keys_of es) distinct)
 
 -- ---- whether its snapshot can be used
@@ -70,14 +72,16 @@ is_live-append (x ∷ xs) ys q =
 live_used : (xs : List UsedName) (q : List ℕ) → cond (is_used_in xs q) (is_live_in xs q) false ≡ is_live_in xs q
 live_used xs q = sym (is_live-append xs [] q) ∙ ap (λ ns. is_live_in ns q) (append-nil xs)
 
-pub live_there : (es : List (List ℕ × Bool)) (q : List ℕ) → IsDistinct bytes_eq (keys_of es) → is_live_in (taken_of es) q ≡ live_at (lookup (bytes_eq q) es)
+pub live_there : (es : List (List ℕ × Bool)) (q : List ℕ) → IsDistinct bytes_eq (keys_of es)
+    → is_live_in (taken_of es) q ≡ live_at (lookup (bytes_eq q) es)
 live_there [] q distinct = refl
 live_there (e ∷ es) q distinct =
     ap (λ ns. is_live_in ns q) (taken-cons e es) ∙ is_live-append (taken_of es) (used_name e ∷ []) q
     ∙ one (bytes_eq q e.0) refl (live_there es q (IsDistinct-tail bytes_eq e.0 (keys_of es) distinct))
   where
     one : (b : Bool) → bytes_eq q e.0 ≡ b → is_live_in (taken_of es) q ≡ live_at (lookup (bytes_eq q) es)
-        → cond (is_used_in (taken_of es) q) (is_live_in (taken_of es) q) (cond b (not e.1) false) ≡ live_at (cond b (Some e.1) (lookup (bytes_eq q) es))
+        → cond (is_used_in (taken_of es) q) (is_live_in (taken_of es) q) (cond b (not e.1) false) ≡ live_at
+        (cond b (Some e.1) (lookup (bytes_eq q) es))
     one true same rest = ap (λ u. cond u (is_live_in (taken_of es) q) (not e.1)) (unused q e es same distinct)
     one false other rest = live_used (taken_of es) q ∙ rest
 
@@ -89,14 +93,18 @@ none_there None none = refl
 none_there (Some marked) none = absurd cc
 
 -- one that was not there
-pub taken_new : (es : List (List ℕ × Bool)) (q : List ℕ) → lookup (bytes_eq q) es ≡ None → taken_of (es ++ (q, false) ∷ []) ≡ with_name (taken_of es) q
+pub taken_new : (es : List (List ℕ × Bool)) (q : List ℕ) → lookup (bytes_eq q) es ≡ None
+    → taken_of (es ++ (q, false) ∷ []) ≡ with_name (taken_of es) q
 taken_new es q new =
     taken-push es (q, false)
     ∙ sym (cond-false (is_used_in (taken_of es) q) (taken_of es) (used_name (q, false) ∷ taken_of es) (used_there es q ∙ ap is_some new))
 
 -- and one that was
-pub taken_again : (es : List (List ℕ × Bool)) (q : List ℕ) → is_some (lookup (bytes_eq q) es) ≡ true → taken_of es ≡ with_name (taken_of es) q
-taken_again es q there = sym (cond-true (is_used_in (taken_of es) q) (taken_of es) (used_name (q, false) ∷ taken_of es) (used_there es q ∙ there))
+pub taken_again : (es : List (List ℕ × Bool)) (q : List ℕ) → is_some (lookup (bytes_eq q) es) ≡ true
+    → taken_of es ≡ with_name (taken_of es) q
+taken_again es q there =
+    sym (cond-true (is_used_in (taken_of es) q) (taken_of es) (used_name (q, false) ∷ taken_of es)
+    (used_there es q ∙ there))
 
 -- ---- a name's mark
 
@@ -107,18 +115,22 @@ unmarked q (n ∷ ns) none =
     let parts = or_parts (bytes_eq q n.name) (is_used_in ns q) none in
     ap (λ b. cond b (record n { marked = true }) n ∷ map (name_marked q) ns) parts.0 ∙ ap (λ l. n ∷ l) (unmarked q ns parts.1)
 
-pub taken_unmarked : (es : List (List ℕ × Bool)) (q : List ℕ) → lookup (bytes_eq q) es ≡ None → taken_of es ≡ map (name_marked q) (taken_of es)
+pub taken_unmarked : (es : List (List ℕ × Bool)) (q : List ℕ) → lookup (bytes_eq q) es ≡ None
+    → taken_of es ≡ map (name_marked q) (taken_of es)
 taken_unmarked es q new = sym (unmarked q (taken_of es) (used_there es q ∙ ap is_some new))
 
 -- one write in the map
-pub taken_marked : (es : List (List ℕ × Bool)) (q : List ℕ) → IsDistinct bytes_eq (keys_of es) → taken_of (set_value (bytes_eq q) es true) ≡ map (name_marked q) (taken_of es)
+pub taken_marked : (es : List (List ℕ × Bool)) (q : List ℕ) → IsDistinct bytes_eq (keys_of es)
+    → taken_of (set_value (bytes_eq q) es true) ≡ map (name_marked q) (taken_of es)
 taken_marked [] q distinct = refl
 taken_marked (e ∷ es) q distinct =
     one (bytes_eq q e.0) refl (taken_marked es q (IsDistinct-tail bytes_eq e.0 (keys_of es) distinct))
     ∙ sym (ap (map (name_marked q)) (taken-cons e es) ∙ map-append (name_marked q) (taken_of es) (used_name e ∷ []))
   where
     one : (b : Bool) → bytes_eq q e.0 ≡ b → taken_of (set_value (bytes_eq q) es true) ≡ map (name_marked q) (taken_of es)
-        → taken_of (cond b ((e.0, true) ∷ es) (e ∷ set_value (bytes_eq q) es true)) ≡ map (name_marked q) (taken_of es) ++ cond b (record { name = e.0; marked = true }) (used_name e) ∷ []
+        → taken_of (cond b ((e.0, true) ∷ es) (e ∷ set_value (bytes_eq q) es true)) ≡ map (name_marked q) (taken_of es)
+        ++ cond b (record { name = e.0; marked = true }) (used_name e) ∷ []
     one true same rest =
-        taken-cons (e.0, true) es ∙ ap (λ ns. ns ++ used_name (e.0, true) ∷ []) (sym (unmarked q (taken_of es) (unused q e es same distinct)))
+        taken-cons (e.0, true) es ∙ ap (λ ns. ns ++ used_name (e.0, true) ∷ [])
+        (sym (unmarked q (taken_of es) (unused q e es same distinct)))
     one false other rest = taken-cons e (set_value (bytes_eq q) es true) ∙ ap (λ ns. ns ++ used_name e ∷ []) rest

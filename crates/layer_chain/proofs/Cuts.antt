@@ -15,7 +15,14 @@ cut_at [] i d h = absurd (omega arith)
 cut_at (x ∷ xs) zero d h = record { before = []; after = xs; is = refl; with_other = λ a. refl; without = refl }
 cut_at (x ∷ xs) (suc i) d h =
     let rest : CutAt xs i d = cut_at xs i d (omega arith) in
-    record { before = x ∷ rest.before; after = rest.after; is = ap (λ ys. x ∷ ys) rest.is; with_other = λ a. ap (λ ys. x ∷ ys) (rest.with_other a); without = ap (λ ys. x ∷ ys) rest.without }
+    record {
+      before = x ∷ rest.before;
+      after = rest.after;
+      is = ap (λ ys. x ∷ ys) rest.is;
+      with_other =
+          λ a. ap (λ ys. x ∷ ys) (rest.with_other a);
+      without = ap (λ ys. x ∷ ys) rest.without;
+    }
 
 -- the list at two places
 pub record CutTwo {X : Type 0} (xs : List X) (i j : ℕ) (d : X) : Type 0 where
@@ -60,17 +67,22 @@ pub set_then_remove : {X : Type 0} (xs : List X) (i j : ℕ) (a : X) → i < j �
 set_then_remove xs i j a h l = (cut_two xs i j a h l).set_without a ∙ sym ((cut_two xs i j a h l).without_one a)
 
 -- what holds at each place before a cut holds of each element there
-pub each_before : {X : Type 0} (P : X → Type 0) (xs : List X) (i : ℕ) (d : X) (h : i < length xs) → ((k : ℕ) → k < i → P (get_or xs k d)) → AllByRecursion P (cut_at xs i d h).before
+pub each_before : {X : Type 0} (P : X → Type 0) (xs : List X) (i : ℕ) (d : X) (h : i < length xs)
+    → ((k : ℕ) → k < i → P (get_or xs k d)) → AllByRecursion P (cut_at xs i d h).before
 unfolding cut_at
 each_before P [] i d h f = absurd (omega arith)
 each_before P (x ∷ xs) zero d h f = tt
 each_before P (x ∷ xs) (suc i) d h f = (f zero (omega arith), each_before P xs i d (omega arith) (λ k l. f (suc k) (omega arith)))
 
-pub each_other : {X : Type 0} (P : X → Type 0) (xs : List X) (i j : ℕ) (d : X) (h : i < j) (l : j < length xs) → ((k : ℕ) → k < j → k ≢ i → P (get_or xs k d)) → AllByRecursion P (cut_two xs i j d h l).before × AllByRecursion P (cut_two xs i j d h l).between
+pub each_other : {X : Type 0} (P : X → Type 0) (xs : List X) (i j : ℕ) (d : X) (h : i < j) (l : j < length xs)
+    → ((k : ℕ) → k < j → k ≢ i → P (get_or xs k d)) → AllByRecursion P (cut_two xs i j d h l).before
+    × AllByRecursion P (cut_two xs i j d h l).between
 unfolding cut_two
 each_other P [] i j d h l f = absurd (omega arith)
 each_other P (x ∷ xs) i zero d h l f = absurd (omega arith)
 each_other P (x ∷ xs) zero (suc j) d h l f = (tt, each_before P xs j d (omega arith) (λ k m. f (suc k) (omega arith) (omega arith)))
 each_other P (x ∷ xs) (suc i) (suc j) d h l f =
-    let rest : AllByRecursion P (cut_two xs i j d (omega arith) (omega arith)).before × AllByRecursion P (cut_two xs i j d (omega arith) (omega arith)).between = each_other P xs i j d (omega arith) (omega arith) (λ k m n. f (suc k) (omega arith) (omega arith)) in
+    let rest : AllByRecursion P (cut_two xs i j d (omega arith) (omega arith)).before
+    × AllByRecursion P (cut_two xs i j d (omega arith) (omega arith)).between =
+    each_other P xs i j d (omega arith) (omega arith) (λ k m n. f (suc k) (omega arith) (omega arith)) in
     ((f zero (omega arith) (omega arith), rest.0), rest.1)

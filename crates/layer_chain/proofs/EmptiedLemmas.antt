@@ -29,7 +29,8 @@ pub record CanPush (xs ys : List Layer) (place : ℕ) : Type 0 where
   pub parent : IsThere (parent_of (layer_at xs place)) ys
   pub metas : (layer_at xs place).meta ∷ metas_in ys ≡ drop place (metas_in xs)
 
-pub can_push : (xs ys : List Layer) (place : ℕ) → IsLayers xs → place < length xs → metas_in ys ≡ drop (suc place) (metas_in xs) → CanPush xs ys place
+pub can_push : (xs ys : List Layer) (place : ℕ) → IsLayers xs → place < length xs
+    → metas_in ys ≡ drop (suc place) (metas_in xs) → CanPush xs ys place
 can_push [] ys place tree within e = absurd (omega arith)
 can_push (x ∷ xs) ys zero tree within e = record {
   new = new_alike xs ys (name_of x) e tree.0;

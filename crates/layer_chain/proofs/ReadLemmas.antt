@@ -1,5 +1,6 @@
 -- One layer of a walk from the newest layer on: of a reading, and of a chain.
-use Rattle.std.proofs.Common.{◌≡◌, ℕ, ◌+◌, ◌<◌, ◌≤◌, suc, Bool, cond, List, [], ◌∷◌, ◌++◌, length, map, get_or, drop, Option, None, Some, true, false, sym, refl, ap, ◌∙◌, arith}
+use Rattle.std.proofs.Common.{◌≡◌, ℕ, ◌+◌, ◌<◌, ◌≤◌, suc, Bool, cond, List, [], ◌∷◌, ◌++◌, length, map, get_or, drop}
+use Rattle.std.proofs.Common.{Option, None, Some, true, false, sym, refl, ap, ◌∙◌, arith}
 use Rattle.std.proofs.Math.Seq.{drop-cons}
 use Rattle.std.proofs.lemmas.List.{drop_all, append_assoc}
 use Rattle.std.specs.Option.{option_or}
@@ -11,12 +12,14 @@ use Rattle.layer_chain.specs.Tree.{Tree, name_of, parent_of, reads, head_reads, 
 use Rattle.layer_chain.specs.declared.layer.Layer.{Layer}
 
 module _ (xs : List Layer) (i : ℕ) (x : Layer) (want : List ℕ) (within : i < length xs) (is : x ≡ get_or xs i x) where
-  pub step-found : (k : ℕ) (found : List ℕ) → bytes_eq want (name_of x) ≡ true → Some found ≡ block_at x.image k → reads (drop i xs) (Some want) k ≡ Some found
+  pub step-found : (k : ℕ) (found : List ℕ) → bytes_eq want (name_of x) ≡ true → Some found ≡ block_at x.image k
+      → reads (drop i xs) (Some want) k ≡ Some found
   step-found k found named here =
       read-at_same name_of parent_of (λ l. block_at l.image k) xs i x want within is named
       ∙ ap (λ o. option_or o (reads (drop (i + 1) xs) (parent_of x) k)) (sym here)
 
-  pub step-parent : (k : ℕ) → bytes_eq want (name_of x) ≡ true → None ≡ block_at x.image k → reads (drop i xs) (Some want) k ≡ reads (drop (i + 1) xs) (parent_of x) k
+  pub step-parent : (k : ℕ) → bytes_eq want (name_of x) ≡ true → None ≡ block_at x.image k
+      → reads (drop i xs) (Some want) k ≡ reads (drop (i + 1) xs) (parent_of x) k
   step-parent k named none =
       read-at_same name_of parent_of (λ l. block_at l.image k) xs i x want within is named
       ∙ ap (λ o. option_or o (reads (drop (i + 1) xs) (parent_of x) k)) (sym none)
@@ -43,12 +46,15 @@ map_either true x xs ys = refl
 map_either false x xs ys = refl
 
 chain-step : (xs : List Layer) (i : ℕ) (x : Layer) (want : Option (List ℕ)) → i < length xs → x ≡ get_or xs i x
-    → marked_chain (drop i xs) want ≡ cond (is_named want (name_of x)) (name_and_mark x ∷ marked_chain (drop (i + 1) xs) (parent_of x)) (marked_chain (drop (i + 1) xs) want)
+    → marked_chain (drop i xs) want ≡ cond (is_named want (name_of x))
+    (name_and_mark x ∷ marked_chain (drop (i + 1) xs) (parent_of x)) (marked_chain (drop (i + 1) xs) want)
 chain-step xs i x want within is =
     let more : suc i ≡ i + 1 = omega arith in
     ap (λ (ys : List Layer). marked_chain ys want) (drop-cons xs i x within ∙ ap (λ (y : Layer). y ∷ drop (suc i) xs) (sym is))
-    ∙ map_either (is_named want (name_of x)) x (chain_from name_of parent_of (drop (suc i) xs) (parent_of x)) (chain_from name_of parent_of (drop (suc i) xs) want)
-    ∙ ap (λ (n : ℕ). cond (is_named want (name_of x)) (name_and_mark x ∷ marked_chain (drop n xs) (parent_of x)) (marked_chain (drop n xs) want)) more
+    ∙ map_either (is_named want (name_of x)) x (chain_from name_of parent_of (drop (suc i) xs) (parent_of x))
+    (chain_from name_of parent_of (drop (suc i) xs) want)
+    ∙ ap (λ (n : ℕ). cond (is_named want (name_of x)) (name_and_mark x ∷ marked_chain (drop n xs) (parent_of x))
+    (marked_chain (drop n xs) want)) more
 
 module _ (xs : List Layer) (i : ℕ) (x : Layer) (want : Option (List ℕ)) (within : i < length xs) (is : x ≡ get_or xs i x) where
   pub chain-here : (front : List (List ℕ × Bool)) → is_named want (name_of x) ≡ true

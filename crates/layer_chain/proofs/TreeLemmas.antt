@@ -1,5 +1,6 @@
 -- The places of a tree's layers, and what a mark keeps.
-use Rattle.std.proofs.Common.{◌≡◌, ◌≢◌, ⊎_elim, ℕ, ◌<◌, List, [], ◌∷◌, ◌++◌, zero, suc, length, get_or, Option, None, Some, MatchOption, IfSome, inl, inr, sym, refl, ap, ◌∙◌, subst, arith}
+use Rattle.std.proofs.Common.{◌≡◌, ◌≢◌, ⊎_elim, ℕ, ◌<◌, List, [], ◌∷◌, ◌++◌, zero, suc, length, get_or, Option, None}
+use Rattle.std.proofs.Common.{Some, MatchOption, IfSome, inl, inr, sym, refl, ap, ◌∙◌, subst, arith}
 use Rattle.std.specs.List.{AllByRecursion}
 use Rattle.std.proofs.lemmas.List.{get_or_default}
 use Rattle.std.proofs.lemmas.Bool.{cases_eq, cases_lt}
@@ -35,7 +36,8 @@ cut xs i h =
 
 tree_from : (xs : List Layer) (i : ℕ) (h : i < length xs) → IsLayers xs → IsLayers (layer_at xs i ∷ (cut xs i h).after)
 tree_from xs i h tree =
-    tree_back name_of parent_of (cut xs i h).before (layer_at xs i ∷ (cut xs i h).after) (subst (λ (ys : List Layer). IsLayers ys) (cut xs i h).is tree)
+    tree_back name_of parent_of (cut xs i h).before (layer_at xs i ∷ (cut xs i h).after)
+    (subst (λ (ys : List Layer). IsLayers ys) (cut xs i h).is tree)
 
 -- a layer's parent is there
 pub parent_there : (xs : List Layer) (i : ℕ) → i < length xs → IsLayers xs → IsThere (parent_of (layer_at xs i)) xs
@@ -46,7 +48,8 @@ parent_there xs i h tree =
     (on_back name_of parent_of (parent_of (layer_at xs i)) (layer_at xs i ∷ []) k.after (tree_from xs i h tree).1))
 
 -- a name that no layer has is no layer's parent
-pub not_new : (xs : List Layer) (i : ℕ) (name : List ℕ) → i < length xs → IsLayers xs → parent_of (layer_at xs i) ≡ Some name → IsNew name xs → ⊥
+pub not_new : (xs : List Layer) (i : ℕ) (name : List ℕ) → i < length xs → IsLayers xs
+    → parent_of (layer_at xs i) ≡ Some name → IsNew name xs → ⊥
 not_new xs i name h tree is new =
     apart name_of parent_of name name xs new (subst (λ (n : Option (List ℕ)). IsThere n xs) is (parent_there xs i h tree)) refl
 
@@ -61,7 +64,9 @@ not_older xs p c tree h in_c child =
     k.is
     ∙ ap (λ (x : Layer). k.before ++ (x ∷ (k.between ++ (get_or xs c (layer_at xs p) ∷ k.after)))) (sym (layer_read xs p in_p))
     ∙ ap (λ (x : Layer). k.before ++ (layer_at xs p ∷ (k.between ++ (x ∷ k.after)))) (get_or_default xs c (layer_at xs p) _ in_c) in
-    let from_p : IsLayers (layer_at xs p ∷ (k.between ++ (layer_at xs c ∷ k.after))) = tree_back name_of parent_of k.before (layer_at xs p ∷ (k.between ++ (layer_at xs c ∷ k.after))) (subst (λ (ys : List Layer). IsLayers ys) is tree) in
+    let from_p : IsLayers (layer_at xs p ∷ (k.between ++ (layer_at xs c ∷ k.after))) =
+    tree_back name_of parent_of k.before (layer_at xs p ∷ (k.between ++ (layer_at xs c ∷ k.after)))
+    (subst (λ (ys : List Layer). IsLayers ys) is tree) in
     let from_c : IsLayers (layer_at xs c ∷ k.after) = tree_back name_of parent_of k.between (layer_at xs c ∷ k.after) from_p.2 in
     apart name_of parent_of (name_of (layer_at xs p)) (name_of (layer_at xs p)) k.after
     (no_back name_of parent_of (name_of (layer_at xs p)) k.between (layer_at xs c ∷ k.after) from_p.0).1
@@ -79,19 +84,23 @@ child_newer xs p c tree in_p in_c child =
     (cases_lt c p)
 
 -- the place of a parent's name is an older one's
-pub parent_placed : (t : Tree) (c : ℕ) (name : List ℕ) (found : Option ℕ) → c < length t.layers → IsWholeTree t → parent_of (layer_at t.layers c) ≡ Some name → MatchOption found (IsNew name t.layers) (λ p. IsAt t.layers name p) → MatchOption found (parent_of (layer_at t.layers c) ≡ None) (λ p. IsParent t.layers p c)
+pub parent_placed : (t : Tree) (c : ℕ) (name : List ℕ) (found : Option ℕ) → c < length t.layers → IsWholeTree t
+    → parent_of (layer_at t.layers c) ≡ Some name → MatchOption found (IsNew name t.layers) (λ p. IsAt t.layers name p)
+    → MatchOption found (parent_of (layer_at t.layers c) ≡ None) (λ p. IsParent t.layers p c)
 parent_placed t c name None h w is new = absurd (not_new t.layers c name h w.layers is new)
 parent_placed t c name (Some p) h w is at =
     let child : IsChild t.layers c p = is ∙ ap (λ (n : List ℕ). Some n) (sym at.named) in
     record { within = at.within; older = child_newer t.layers p c w.layers at.within h child; child = child }
 
 -- a name that stands at a place is there
-pub there_at : (xs : List Layer) (i : ℕ) (name : List ℕ) (d : Layer) → i < length xs → name_of (get_or xs i d) ≡ name → IsThere (Some name) xs
+pub there_at : (xs : List Layer) (i : ℕ) (name : List ℕ) (d : Layer) → i < length xs → name_of (get_or xs i d) ≡ name
+    → IsThere (Some name) xs
 there_at [] i name d h is = absurd (omega arith)
 there_at (x ∷ xs) zero name d h is = inl is
 there_at (x ∷ xs) (suc i) name d h is = inr (there_at xs i name d (omega arith) is)
 
-pub found_there : (xs : List Layer) (name : List ℕ) (found : Option ℕ) → MatchOption found (IsNew name xs) (λ p. IsAt xs name p) → IfSome found (λ _. IsThere (Some name) xs)
+pub found_there : (xs : List Layer) (name : List ℕ) (found : Option ℕ)
+    → MatchOption found (IsNew name xs) (λ p. IsAt xs name p) → IfSome found (λ _. IsThere (Some name) xs)
 found_there xs name None new = tt
 found_there xs name (Some p) at = there_at xs p name _ at.within at.named
 
@@ -103,7 +112,9 @@ two_names xs p q tree h in_q =
     k.is
     ∙ ap (λ (x : Layer). k.before ++ (x ∷ (k.between ++ (get_or xs q (layer_at xs p) ∷ k.after)))) (sym (layer_read xs p in_p))
     ∙ ap (λ (x : Layer). k.before ++ (layer_at xs p ∷ (k.between ++ (x ∷ k.after)))) (get_or_default xs q (layer_at xs p) _ in_q) in
-    let from_p : IsLayers (layer_at xs p ∷ (k.between ++ (layer_at xs q ∷ k.after))) = tree_back name_of parent_of k.before (layer_at xs p ∷ (k.between ++ (layer_at xs q ∷ k.after))) (subst (λ (ys : List Layer). IsLayers ys) is tree) in
+    let from_p : IsLayers (layer_at xs p ∷ (k.between ++ (layer_at xs q ∷ k.after))) =
+    tree_back name_of parent_of k.before (layer_at xs p ∷ (k.between ++ (layer_at xs q ∷ k.after)))
+    (subst (λ (ys : List Layer). IsLayers ys) is tree) in
     (no_back name_of parent_of (name_of (layer_at xs p)) k.between (layer_at xs q ∷ k.after) from_p.0).0
 
 -- a name stands at one place

@@ -88,7 +88,11 @@ module _ {X : Type 0} (name_of : X → List ℕ) (parent_of : X → Option (List
   -- a layer on which none stands is taken out
   pub tree_without : (xs ys : List X) (p : X) → Childless (name_of p) xs → Tree (xs ++ (p ∷ ys)) → Tree (xs ++ ys)
   tree_without [] ys p childless t = t.2
-  tree_without (x ∷ xs) ys p childless t = (no_without (name_of x) xs ys p t.0, on_without (parent_of x) xs ys p childless.0 t.1, tree_without xs ys p childless.1 t.2)
+  tree_without (x ∷ xs) ys p childless t = (
+    no_without (name_of x) xs ys p t.0,
+    on_without (parent_of x) xs ys p childless.0 t.1,
+    tree_without xs ys p childless.1 t.2,
+  )
 
   no_other : (n : List ℕ) (xs ys : List X) (c d : X) → name_of d ≡ name_of c → No n (xs ++ (c ∷ ys)) → No n (xs ++ (d ∷ ys))
   no_other n [] ys c d e h = ((λ f. h.0 (sym e ∙ f)), h.1)
@@ -105,4 +109,5 @@ module _ {X : Type 0} (name_of : X → List ℕ) (parent_of : X → Option (List
   -- a layer of the same name, on a parent that is there, takes another's place
   pub tree_other : (xs ys : List X) (c d : X) → name_of d ≡ name_of c → On (parent_of d) ys → Tree (xs ++ (c ∷ ys)) → Tree (xs ++ (d ∷ ys))
   tree_other [] ys c d e on t = (subst (λ (n : List ℕ). No n ys) (sym e) t.0, on, t.2)
-  tree_other (x ∷ xs) ys c d e on t = (no_other (name_of x) xs ys c d e t.0, on_other (parent_of x) xs ys c d e t.1, tree_other xs ys c d e on t.2)
+  tree_other (x ∷ xs) ys c d e on t =
+      (no_other (name_of x) xs ys c d e t.0, on_other (parent_of x) xs ys c d e t.1, tree_other xs ys c d e on t.2)

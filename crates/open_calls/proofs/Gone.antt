@@ -1,5 +1,6 @@
 -- A call is gone: it has ended, or is withdrawn; and a replica fails.
-use Rattle.std.proofs.Common.{◌≡◌, ◌≢◌, ℕ, ◌+◌, ◌<◌, ◌≤◌, ⊎_elim, true, false, List, length, length-set, slice_set, subst, sym, refl, ◌∙◌, arith}
+use Rattle.std.proofs.Common.{◌≡◌, ◌≢◌, ℕ, ◌+◌, ◌<◌, ◌≤◌, ⊎_elim, true, false, List, length, length-set, slice_set}
+use Rattle.std.proofs.Common.{subst, sym, refl, ◌∙◌, arith}
 use Rattle.std.specs.List.{remove}
 use Rattle.std.proofs.lemmas.Bool.{cases_lt}
 use Rattle.std.proofs.lemmas.List.Edits.{length-remove}
@@ -29,7 +30,8 @@ same_merged : (d e : List ℕ) (at k : ℕ) (bytes : List ℕ) → length d ≡ 
 same_merged d e at k bytes long inside same =
     let inside2 : at + length bytes ≤ length e = omega arith in
     ⊎_elim
-    (λ l. get_or-put_out d at bytes k 0 inside (λ g. absurd (omega arith)) ∙ same ∙ sym (get_or-put_out e at bytes k 0 inside2 (λ g. absurd (omega arith))))
+    (λ l. get_or-put_out d at bytes k 0 inside (λ g. absurd (omega arith)) ∙ same
+    ∙ sym (get_or-put_out e at bytes k 0 inside2 (λ g. absurd (omega arith))))
     (λ g. ⊎_elim
     (λ u. get_or-put_in d at bytes k 0 inside g u ∙ sym (get_or-put_in e at bytes k 0 inside2 g u))
     (λ u. get_or-put_out d at bytes k 0 inside (λ _. u) ∙ same ∙ sym (get_or-put_out e at bytes k 0 inside2 (λ _. u)))
@@ -40,10 +42,13 @@ same_merged d e at k bytes long inside same =
 record IsLeft (v : Volume) (size : ℕ) (modes : List Mode) (tickets : List Ticket) (nodes : List Node) (i : ℕ) (disk : List ℕ) : Type 0 where
   long : length disk ≡ size
   bytes : (r k : ℕ) → mode_of modes r ≡ Rw → IsUnheld (remove tickets i) k → byte_of (node_at nodes r).disk k ≡ byte_of disk k
-  kept : (j k : ℕ) → j ≢ i → j < length tickets → (ticket_at tickets j).started ≡ true → from_of (ticket_at tickets j) ≤ k → k < until_of (ticket_at tickets j)
+  kept : (j k : ℕ) → j ≢ i → j < length tickets → (ticket_at tickets j).started ≡ true → from_of (ticket_at tickets j) ≤ k
+      → k < until_of (ticket_at tickets j)
       → byte_of disk k ≡ byte_of v.disk k
 
-module _ (v : Volume) (size streams : ℕ) (entries : List Entry) (modes : List Mode) (tickets : List Ticket) (calls : List OpenCall) (nodes : List Node) (i : ℕ) (ok : AreClients v size streams entries modes tickets calls nodes) (h : i < length tickets) where
+module _ (v : Volume) (size streams : ℕ) (entries : List Entry) (modes : List Mode) (tickets : List Ticket)
+    (calls : List OpenCall) (nodes : List Node) (i : ℕ) (ok : AreClients v size streams entries modes tickets calls nodes)
+    (h : i < length tickets) where
   abbrev c : OpenCall
   c = open_at calls i
 
@@ -57,12 +62,14 @@ module _ (v : Volume) (size streams : ℕ) (entries : List Entry) (modes : List 
   left_in j l = skip-in i j (length tickets) (omega (arith, length-remove tickets i h))
 
   -- what holds of a ticket and its call, for those that stay
-  each_left : (Q : Ticket → OpenCall → Type 0) (j : ℕ) → Q (ticket_at tickets (skip i j)) (open_at calls (skip i j)) → Q (ticket_at (remove tickets i) j) (open_at (remove calls i) j)
+  each_left : (Q : Ticket → OpenCall → Type 0) (j : ℕ) → Q (ticket_at tickets (skip i j)) (open_at calls (skip i j))
+      → Q (ticket_at (remove tickets i) j) (open_at (remove calls i) j)
   each_left Q j q =
       subst (λ (x : Ticket). Q x (open_at (remove calls i) j)) (sym (get_or-remove tickets i j no_ticket h))
       (subst (λ (x : OpenCall). Q (ticket_at tickets (skip i j)) x) (sym (get_or-remove calls i j no_call call_in)) q)
 
-  gone_clients : (disk : List ℕ) → IsLeft v size modes tickets nodes i disk → AreClients (record v { disk = disk }) size streams entries modes (remove tickets i) (remove calls i) nodes
+  gone_clients : (disk : List ℕ) → IsLeft v size modes tickets nodes i disk
+      → AreClients (record v { disk = disk }) size streams entries modes (remove tickets i) (remove calls i) nodes
   gone_clients disk g =
       let a = ok.agree in
       record {
@@ -79,7 +86,9 @@ module _ (v : Volume) (size streams : ℕ) (entries : List Entry) (modes : List 
               room = o.room;
               taken = o.taken;
               merged = λ k low high. o.merged k low high
-                  ∙ sym (same_merged disk v.disk y.at k y.bytes (omega (arith, g.long, a.disk)) (omega (arith, g.long, f.lies.good, f.count w.writes)) (g.kept (skip i j) k (skip-other i j) (left_in j l) w.started low high));
+                  ∙ sym (same_merged disk v.disk y.at k y.bytes (omega (arith, g.long, a.disk))
+                  (omega (arith, g.long, f.lies.good, f.count w.writes))
+                  (g.kept (skip i j) k (skip-other i j) (left_in j l) w.started low high));
             });
         reads = λ j l. each_left (λ x y. IsReading x → ReadsFrom disk modes y) j
             (λ w. let o = ok.reads (skip i j) (left_in j l) w in
@@ -95,7 +104,8 @@ module _ (v : Volume) (size streams : ℕ) (entries : List Entry) (modes : List 
       }
 
   -- a call that held nothing, or where no replica is read
-  pub left_clients : ((r : ℕ) → mode_of modes r ≡ Rw → IsWriting t → ⊥) → AreClients v size streams entries modes (remove tickets i) (remove calls i) nodes
+  pub left_clients : ((r : ℕ) → mode_of modes r ≡ Rw → IsWriting t → ⊥)
+      → AreClients v size streams entries modes (remove tickets i) (remove calls i) nodes
   left_clients none = gone_clients v.disk (record {
     long = ok.agree.disk;
     bytes = λ r k e free. ok.agree.bytes r k e (free_before tickets i k h free (λ w. absurd (none r e w)));
@@ -104,7 +114,8 @@ module _ (v : Volume) (size streams : ℕ) (entries : List Entry) (modes : List 
 
   -- a write that each replica has acknowledged which has not failed
   pub written_clients : IsWriting t → ((q : ℕ) → q < length nodes → is_pending_at (mode_of modes q) (part_at c.parts q) ≡ false)
-      → AreClients (record v { disk = with_bytes_at v.disk c.at c.bytes }) size streams entries modes (remove tickets i) (remove calls i) nodes
+      → AreClients (record v { disk = with_bytes_at v.disk c.at c.bytes }) size streams entries modes (remove tickets i)
+      (remove calls i) nodes
   written_clients w acknowledged =
       let f = ok.fits i h in
       let o = ok.writes i h w in
@@ -112,25 +123,32 @@ module _ (v : Volume) (size streams : ℕ) (entries : List Entry) (modes : List 
       let n : length c.bytes ≡ c.length = f.count w.writes in
       let within : c.at + length c.bytes ≤ length v.disk = omega (arith, n, f.lies.good, a.disk) in
       let all = λ (q : ℕ) (e : mode_of modes q ≡ Rw). let up = rw_up (mode_of modes q) e in
-      taken_unless_pending (mode_of modes q) (part_at c.parts q) e (acknowledged q (omega (arith, up_in modes q up, a.as_many))) (o.owed q up) in
+      taken_unless_pending (mode_of modes q) (part_at c.parts q) e
+      (acknowledged q (omega (arith, up_in modes q up, a.as_many))) (o.owed q up) in
       let outside = λ (k : ℕ) (out : from_of t ≤ k → until_of t ≤ k). get_or-put_out v.disk c.at c.bytes k 0 within
-      (λ g. ⊎_elim (λ u. let in' = f.lies.covers k g (omega (arith, n)) in absurd (omega (arith, out in'.0, in'.1))) (λ u. u) (cases_lt k (c.at + length c.bytes))) in
+      (λ g. ⊎_elim (λ u. let in' = f.lies.covers k g (omega (arith, n)) in
+      absurd (omega (arith, out in'.0, in'.1))) (λ u. u) (cases_lt k (c.at + length c.bytes))) in
       gone_clients (with_bytes_at v.disk c.at c.bytes) (record {
         long = length-put v.disk c.at c.bytes within ∙ a.disk;
         bytes = λ r k e free. ⊎_elim
-            (λ l. a.bytes r k e (free_before tickets i k h free (λ _ g. absurd (omega arith))) ∙ sym (outside k (λ g. absurd (omega arith))))
+            (λ l. a.bytes r k e (free_before tickets i k h free (λ _ g. absurd (omega arith)))
+            ∙ sym (outside k (λ g. absurd (omega arith))))
             (λ l. ⊎_elim
             (λ m. o.taken r (all r e) k l m ∙ o.merged k l m)
             (λ m. a.bytes r k e (free_before tickets i k h free (λ _ _. m)) ∙ sym (outside k (λ _. m)))
             (cases_lt k (until_of t)))
             (cases_lt k (from_of t));
-        kept = λ j k m l s low high. outside k (λ g. ⊎_elim (λ u. absurd (omega (arith, held_apart tickets i j k ok.order.apart h l (λ e. m (sym e)) w s g u low))) (λ u. u) (cases_lt k (until_of t)));
+        kept = λ j k m l s low high. outside k
+            (λ g. ⊎_elim (λ u. absurd (omega (arith, held_apart tickets i j k ok.order.apart h l (λ e. m (sym e)) w s g u low)))
+            (λ u. u) (cases_lt k (until_of t)));
       })
 
 -- ---- a replica fails: what it owed it owes no more
 
-pub failed_clients : (v : Volume) (size streams r : ℕ) (entries : List Entry) (modes : List Mode) (tickets : List Ticket) (calls : List OpenCall) (nodes : List Node) → mode_of modes r ≢ Err
-    → AreClients v size streams entries modes tickets calls nodes → AreClients v size streams entries (slice_set modes r Err) tickets calls nodes
+pub failed_clients : (v : Volume) (size streams r : ℕ) (entries : List Entry) (modes : List Mode) (tickets : List Ticket)
+    (calls : List OpenCall) (nodes : List Node) → mode_of modes r ≢ Err
+    → AreClients v size streams entries modes tickets calls nodes
+    → AreClients v size streams entries (slice_set modes r Err) tickets calls nodes
 failed_clients v size streams r entries modes tickets calls nodes up ok =
     let h = up_in modes r up in
     let a = ok.agree in
@@ -158,7 +176,9 @@ failed_clients v size streams r entries modes tickets calls nodes up ok =
 
 -- ---- the journal has more entries, of which that is seen
 
-pub seen_clients : (v : Volume) (size streams : ℕ) (entries more : List Entry) (modes : List Mode) (tickets : List Ticket) (calls : List OpenCall) (nodes : List Node)
-    → AreSeen more calls → AreClients v size streams entries modes tickets calls nodes → AreClients v size streams more modes tickets calls nodes
+pub seen_clients : (v : Volume) (size streams : ℕ) (entries more : List Entry) (modes : List Mode) (tickets : List Ticket)
+    (calls : List OpenCall) (nodes : List Node)
+    → AreSeen more calls → AreClients v size streams entries modes tickets calls nodes
+    → AreClients v size streams more modes tickets calls nodes
 seen_clients v size streams entries more modes tickets calls nodes seen ok =
     record { paired = ok.paired; order = ok.order; fits = ok.fits; agree = ok.agree; writes = ok.writes; reads = ok.reads; seen = seen }

@@ -1,5 +1,6 @@
 -- Reading a list after one place was set, one element pushed, or one taken out.
-use Rattle.std.proofs.Common.{◌≡◌, ◌≢◌, ℕ, ◌+◌, ◌-◌, ◌<◌, ◌≤◌, ⊎_elim, cond, ltb, List, [], ◌∷◌, ◌++◌, length, get_or, set, get_or-set_same, get_or-set_other, subst, sym, ap, ◌∙◌, arith}
+use Rattle.std.proofs.Common.{◌≡◌, ◌≢◌, ℕ, ◌+◌, ◌-◌, ◌<◌, ◌≤◌, ⊎_elim, cond, ltb, List, [], ◌∷◌, ◌++◌, length, get_or}
+use Rattle.std.proofs.Common.{set, get_or-set_same, get_or-set_other, subst, sym, ap, ◌∙◌, arith}
 use Rattle.std.specs.List.{remove}
 use Rattle.std.proofs.lemmas.Bool.{cases_eq, cases_lt}
 use Rattle.std.proofs.lemmas.Bool.Decides.{nat_tests}
@@ -24,7 +25,8 @@ each_set Q xs i j x d h here other = at_set (Q j) xs i j x d h (λ e. subst (λ 
 
 -- ---- one element was pushed
 
-pub at_push : {X : Type 0} (P : X → Type 0) (xs : List X) (x : X) (j : ℕ) (d : X) → j < length (xs ++ x ∷ []) → (j < length xs → P (get_or xs j d)) → (j ≡ length xs → P x)
+pub at_push : {X : Type 0} (P : X → Type 0) (xs : List X) (x : X) (j : ℕ) (d : X) → j < length (xs ++ x ∷ [])
+    → (j < length xs → P (get_or xs j d)) → (j ≡ length xs → P x)
     → P (get_or (xs ++ x ∷ []) j d)
 at_push P xs x j d h old new =
     ⊎_elim
@@ -62,7 +64,8 @@ skip-in i j n h = ⊎_elim (λ l. omega (arith, skip_below i j l)) (λ l. omega 
 pub skip-more : (i a b : ℕ) → a < b → skip i a < skip i b
 skip-more i a b h =
     ⊎_elim
-    (λ l. ⊎_elim (λ m. omega (arith, skip_below i a l, skip_below i b m)) (λ m. omega (arith, skip_below i a l, skip_above i b m)) (cases_lt b i))
+    (λ l. ⊎_elim (λ m. omega (arith, skip_below i a l, skip_below i b m))
+    (λ m. omega (arith, skip_below i a l, skip_above i b m)) (cases_lt b i))
     (λ l. omega (arith, skip_above i a l, skip_above i b (omega arith)))
     (cases_lt a i)
 

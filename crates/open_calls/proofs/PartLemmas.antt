@@ -1,5 +1,6 @@
 -- Parts and modes at one place.
-use Rattle.std.proofs.Common.{◌≡◌, ◌≢◌, ℕ, zero, suc, ◌<◌, ⊎_elim, false, List, [], ◌∷◌, length, map, set, get_or-set_other, subst, sym, refl}
+use Rattle.std.proofs.Common.{◌≡◌, ◌≢◌, ℕ, zero, suc, ◌<◌, ⊎_elim, false, List, [], ◌∷◌, length, map, set}
+use Rattle.std.proofs.Common.{get_or-set_other, subst, sym, refl}
 use Rattle.std.proofs.lemmas.Bool.{cases_lt}
 use Rattle.std.proofs.lemmas.List.{get_or_past}
 use Rattle.volume_model.specs.declared.mode.Mode.{Mode}
@@ -34,14 +35,16 @@ pub taken_in : (parts : List Part) (r : ℕ) → IsTaken (part_at parts r) → r
 taken_in parts r t = ⊎_elim (λ l. l) (λ l. absurd (not_taken (subst IsTaken (get_or_past parts r Apart l) t))) (cases_lt r (length parts))
 
 -- a part that is owed stays so where one is set to another
-pub part_owed : (parts : List Part) (r q : ℕ) (x : Part) → r < length parts → x ≢ Apart → part_at parts q ≢ Apart → part_at (set parts r x) q ≢ Apart
+pub part_owed : (parts : List Part) (r q : ℕ) (x : Part) → r < length parts → x ≢ Apart → part_at parts q ≢ Apart
+    → part_at (set parts r x) q ≢ Apart
 part_owed parts r q x h n m = at_set (λ (p : Part). p ≢ Apart) parts r q x Apart h (λ _. n) (λ _. m)
 
 -- a part that is taken was, but for the one that is set, and for that too where it was taken
 pub part_was : (parts : List Part) (r q : ℕ) (x : Part) → q ≢ r → IsTaken (part_at (set parts r x) q) → IsTaken (part_at parts q)
 part_was parts r q x n t = subst IsTaken (get_or-set_other parts r q x Apart n) t
 
-pub acked_was : (parts : List Part) (r q : ℕ) → IsTaken (part_at parts r) → IsTaken (part_at (set parts r Acked) q) → IsTaken (part_at parts q)
+pub acked_was : (parts : List Part) (r q : ℕ) → IsTaken (part_at parts r) → IsTaken (part_at (set parts r Acked) q)
+    → IsTaken (part_at parts q)
 acked_was parts r q mine =
     at_set (λ (p : Part). IsTaken p → IsTaken (part_at parts q)) parts r q Acked Apart (taken_in parts r mine)
     (λ e _. subst (λ n. IsTaken (part_at parts n)) (sym e) mine) (λ _ t. t)

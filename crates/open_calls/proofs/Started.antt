@@ -1,5 +1,6 @@
 -- Places are made, and a call starts.
-use Rattle.std.proofs.Common.{◌≡◌, ◌≢◌, ℕ, ◌+◌, ◌-◌, ◌<◌, ◌≤◌, ⊎_elim, true, false, List, ◌++◌, length, map, set, length-set, subst, sym, refl, ap, ◌∙◌, arith}
+use Rattle.std.proofs.Common.{◌≡◌, ◌≢◌, ℕ, ◌+◌, ◌-◌, ◌<◌, ◌≤◌, ⊎_elim, true, false, List, ◌++◌, length, map, set}
+use Rattle.std.proofs.Common.{length-set, subst, sym, refl, ap, ◌∙◌, arith}
 use Rattle.std.proofs.lemmas.Bool.{cases_lt}
 use Rattle.std.proofs.lemmas.List.{length-map, length-append, get_or_append_left, get_or-append_right}
 use Rattle.vol_units.specs.Bytes.{with_bytes_at}
@@ -31,8 +32,10 @@ use Rattle.open_calls.proofs.SeenLemmas.{seen_set}
 pub same_keeps : (nodes : List Node) → KeepsNodes nodes nodes
 same_keeps nodes = record { count = refl; same = λ r. refl; kept = λ r block e. e }
 
-pub roomed_clients : (v : Volume) (size streams : ℕ) (entries : List Entry) (modes : List Mode) (tickets : List Ticket) (calls : List OpenCall) (old nodes : List Node)
-    → AreClients v size streams entries modes tickets calls old → KeepsNodes old nodes → AreClients v size streams entries modes tickets calls nodes
+pub roomed_clients : (v : Volume) (size streams : ℕ) (entries : List Entry) (modes : List Mode) (tickets : List Ticket)
+    (calls : List OpenCall) (old nodes : List Node)
+    → AreClients v size streams entries modes tickets calls old → KeepsNodes old nodes
+    → AreClients v size streams entries modes tickets calls nodes
 roomed_clients v size streams entries modes tickets calls old nodes ok keeps =
     let a = ok.agree in
     let disk = λ (r : ℕ). ap (λ (n : Node). n.disk) (keeps.same r) in
@@ -61,7 +64,8 @@ roomed_clients v size streams entries modes tickets calls old nodes ok keeps =
 -- ---- the bytes of a write that starts
 
 -- its blocks are the disk's, once its bytes are put there
-pub edges_merge : (from until at k : ℕ) (bytes front back disk other : List ℕ) → AreEdges from until at (length bytes) disk front back → until ≤ length disk → at + length bytes ≤ length other
+pub edges_merge : (from until at k : ℕ) (bytes front back disk other : List ℕ)
+    → AreEdges from until at (length bytes) disk front back → until ≤ length disk → at + length bytes ≤ length other
     → ((b : ℕ) → from ≤ b → b < until → byte_of disk b ≡ byte_of other b) → from ≤ k → k < until
     → byte_of ((front ++ bytes) ++ back) (k - from) ≡ byte_of (with_bytes_at other at bytes) k
 edges_merge from until at k bytes front back disk other e inside within same low high =
@@ -69,16 +73,22 @@ edges_merge from until at k bytes front back disk other e inside within same low
     let fb : length (front ++ bytes) ≡ length front + length bytes = length-append front bytes in
     let long = e.whole in
     ⊎_elim
-    (λ l. get_or_append_left (front ++ bytes) back 0 (k - from) (omega (arith, fb, l, start)) ∙ get_or_append_left front bytes 0 (k - from) (omega (arith, l, start))
-    ∙ ap (λ x. byte_of x (k - from)) e.before ∙ get_or-bytes_at disk from (length front) (k - from) (omega (arith, long, inside)) (omega (arith, l, start))
-    ∙ ap (byte_of disk) (back_to from k low) ∙ same k low high ∙ sym (get_or-put_out other at bytes k 0 within (λ g. absurd (omega (arith, g, l)))))
+    (λ l. get_or_append_left (front ++ bytes) back 0 (k - from) (omega (arith, fb, l, start))
+    ∙ get_or_append_left front bytes 0 (k - from) (omega (arith, l, start))
+    ∙ ap (λ x. byte_of x (k - from)) e.before ∙ get_or-bytes_at disk from (length front) (k - from)
+    (omega (arith, long, inside)) (omega (arith, l, start))
+    ∙ ap (byte_of disk) (back_to from k low) ∙ same k low high
+    ∙ sym (get_or-put_out other at bytes k 0 within (λ g. absurd (omega (arith, g, l)))))
     (λ g. ⊎_elim
-    (λ l. get_or_append_left (front ++ bytes) back 0 (k - from) (omega (arith, fb, l, start)) ∙ get_or-append_right front bytes (length front) (k - from) 0 refl (omega (arith, g, start))
+    (λ l. get_or_append_left (front ++ bytes) back 0 (k - from) (omega (arith, fb, l, start))
+    ∙ get_or-append_right front bytes (length front) (k - from) 0 refl (omega (arith, g, start))
     ∙ ap (byte_of bytes) (shifted from (length front) at k start) ∙ sym (get_or-put_in other at bytes k 0 within g l))
     (λ m. get_or-append_right (front ++ bytes) back (length front + length bytes) (k - from) 0 fb (omega (arith, m, start))
     ∙ ap (λ x. byte_of x (k - from - (length front + length bytes))) e.behind
-    ∙ get_or-bytes_at disk (at + length bytes) (length back) (k - from - (length front + length bytes)) (omega (arith, long, start, inside)) (omega (arith, long, start, high, m))
-    ∙ ap (byte_of disk) (beyond from (length front) (length bytes) at k start m) ∙ same k low high ∙ sym (get_or-put_out other at bytes k 0 within (λ _. m)))
+    ∙ get_or-bytes_at disk (at + length bytes) (length back) (k - from - (length front + length bytes))
+    (omega (arith, long, start, inside)) (omega (arith, long, start, high, m))
+    ∙ ap (byte_of disk) (beyond from (length front) (length bytes) at k start m) ∙ same k low high
+    ∙ sym (get_or-put_out other at bytes k 0 within (λ _. m)))
     (cases_lt k (at + length bytes)))
     (cases_lt k at)
   where
@@ -93,7 +103,10 @@ edges_merge from until at k bytes front back disk other e inside within same low
 
 -- ---- the start
 
-module _ (v : Volume) (size streams : ℕ) (entries : List Entry) (modes : List Mode) (tickets : List Ticket) (calls : List OpenCall) (nodes : List Node) (i : ℕ) (front back buffer : List ℕ) (ok : AreClients v size streams entries modes tickets calls nodes) (h : i < length tickets) (waits : (ticket_at tickets i).started ≡ false) (clear : IsClear tickets i) where
+module _ (v : Volume) (size streams : ℕ) (entries : List Entry) (modes : List Mode) (tickets : List Ticket)
+    (calls : List OpenCall) (nodes : List Node) (i : ℕ) (front back buffer : List ℕ)
+    (ok : AreClients v size streams entries modes tickets calls nodes) (h : i < length tickets)
+    (waits : (ticket_at tickets i).started ≡ false) (clear : IsClear tickets i) where
   abbrev t : Ticket
   t = ticket_at tickets i
 
@@ -106,10 +119,13 @@ module _ (v : Volume) (size streams : ℕ) (entries : List Entry) (modes : List 
   abbrev x : OpenCall
   x = begun c modes front back buffer
 
-  each_begun : (Q : ℕ → Ticket → OpenCall → Type 0) (j : ℕ) → Q i started x → (j ≢ i → Q j (ticket_at tickets j) (open_at calls j)) → Q j (ticket_at (set tickets i started) j) (open_at (set calls i x) j)
+  each_begun : (Q : ℕ → Ticket → OpenCall → Type 0) (j : ℕ) → Q i started x
+      → (j ≢ i → Q j (ticket_at tickets j) (open_at calls j))
+      → Q j (ticket_at (set tickets i started) j) (open_at (set calls i x) j)
   each_begun Q j here other =
       at_set (λ (y : Ticket). Q j y (open_at (set calls i x) j)) tickets i j started no_ticket h
-      (λ e. at_set (Q j started) calls i j x no_call (omega (arith, ok.paired)) (λ _. subst (λ (n : ℕ). Q n started x) (sym e) here) (λ n. absurd (n e)))
+      (λ e. at_set (Q j started) calls i j x no_call (omega (arith, ok.paired))
+      (λ _. subst (λ (n : ℕ). Q n started x) (sym e) here) (λ n. absurd (n e)))
       (λ n. at_set (Q j (ticket_at tickets j)) calls i j x no_call (omega (arith, ok.paired)) (λ e. absurd (n e)) (λ _. other n))
 
   still : (j : ℕ) → j < length (set tickets i started) → j < length tickets
@@ -123,14 +139,25 @@ module _ (v : Volume) (size streams : ℕ) (entries : List Entry) (modes : List 
   started_clients count whole merged room =
       let a = ok.agree in
       let f = ok.fits i h in
-      let owed = λ (q : ℕ) (up : mode_of modes q ≢ Err) (e : part_at (map part_for modes) q ≡ Rattle.open_calls.specs.declared.parts.Part.TheVariants.Apart). part_for_up (mode_of modes q) up (sym (part_of modes q) ∙ e) in
-      let new = λ (q : ℕ) (tk : IsTaken (part_at (map part_for modes) q)). part_for_new (mode_of modes q) (subst IsTaken (part_of modes q) tk) in
+      let owed = λ (q : ℕ) (up : mode_of modes q ≢ Err)
+      (e : part_at (map part_for modes) q ≡ Rattle.open_calls.specs.declared.parts.Part.TheVariants.Apart). part_for_up
+      (mode_of modes q) up (sym (part_of modes q) ∙ e) in
+      let new = λ (q : ℕ) (tk : IsTaken (part_at (map part_for modes) q)). part_for_new (mode_of modes q)
+      (subst IsTaken (part_of modes q) tk) in
       record {
         paired = length-set calls i x ∙ ok.paired ∙ sym (length-set tickets i started);
         order = AreInOrder-with_started tickets i clear ok.order;
         fits = λ j l. each_begun (λ n y z. Fits size streams (length nodes) y z) j
             (record {
-              lies = record { around = f.lies.around; up = f.lies.up; within = f.lies.within; good = f.lies.good; covers = f.lies.covers; empty = f.lies.empty };
+              lies = record {
+                around = f.lies.around;
+                up = f.lies.up;
+                within = f.lies.within;
+                good = f.lies.good;
+                covers =
+                    f.lies.covers;
+                empty = f.lies.empty;
+              };
               stream = f.stream;
               short = f.short;
               count = f.count;
@@ -145,8 +172,13 @@ module _ (v : Volume) (size streams : ℕ) (entries : List Entry) (modes : List 
           sizes = a.sizes;
           tree = a.tree;
           copies = a.copies;
-          bytes = λ r k e free. a.bytes r k e (λ j l. at_set (λ (y : Ticket). (IsWriting y → from_of y ≤ k → until_of y ≤ k) → IsWriting (ticket_at tickets j) → from_of (ticket_at tickets j) ≤ k → until_of (ticket_at tickets j) ≤ k) tickets i j started no_ticket h
-              (λ e. subst (λ (n : ℕ). (IsWriting started → from_of started ≤ k → until_of started ≤ k) → IsWriting (ticket_at tickets n) → from_of (ticket_at tickets n) ≤ k → until_of (ticket_at tickets n) ≤ k) (sym e) (λ g w. g (record { started = refl; writes = w.writes })))
+          bytes = λ r k e free. a.bytes r k e
+              (λ j l. at_set (λ (y : Ticket). (IsWriting y → from_of y ≤ k → until_of y ≤ k)
+              → IsWriting (ticket_at tickets j) → from_of (ticket_at tickets j) ≤ k → until_of (ticket_at tickets j) ≤ k)
+              tickets i j started no_ticket h
+              (λ e. subst (λ (n : ℕ). (IsWriting started → from_of started ≤ k → until_of started ≤ k)
+              → IsWriting (ticket_at tickets n) → from_of (ticket_at tickets n) ≤ k → until_of (ticket_at tickets n) ≤ k)
+              (sym e) (λ g w. g (record { started = refl; writes = w.writes })))
               (λ _ g. g)
               (free j (omega (arith, length-set tickets i started))));
         };

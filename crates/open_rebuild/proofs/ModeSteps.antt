@@ -1,5 +1,6 @@
 -- Replicas fail, and the rebuilt one is promoted.
-use Rattle.std.proofs.Common.{◌≡◌, ◌≢◌, ⊎_elim, ◌⊎◌, inl, inr, ℕ, ◌*◌, ◌<◌, ◌≤◌, List, length, length-set, set, get_or-set_same, get_or-set_other, Option, None, Some, sym, ap, subst, ◌∙◌, arith}
+use Rattle.std.proofs.Common.{◌≡◌, ◌≢◌, ⊎_elim, ◌⊎◌, inl, inr, ℕ, ◌*◌, ◌<◌, ◌≤◌, List, length, length-set, set}
+use Rattle.std.proofs.Common.{get_or-set_same, get_or-set_other, Option, None, Some, sym, ap, subst, ◌∙◌, arith}
 use Rattle.std.proofs.lemmas.Bool.{cases_eq, cases_lt}
 use Rattle.std.proofs.lemmas.List.{get_or_past}
 use Rattle.volume_model.specs.declared.entry.Entry.{Entry}
@@ -45,7 +46,8 @@ wo_before modes r q e =
     gone (inr h) = get_or_past (set modes r Err) r Err (omega (arith, length-set modes r Err, h))
 
 -- another replica than those of a rebuild
-pub other_failed : (size : ℕ) (modes : List Mode) (ts : List Ticket) (cs : List OpenCall) (w : Option Whole) (ns : List Node) (rebuild : Option Rebuilding) (r : ℕ) → IsApart rebuild r
+pub other_failed : (size : ℕ) (modes : List Mode) (ts : List Ticket) (cs : List OpenCall) (w : Option Whole)
+    (ns : List Node) (rebuild : Option Rebuilding) (r : ℕ) → IsApart rebuild r
     → IsRebuilding size modes ts cs w ns rebuild → IsRebuilding size (set modes r Err) ts cs w ns rebuild
 other_failed size modes ts cs w ns rebuild r apart k = record { roles = go rebuild apart k.roles; claim = k.claim }
   where
@@ -58,7 +60,8 @@ other_failed size modes ts cs w ns rebuild r apart k = record { roles = go rebui
     }
 
 -- the source or the target: the target has failed then, and no rebuild is open
-pub rebuild_failed : (size : ℕ) (modes : List Mode) (ts : List Ticket) (cs : List OpenCall) (w : Option Whole) (ns : List Node) (b : Rebuilding) (r : ℕ)
+pub rebuild_failed : (size : ℕ) (modes : List Mode) (ts : List Ticket) (cs : List OpenCall) (w : Option Whole)
+    (ns : List Node) (b : Rebuilding) (r : ℕ)
     → IsRebuilding size modes ts cs w ns (Some b) → IsRebuilding size (set (set modes r Err) b.target Err) ts cs w ns None
 rebuild_failed size modes ts cs w ns b r k = record {
   roles = λ q e. let once = wo_before (set modes r Err) b.target q e in once.0 (k.roles.only q (wo_before modes r q once.1).1);
@@ -66,7 +69,8 @@ rebuild_failed size modes ts cs w ns b r k = record {
 }
 
 -- so it is where it is given up
-pub rebuild_given_up : (size : ℕ) (modes : List Mode) (ts : List Ticket) (cs : List OpenCall) (w : Option Whole) (ns : List Node) (b : Rebuilding)
+pub rebuild_given_up : (size : ℕ) (modes : List Mode) (ts : List Ticket) (cs : List OpenCall) (w : Option Whole)
+    (ns : List Node) (b : Rebuilding)
     → IsRebuilding size modes ts cs w ns (Some b) → IsRebuilding size (set modes b.target Err) ts cs w ns None
 rebuild_given_up size modes ts cs w ns b k = record {
   roles = λ q e. let was = wo_before modes b.target q e in was.0 (k.roles.only q was.1);
@@ -75,9 +79,11 @@ rebuild_given_up size modes ts cs w ns b k = record {
 
 -- ---- promotion
 
-module _ (v : Volume) (size streams : ℕ) (es : List Entry) (modes : List Mode) (ts : List Ticket) (cs : List OpenCall) (w : Option Whole) (ns : List Node) (b : Rebuilding) (count : ℕ)
+module _ (v : Volume) (size streams : ℕ) (es : List Entry) (modes : List Mode) (ts : List Ticket) (cs : List OpenCall)
+    (w : Option Whole) (ns : List Node) (b : Rebuilding) (count : ℕ)
     (ok : AreClients v size streams es modes ts cs (forms w ns)) (k : IsRebuilding size modes ts cs w ns (Some b))
-    (source : IsReplica (node_at (forms w ns) b.source) count) (target : IsReplica (node_at (forms w ns) b.target) count) (all : AreListed b.listed (length b.listed)) where
+    (source : IsReplica (node_at (forms w ns) b.source) count) (target : IsReplica (node_at (forms w ns) b.target) count)
+    (all : AreListed b.listed (length b.listed)) where
   up : mode_of modes b.target ≢ Err
   up = up_wo (mode_of modes b.target) k.roles.target
 
@@ -102,7 +108,8 @@ module _ (v : Volume) (size streams : ℕ) (es : List Entry) (modes : List Mode)
         paired = ok.paired;
         order = ok.order;
         fits = ok.fits;
-        agree = promoted_agree count b.frozen (listed_of b) v size modes ts (forms w ns) b.source b.target ok.agree k.roles.source inside up source target u.rebuilt
+        agree = promoted_agree count b.frozen (listed_of b) v size modes ts (forms w ns) b.source b.target ok.agree
+            k.roles.source inside up source target u.rebuilt
             (all_listed b.frozen b.pages count b.listed blocks u.bits all);
         writes = λ i l x. let c = ok.writes i l x in record {
           owed = λ q n. c.owed q (up_after q n);
@@ -115,11 +122,13 @@ module _ (v : Volume) (size streams : ℕ) (es : List Entry) (modes : List Mode)
       }
 
 -- and none is rebuilt any more
-pub promoted_roles : (size : ℕ) (modes : List Mode) (ts : List Ticket) (cs : List OpenCall) (w : Option Whole) (ns : List Node) (b : Rebuilding)
+pub promoted_roles : (size : ℕ) (modes : List Mode) (ts : List Ticket) (cs : List OpenCall) (w : Option Whole)
+    (ns : List Node) (b : Rebuilding)
     → IsRebuilding size modes ts cs w ns (Some b) → IsRebuilding size (set modes b.target Rw) ts cs w ns None
 promoted_roles size modes ts cs w ns b k = record {
   roles = λ q e. ⊎_elim
-      (λ same. rw≢wo (sym (get_or-set_same modes b.target Rw Err (up_in modes b.target (up_wo (mode_of modes b.target) k.roles.target))) ∙ ap (mode_of (set modes b.target Rw)) (sym same) ∙ e))
+      (λ same. rw≢wo (sym (get_or-set_same modes b.target Rw Err (up_in modes b.target (up_wo (mode_of modes b.target) k.roles.target)))
+      ∙ ap (mode_of (set modes b.target Rw)) (sym same) ∙ e))
       (λ n. n (k.roles.only q (sym (get_or-set_other modes b.target q Rw Err n) ∙ e)))
       (cases_eq q b.target);
   claim = tt;

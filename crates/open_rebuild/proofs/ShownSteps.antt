@@ -1,6 +1,8 @@
 -- A page that comes into the replica that is rebuilt shows nowhere: it is written and not read, and neither its head nor
 -- what is told of its layers changes.
-use Rattle.std.proofs.Common.{◌≡◌, ◌≢◌, ⊎_elim, ℕ, ◌-◌, ◌*◌, ◌/◌, ◌%◌, Bool, true, false, cond, List, length, length-set, map, get_or, set, get_or-set_other, Option, None, Some, sym, ap, subst, ◌∙◌, arith}
+use Rattle.std.proofs.Common.{◌≡◌, ◌≢◌, ⊎_elim, ℕ, ◌-◌, ◌*◌, ◌/◌, ◌%◌, Bool, true, false, cond, List, length}
+use Rattle.std.proofs.Common.{length-set, map, get_or, set, get_or-set_other, Option, None, Some, sym, ap, subst, ◌∙◌}
+use Rattle.std.proofs.Common.{arith}
 use Rattle.std.specs.Prelude.{Contains}
 use Rattle.std.proofs.lemmas.Bool.{cases_eq}
 use Rattle.std.proofs.lemmas.List.{places}
@@ -42,7 +44,8 @@ use Rattle.open_rebuild.proofs.PageSteps.{new_puts, other, same_head, still, tar
 
 -- ---- what is told of a replica
 
-snapshots_same : (old new : Node) → metas_of new ≡ metas_of old → new.on ≡ old.on → new.number ≡ old.number → snapshots_of new ≡ snapshots_of old
+snapshots_same : (old new : Node) → metas_of new ≡ metas_of old → new.on ≡ old.on → new.number ≡ old.number
+    → snapshots_of new ≡ snapshots_of old
 snapshots_same old new metas on number = all (tree new ∙ ap (map snapshot_of) metas ∙ sym (tree old)) on number
   where
     tree : (n : Node) → tree_of n ≡ map snapshot_of (metas_of n)
@@ -73,7 +76,8 @@ byte_in : (disk : List ℕ) (k : ℕ) → byte_of disk k ≡ byte_of (bytes_at d
 byte_in disk k = grind (arith, places)
 
 -- a block that the head itself has, and had
-same_byte : (old new : Node) (k : ℕ) (bytes : List ℕ) → head_block old (k / 4096) ≡ Some bytes → head_block new (k / 4096) ≡ head_block old (k / 4096) → byte_of new.disk k ≡ byte_of old.disk k
+same_byte : (old new : Node) (k : ℕ) (bytes : List ℕ) → head_block old (k / 4096) ≡ Some bytes
+    → head_block new (k / 4096) ≡ head_block old (k / 4096) → byte_of new.disk k ≡ byte_of old.disk k
 same_byte old new k bytes has same =
     byte_in new.disk k
     ∙ ap (λ (l : List ℕ). byte_of l (k % 4096))
@@ -81,15 +85,19 @@ same_byte old new k bytes has same =
     ∙ sym (own_bytes (get_or old.own (k / 4096) false) (bytes_at old.disk (k / 4096 * 4096) 4096) bytes has))
     ∙ sym (byte_in old.disk k)
 
-has_still : (old new : Node) (t : Ticket) (c : OpenCall) → HasWrite t c old → ((block : ℕ) → head_block new block ≡ head_block old block) → HasBytes t c old → HasBytes t c new
+has_still : (old new : Node) (t : Ticket) (c : OpenCall) → HasWrite t c old
+    → ((block : ℕ) → head_block new block ≡ head_block old block) → HasBytes t c old → HasBytes t c new
 has_still old new t c put same has k f u =
-    same_byte old new k (bytes_at (whole_of c) ((k / 4096 - t.range.first) * 4096) 4096) (put (k / 4096) (omega (arith, f)) (omega (arith, f, u))) (same (k / 4096))
+    same_byte old new k (bytes_at (whole_of c) ((k / 4096 - t.range.first) * 4096) 4096)
+    (put (k / 4096) (omega (arith, f)) (omega (arith, f, u))) (same (k / 4096))
     ∙ has k f u
 
 -- ---- a snapshot that is owed
 
-takes_still : (op : WholeOp) (frozen : List (List ℕ)) (s : Snapshots) (old new : Node) (spare : Option Tables) → IsBesideThese frozen op → IsToldAlike old new → CanTake op s old spare → CanTake op s new spare
-takes_still (whole.Snapshot name) frozen s old new spare beside alike takes = record { still = alike.snapshots ∙ takes.still; spared = spared spare takes.spared; folded = tt }
+takes_still : (op : WholeOp) (frozen : List (List ℕ)) (s : Snapshots) (old new : Node) (spare : Option Tables)
+    → IsBesideThese frozen op → IsToldAlike old new → CanTake op s old spare → CanTake op s new spare
+takes_still (whole.Snapshot name) frozen s old new spare beside alike takes =
+    record { still = alike.snapshots ∙ takes.still; spared = spared spare takes.spared; folded = tt }
   where
     spared : (spare : Option Tables) → HasSpare old spare → HasSpare new spare
     spared None has = absurd has
@@ -100,7 +108,8 @@ takes_still (whole.Purge f) frozen s old new spare beside alike takes = absurd b
 takes_still (whole.Barrier r) frozen s old new spare beside alike takes = absurd beside
 
 -- a part of a purge that waits asks for replicas that are read and written
-waits_still : (op : WholeOp) (s : Snapshots) (modes : List Mode) (ns ms : List Node) → ((r : ℕ) → mode_of modes r ≡ Rw → node_at ms r ≡ node_at ns r) → CanStill s modes ns op → CanStill s modes ms op
+waits_still : (op : WholeOp) (s : Snapshots) (modes : List Mode) (ns ms : List Node)
+    → ((r : ℕ) → mode_of modes r ≡ Rw → node_at ms r ≡ node_at ns r) → CanStill s modes ns op → CanStill s modes ms op
 waits_still (whole.Snapshot name) s modes ns ms same can = can
 waits_still (whole.Remove name) s modes ns ms same can = can
 waits_still (whole.Revert name) s modes ns ms same can = can
@@ -112,8 +121,10 @@ waits_still (whole.Barrier r) s modes ns ms same can = can
 
 -- ---- a page comes in
 
-module _ (size : ℕ) (modes : List Mode) (ts : List Ticket) (cs : List OpenCall) (w : Option Whole) (ns : List Node) (b : Rebuilding) (after : Node) (name : List ℕ) (page : ℕ) (table : Table)
-    (many : length modes ≡ length ns) (may : b.may_copy ≡ true) (there : Contains b.frozen name) (puts : PutsPage (node_at ns b.target) after name page table)
+module _ (size : ℕ) (modes : List Mode) (ts : List Ticket) (cs : List OpenCall) (w : Option Whole) (ns : List Node)
+    (b : Rebuilding) (after : Node) (name : List ℕ) (page : ℕ) (table : Table)
+    (many : length modes ≡ length ns) (may : b.may_copy ≡ true) (there : Contains b.frozen name)
+    (puts : PutsPage (node_at ns b.target) after name page table)
     (k : IsRebuilding size modes ts cs w ns (Some b)) where
   abbrev ms : List Node
   ms = set ns b.target after
@@ -131,7 +142,8 @@ module _ (size : ℕ) (modes : List Mode) (ts : List Ticket) (cs : List OpenCall
   alike : (r : ℕ) → IsToldAlike (node_at (forms w ns) r) (node_at (forms w ms) r)
   alike r = ⊎_elim
       (λ e. subst (λ q. IsToldAlike (node_at (forms w ns) q) (node_at (forms w ms) q)) (sym e)
-      (put_alike (node_at (forms w ns) b.target) (node_at (forms w ms) b.target) name page table (new_puts size modes ts cs w ns b after name page table many may there puts k)))
+      (put_alike (node_at (forms w ns) b.target) (node_at (forms w ms) b.target) name page table
+      (new_puts size modes ts cs w ns b after name page table many may there puts k)))
       (λ n. let same = as_it_was r n in record {
         snapshots = ap (λ (x : Node). snapshots_of x) same;
         size = ap (λ (x : Node). length x.disk) same;
@@ -142,7 +154,8 @@ module _ (size : ℕ) (modes : List Mode) (ts : List Ticket) (cs : List OpenCall
   as_many : length (forms w ms) ≡ length (forms w ns)
   as_many = length-forms w ms ∙ length-set ns b.target after ∙ sym (length-forms w ns)
 
-  pub page_clients : (v : Volume) (streams : ℕ) (es : List Entry) → AreClients v size streams es modes ts cs (forms w ns) → AreClients v size streams es modes ts cs (forms w ms)
+  pub page_clients : (v : Volume) (streams : ℕ) (es : List Entry) → AreClients v size streams es modes ts cs (forms w ns)
+      → AreClients v size streams es modes ts cs (forms w ms)
   page_clients v streams es ok =
       let a = ok.agree in
       let way = u size modes ts cs w ns b after name page table many may there puts k in
@@ -161,7 +174,8 @@ module _ (size : ℕ) (modes : List Mode) (ts : List Ticket) (cs : List OpenCall
         writes = λ i l x. let o = ok.writes i l x in record {
           owed = o.owed;
           room = λ r up. room_kept (node_at (forms w ns) r) (node_at (forms w ms) r) (ticket_at ts i).range (alike r).room (o.room r up);
-          taken = λ r tk. has_still (node_at (forms w ns) r) (node_at (forms w ms) r) (ticket_at ts i) (open_at cs i) (way.writes i l x r tk)
+          taken = λ r tk. has_still (node_at (forms w ns) r) (node_at (forms w ms) r) (ticket_at ts i) (open_at cs i)
+              (way.writes i l x r tk)
               (same_head size modes ts cs w ns b after name page table many may there puts k r) (o.taken r tk);
           merged = o.merged;
         };
@@ -183,13 +197,16 @@ module _ (size : ℕ) (modes : List Mode) (ts : List Ticket) (cs : List OpenCall
         parts = is.parts ∙ sym (length-set ns b.target after);
         owes = is.owes;
         may = is.may;
-        takes = λ q up owed. each_set (λ m n. mode_of modes m ≢ Err → part_at x.parts m ≡ Owed → CanTake x.op p.volume.snapshots n (spare_at x.spares m)) ns b.target q after (blank 0)
+        takes = λ q up owed. each_set (λ m n. mode_of modes m ≢ Err → part_at x.parts m ≡ Owed
+            → CanTake x.op p.volume.snapshots n (spare_at x.spares m)) ns b.target q after (blank 0)
             (target_in size modes ts cs w ns b after name page table many may there puts k)
-            (λ v o. takes_still x.op b.frozen p.volume.snapshots (node_at ns b.target) after (spare_at x.spares b.target) beside (put_alike (node_at ns b.target) after name page table puts) (is.takes b.target v o))
+            (λ v o. takes_still x.op b.frozen p.volume.snapshots (node_at ns b.target) after (spare_at x.spares b.target)
+            beside (put_alike (node_at ns b.target) after name page table puts) (is.takes b.target v o))
             (λ _. is.takes q) up owed;
       }
 
-  pub page_maint : (s : Snapshots) (streams : ℕ) (es : List Entry) (maint : List Ticket) (commands : List MaintCall) → AreMaint s streams es modes ts cs ns maint commands → AreMaint s streams es modes ts cs ms maint commands
+  pub page_maint : (s : Snapshots) (streams : ℕ) (es : List Entry) (maint : List Ticket) (commands : List MaintCall)
+      → AreMaint s streams es modes ts cs ns maint commands → AreMaint s streams es modes ts cs ms maint commands
   page_maint s streams es maint commands ok = record {
     queued = ok.queued;
     fits = λ i l. let f = ok.fits i l in record {

@@ -1,5 +1,6 @@
 -- What stays of a rebuild where heads, tickets and calls change.
-use Rattle.std.proofs.Common.{◌≡◌, ◌≢◌, ⊎_elim, ◌⊎◌, inl, inr, ℕ, ◌*◌, ◌<◌, ◌≤◌, true, List, length, Option, None, Some, refl, sym, subst, arith}
+use Rattle.std.proofs.Common.{◌≡◌, ◌≢◌, ⊎_elim, ◌⊎◌, inl, inr, ℕ, ◌*◌, ◌<◌, ◌≤◌, true, List, length, Option, None}
+use Rattle.std.proofs.Common.{Some, refl, sym, subst, arith}
 use Rattle.std.specs.Prelude.{Contains}
 use Rattle.std.proofs.lemmas.Bool.{cases_lt}
 use Rattle.volume_model.specs.declared.mode.Mode.{Mode}
@@ -20,12 +21,14 @@ use Rattle.open_rebuild.specs.Claim.{HasRoles, AreRoles, listed_of, AreWritesKep
 -- ---- a rebuild, if one is open
 
 -- what is kept of each that is open is kept
-pub each_rebuild : (size : ℕ) (modes : List Mode) (ts us : List Ticket) (cs ds : List OpenCall) (w x : Option Whole) (ns ms : List Node) (rebuild : Option Rebuilding)
+pub each_rebuild : (size : ℕ) (modes : List Mode) (ts us : List Ticket) (cs ds : List OpenCall) (w x : Option Whole)
+    (ns ms : List Node) (rebuild : Option Rebuilding)
     → ((b : Rebuilding) → rebuild ≡ Some b → HasRoles modes b → IsClaimed size ts cs w ns b → IsClaimed size us ds x ms b)
     → IsRebuilding size modes ts cs w ns rebuild → IsRebuilding size modes us ds x ms rebuild
 each_rebuild size modes ts us cs ds w x ns ms rebuild keeps k = record { roles = k.roles; claim = go rebuild keeps k.roles k.claim }
   where
-    go : (o : Option Rebuilding) → ((b : Rebuilding) → o ≡ Some b → HasRoles modes b → IsClaimed size ts cs w ns b → IsClaimed size us ds x ms b)
+    go : (o : Option Rebuilding) → ((b : Rebuilding) → o ≡ Some b → HasRoles modes b → IsClaimed size ts cs w ns b
+        → IsClaimed size us ds x ms b)
         → AreRoles modes o → IsClaim size ts cs w ns o → IsClaim size us ds x ms o
     go None f roles c = tt
     go (Some b) f roles c = f b refl roles c
@@ -46,7 +49,8 @@ moved size ts us cs ds ns ms b s t heads writes u = record {
   pages = u.pages;
   bits = u.bits;
   frozen = λ name c. subst (λ (ks : List Kept). Contains (layer_names ks) name) (sym s.layers) (u.frozen name c);
-  rebuilt = head_keeps b.frozen (listed_of b) (IsFreeBlock ts) (IsFreeBlock us) (node_at ns b.source) (node_at ns b.target) (node_at ms b.source) (node_at ms b.target)
+  rebuilt = head_keeps b.frozen (listed_of b) (IsFreeBlock ts) (IsFreeBlock us) (node_at ns b.source) (node_at ns b.target)
+      (node_at ms b.source) (node_at ms b.target)
       s.layers s.on s.number t.layers t.on t.number heads u.rebuilt;
   writes = writes;
 }
@@ -58,7 +62,8 @@ abbrev pub IsOutside : Ticket → ℕ → Type 0
 IsOutside t block = (block < t.range.first) ⊎ (t.range.end ≤ block)
 
 -- a block that is free is none of a started write
-pub free_outside : (ts : List Ticket) (i block : ℕ) → i < length ts → IsWriting (ticket_at ts i) → IsFreeBlock ts block → IsOutside (ticket_at ts i) block
+pub free_outside : (ts : List Ticket) (i block : ℕ) → i < length ts → IsWriting (ticket_at ts i) → IsFreeBlock ts block
+    → IsOutside (ticket_at ts i) block
 free_outside ts i block h w free =
     ⊎_elim
     (λ l. inl l)
@@ -66,13 +71,15 @@ free_outside ts i block h w free =
     (cases_lt block (ticket_at ts i).range.first)
 
 -- and so is a block of another started ticket
-pub other_outside : (ts : List Ticket) (i j block : ℕ) → AreApart ts → i < length ts → j < length ts → i ≢ j → IsWriting (ticket_at ts i) → (ticket_at ts j).started ≡ true
+pub other_outside : (ts : List Ticket) (i j block : ℕ) → AreApart ts → i < length ts → j < length ts → i ≢ j
+    → IsWriting (ticket_at ts i) → (ticket_at ts j).started ≡ true
     → (ticket_at ts j).range.first ≤ block → block < (ticket_at ts j).range.end → IsOutside (ticket_at ts i) block
 other_outside ts i j block apart h l n w started f u =
     ⊎_elim
     (λ m. inl m)
     (λ g. ⊎_elim
-    (λ m. let until = held_apart ts i j (block * 4096) apart h l n w started (omega (arith, g)) (omega (arith, m)) (omega (arith, f)) in absurd (omega (arith, until, u)))
+    (λ m. let until = held_apart ts i j (block * 4096) apart h l n w started (omega (arith, g)) (omega (arith, m)) (omega (arith, f)) in
+    absurd (omega (arith, until, u)))
     (λ m. inr m)
     (cases_lt block (ticket_at ts i).range.end))
     (cases_lt block (ticket_at ts i).range.first)

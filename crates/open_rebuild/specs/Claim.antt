@@ -1,6 +1,7 @@
 -- What is true of a volume while one of its replicas is rebuilt, at every moment, as Longhorn's documentation of
 -- rebuilding tells it: of the modes, of what has started, and of what the replica has of its source.
-use Rattle.std.specs.Prelude.{◌≡◌, ◌≢◌, ℕ, ◌+◌, ◌-◌, ◌*◌, ◌<◌, Bool, true, false, List, length, replicate, slice_set, Contains, Option, None, Some}
+use Rattle.std.specs.Prelude.{◌≡◌, ◌≢◌, ℕ, ◌+◌, ◌-◌, ◌*◌, ◌<◌, Bool, true, false, List, length, replicate, slice_set}
+use Rattle.std.specs.Prelude.{Contains, Option, None, Some}
 use Rattle.vol_units.specs.declared.size.TheConstants.{PAGE_BYTES}
 use Rattle.volume_model.specs.declared.mode.Mode.{Mode}
 use Rattle.volume_model.specs.declared.mode.Mode.TheVariants.{Rw, Wo}

@@ -1,5 +1,6 @@
 -- What a line to a replica tells, and what a wiring tells of the lines that it took back.
-use Rattle.std.specs.Prelude.{◌≡◌, ℕ, ◌+◌, ◌<◌, ◌==◌, length, slice_index_or, ◌&&◌, if◌then◌else◌, List, [], ◌∷◌, ◌++◌, Option, None, Some, Result, OnOk, OnErr, IfSome}
+use Rattle.std.specs.Prelude.{◌≡◌, ℕ, ◌+◌, ◌<◌, ◌==◌, length, slice_index_or, ◌&&◌, if◌then◌else◌, List, [], ◌∷◌}
+use Rattle.std.specs.Prelude.{◌++◌, Option, None, Some, Result, OnOk, OnErr, IfSome}
 use Rattle.outer_traits.specs.declared.ends.Ends.{Ends}
 use Rattle.outer_traits.specs.declared.taken_back.LineRecord.{LineRecord}
 

@@ -1,5 +1,7 @@
 -- Texts of pages: pieces one after another, and what they tell.
-use Rattle.std.proofs.Common.{zero, suc, arith, ◌≡◌, ℕ, ◌+◌, ◌*◌, ◌<◌, ◌≤◌, inl, inr, refl, add-one, ◌/◌, ◌%◌, List, [], ◌∷◌, ◌++◌, length, length-append, Option, Some, None, sym, ap, subst, ◌∙◌, append_assoc, append-nil}
+use Rattle.std.proofs.Common.{zero, suc, arith, ◌≡◌, ℕ, ◌+◌, ◌*◌, ◌<◌, ◌≤◌, inl, inr, refl, add-one, ◌/◌, ◌%◌, List}
+use Rattle.std.proofs.Common.{[], ◌∷◌, ◌++◌, length, length-append, Option, Some, None, sym, ap, subst, ◌∙◌}
+use Rattle.std.proofs.Common.{append_assoc, append-nil}
 use Rattle.std.specs.Prelude.{is_some, unwrap_or, if◌then◌else◌}
 use Rattle.std.proofs.Math.Nat.{eq-or-lt_of_le}
 use Rattle.sparse_image.specs.declared.block.TheConstants.{BLOCK_BYTES, PAGE_BLOCKS}
@@ -13,7 +15,8 @@ pub joined_init : (f : ℕ → List ℕ) (before : List ℕ) → before ≡ befo
 unfolding joined
 joined_init f before = sym (append-nil before)
 
-pub joined_step : (f : ℕ → List ℕ) (n : ℕ) (before so_far now : List ℕ) → so_far ≡ before ++ joined f n → now ≡ so_far ++ f n → now ≡ before ++ joined f (n + 1)
+pub joined_step : (f : ℕ → List ℕ) (n : ℕ) (before so_far now : List ℕ) → so_far ≡ before ++ joined f n
+    → now ≡ so_far ++ f n → now ≡ before ++ joined f (n + 1)
 unfolding joined
 joined_step f n before so_far now is more = rw add-one (more ∙ ap (λ l. l ++ f n) is ∙ append_assoc before (joined f n) (f n))
 
@@ -51,7 +54,13 @@ module _ (f g : ℕ → List ℕ) where
   unfolding joined
   length-joined_same zero long = refl
   length-joined_same (suc n) long =
-      omega (arith, length-append (joined f n) (f n), length-append (joined g n) (g n), long n (omega arith), length-joined_same n (λ i lt. long i (omega arith)))
+      omega (
+        arith,
+        length-append (joined f n) (f n),
+        length-append (joined g n) (g n),
+        long n (omega arith),
+        length-joined_same n (λ i lt. long i (omega arith)),
+      )
 
   joined_tells : (n : ℕ) → ((i : ℕ) → i < n → length (f i) ≡ length (g i)) → joined f n ≡ joined g n → (i : ℕ) → i < n → f i ≡ g i
   unfolding joined
@@ -64,7 +73,8 @@ module _ (f g : ℕ → List ℕ) where
 -- eight bits are read off their byte
 bits_same : (a b c d e f g h a2 b2 c2 d2 e2 f2 g2 h2 : ℕ) → a ≤ 1 → b ≤ 1 → c ≤ 1 → d ≤ 1 → e ≤ 1 → f ≤ 1 → g ≤ 1 → h ≤ 1
     → a2 ≤ 1 → b2 ≤ 1 → c2 ≤ 1 → d2 ≤ 1 → e2 ≤ 1 → f2 ≤ 1 → g2 ≤ 1 → h2 ≤ 1
-    → a + 2 * b + 4 * c + 8 * d + 16 * e + 32 * f + 64 * g + 128 * h ≡ a2 + 2 * b2 + 4 * c2 + 8 * d2 + 16 * e2 + 32 * f2 + 64 * g2 + 128 * h2
+    → a + 2 * b + 4 * c + 8 * d + 16 * e + 32 * f + 64 * g + 128 * h ≡ a2 + 2 * b2 + 4 * c2 + 8 * d2 + 16 * e2 + 32 *
+    f2 + 64 * g2 + 128 * h2
     → (a ≡ a2) × (b ≡ b2) × (c ≡ c2) × (d ≡ d2) × (e ≡ e2) × (f ≡ f2) × (g ≡ g2) × (h ≡ h2)
 bits_same a b c d e f g h a2 b2 c2 d2 e2 f2 g2 h2 la lb lc ld le lf lg lh la2 lb2 lc2 ld2 le2 lf2 lg2 lh2 same =
     let ea : a ≡ a2 = omega arith in
@@ -122,7 +132,8 @@ module _ (s t : Table) where
       (most t (j * 8)) (most t (j * 8 + 1)) (most t (j * 8 + 2)) (most t (j * 8 + 3))
       (most t (j * 8 + 4)) (most t (j * 8 + 5)) (most t (j * 8 + 6)) (most t (j * 8 + 7)) same in
       let first : j * 8 ≡ j * 8 + 0 = omega arith in
-      by_cases (λ k. bit_at s (j * 8 + k) ≡ bit_at t (j * 8 + k)) (subst (λ p. bit_at s p ≡ bit_at t p) first b.0) b.1 b.2 b.3 b.4 b.5 b.6 b.7 k lt
+      by_cases (λ k. bit_at s (j * 8 + k) ≡ bit_at t (j * 8 + k)) (subst (λ p. bit_at s p ≡ bit_at t p) first b.0) b.1 b.2
+      b.3 b.4 b.5 b.6 b.7 k lt
 
   bit_same : map_of s ≡ map_of t → (i : ℕ) → i < PAGE_BLOCKS → bit_at s i ≡ bit_at t i
   bit_same same i lt =

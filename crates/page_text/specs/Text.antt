@@ -12,7 +12,8 @@ bit_at table i = if is_some (place_at table i) then 1 else 0
 abbrev pub map_byte : Table → ℕ → ℕ
 map_byte table byte =
     bit_at table (byte * 8) + 2 * bit_at table (byte * 8 + 1) + 4 * bit_at table (byte * 8 + 2) + 8 * bit_at table (byte * 8 + 3)
-    + 16 * bit_at table (byte * 8 + 4) + 32 * bit_at table (byte * 8 + 5) + 64 * bit_at table (byte * 8 + 6) + 128 * bit_at table (byte * 8 + 7)
+    + 16 * bit_at table (byte * 8 + 4) + 32 * bit_at table (byte * 8 + 5) + 64 * bit_at table (byte * 8 + 6) + 128 * bit_at
+    table (byte * 8 + 7)
 
 -- the map: a bit for each block of the page
 abbrev pub map_of : Table → List ℕ

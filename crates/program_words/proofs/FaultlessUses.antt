@@ -1,11 +1,14 @@
 -- Where `clap` finds no fault in one use of an argument, the use passes.
-use Rattle.std.proofs.Common.{◌≡◌, ◌&&◌, ◌||◌, ◌+◌, ℕ, Bool, true, false, not, cond, List, [], ◌∷◌, length, min, nat_le, Option, Some, None, refl, arith}
+use Rattle.std.proofs.Common.{◌≡◌, ◌&&◌, ◌||◌, ◌+◌, ℕ, Bool, true, false, not, cond, List, [], ◌∷◌, length, min}
+use Rattle.std.proofs.Common.{nat_le, Option, Some, None, refl, arith}
 use Rattle.std.specs.Option.{option_map_or}
 use Rattle.clap.specs.Facts.{parser_of_value, unwrap_or_range}
-use Rattle.clap.specs.Faults.{action_fault, count_fault, option_fault, react_fault, repeat_fault, set_fault, settle_fault, use_fault, values_fault}
+use Rattle.clap.specs.Faults.{action_fault, count_fault, option_fault, react_fault, repeat_fault, set_fault}
+use Rattle.clap.specs.Faults.{settle_fault, use_fault, values_fault}
 use Rattle.clap.specs.Kinds.{Kinds, or_else, range_kinds, value_kinds}
 use Rattle.clap.specs.Matches.{count_text}
-use Rattle.clap.specs.Takes.{action_passes, count_passes, option_passes, react_passes, set_passes, settle_passes, use_passes, value_passes, values_pass}
+use Rattle.clap.specs.Takes.{action_passes, count_passes, option_passes, react_passes, set_passes, settle_passes}
+use Rattle.clap.specs.Takes.{use_passes, value_passes, values_pass}
 use Rattle.clap.specs.ValueTests.{accepts}
 use Rattle.clap.specs.Values.{refused_kind}
 use Rattle.clap.specs.Walk.{Held, Row, Rule, Text, action_of, arg_by_id, count_of, has_row, most_values, settled, values_or_missing}
@@ -94,7 +97,8 @@ faultless_settle_passes c again h none = go h.pending none
     by_rule vs None e = refl
     by_rule vs (Some a) e = faultless_use_passes again a vs h.rows e
 
-    go : (o : Option (Text × List Text)) → option_map_or (λ p. option_map_or (λ a. use_fault again a p.1 h.rows) (arg_by_id c p.0) []) o [] ≡ []
+    go : (o : Option (Text × List Text))
+        → option_map_or (λ p. option_map_or (λ a. use_fault again a p.1 h.rows) (arg_by_id c p.0) []) o [] ≡ []
         → option_map_or (λ p. option_map_or (λ a. use_passes again a p.1 h.rows) (arg_by_id c p.0) true) o true ≡ true
     go None e = refl
     go (Some p) e = by_rule p.1 (arg_by_id c p.0) e

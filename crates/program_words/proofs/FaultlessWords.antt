@@ -1,5 +1,6 @@
 -- Where `clap` finds no fault in words, it takes them.
-use Rattle.std.proofs.Common.{◌≡◌, ◌&&◌, ◌||◌, Bool, true, false, not, cond, List, [], ◌∷◌, Option, Some, None, is_some, refl, arith, true≢false}
+use Rattle.std.proofs.Common.{◌≡◌, ◌&&◌, ◌||◌, Bool, true, false, not, cond, List, [], ◌∷◌, Option, Some, None}
+use Rattle.std.proofs.Common.{is_some, refl, arith, true≢false}
 use Rattle.std.specs.Prelude.{find}
 use Rattle.std.specs.List.{list_all, list_any}
 use Rattle.std.specs.Option.{option_map_or}
@@ -35,7 +36,8 @@ none_fails false false true e = cc
 none_fails false false false e = (refl, refl, refl)
 
 -- what is required is there
-faultless_is_valid : (s : Shape) (rows : List Row) (has : Bool) → has_free_rules s ≡ true → check_fault s rows has ≡ [] → is_valid s rows has ≡ true
+faultless_is_valid : (s : Shape) (rows : List Row) (has : Bool) → has_free_rules s ≡ true → check_fault s rows has ≡ []
+    → is_valid s rows has ≡ true
 faultless_is_valid s rows has free none =
     let parts = none_fails _ _ _ none in
     and_true _ _ (help s.arg_required_else_help (list_any (λ r. explicit_source r.source) rows) has parts.0)
@@ -97,7 +99,8 @@ faultless_entered_passes a (Some p) known none =
     known (λ _. refl) (λ s one e. (faultless_level_passes s [] nothing_held p.1 false [] one e).0) none
 
 -- A simple command whose defaults pass, and of which no argument has a rule on another, takes words without a fault.
-pub faultless_are_taken : (a : App) (words : List Text) → is_simple a ≡ true → is_settled (built a).top ≡ true → list_all is_settled (built a).subs ≡ true
+pub faultless_are_taken : (a : App) (words : List Text) → is_simple a ≡ true → is_settled (built a).top ≡ true
+    → list_all is_settled (built a).subs ≡ true
     → fault_of a words ≡ [] → takes a words ≡ true
 faultless_are_taken a words simple top subs none =
     let stop = (walk (built a).top.rules (names_of (built a)) nothing_held (argument_words a words)).stopped in

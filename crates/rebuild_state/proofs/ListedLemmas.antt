@@ -1,5 +1,7 @@
 -- Bits, as what is listed.
-use Rattle.std.proofs.Common.{◌≡◌, ⊎_elim, ◌⊎◌, inl, inr, ℕ, zero, suc, ◌+◌, ◌*◌, ◌/◌, ◌%◌, ◌<◌, Bool, true, false, nat_lt, List, [], ◌∷◌, length, replicate, get_or, set, get_or-set_other, refl, sym, ap, ◌∙◌, arith, cond}
+use Rattle.std.proofs.Common.{◌≡◌, ⊎_elim, ◌⊎◌, inl, inr, ℕ, zero, suc, ◌+◌, ◌*◌, ◌/◌, ◌%◌, ◌<◌, Bool, true, false}
+use Rattle.std.proofs.Common.{nat_lt, List, [], ◌∷◌, length, replicate, get_or, set, get_or-set_other, refl, sym, ap}
+use Rattle.std.proofs.Common.{◌∙◌, arith, cond}
 use Rattle.std.specs.Prelude.{◌&&◌, Contains}
 use Rattle.std.specs.Str.{bytes_eq}
 use Rattle.std.proofs.lemmas.Bool.{cases_eq, cases_lt, false≢true}
@@ -26,7 +28,8 @@ sought_none n = record { within = omega arith; before = λ place h. absurd (omeg
 -- none is listed at first
 pub none_listed : (frozen : List (List ℕ)) (pages n : ℕ) → HasNoPage (is_listed_in frozen pages (replicate n false))
 none_listed frozen pages n name page e =
-    false≢true (sym (no_bit n (place_of frozen name * pages + page)) ∙ (and_both (nat_lt page pages) (flag_at (replicate n false) (place_of frozen name * pages + page)) e).1)
+    false≢true (sym (no_bit n (place_of frozen name * pages + page))
+    ∙ (and_both (nat_lt page pages) (flag_at (replicate n false) (place_of frozen name * pages + page)) e).1)
 
 -- a bit that is there after one was set
 bit_after : (bits : List Bool) (p q : ℕ) → flag_at (set bits p true) q ≡ true → (flag_at bits q ≡ true) ⊎ (q ≡ p)
@@ -55,7 +58,8 @@ placed (x ∷ xs) name c = go (bytes_eq name x) refl (λ d. placed xs name d)
     later other zero h e = absurd (false≢true (sym other ∙ (bytes_eq-Decides name x).1 (sym e)))
     later other (suc i) h e = (i, omega (arith, h), e)
 
-    go : (b : Bool) → bytes_eq name x ≡ b → (Contains xs name → place_of xs name < length xs) → cond b 0 (suc (place_of xs name)) < length (x ∷ xs)
+    go : (b : Bool) → bytes_eq name x ≡ b → (Contains xs name → place_of xs name < length xs)
+        → cond b 0 (suc (place_of xs name)) < length (x ∷ xs)
     go true is rest = omega arith
     go false is rest = omega (arith, rest (later is c.0 c.1 c.2))
 
@@ -69,7 +73,8 @@ same_place pages a b p q h k e = (
 pub page_listed : (frozen : List (List ℕ)) (pages : ℕ) (bits : List Bool) (name : List ℕ) (page : ℕ) → Contains frozen name → page < pages
     → ListsPage (is_listed_in frozen pages bits) (is_listed_in frozen pages (set bits (place_of frozen name * pages + page) true)) name page
 page_listed frozen pages bits name page there inside other p e =
-    let both = and_both (nat_lt p pages) (flag_at (set bits (place_of frozen name * pages + page) true) (place_of frozen other * pages + p)) e in
+    let both = and_both (nat_lt p pages)
+    (flag_at (set bits (place_of frozen name * pages + page) true) (place_of frozen other * pages + p)) e in
     let within : p < pages = grind (arith, nat_tests, both.0) in
     ⊎_elim
     (λ was. inl (ap (λ b. b && flag_at bits (place_of frozen other * pages + p)) both.0 ∙ was))
@@ -89,10 +94,17 @@ within_pages a (suc b) n p h k = ⊎_elim
     (cases_lt a b)
 
 -- once all bits are set, each page of each layer is listed
-pub all_listed : (frozen : List (List ℕ)) (pages count : ℕ) (bits : List Bool) → count ≡ pages * 512 → length bits ≡ length frozen * pages → AreListed bits (length bits)
+pub all_listed : (frozen : List (List ℕ)) (pages count : ℕ) (bits : List Bool) → count ≡ pages * 512
+    → length bits ≡ length frozen * pages → AreListed bits (length bits)
     → IsAllCopied count frozen (is_listed_in frozen pages bits)
 all_listed frozen pages count bits size long all name block there inside =
     let page : block / 512 < pages = omega (arith, size, inside) in
-    let place : place_of frozen name * pages + block / 512 < length bits = omega (arith, long, within_pages (place_of frozen name) (length frozen) pages (block / 512) (placed frozen name there) page) in
+    let place : place_of frozen name * pages + block / 512 < length bits =
+    omega (
+      arith,
+      long,
+      within_pages (place_of frozen name) (length frozen) pages (block / 512) (placed frozen name there)
+          page,
+    ) in
     let is : nat_lt (block / 512) pages ≡ true = grind (arith, nat_tests, page) in
     ap (λ b. b && flag_at bits (place_of frozen name * pages + block / 512)) is ∙ all (place_of frozen name * pages + block / 512) place

@@ -1,5 +1,6 @@
 -- A replica of which all is copied agrees with the volume as its source does.
-use Rattle.std.proofs.Common.{◌≡◌, ◌≢◌, ⊎_elim, ℕ, ◌-◌, ◌*◌, ◌/◌, ◌<◌, Bool, true, false, cond, List, [], ◌∷◌, length, set, length-set, get_or, refl, sym, ap, subst, ◌∙◌, arith}
+use Rattle.std.proofs.Common.{◌≡◌, ◌≢◌, ⊎_elim, ℕ, ◌-◌, ◌*◌, ◌/◌, ◌<◌, Bool, true, false, cond, List, [], ◌∷◌, length}
+use Rattle.std.proofs.Common.{set, length-set, get_or, refl, sym, ap, subst, ◌∙◌, arith}
 use Rattle.std.specs.Prelude.{◌||◌}
 use Rattle.std.specs.Str.{bytes_eq}
 use Rattle.std.proofs.lemmas.Bool.{cases_lt, false≢true}
@@ -27,7 +28,8 @@ use Rattle.rebuild_state.proofs.WriteLemmas.{block_byte, same_disk}
 
 -- the same layers with the same disks have the same copies
 copies_same : (js ks : List Kept) (count : ℕ) → told js ≡ told ks → NamesOnce (told ks) → AreChained js count → AreChained ks count
-    → ((n : List ℕ) (block : ℕ) → block < count → block_of (disk_named js n) block ≡ block_of (disk_named ks n) block) → copies_in js ≡ copies_in ks
+    → ((n : List ℕ) (block : ℕ) → block < count → block_of (disk_named js n) block ≡ block_of (disk_named ks n) block)
+    → copies_in js ≡ copies_in ks
 copies_same [] [] count e once p q same = refl
 copies_same [] (k ∷ ks) count e once p q same = absurd (cc)
 copies_same (j ∷ js) [] count e once p q same = absurd (cc)
@@ -45,7 +47,8 @@ copies_same (j ∷ js) (k ∷ ks) count e once p q same =
         first : told (j ∷ js) ≡ told (k ∷ ks) → snapshot_of j.meta ≡ snapshot_of k.meta
         first g = cc
 
-    one : j.meta.name ≡ k.meta.name → j.meta.marked ≡ k.meta.marked → j.disk ≡ k.disk → copies_in js ≡ copies_in ks → copies_in (j ∷ js) ≡ copies_in (k ∷ ks)
+    one : j.meta.name ≡ k.meta.name → j.meta.marked ≡ k.meta.marked → j.disk ≡ k.disk → copies_in js ≡ copies_in ks
+        → copies_in (j ∷ js) ≡ copies_in (k ∷ ks)
     one a b c d = ap (λ m. cond m (copies_in js) (record { name = j.meta.name; disk = j.disk } ∷ copies_in js)) b
         ∙ ap (λ (l : List Copy). cond k.meta.marked l (record { name = j.meta.name; disk = j.disk } ∷ l)) d
         ∙ ap (λ (y : Copy). cond k.meta.marked (copies_in ks) (y ∷ copies_in ks)) (copy a c)
@@ -56,14 +59,16 @@ copies_same (j ∷ js) (k ∷ ks) count e once p q same =
         copy : j.meta.name ≡ k.meta.name → j.disk ≡ k.disk → make j.meta.name j.disk ≡ make k.meta.name k.disk
         copy x y = cc
 
-    behind : j.meta.name ≡ k.meta.name → told js ≡ told ks → (n : List ℕ) (block : ℕ) → block < count → block_of (disk_named js n) block ≡ block_of (disk_named ks n) block
+    behind : j.meta.name ≡ k.meta.name → told js ≡ told ks → (n : List ℕ) (block : ℕ) → block < count
+        → block_of (disk_named js n) block ≡ block_of (disk_named ks n) block
     behind a t n block inside = go (bytes_eq n k.meta.name) refl
       where
         gone : (ls : List Kept) → has_name (told ls) n ≡ false → disk_named ls n ≡ []
         gone [] f = refl
         gone (l ∷ ls) f = step (bytes_eq n l.meta.name) (λ g. gone ls g) f
           where
-            step : (b : Bool) → (has_name (told ls) n ≡ false → disk_named ls n ≡ []) → (b || has_name (told ls) n) ≡ false → cond b l.disk (disk_named ls n) ≡ []
+            step : (b : Bool) → (has_name (told ls) n ≡ false → disk_named ls n ≡ []) → (b || has_name (told ls) n) ≡ false
+                → cond b l.disk (disk_named ls n) ≡ []
             step true rest f = absurd (false≢true (sym f))
             step false rest f = rest f
 
@@ -78,12 +83,15 @@ copies_same (j ∷ js) (k ∷ ks) count e once p q same =
 
 -- ---- promotion
 
-module _ (count : ℕ) (frozen : List (List ℕ)) (is_listed : List ℕ → ℕ → Bool) (Free : ℕ → Type 0) (source target : Node) (s : IsReplica source count) (t : IsReplica target count) (r : IsRebuilt frozen is_listed Free source target) (all : IsAllCopied count frozen is_listed) where
+module _ (count : ℕ) (frozen : List (List ℕ)) (is_listed : List ℕ → ℕ → Bool) (Free : ℕ → Type 0) (source target : Node)
+    (s : IsReplica source count) (t : IsReplica target count) (r : IsRebuilt frozen is_listed Free source target)
+    (all : IsAllCopied count frozen is_listed) where
   abbrev reads : ReadsAs count Free source target
   reads = copied_reads count frozen is_listed Free source target s t r all
 
   pub same_copies : copies_in target.layers ≡ copies_in source.layers
-  same_copies = copies_same target.layers source.layers count (ap (λ x. x.tree) r.alike) s.once t.chained.layers s.chained.layers reads.layers
+  same_copies = copies_same target.layers source.layers count (ap (λ x. x.tree) r.alike) s.once t.chained.layers
+      s.chained.layers reads.layers
 
   pub same_byte : (k : ℕ) → Free (k / 4096) → byte_of target.disk k ≡ byte_of source.disk k
   same_byte k free = ⊎_elim
@@ -103,7 +111,8 @@ unheld_block tickets k free i h w from =
     omega (arith, until)
 
 -- the replica at r is read and written from now on
-pub promoted_agree : (count : ℕ) (frozen : List (List ℕ)) (is_listed : List ℕ → ℕ → Bool) (volume : Volume) (size : ℕ) (modes : List Mode) (tickets : List Ticket) (nodes : List Node) (s r : ℕ)
+pub promoted_agree : (count : ℕ) (frozen : List (List ℕ)) (is_listed : List ℕ → ℕ → Bool) (volume : Volume) (size : ℕ)
+    (modes : List Mode) (tickets : List Ticket) (nodes : List Node) (s r : ℕ)
     → Agree volume size modes tickets nodes → mode_of modes s ≡ Rw → r < length modes → mode_of modes r ≢ Err
     → IsReplica (node_at nodes s) count → IsReplica (node_at nodes r) count
     → IsRebuilt frozen is_listed (IsFreeBlock tickets) (node_at nodes s) (node_at nodes r) → IsAllCopied count frozen is_listed
@@ -115,11 +124,14 @@ promoted_agree count frozen is_listed volume size modes tickets nodes s r a read
   tree = λ q n. a.tree q (up_after q n);
   copies = λ q e. at_set (λ (m : Mode). m ≡ Rw → copies_in (node_at nodes q).layers ≡ volume.copies) modes r q Rw Err inside
       (λ same _. subst (λ n. copies_in (node_at nodes n).layers ≡ volume.copies) (sym same)
-      (same_copies count frozen is_listed (IsFreeBlock tickets) (node_at nodes s) (node_at nodes r) source target rebuilt all ∙ a.copies s read))
+      (same_copies count frozen is_listed (IsFreeBlock tickets) (node_at nodes s) (node_at nodes r) source target rebuilt
+      all ∙ a.copies s read))
       (λ _ f. a.copies q f) e;
-  bytes = λ q k e. at_set (λ (m : Mode). m ≡ Rw → IsUnheld tickets k → byte_of (node_at nodes q).disk k ≡ byte_of volume.disk k) modes r q Rw Err inside
+  bytes = λ q k e. at_set (λ (m : Mode). m ≡ Rw → IsUnheld tickets k
+      → byte_of (node_at nodes q).disk k ≡ byte_of volume.disk k) modes r q Rw Err inside
       (λ same _ free. subst (λ n. byte_of (node_at nodes n).disk k ≡ byte_of volume.disk k) (sym same)
-      (same_byte count frozen is_listed (IsFreeBlock tickets) (node_at nodes s) (node_at nodes r) source target rebuilt all k (unheld_block tickets k free) ∙ a.bytes s k read free))
+      (same_byte count frozen is_listed (IsFreeBlock tickets) (node_at nodes s) (node_at nodes r) source target rebuilt all
+      k (unheld_block tickets k free) ∙ a.bytes s k read free))
       (λ _ f. a.bytes q k f) e;
 }
   where
@@ -129,7 +141,8 @@ promoted_agree count frozen is_listed volume size modes tickets nodes s r a read
 
 -- ---- a replica in due form of a snapshot
 
-pub replica_snapped_node : (node : Node) (count : ℕ) (name : List ℕ) → has_name (tree_of node) name ≡ false → IsReplica node count → IsReplica (snapped_node node name) count
+pub replica_snapped_node : (node : Node) (count : ℕ) (name : List ℕ) → has_name (tree_of node) name ≡ false
+    → IsReplica node count → IsReplica (snapped_node node name) count
 replica_snapped_node node count name new r = record {
   chained = record {
     layers = (r.chained.head, r.chained.layers);

@@ -1,5 +1,6 @@
 -- Frames on the two lines of a rebuild, one behind another.
-use Rattle.std.proofs.Common.{arith, ◌≡◌, ℕ, ◌-◌, List, [], ◌∷◌, ◌++◌, length, drop, length-drop, length-append, Option, None, Some, subst, sym, ap, refl, ◌∙◌, append_assoc, append-nil}
+use Rattle.std.proofs.Common.{arith, ◌≡◌, ℕ, ◌-◌, List, [], ◌∷◌, ◌++◌, length, drop, length-drop, length-append}
+use Rattle.std.proofs.Common.{Option, None, Some, subst, sym, ap, refl, ◌∙◌, append_assoc, append-nil}
 use Rattle.std.proofs.lemmas.List.Elements.{All-append, All-cons, All-nil, All-weaker}
 use Rattle.std.proofs.Math.Seq.{drop-append_seam}
 use Rattle.frame_wire.specs.declared.head.Head.{Head}
@@ -7,10 +8,12 @@ use Rattle.frame_wire.specs.Spelling.{frame, header, IsHead}
 use Rattle.page_text.specs.Text.{blocks_of, map_of, page_text}
 use Rattle.outer_traits.specs.Lines.{TellsMore}
 use Rattle.vol_units.specs.declared.page_ref.PageRef.{PageRef}
-use Rattle.rebuild_worker.specs.Frames.{ask_head, done_head, give_head, send_head, response_kind, source_request, source_reply, target_request, target_reply}
+use Rattle.rebuild_worker.specs.Frames.{ask_head, done_head, give_head, send_head, response_kind, source_request}
+use Rattle.rebuild_worker.specs.Frames.{source_reply, target_request, target_reply}
 use Rattle.rebuild_worker.specs.Copying.{AreKept, AreQuiet, Copying, OnLine, CarriesOn, IsQuiet, IsTextOf, number_after, numbered}
 use Rattle.rebuild_worker.specs.Rooms.{text_in}
-use Rattle.rebuild_worker.specs.Told.{AreOf, CopiedPage, CopiesPage, CopiesPages, HaveTexts, IsUntold, Lists, SendsPage, TakesPage, TellPages, to_source, to_target}
+use Rattle.rebuild_worker.specs.Told.{AreOf, CopiedPage, CopiesPage, CopiesPages, HaveTexts, IsUntold, Lists}
+use Rattle.rebuild_worker.specs.Told.{SendsPage, TakesPage, TellPages, to_source, to_target}
 
 -- ---- told one after another
 
@@ -38,7 +41,8 @@ behind_quiet a b c before after quiet carries = record {
 
 -- a request and its reply, with one number
 pub exchange : (a b c : OnLine) (request asked reply replied : List ℕ) (h k : Head) (body text : List ℕ)
-    → CarriesOn a b request asked → CarriesOn b c reply replied → request ≡ frame h body → reply ≡ frame k text → IsHead k → k.kind ≡ response_kind
+    → CarriesOn a b request asked → CarriesOn b c reply replied → request ≡ frame h body → reply ≡ frame k text → IsHead k
+    → k.kind ≡ response_kind
     → TellsMore a.told c.told (frame (numbered b.seq h) body ∷ frame (numbered b.seq k) text ∷ [])
 exchange a b c request asked reply replied h k body text p q is_request is_reply fits kind =
     let first : asked ≡ frame (numbered b.seq h) body = p.spelled h body is_request in
@@ -51,11 +55,14 @@ exchange a b c request asked reply replied h k body text p q is_request is_reply
 -- ---- a page
 
 module _ (page : PageRef) (before : List ℕ) where
-  counted : (head : ℕ → PageRef → ℕ → Head) (k : Head) (n : ℕ) → k ≡ head 0 page n → n ≡ length before - 26 → k ≡ head 0 page (length (text_in before))
+  counted : (head : ℕ → PageRef → ℕ → Head) (k : Head) (n : ℕ) → k ≡ head 0 page n → n ≡ length before - 26
+      → k ≡ head 0 page (length (text_in before))
   counted head k n is count = is ∙ ap (λ m. head 0 page m) (count ∙ sym (length-drop 26 before))
 
-  pub taken : (a b d : OnLine) (request asked reply replied : List ℕ) (k : Head) (n : ℕ) → CarriesOn a b request asked → CarriesOn b d reply replied
-      → request ≡ source_request 0 page → reply ≡ frame k (text_in before) → k ≡ give_head 0 page n → IsHead k → n ≡ length before - 26 → TakesPage page (text_in before) a d
+  pub taken : (a b d : OnLine) (request asked reply replied : List ℕ) (k : Head) (n : ℕ) → CarriesOn a b request asked
+      → CarriesOn b d reply replied
+      → request ≡ source_request 0 page → reply ≡ frame k (text_in before) → k ≡ give_head 0 page n → IsHead k
+      → n ≡ length before - 26 → TakesPage page (text_in before) a d
   unfolding source_request source_reply
   taken a b d request asked reply replied k n p q is_request is_reply k_is fits count =
       let head = counted give_head k n k_is count in
@@ -66,34 +73,51 @@ module _ (page : PageRef) (before : List ℕ) where
             (is_reply ∙ ap (λ x. frame x (text_in before)) head) (subst IsHead head fits) refl,
       )
 
-  pub sent : (a b c d : OnLine) (request asked reply replied : List ℕ) (h k : Head) (n : ℕ) → CarriesOn a b request asked → IsQuiet b c → CarriesOn c d reply replied
-      → request ≡ frame h (text_in before) → h ≡ send_head 0 page n → reply ≡ header k → k ≡ done_head 0 page n → IsHead k → n ≡ length before - 26 → SendsPage page (text_in before) a d
+  pub sent : (a b c d : OnLine) (request asked reply replied : List ℕ) (h k : Head) (n : ℕ) → CarriesOn a b request asked
+      → IsQuiet b c → CarriesOn c d reply replied
+      → request ≡ frame h (text_in before) → h ≡ send_head 0 page n → reply ≡ header k → k ≡ done_head 0 page n → IsHead k
+      → n ≡ length before - 26 → SendsPage page (text_in before) a d
   unfolding target_request target_reply
   sent a b c d request asked reply replied h k n p quiet q is_request h_is is_reply k_is fits count =
       let send = counted send_head h n h_is count in
       let has = counted done_head k n k_is count in (
         b.seq,
-        exchange a b d request asked reply replied (send_head 0 page (length (text_in before))) (done_head 0 page (length (text_in before))) (text_in before) []
+        exchange a b d request asked reply replied (send_head 0 page (length (text_in before)))
+            (done_head 0 page (length (text_in before))) (text_in before) []
             p (behind_quiet b c d reply replied quiet q) (is_request ∙ ap (λ x. frame x (text_in before)) send)
             (is_reply ∙ sym (append-nil (header k)) ∙ ap (λ x. frame x []) has) (subst IsHead has fits) refl,
       )
 
   -- the text stays behind another header
-  pub text_stays : (a b : OnLine) (frame_old frame_new : List ℕ) (k : Head) → CarriesOn a b frame_old frame_new → frame_old ≡ frame k (text_in before) → text_in frame_new ≡ text_in before
+  pub text_stays : (a b : OnLine) (frame_old frame_new : List ℕ) (k : Head) → CarriesOn a b frame_old frame_new
+      → frame_old ≡ frame k (text_in before) → text_in frame_new ≡ text_in before
   text_stays a b frame_old frame_new k p is = ap text_in (p.spelled k (text_in before) is)
 
 -- what was sent later, and what was taken before
 pub sends_later : (page : PageRef) (text : List ℕ) (a b c : OnLine) → IsUntold a b → SendsPage page text b c → SendsPage page text a c
-sends_later page text a b c untold sends = (sends.0, tells_later a.told b.told c.told (target_request sends.0 page text ∷ target_reply sends.0 page text ∷ []) untold sends.1)
+sends_later page text a b c untold sends = (
+  sends.0,
+  tells_later a.told b.told c.told (target_request sends.0 page text ∷ target_reply sends.0 page text ∷ [])
+      untold sends.1,
+)
 
 pub takes_still : (page : PageRef) (text : List ℕ) (a b c : OnLine) → TakesPage page text a b → IsUntold b c → TakesPage page text a c
-takes_still page text a b c takes untold = (takes.0, tells_still a.told b.told c.told (source_request takes.0 page ∷ source_reply takes.0 page text ∷ []) takes.1 untold)
+takes_still page text a b c takes untold = (
+  takes.0,
+  tells_still a.told b.told c.told (source_request takes.0 page ∷ source_reply takes.0 page text ∷ []) takes.1
+      untold,
+)
 
 pub takes_later : (page : PageRef) (text : List ℕ) (a b c : OnLine) → IsUntold a b → TakesPage page text b c → TakesPage page text a c
-takes_later page text a b c untold takes = (takes.0, tells_later a.told b.told c.told (source_request takes.0 page ∷ source_reply takes.0 page text ∷ []) untold takes.1)
+takes_later page text a b c untold takes = (
+  takes.0,
+  tells_later a.told b.told c.told (source_request takes.0 page ∷ source_reply takes.0 page text ∷ []) untold
+      takes.1,
+)
 
 -- a page with blocks, whose text has a byte
-carried_page : (page : PageRef) (is_text : PageRef → List ℕ → Type 0) (byte : ℕ) (bytes : List ℕ) (a b : Copying) → is_text page (byte ∷ bytes)
+carried_page : (page : PageRef) (is_text : PageRef → List ℕ → Type 0) (byte : ℕ) (bytes : List ℕ) (a b : Copying)
+    → is_text page (byte ∷ bytes)
     → TakesPage page (byte ∷ bytes) a.source b.source → SendsPage page (byte ∷ bytes) a.target b.target → CopiesPage page is_text a b
 carried_page page is_text byte bytes a b is takes sends = record {
   text = byte ∷ bytes;
@@ -108,11 +132,14 @@ carried_page page is_text byte bytes a b is takes sends = record {
   };
 }
 
-pub copies_page : (page : PageRef) (is_text : PageRef → List ℕ → Type 0) (text before after : List ℕ) (a b c : Copying) → IsTextOf page text → is_text page text
-    → length before ≡ 26 → after ≡ before ++ text → AreQuiet a b → TakesPage page (text_in after) b.source c.source → SendsPage page (text_in after) b.target c.target
+pub copies_page : (page : PageRef) (is_text : PageRef → List ℕ → Type 0) (text before after : List ℕ) (a b c : Copying)
+    → IsTextOf page text → is_text page text
+    → length before ≡ 26 → after ≡ before ++ text → AreQuiet a b → TakesPage page (text_in after) b.source c.source
+    → SendsPage page (text_in after) b.target c.target
     → CopiesPage page is_text a c
 copies_page page is_text text before after a b c of_page is place appended quiet takes sends =
-    let behind : text_in after ≡ text = ap text_in appended ∙ (subst (λ n. drop n (before ++ text) ≡ text) place (drop-append_seam before text)) in
+    let behind : text_in after ≡ text = ap text_in appended
+    ∙ (subst (λ n. drop n (before ++ text) ≡ text) place (drop-append_seam before text)) in
     let spelled : text_in after ≡ page_text page.layer of_page.table = behind ∙ of_page.spelled in
     let is' = subst (is_text page) of_page.spelled is in
     let takes' = subst (λ t. TakesPage page t b.source c.source) spelled takes in
@@ -136,7 +163,8 @@ tells_none : (a : Option (List (List ℕ))) → TellsMore a a []
 tells_none None = tt
 tells_none (Some a) = sym (append-nil a)
 
-of_more : (f : ℕ → PageRef → List ℕ → List (List ℕ)) (ps qs : List CopiedPage) (xs ys : List (List ℕ)) → AreOf f ps xs → AreOf f qs ys → AreOf f (ps ++ qs) (xs ++ ys)
+of_more : (f : ℕ → PageRef → List ℕ → List (List ℕ)) (ps qs : List CopiedPage) (xs ys : List (List ℕ)) → AreOf f ps xs
+    → AreOf f qs ys → AreOf f (ps ++ qs) (xs ++ ys)
 of_more f [] qs xs ys p q = subst (λ l. AreOf f qs (l ++ ys)) (sym p) q
 of_more f (c ∷ ps) qs xs ys p q =
     (p.0, p.1 ++ ys, ap (λ l. l ++ ys) p.2 ∙ append_assoc (f p.0 c.page c.text) p.1 ys, of_more f ps qs p.1 ys p.3 q)
@@ -161,7 +189,9 @@ tell_none a b quiet = record {
   target = quiet.target.told;
 }
 
-have_more : (t t2 : PageRef → List ℕ → Type 0) (ps qs : List CopiedPage) → ((page : PageRef) (text : List ℕ) → t page text → t2 page text) → HaveTexts t ps → HaveTexts t2 qs → HaveTexts t2 (ps ++ qs)
+have_more : (t t2 : PageRef → List ℕ → Type 0) (ps qs : List CopiedPage)
+    → ((page : PageRef) (text : List ℕ) → t page text → t2 page text) → HaveTexts t ps → HaveTexts t2 qs
+    → HaveTexts t2 (ps ++ qs)
 have_more t t2 ps qs on p q =
     All-append (λ (c : CopiedPage). t2 c.page c.text) ps qs
     (All-weaker (λ (c : CopiedPage). t c.page c.text) (λ (c : CopiedPage). t2 c.page c.text) (λ c is. on c.page c.text is) ps p) q
@@ -193,13 +223,16 @@ copies_still t t2 a b c p quiet left on = record {
   tells = tell_more p.pages [] a b c p.tells (tell_none b c quiet);
 }
 
-pub copies_more : (t t2 : PageRef → List ℕ → Type 0) (page : PageRef) (a b c : Copying) → CopiesPages t a b → CopiesPage page t2 b c → Lists b c
+pub copies_more : (t t2 : PageRef → List ℕ → Type 0) (page : PageRef) (a b c : Copying) → CopiesPages t a b
+    → CopiesPage page t2 b c → Lists b c
     → ((page : PageRef) (text : List ℕ) → t page text → t2 page text) → CopiesPages t2 a c
 copies_more t t2 page a b c p one lists on =
     let last : List CopiedPage = record { page = page; text = one.text } ∷ [] in
     record {
       pages = p.pages ++ last;
-      texts = have_more t t2 p.pages last on p.texts (All-cons (λ (c : CopiedPage). t2 c.page c.text) (record { page = page; text = one.text }) [] one.is (have_none t2));
+      texts = have_more t t2 p.pages last on p.texts
+          (All-cons (λ (c : CopiedPage). t2 c.page c.text) (record { page = page; text = one.text }) [] one.is
+          (have_none t2));
       count = omega (arith, p.count, lists.left, length-append p.pages last);
       tells = tell_more p.pages last a b c p.tells one.tells;
     }

@@ -1,5 +1,6 @@
 -- How far the copying of a rebuild is, and what each step makes of it.
-use Rattle.std.specs.Prelude.{◌≡◌, ℕ, ◌+◌, ◌%◌, ◌^◌, ◌==◌, if◌then◌else◌, ◌<◌, ◌≤◌, Bool, true, false, List, [], ◌∷◌, ◌++◌, length, Option, None, Some}
+use Rattle.std.specs.Prelude.{◌≡◌, ℕ, ◌+◌, ◌%◌, ◌^◌, ◌==◌, if◌then◌else◌, ◌<◌, ◌≤◌, Bool, true, false, List, [], ◌∷◌}
+use Rattle.std.specs.Prelude.{◌++◌, length, Option, None, Some}
 use Rattle.sparse_image.specs.Image.{Table, HasBlock}
 use Rattle.sparse_image.specs.Whole.{IsTable}
 use Rattle.page_text.specs.Text.{page_text, longest_text}

@@ -1,5 +1,6 @@
 -- The chain below the head, and whether a layer is live, as the snapshots of the replica tell.
-use Rattle.std.proofs.Common.{◌≡◌, ℕ, zero, suc, ◌<◌, Bool, true, false, not, cond, List, [], ◌∷◌, length, map, refl, sym, ap, subst, ◌∙◌, arith}
+use Rattle.std.proofs.Common.{◌≡◌, ℕ, zero, suc, ◌<◌, Bool, true, false, not, cond, List, [], ◌∷◌, length, map, refl}
+use Rattle.std.proofs.Common.{sym, ap, subst, ◌∙◌, arith}
 use Rattle.std.proofs.lemmas.Simd.{map-map}
 use Rattle.std.proofs.lemmas.Slice.Eq.{bytes_eq-Decides}
 use Rattle.std.specs.Str.{bytes_eq}
@@ -25,7 +26,8 @@ chain_told t count =
     let seen = told_of t.layers count in
     let mark = λ (s : Snapshot). let pair : List ℕ × Bool = (s.name, s.marked) in pair in
     sym (
-    ap (λ ss. map mark (chain_from (λ (s : Snapshot). s.name) (λ s. s.parent) ss t.on)) (map-map (λ (k : Kept). snapshot_of k.meta) (kept_in t.layers count) t.layers)
+    ap (λ ss. map mark (chain_from (λ (s : Snapshot). s.name) (λ s. s.parent) ss t.on))
+    (map-map (λ (k : Kept). snapshot_of k.meta) (kept_in t.layers count) t.layers)
     ∙ ap (map mark) (chain_from-map name_of parent_of (λ (s : Snapshot). s.name) (λ s. s.parent) seen t.layers t.on (λ x. refl) (λ x. refl))
     ∙ map-map mark seen (chain_from name_of parent_of t.layers t.on)
     )
@@ -43,7 +45,8 @@ none_live (x ∷ xs) layers count name free = other (none_live xs layers count n
     other rest false is = rest
 
 -- the layer at the place of the name tells
-pub live_at : (xs layers : List Layer) (count : ℕ) (name : List ℕ) (place : ℕ) → IsLayers xs → place < length xs → name_of (layer_at xs place) ≡ name
+pub live_at : (xs layers : List Layer) (count : ℕ) (name : List ℕ) (place : ℕ) → IsLayers xs → place < length xs
+    → name_of (layer_at xs place) ≡ name
     → is_live (told_in layers count xs) name ≡ not (layer_at xs place).meta.marked
 live_at [] layers count name place tree within is = absurd (omega arith)
 live_at (x ∷ xs) layers count name zero tree within is =
@@ -58,5 +61,7 @@ live_at (x ∷ xs) layers count name (suc place) tree within is =
 
     other : is_live (told_in layers count xs) name ≡ not (layer_at xs place).meta.marked → (b : Bool) → bytes_eq name (name_of x) ≡ b
         → cond b (not x.meta.marked) (is_live (told_in layers count xs) name) ≡ not (layer_at xs place).meta.marked
-    other rest true same = absurd (there xs place (omega arith) (subst (λ n. IsNew n xs) (sym ((bytes_eq-Decides name (name_of x)).0 same) ∙ sym is) tree.0))
+    other rest true same =
+        absurd (there xs place (omega arith)
+        (subst (λ n. IsNew n xs) (sym ((bytes_eq-Decides name (name_of x)).0 same) ∙ sym is) tree.0))
     other rest false same = rest

@@ -1,5 +1,6 @@
 -- A tree without blocks is the replica without blocks.
-use Rattle.std.proofs.Common.{◌≡◌, ℕ, ◌*◌, Bool, true, false, cond, List, [], ◌∷◌, length, map, replicate, Option, None, Some, refl, sym, ap, ◌∙◌, arith}
+use Rattle.std.proofs.Common.{◌≡◌, ℕ, ◌*◌, Bool, true, false, cond, List, [], ◌∷◌, length, map, replicate, Option}
+use Rattle.std.proofs.Common.{None, Some, refl, sym, ap, ◌∙◌, arith}
 use Rattle.std.specs.Option.{option_or}
 use Rattle.std.proofs.lemmas.List.Elements.{All-head, All-tail}
 use Rattle.vol_units.specs.Bytes.{zeros}
@@ -15,7 +16,8 @@ use Rattle.layer_chain.specs.declared.layer.LayerMeta.{LayerMeta}
 use Rattle.replica_node.specs.Node.{Kept, node_of, kept_in, disk_in, head_disk, own_in, IsNode}
 use Rattle.replica_node.specs.Held.{emptied, emptied_layer}
 use Rattle.replica_node.proofs.MadeLemmas.{made_empty}
-use Rattle.replica_node.proofs.NodeLemmas.{kept, same_kept, same_parts, length-none, length-own_in, length-made_in, own_in-empty, made_in-empty, as_disk}
+use Rattle.replica_node.proofs.NodeLemmas.{kept, same_kept, same_parts, length-none, length-own_in, length-made_in}
+use Rattle.replica_node.proofs.NodeLemmas.{own_in-empty, made_in-empty, as_disk}
 
 reads_none : (xs : List Layer) (pages : ℕ) (want : Option (List ℕ)) (k : ℕ) → AreEmpty xs pages → reads xs want k ≡ None
 unfolding read_layers
@@ -45,15 +47,19 @@ module _ (old new : Tree) (pages count : ℕ) (e : IsEmptied old new pages) (siz
       ∙ ap (λ m. joined (λ k. bytes_of (block_at new.head k)) m) (sym long)
       ∙ as_disk new.head pages e.head ∙ ap zeros bytes
 
-  one_layer : (x y : Layer) → y.meta ≡ x.meta → IsEmpty y.image pages → kept_in new.layers count y ≡ emptied_layer (kept_in old.layers count x)
+  one_layer : (x y : Layer) → y.meta ≡ x.meta → IsEmpty y.image pages
+      → kept_in new.layers count y ≡ emptied_layer (kept_in old.layers count x)
   one_layer x y same empty =
-      let long : length (disk_in old.layers count (name_of x)) ≡ count * 4096 = length-joined (λ k. bytes_of (reads old.layers (Some (name_of x)) k)) count (n.layers (Some (name_of x))) in
+      let long : length (disk_in old.layers count (name_of x)) ≡ count * 4096 =
+      length-joined (λ k. bytes_of (reads old.layers (Some (name_of x)) k)) count (n.layers (Some (name_of x))) in
       same_kept y.meta _ _ _ _
       (zero_disk (λ k. reads new.layers (Some (name_of y)) k) (no_reads (Some (name_of y))) ∙ ap zeros (sym long))
       (own_in-empty y.image pages count empty ∙ ap (λ m. replicate m false) (sym (length-own_in x.image count)))
-      ∙ ap (λ (m : LayerMeta). kept m (zeros (length (disk_in old.layers count (name_of x)))) (replicate (length (own_in x.image count)) false)) same
+      ∙ ap (λ (m : LayerMeta). kept m (zeros (length (disk_in old.layers count (name_of x))))
+      (replicate (length (own_in x.image count)) false)) same
 
-  all_layers : (xs ys : List Layer) → metas_in ys ≡ metas_in xs → AreEmpty ys pages → map (kept_in new.layers count) ys ≡ map emptied_layer (map (kept_in old.layers count) xs)
+  all_layers : (xs ys : List Layer) → metas_in ys ≡ metas_in xs → AreEmpty ys pages
+      → map (kept_in new.layers count) ys ≡ map emptied_layer (map (kept_in old.layers count) xs)
   all_layers [] [] same empty = refl
   all_layers [] (y ∷ ys) same empty = absurd (cc)
   all_layers (x ∷ xs) [] same empty = absurd (cc)

@@ -1,5 +1,6 @@
 -- Blocks that are filled with bytes.
-use Rattle.std.proofs.Common.{◌≡◌, ℕ, zero, suc, ◌+◌, ◌-◌, ◌*◌, List, [], ◌∷◌, ◌++◌, length, take, drop, Option, Some, is_some, true, refl, ap, ◌∙◌, arith, append-nil}
+use Rattle.std.proofs.Common.{◌≡◌, ℕ, zero, suc, ◌+◌, ◌-◌, ◌*◌, List, [], ◌∷◌, ◌++◌, length, take, drop, Option, Some}
+use Rattle.std.proofs.Common.{is_some, true, refl, ap, ◌∙◌, arith, append-nil}
 use Rattle.std.specs.List.{All}
 use Rattle.std.proofs.lemmas.Grind.{flat_map-append}
 use Rattle.std.proofs.lemmas.List.{take_all}
@@ -28,4 +29,5 @@ pub bytes_in-filled : (bytes : List ℕ) (count : ℕ) → length bytes ≡ coun
 bytes_in-filled bytes count whole = front bytes count ∙ take_all (count * 4096) bytes (omega (arith, whole))
 
 pub filled-full : (bytes : List ℕ) (count : ℕ) → All (λ b. is_some b ≡ true) (blocks_of bytes count)
-filled-full bytes count = listed-All (λ (b : Option (List ℕ)). is_some b ≡ true) (λ i. Some (bytes_at bytes (i * 4096) 4096)) count (λ k h. refl)
+filled-full bytes count = listed-All (λ (b : Option (List ℕ)). is_some b ≡ true)
+    (λ i. Some (bytes_at bytes (i * 4096) 4096)) count (λ k h. refl)

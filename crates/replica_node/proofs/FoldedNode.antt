@@ -1,5 +1,6 @@
 -- What a fold, a replaced parent and a dropped layer leave of a replica, for those above it.
-use Rattle.std.proofs.Common.{◌≡◌, ⊎_elim, ℕ, ◌≤◌, Bool, true, false, not, cond, List, [], ◌∷◌, length, map, Option, refl, sym, ap, ◌∙◌, arith}
+use Rattle.std.proofs.Common.{◌≡◌, ⊎_elim, ℕ, ◌≤◌, Bool, true, false, not, cond, List, [], ◌∷◌, length, map, Option}
+use Rattle.std.proofs.Common.{refl, sym, ap, ◌∙◌, arith}
 use Rattle.std.specs.Prelude.{All, ◌&&◌}
 use Rattle.std.specs.Str.{bytes_eq}
 use Rattle.std.proofs.lemmas.Bool.{cases_lt, and_right}
@@ -9,7 +10,9 @@ use Rattle.volume_model.specs.Purge.{dropped, folded, given, parent_in}
 use Rattle.volume_model.specs.Snapshots.{Snapshot}
 use Rattle.coalesce.specs.Folding.{snapshot_of}
 use Rattle.replica_node.specs.Node.{Kept, Node, disk_named, has_own}
-use Rattle.replica_node.specs.Fold.{tree_of, own_named, is_in, own_without_page, with_page, without_page, page_folded_in, page_folded, layers_without, put_down, replaced_node, dropped_node}
+use Rattle.replica_node.specs.Fold.{tree_of, own_named, is_in, own_without_page, with_page, without_page}
+use Rattle.replica_node.specs.Fold.{page_folded_in, page_folded, layers_without, put_down, replaced_node}
+use Rattle.replica_node.specs.Fold.{dropped_node}
 use Rattle.replica_node.proofs.ListedLemmas.{listed-at, listed-past}
 
 abbrev told : List Kept → List Snapshot
@@ -50,7 +53,8 @@ module _ (layers : List Kept) (p c : List ℕ) (page : ℕ) where
       ∙ sym (and_right (not (is_in page block)) (has_own own block) (get_or_past own block false past)))
       (cases_lt block (length own))
 
-  step_own : (ks : List Kept) (block : ℕ) → has_own (own_named (map step ks) c) block ≡ (not (is_in page block) && has_own (own_named ks c) block)
+  step_own : (ks : List Kept) (block : ℕ) → has_own (own_named (map step ks) c)
+      block ≡ (not (is_in page block) && has_own (own_named ks c) block)
   step_own [] block = sym (and_right (not (is_in page block)) false refl)
   step_own (k ∷ ks) block =
       ap (λ m. has_own (cond (bytes_eq c m.name) (step k).own (own_named (map step ks) c)) block) (step_meta k)

@@ -1,5 +1,6 @@
 -- What a layer that goes leaves of the replica that a tree is: its child takes its place, or it had none.
-use Rattle.std.proofs.Common.{◌≡◌, ◌≢◌, ⊎_elim, ℕ, zero, suc, ◌*◌, ◌<◌, false, cond, List, [], ◌∷◌, ◌++◌, length, map, get_or, Option, None, Some, is_some, refl, sym, ap, subst, ◌∙◌, arith}
+use Rattle.std.proofs.Common.{◌≡◌, ◌≢◌, ⊎_elim, ℕ, zero, suc, ◌*◌, ◌<◌, false, cond, List, [], ◌∷◌, ◌++◌, length, map}
+use Rattle.std.proofs.Common.{get_or, Option, None, Some, is_some, refl, sym, ap, subst, ◌∙◌, arith}
 use Rattle.std.specs.Prelude.{All}
 use Rattle.std.specs.List.{remove}
 use Rattle.std.specs.Str.{bytes_eq}
@@ -50,9 +51,11 @@ parent_at (x ∷ xs) layers count name (suc i) tree at =
 without_past : (xs ys layers : List Layer) (count : ℕ) (x : Layer) (p : List ℕ) → IsNew p xs → name_of x ≡ p
     → layers_without p (map (kept_in layers count) (xs ++ (x ∷ ys))) ≡ map (kept_in layers count) (xs ++ ys)
 without_past [] ys layers count x p new is =
-    ap (λ b. cond b (map (kept_in layers count) ys) (kept_in layers count x ∷ layers_without p (map (kept_in layers count) ys))) (ap (bytes_eq p) is ∙ same_name p)
+    ap (λ b. cond b (map (kept_in layers count) ys) (kept_in layers count x ∷ layers_without p (map (kept_in layers count) ys)))
+    (ap (bytes_eq p) is ∙ same_name p)
 without_past (l ∷ ls) ys layers count x p new is =
-    ap (λ b. cond b (map (kept_in layers count) (ls ++ (x ∷ ys))) (kept_in layers count l ∷ layers_without p (map (kept_in layers count) (ls ++ (x ∷ ys)))))
+    let map_here = map (kept_in layers count) (ls ++ (x ∷ ys)) in
+    ap (λ b. cond b map_here (kept_in layers count l ∷ layers_without p map_here))
     (other_name p (name_of l) new.0)
     ∙ ap (λ (ks : List Kept). kept_in layers count l ∷ ks) (without_past ls ys layers count x p new.1 is)
 
@@ -77,7 +80,9 @@ has_no_block t count node c view n w empty = λ i l within named block.
     (λ past. (ChangesBlock-past (layer_at t.layers i).image block (λ b. b) (omega (arith, past, pages))).0)
     (cases_lt block count)
 
-module _ (old new : Tree) (p c : List ℕ) (i j : ℕ) (w : IsWholeTree old) (at : AreAt old.layers p c i j) (stands : IsParent old.layers i j) (is_new : new ≡ change.replaced old i j) (rest : new ≡ with_layers old new.layers) (keeps : KeepsOthers old new p) (count : ℕ) (n : IsNode old count) where
+module _ (old new : Tree) (p c : List ℕ) (i j : ℕ) (w : IsWholeTree old) (at : AreAt old.layers p c i j)
+    (stands : IsParent old.layers i j) (is_new : new ≡ change.replaced old i j) (rest : new ≡ with_layers old new.layers)
+    (keeps : KeepsOthers old new p) (count : ℕ) (n : IsNode old count) where
   abbrev x : Layer
   x = layer_at old.layers i
 
@@ -120,7 +125,8 @@ module _ (old new : Tree) (p c : List ℕ) (i j : ℕ) (w : IsWholeTree old) (at
   replaced_whole =
       other_whole old new count p rest keeps n
       (subst (λ (t : Tree). All (HasPages count) t.layers) (sym is_new)
-      (All-set (HasPages count) (remove old.layers i) j moved (n.images i _ at.parent.within) (all_remove (HasPages count) old.layers i n.images)))
+      (All-set (HasPages count) (remove old.layers i) j moved (n.images i _ at.parent.within)
+      (all_remove (HasPages count) old.layers i n.images)))
       (λ k. ap (λ o. length (bytes_of o)) (absent_reads new.layers p k p_gone) ∙ length-none)
 
   untouched : (xs : List Layer) → IsNew c xs → map step (map was xs) ≡ map was xs
@@ -136,12 +142,14 @@ module _ (old new : Tree) (p c : List ℕ) (i j : ℕ) (w : IsWholeTree old) (at
 
   elsewhere : (xs : List Layer) → IsNew p xs → IsNew c xs → map is xs ≡ map step (map was xs)
   elsewhere xs no_p no_c =
-      kept_elsewhere xs old.layers new.layers count p no_p (λ name other. other_disks old new count p name keeps other) ∙ sym (untouched xs no_c)
+      kept_elsewhere xs old.layers new.layers count p no_p (λ name other. other_disks old new count p name keeps other)
+      ∙ sym (untouched xs no_c)
 
   the_child : is moved ≡ step (was y)
   the_child =
       same_kept moved.meta _ _ (own_in x.image count) _ (other_disks old new count p (name_of y) keeps names_apart) refl
-      ∙ ap (λ b. cond b (record (was y) { meta = moved.meta; own = own_in x.image count }) (was y)) (sym (ap (bytes_eq c) at.child.named ∙ same_name c))
+      ∙ ap (λ b. cond b (record (was y) { meta = moved.meta; own = own_in x.image count }) (was y))
+      (sym (ap (bytes_eq c) at.child.named ∙ same_name c))
 
   p_out : layers_without p kept ≡ map was (two.before ++ (y ∷ (two.between ++ two.after)))
   p_out =
@@ -150,17 +158,21 @@ module _ (old new : Tree) (p c : List ℕ) (i j : ℕ) (w : IsWholeTree old) (at
       (no_append name_of parent_of p two.before (y ∷ two.between) two.p_before (names_apart, two.p_between)) at.parent.named
       ∙ ap (map was) (append_assoc two.before (y ∷ two.between) two.after)
 
-  replaced_layers : map is new.layers ≡ map (put_down c (parent_in p (tree_of (node_of old count))) (own_named kept p)) (layers_without p kept)
+  replaced_layers : map is new.layers ≡ map (put_down c (parent_in p (tree_of (node_of old count))) (own_named kept p))
+      (layers_without p kept)
   replaced_layers =
       let behind = two.between ++ two.after in
       ap (map is) layers_are
       ∙ map_one is two.before behind moved
       ∙ pieces (elsewhere two.before two.p_before two.c_before) the_child
-      (elsewhere behind (no_append name_of parent_of p two.between two.after two.p_between two.p_after) (no_append name_of parent_of c two.between two.after two.c_between two.c_after))
+      (elsewhere behind (no_append name_of parent_of p two.between two.after two.p_between two.p_after)
+      (no_append name_of parent_of c two.between two.after two.c_between two.c_after))
       ∙ sym (map_one step (map was two.before) (map was behind) (was y))
       ∙ ap (map step) (sym (map_one was two.before behind y) ∙ sym p_out)
-      ∙ ap (λ q. map (put_down c q (own_in x.image count)) (layers_without p kept)) (sym (parent_at old.layers old.layers count p i w.layers at.parent))
-      ∙ ap (λ o. map (put_down c (parent_in p (tree_of (node_of old count))) o) (layers_without p kept)) (sym (own_of old.layers old.layers count p i w.layers at.parent))
+      ∙ ap (λ q. map (put_down c q (own_in x.image count)) (layers_without p kept))
+      (sym (parent_at old.layers old.layers count p i w.layers at.parent))
+      ∙ ap (λ o. map (put_down c (parent_in p (tree_of (node_of old count))) o) (layers_without p kept))
+      (sym (own_of old.layers old.layers count p i w.layers at.parent))
     where
       pieces : {a b d e : List Kept} {l m : Kept} → a ≡ b → l ≡ m → d ≡ e → a ++ (l ∷ d) ≡ b ++ (m ∷ e)
       pieces q r s = cc
@@ -175,12 +187,15 @@ pub replace_is : (old new : Tree) (count : ℕ) (node : Node) (p c : List ℕ) �
 replace_is old new count node p c view n w can replaces rest keeps =
     let stands = fold_parent old p c replaces.parent replaces.child w replaces.at (can_fold old count node p c view can) in (
       replaced_whole old new p c replaces.parent replaces.child w replaces.at stands replaces.is rest keeps count n,
-      node_of_replaced old new p c replaces.parent replaces.child w replaces.at stands replaces.is rest keeps count n ∙ ap (λ a. replaced_node a p c) view,
+      node_of_replaced old new p c replaces.parent replaces.child w replaces.at stands replaces.is rest keeps count n
+          ∙ ap (λ a. replaced_node a p c) view,
     )
 
 -- ---- a layer is dropped
 
-module _ (old new : Tree) (p : List ℕ) (i : ℕ) (w : IsWholeTree old) (at : IsAt old.layers p i) (is_new : new ≡ change.taken_out old i) (rest : new ≡ with_layers old new.layers) (keeps : KeepsOthers old new p) (count : ℕ) (n : IsNode old count) where
+module _ (old new : Tree) (p : List ℕ) (i : ℕ) (w : IsWholeTree old) (at : IsAt old.layers p i)
+    (is_new : new ≡ change.taken_out old i) (rest : new ≡ with_layers old new.layers) (keeps : KeepsOthers old new p)
+    (count : ℕ) (n : IsNode old count) where
   one : Cut old.layers p i
   one = cut old.layers p i w.layers at
 
@@ -194,12 +209,14 @@ module _ (old new : Tree) (p : List ℕ) (i : ℕ) (w : IsWholeTree old) (at : I
   dropped_whole =
       other_whole old new count p rest keeps n
       (subst (λ (t : Tree). All (HasPages count) t.layers) (sym is_new) (all_remove (HasPages count) old.layers i n.images))
-      (λ k. ap (λ o. length (bytes_of o)) (absent_reads new.layers p k (subst (λ (ls : List Layer). IsNew p ls) (sym left_are) no_p)) ∙ length-none)
+      (λ k. ap (λ o. length (bytes_of o)) (absent_reads new.layers p k (subst (λ (ls : List Layer). IsNew p ls) (sym left_are) no_p))
+      ∙ length-none)
 
   dropped_layers : map (kept_in new.layers count) new.layers ≡ layers_without p (map (kept_in old.layers count) old.layers)
   dropped_layers =
       ap (map (kept_in new.layers count)) left_are
-      ∙ kept_elsewhere (one.before ++ one.after) old.layers new.layers count p no_p (λ name other. other_disks old new count p name keeps other)
+      ∙ kept_elsewhere (one.before ++ one.after) old.layers new.layers count p no_p
+      (λ name other. other_disks old new count p name keeps other)
       ∙ sym (without_past one.before one.after old.layers count (layer_at old.layers i) p one.none_before at.named)
       ∙ sym (ap (λ (ls : List Layer). layers_without p (map (kept_in old.layers count) ls)) one.is)
 
@@ -208,7 +225,8 @@ module _ (old new : Tree) (p : List ℕ) (i : ℕ) (w : IsWholeTree old) (at : I
 
 -- a layer is dropped from the tree, and so it is from the replica
 pub drop_is : (old new : Tree) (count : ℕ) (node : Node) (p : List ℕ) → node_of old count ≡ node → IsNode old count → IsWholeTree old
-    → Drops old new p → new ≡ with_layers old new.layers → KeepsOthers old new p → (IsNode new count) × (node_of new count ≡ dropped_node node p)
+    → Drops old new p → new ≡ with_layers old new.layers → KeepsOthers old new p → (IsNode new count)
+    × (node_of new count ≡ dropped_node node p)
 drop_is old new count node p view n w drops rest keeps = (
   dropped_whole old new p drops.place w drops.at drops.is rest keeps count n,
   dropped_is old new p drops.place w drops.at drops.is rest keeps count n ∙ ap (λ a. dropped_node a p) view,

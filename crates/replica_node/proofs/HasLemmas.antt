@@ -1,5 +1,6 @@
 -- Which blocks the layer of a name has are those of its image.
-use Rattle.std.proofs.Common.{◌≡◌, ⊎_elim, ℕ, ◌*◌, ◌/◌, ◌<◌, ◌≤◌, ◌^◌, Bool, true, false, not, cond, List, [], ◌∷◌, length, map, is_some, refl, sym, ap, ◌∙◌, arith}
+use Rattle.std.proofs.Common.{◌≡◌, ⊎_elim, ℕ, ◌*◌, ◌/◌, ◌<◌, ◌≤◌, ◌^◌, Bool, true, false, not, cond, List, [], ◌∷◌}
+use Rattle.std.proofs.Common.{length, map, is_some, refl, sym, ap, ◌∙◌, arith}
 use Rattle.std.proofs.lemmas.Bool.{cases_lt}
 use Rattle.std.proofs.lemmas.List.{get_or_past}
 use Rattle.sparse_image.specs.Image.{Tables, block_at}
@@ -18,7 +19,8 @@ pub none_past : (image : Tables) (block : ℕ) → length image ≤ block / 512 
 none_past image block past = ap is_some (ChangesBlock-past image block (λ b. b) past).0
 
 -- each block is told as the image has it
-own_is : (image : Tables) (count block : ℕ) → length image * 512 ≡ count → has_own (own_in image count) block ≡ is_some (block_at image block)
+own_is : (image : Tables) (count block : ℕ) → length image * 512 ≡ count
+    → has_own (own_in image count) block ≡ is_some (block_at image block)
 own_is image count block pages = ⊎_elim
     (λ inside. own_at image count block inside)
     (λ past. listed-past (λ k. is_some (block_at image k)) count block past ∙ sym (none_past image block (omega (arith, past, pages))))
@@ -31,7 +33,8 @@ own_absent (x ∷ xs) layers count name free =
     ap (λ b. cond b (own_in x.image count) (own_named (map (kept_in layers count) xs) name)) (other_name name (name_of x) free.0)
     ∙ own_absent xs layers count name free.1
 
-pub bare_absent : (t : Tree) (count : ℕ) (node : Node) (name : List ℕ) → node_of t count ≡ node → IsNew name t.layers → IsBare node.layers name
+pub bare_absent : (t : Tree) (count : ℕ) (node : Node) (name : List ℕ) → node_of t count ≡ node → IsNew name t.layers
+    → IsBare node.layers name
 bare_absent t count node name view free = λ block.
     ap (λ o. has_own o block) (sym (ap (λ n. own_named n.layers name) view) ∙ own_absent t.layers t.layers count name free)
     ∙ get_or_past [] block false (omega arith)
@@ -46,7 +49,8 @@ pub few_blocks : (t : Tree) (count : ℕ) (node : Node) (i : ℕ) → node_of t 
 few_blocks t count node i view n within most =
     omega (arith, (image_is t count i n within).pages, length-node t count node view n)
 
-module _ (t : Tree) (count : ℕ) (node : Node) (name : List ℕ) (i : ℕ) (view : node_of t count ≡ node) (n : IsNode t count) (w : IsWholeTree t) (at : IsAt t.layers name i) where
+module _ (t : Tree) (count : ℕ) (node : Node) (name : List ℕ) (i : ℕ) (view : node_of t count ≡ node) (n : IsNode t count)
+    (w : IsWholeTree t) (at : IsAt t.layers name i) where
   abbrev image : Tables
   image = (layer_at t.layers i).image
 

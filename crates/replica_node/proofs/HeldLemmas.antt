@@ -1,5 +1,7 @@
 -- The blocks that the layers of a replica themselves have are those of its tree's images.
-use Rattle.std.proofs.Common.{◌≡◌, ◌≢◌, ⊎_elim, ℕ, zero, suc, ◌+◌, ◌*◌, ◌/◌, ◌%◌, ◌<◌, Bool, true, false, cond, List, [], ◌∷◌, ◌++◌, length, map, set, length-set, get_or-set_other, Option, None, Some, is_some, refl, sym, ap, subst, ◌∙◌, arith, append_assoc}
+use Rattle.std.proofs.Common.{◌≡◌, ◌≢◌, ⊎_elim, ℕ, zero, suc, ◌+◌, ◌*◌, ◌/◌, ◌%◌, ◌<◌, Bool, true, false, cond, List}
+use Rattle.std.proofs.Common.{[], ◌∷◌, ◌++◌, length, map, set, length-set, get_or-set_other, Option, None, Some}
+use Rattle.std.proofs.Common.{is_some, refl, sym, ap, subst, ◌∙◌, arith, append_assoc}
 use Rattle.std.specs.Prelude.{◌&&◌, All}
 use Rattle.std.specs.Option.{option_or}
 use Rattle.std.specs.Str.{bytes_eq}
@@ -24,7 +26,8 @@ use Rattle.layer_chain.proofs.FoldLaws.{alike_tree}
 use Rattle.coalesce.proofs.ChildLemmas.{same_name, other_name}
 use Rattle.replica_node.specs.Node.{Kept, Node, node_of, kept_in, disk_in, head_disk, own_in, made_in, has_own, IsInPages, IsNode}
 use Rattle.replica_node.specs.Fold.{is_in, HasBlockIn, HasNoBlockIn}
-use Rattle.replica_node.specs.Held.{block_of, own_block, block_named, read_below, IsOver, AreChained, IsChained, IsPageOf, put_block, PutsPage}
+use Rattle.replica_node.specs.Held.{block_of, own_block, block_named, read_below, IsOver, AreChained, IsChained}
+use Rattle.replica_node.specs.Held.{IsPageOf, put_block, PutsPage}
 use Rattle.replica_node.proofs.CutLemmas.{place_reads, cut_reads}
 use Rattle.replica_node.proofs.MadeLemmas.{made_put}
 use Rattle.replica_node.proofs.ListedLemmas.{listed-past}
@@ -39,8 +42,10 @@ own_some None r h d e f = ap (λ t. cond t (Some d) None) e
 own_some (Some b) r h d e f = ap (λ t. cond t (Some d) None) e ∙ ap (λ x. Some x) f
 
 -- what reads as its image's blocks over others has just those itself
-image_own : (image : Tables) (count block : ℕ) (f : ℕ → List ℕ) (rest : ℕ → Option (List ℕ)) → length image * 512 ≡ count → ((k : ℕ) → length (f k) ≡ 4096)
-    → ((k : ℕ) → f k ≡ bytes_of (option_or (block_at image k) (rest k))) → own_block (joined f count) (own_in image count) block ≡ block_at image block
+image_own : (image : Tables) (count block : ℕ) (f : ℕ → List ℕ) (rest : ℕ → Option (List ℕ)) → length image * 512 ≡ count
+    → ((k : ℕ) → length (f k) ≡ 4096)
+    → ((k : ℕ) → f k ≡ bytes_of (option_or (block_at image k) (rest k)))
+    → own_block (joined f count) (own_in image count) block ≡ block_at image block
 image_own image count block f rest pages whole reads_as = ⊎_elim
     (λ inside. own_some (block_at image block) (rest block) (has_own (own_in image count) block) (block_of (joined f count) block)
     (own_at image count block inside) (joined-block f count block inside whole ∙ reads_as block))
@@ -53,10 +58,12 @@ module _ (t : Tree) (count : ℕ) (n : IsNode t count) where
   own_head block = image_own t.head count block (λ k. bytes_of (head_reads t k)) (λ k. reads t.layers t.on k) n.pages n.head (λ k. refl)
 
   pub own_layer : IsLayers t.layers → (i : ℕ) → i < length t.layers → (block : ℕ)
-      → own_block (disk_in t.layers count (name_of (layer_at t.layers i))) (own_in (layer_at t.layers i).image count) block ≡ block_at (layer_at t.layers i).image block
+      → own_block (disk_in t.layers count (name_of (layer_at t.layers i))) (own_in (layer_at t.layers i).image count)
+      block ≡ block_at (layer_at t.layers i).image block
   own_layer tree i within block =
       let x = layer_at t.layers i in
-      image_own x.image count block (λ k. bytes_of (reads t.layers (Some (name_of x)) k)) (λ k. reads t.layers (parent_of x) k) (n.images i _ within).pages (n.layers (Some (name_of x)))
+      image_own x.image count block (λ k. bytes_of (reads t.layers (Some (name_of x)) k))
+      (λ k. reads t.layers (parent_of x) k) (n.images i _ within).pages (n.layers (Some (name_of x)))
       (λ k. ap bytes_of (place_reads t.layers (name_of x) i tree (record { within = within; named = refl }) k))
 
 -- the block of the image of the name
@@ -65,7 +72,8 @@ image_block [] name block = None
 image_block (x ∷ xs) name block = cond (bytes_eq name (name_of x)) (block_at x.image block) (image_block xs name block)
 
 named_block : (xs layers : List Layer) (count : ℕ) (name : List ℕ) (block : ℕ)
-    → ((i : ℕ) → i < length xs → own_block (disk_in layers count (name_of (layer_at xs i))) (own_in (layer_at xs i).image count) block ≡ block_at (layer_at xs i).image block)
+    → ((i : ℕ) → i < length xs → own_block (disk_in layers count (name_of (layer_at xs i)))
+    (own_in (layer_at xs i).image count) block ≡ block_at (layer_at xs i).image block)
     → block_named (map (kept_in layers count) xs) name block ≡ image_block xs name block
 named_block [] layers count name block own = refl
 named_block (x ∷ xs) layers count name block own =
@@ -78,7 +86,8 @@ pub block_in_tree : (t : Tree) (count : ℕ) (name : List ℕ) (block : ℕ) →
 block_in_tree t count name block n tree =
     named_block t.layers t.layers count name block (λ i h. own_layer t count n tree i h block)
 
-image_at : (xs : List Layer) (name : List ℕ) (i block : ℕ) → IsLayers xs → IsAt xs name i → image_block xs name block ≡ block_at (layer_at xs i).image block
+image_at : (xs : List Layer) (name : List ℕ) (i block : ℕ) → IsLayers xs → IsAt xs name i
+    → image_block xs name block ≡ block_at (layer_at xs i).image block
 image_at [] name i block tree at = absurd (omega (arith, at.within))
 image_at (x ∷ xs) name zero block tree at =
     ap (λ b. cond b (block_at x.image block) (image_block xs name block)) (ap (bytes_eq name) at.named ∙ same_name name)
@@ -90,8 +99,10 @@ image_at (x ∷ xs) name (suc i) block tree at =
 
 -- ---- a page goes out
 
-pub page_out : (t : Tree) (count : ℕ) (node : Node) (name : List ℕ) (page i : ℕ) (table : Table) → node_of t count ≡ node → IsNode t count → IsLayers t.layers
-    → IsAt t.layers name i → ((k : ℕ) → k < 512 → place_at table k ≡ block_at (layer_at t.layers i).image (page * 512 + k)) → IsPageOf node name page table
+pub page_out : (t : Tree) (count : ℕ) (node : Node) (name : List ℕ) (page i : ℕ) (table : Table) → node_of t count ≡ node
+    → IsNode t count → IsLayers t.layers
+    → IsAt t.layers name i → ((k : ℕ) → k < 512 → place_at table k ≡ block_at (layer_at t.layers i).image (page * 512 + k))
+    → IsPageOf node name page table
 page_out t count node name page i table view n tree at is = λ k h.
     is k h ∙ sym (image_at t.layers name i (page * 512 + k) tree at) ∙ sym (block_in_tree t count name (page * 512 + k) n tree)
     ∙ ap (λ x. block_named x.layers name (page * 512 + k)) view
@@ -125,25 +136,33 @@ swap_conds true b u v w h = sym (ap (λ t. cond t v u) (h refl))
 swap_conds false b u v w h = refl
 
 -- the blocks of the names, once another layer stands at the place
-image_set : (xs : List Layer) (name : List ℕ) (i : ℕ) (y : Layer) (other : List ℕ) (block : ℕ) → IsLayers xs → IsAt xs name i → name_of y ≡ name
+image_set : (xs : List Layer) (name : List ℕ) (i : ℕ) (y : Layer) (other : List ℕ) (block : ℕ) → IsLayers xs
+    → IsAt xs name i → name_of y ≡ name
     → image_block (set xs i y) other block ≡ cond (bytes_eq other name) (block_at y.image block) (image_block xs other block)
 image_set [] name i y other block tree at same = absurd (omega (arith, at.within))
 image_set (x ∷ xs) name zero y other block tree at same =
-    ap (λ m. cond (bytes_eq other m) (block_at y.image block) (image_block xs other block)) same
-    ∙ cond_twice (bytes_eq other name) (block_at y.image block) (block_at x.image block) (image_block xs other block)
-    ∙ ap (λ m. cond (bytes_eq other name) (block_at y.image block) (cond (bytes_eq other m) (block_at x.image block) (image_block xs other block))) (sym at.named)
+    let image_block_here = image_block xs other block in
+    ap (λ m. cond (bytes_eq other m) (block_at y.image block) image_block_here) same
+    ∙ cond_twice (bytes_eq other name) (block_at y.image block) (block_at x.image block) image_block_here
+    ∙ ap (λ m. cond (bytes_eq other name) (block_at y.image block) (cond (bytes_eq other m) (block_at x.image block) image_block_here))
+    (sym at.named)
 image_set (x ∷ xs) name (suc i) y other block tree at same =
     let in_i : i < length xs = omega (arith, at.within) in
-    ap (λ o. cond (bytes_eq other (name_of x)) (block_at x.image block) o) (image_set xs name i y other block tree.2 (record { within = in_i; named = at.named }) same)
-    ∙ swap_conds (bytes_eq other (name_of x)) (bytes_eq other name) (block_at x.image block) (block_at y.image block) (image_block xs other block)
-    (λ e. other_name other name (λ f. apart name_of parent_of (name_of x) name xs tree.0 (there_at xs i name _ in_i at.named) (sym (sym ((bytes_eq-Decides other (name_of x)).0 e) ∙ sym f))))
+    ap (λ o. cond (bytes_eq other (name_of x)) (block_at x.image block) o)
+    (image_set xs name i y other block tree.2 (record { within = in_i; named = at.named }) same)
+    ∙ swap_conds (bytes_eq other (name_of x)) (bytes_eq other name) (block_at x.image block) (block_at y.image block)
+    (image_block xs other block)
+    (λ e. other_name other name (λ f. apart name_of parent_of (name_of x) name xs tree.0
+    (there_at xs i name _ in_i at.named) (sym (sym ((bytes_eq-Decides other (name_of x)).0 e) ∙ sym f))))
 
-set_metas : (xs : List Layer) (i : ℕ) (y : Layer) → i < length xs → y.meta ≡ (layer_at xs i).meta → map (λ (l : Layer). l.meta) (set xs i y) ≡ map (λ (l : Layer). l.meta) xs
+set_metas : (xs : List Layer) (i : ℕ) (y : Layer) → i < length xs → y.meta ≡ (layer_at xs i).meta
+    → map (λ (l : Layer). l.meta) (set xs i y) ≡ map (λ (l : Layer). l.meta) xs
 set_metas [] i y h same = absurd (omega arith)
 set_metas (x ∷ xs) zero y h same = ap (λ (m : LayerMeta). m ∷ map (λ (l : Layer). l.meta) xs) same
 set_metas (x ∷ xs) (suc i) y h same = ap (λ (ms : List LayerMeta). x.meta ∷ ms) (set_metas xs i y (omega arith) same)
 
-kept_metas : (xs layers : List Layer) (count : ℕ) → map (λ (k : Kept). k.meta) (map (kept_in layers count) xs) ≡ map (λ (l : Layer). l.meta) xs
+kept_metas : (xs layers : List Layer) (count : ℕ)
+    → map (λ (k : Kept). k.meta) (map (kept_in layers count) xs) ≡ map (λ (l : Layer). l.meta) xs
 kept_metas [] layers count = refl
 kept_metas (x ∷ xs) layers count = ap (λ (ms : List LayerMeta). x.meta ∷ ms) (kept_metas xs layers count)
 
@@ -162,9 +181,11 @@ unfolding read_layers
 reads_whole [] k whole want = length-none
 reads_whole (x ∷ xs) k whole want =
     let rest = reads_whole xs k (λ i h. whole (suc i) (omega arith)) in
-    go (is_named want (name_of x)) (whole_or (block_at x.image k) (reads xs (parent_of x) k) (whole zero (omega arith)) (rest (parent_of x))) (rest want)
+    go (is_named want (name_of x)) (whole_or (block_at x.image k) (reads xs (parent_of x) k) (whole zero (omega arith))
+    (rest (parent_of x))) (rest want)
   where
-    go : (b : Bool) → length (bytes_of (option_or (block_at x.image k) (reads xs (parent_of x) k))) ≡ 4096 → length (bytes_of (reads xs want k)) ≡ 4096
+    go : (b : Bool) → length (bytes_of (option_or (block_at x.image k) (reads xs (parent_of x) k))) ≡ 4096
+        → length (bytes_of (reads xs want k)) ≡ 4096
         → length (bytes_of (cond b (option_or (block_at x.image k) (reads xs (parent_of x) k)) (reads xs want k))) ≡ 4096
     go true p q = p
     go false p q = q
@@ -174,13 +195,17 @@ own_whole None r whole = length-none
 own_whole (Some b) r whole = whole
 
 -- the images of a replica have whole blocks
-pub image_whole : (t : Tree) (count : ℕ) (i k : ℕ) → IsNode t count → IsLayers t.layers → i < length t.layers → length (bytes_of (block_at (layer_at t.layers i).image k)) ≡ 4096
+pub image_whole : (t : Tree) (count : ℕ) (i k : ℕ) → IsNode t count → IsLayers t.layers → i < length t.layers
+    → length (bytes_of (block_at (layer_at t.layers i).image k)) ≡ 4096
 image_whole t count i k n tree within =
     let x = layer_at t.layers i in
     own_whole (block_at x.image k) (reads t.layers (parent_of x) k)
-    (ap (λ o. length (bytes_of o)) (sym (place_reads t.layers (name_of x) i tree (record { within = within; named = refl }) k)) ∙ n.layers (Some (name_of x)) k)
+    (ap (λ o. length (bytes_of o)) (sym (place_reads t.layers (name_of x) i tree (record { within = within; named = refl }) k))
+    ∙ n.layers (Some (name_of x)) k)
 
-module _ (old new : Tree) (count : ℕ) (name : List ℕ) (i page : ℕ) (table : Table) (w : IsLayers old.layers) (at : IsAt old.layers name i) (puts : change.PutsPage old.layers new.layers i page table) (rest : new ≡ with_layers old new.layers) (n : IsNode old count) (tab : IsTable table) where
+module _ (old new : Tree) (count : ℕ) (name : List ℕ) (i page : ℕ) (table : Table) (w : IsLayers old.layers)
+    (at : IsAt old.layers name i) (puts : change.PutsPage old.layers new.layers i page table)
+    (rest : new ≡ with_layers old new.layers) (n : IsNode old count) (tab : IsTable table) where
   abbrev x : Layer
   x = layer_at old.layers i
 
@@ -209,7 +234,9 @@ module _ (old new : Tree) (count : ℕ) (name : List ℕ) (i page : ℕ) (table 
     pages = ap (λ t. length t.head * 512) rest ∙ n.pages;
     made = subst IsInPages (sym (ap (λ t. t.head) rest)) n.made;
     images = subst (All (HasPages count)) (sym puts.rest)
-        (All-set (HasPages count) old.layers i y (made_put x.image (layer_at new.layers i).image count page table puts.image tab (n.images i _ at.within)) n.images);
+        (All-set (HasPages count) old.layers i y
+        (made_put x.image (layer_at new.layers i).image count page table puts.image tab (n.images i _ at.within))
+        n.images);
     layers = λ want k. reads_whole new.layers k (new_whole k) want;
     head = λ k. whole_or (block_at new.head k) (reads new.layers new.on k)
         (ap (λ t. length (bytes_of (block_at t.head k))) rest ∙ own_whole (block_at old.head k) (reads old.layers old.on k) (n.head k))
@@ -224,18 +251,21 @@ module _ (old new : Tree) (count : ℕ) (name : List ℕ) (i page : ℕ) (table 
       → cond b (block_at (layer_at new.layers i).image block) u ≡ cond (b && c) (place_at table (block % 512)) u
   put_here block true c v u e same = ⊎_elim
       (λ h. puts.image.blocks block h ∙ ap (λ t. cond t (place_at table (block % 512)) u) (sym (is_in-same page block h) ∙ e))
-      (λ o. puts.image.others block o ∙ sym (same refl) ∙ ap (λ t. cond t (place_at table (block % 512)) u) (sym (is_in-other page block o) ∙ e))
+      (λ o. puts.image.others block o ∙ sym (same refl)
+      ∙ ap (λ t. cond t (place_at table (block % 512)) u) (sym (is_in-other page block o) ∙ e))
       (cases_eq (block / 512) page)
   put_here block false c v u e same = refl
 
-  layers_put : (other : List ℕ) (block : ℕ) → block_named (node_of new count).layers other block ≡ put_block (node_of old count).layers name page table other block
+  layers_put : (other : List ℕ) (block : ℕ) → block_named (node_of new count).layers other block ≡ put_block
+      (node_of old count).layers name page table other block
   layers_put other block =
       block_in_tree new count other block put_whole new_tree
       ∙ ap (λ (xs : List Layer). image_block xs other block) puts.rest
       ∙ image_set old.layers name i y other block w at at.named
       ∙ put_here block (bytes_eq other name) (is_in page block) None (image_block old.layers other block) refl
       (λ e. ap (λ m. image_block old.layers m block) ((bytes_eq-Decides other name).0 e) ∙ image_at old.layers name i block w at)
-      ∙ ap (λ u. cond (bytes_eq other name && is_in page block) (place_at table (block % 512)) u) (sym (block_in_tree old count other block n w))
+      ∙ ap (λ u. cond (bytes_eq other name && is_in page block) (place_at table (block % 512)) u)
+      (sym (block_in_tree old count other block n w))
 
   pub put_page : PutsPage (node_of old count) (node_of new count) name page table
   put_page = record {
@@ -243,7 +273,8 @@ module _ (old new : Tree) (count : ℕ) (name : List ℕ) (i page : ℕ) (table 
     head = λ block. own_head new count put_whole block ∙ ap (λ t. block_at t.head block) rest ∙ sym (own_head old count n block);
     metas = kept_metas new.layers new.layers count ∙ ap (λ (xs : List Layer). map (λ (l : Layer). l.meta) xs) puts.rest
         ∙ set_metas old.layers i y at.within refl ∙ sym (kept_metas old.layers old.layers count);
-    size = length-joined (λ k. bytes_of (head_reads new k)) count put_whole.head ∙ sym (length-joined (λ k. bytes_of (head_reads old k)) count n.head);
+    size = length-joined (λ k. bytes_of (head_reads new k)) count put_whole.head
+        ∙ sym (length-joined (λ k. bytes_of (head_reads old k)) count n.head);
     on = ap (λ t. t.on) rest;
     number = ap (λ t. t.number) rest;
     room = ap (λ t. made_in t.head count) rest;

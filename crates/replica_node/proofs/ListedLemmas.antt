@@ -1,5 +1,6 @@
 -- The answers for the numbers below so many, as a list.
-use Rattle.std.proofs.Common.{◌≡◌, ⊎_elim, ℕ, zero, suc, ◌+◌, ◌<◌, ◌≤◌, Bool, false, List, [], ◌∷◌, ◌++◌, length, get_or, replicate, refl, sym, ap, ◌∙◌, arith, add-one, length-append}
+use Rattle.std.proofs.Common.{◌≡◌, ⊎_elim, ℕ, zero, suc, ◌+◌, ◌<◌, ◌≤◌, Bool, false, List, [], ◌∷◌, ◌++◌, length}
+use Rattle.std.proofs.Common.{get_or, replicate, refl, sym, ap, ◌∙◌, arith, add-one, length-append}
 use Rattle.std.proofs.lemmas.Bool.{cases_eq}
 use Rattle.std.proofs.lemmas.List.{get_or_append_left, get_or_past}
 use Rattle.std.proofs.Math.Seq.{get_or-append_seam}
@@ -36,7 +37,8 @@ pub listed-same : {X : Type 0} (f g : ℕ → X) (count : ℕ) → ((k : ℕ) �
 unfolding listed
 listed-same f g zero same = refl
 listed-same f g (suc count) same =
-    one_more (listed f count) (listed g count) (f count) (g count) (listed-same f g count (λ k h. same k (omega arith))) (same count (omega arith))
+    one_more (listed f count) (listed g count) (f count) (g count) (listed-same f g count (λ k h. same k (omega arith)))
+    (same count (omega arith))
 
 replicate-push : (n : ℕ) (x : Bool) → replicate n x ++ x ∷ [] ≡ replicate (suc n) x
 replicate-push zero x = refl
@@ -63,4 +65,5 @@ pub listed-All : {X : Type 0} (P : X → Type 0) (f : ℕ → X) (count : ℕ) �
 unfolding listed
 listed-All P f zero each = All-nil P
 listed-All P f (suc count) each =
-    All-append P (listed f count) (f count ∷ []) (listed-All P f count (λ k h. each k (omega arith))) (All-cons P (f count) [] (each count (omega arith)) (All-nil P))
+    All-append P (listed f count) (f count ∷ []) (listed-All P f count (λ k h. each k (omega arith)))
+    (All-cons P (f count) [] (each count (omega arith)) (All-nil P))

@@ -3,7 +3,8 @@ use Rattle.std.proofs.Common.{◌≡◌, ⊎_elim, ℕ, ◌*◌, ◌/◌, ◌%�
 use Rattle.std.specs.Prelude.{◌||◌}
 use Rattle.std.specs.Option.{option_or}
 use Rattle.std.proofs.lemmas.Bool.{cases_eq, false≢true}
-use Rattle.sparse_image.specs.Image.{Table, Tables, block_at, place_at, has_page, IsEmpty, ChangesBlock, EmptiesPage, LaysPageOver, PutsTable}
+use Rattle.sparse_image.specs.Image.{Table, Tables, block_at, place_at, has_page, IsEmpty, ChangesBlock, EmptiesPage}
+use Rattle.sparse_image.specs.Image.{LaysPageOver, PutsTable}
 use Rattle.sparse_image.specs.Whole.{IsTable}
 use Rattle.sparse_image.proofs.ImageLemmas.{unmade_none}
 use Rattle.replica_node.specs.Node.{IsInPages, IsImageOf}
@@ -22,7 +23,8 @@ pub made_empty : (image : Tables) (page_count : ℕ) → IsEmpty image page_coun
 made_empty image page_count e = λ block unmade. e.blocks block
 
 -- a block of a page that is made is changed
-pub made_changed : (old new : Tables) (block : ℕ) (after : Option (List ℕ)) → ChangesBlock old new block after → has_page old (block / 512) ≡ true
+pub made_changed : (old new : Tables) (block : ℕ) (after : Option (List ℕ)) → ChangesBlock old new block after
+    → has_page old (block / 512) ≡ true
     → IsInPages old → IsInPages new
 made_changed old new block after changes page made = λ k unmade.
     let was : has_page old (k / 512) ≡ false = sym (changes.pages (k / 512)) ∙ unmade in
@@ -32,7 +34,8 @@ made_changed old new block after changes page made = λ k unmade.
     (cases_eq k block)
 
 -- where a block is there, its page is made
-pub made_there : (image : Tables) (block : ℕ) → IsInPages image → is_some (block_at image block) ≡ true → has_page image (block / 512) ≡ true
+pub made_there : (image : Tables) (block : ℕ) → IsInPages image → is_some (block_at image block) ≡ true
+    → has_page image (block / 512) ≡ true
 made_there image block made there = go (has_page image (block / 512)) refl
   where
     go : (b : Bool) → has_page image (block / 512) ≡ b → has_page image (block / 512) ≡ true
@@ -40,7 +43,8 @@ made_there image block made there = go (has_page image (block / 512)) refl
     go false is = absurd (false≢true (sym (ap is_some (made block is)) ∙ there))
 
 -- a page of another is laid over
-pub made_over : (above old new : Tables) (count page : ℕ) → LaysPageOver above old new page → IsInPages above → IsImageOf count old → IsImageOf count new
+pub made_over : (above old new : Tables) (count page : ℕ) → LaysPageOver above old new page → IsInPages above
+    → IsImageOf count old → IsImageOf count new
 made_over above old new count page lays above_made is = record {
   pages = ap (λ l. l * 512) lays.count ∙ is.pages;
   made = λ k unmade. ⊎_elim
@@ -67,7 +71,8 @@ made_emptied old new count page empties is = record {
 }
 
 -- a page is put
-pub made_put : (old new : Tables) (count page : ℕ) (table : Table) → PutsTable old new page table → IsTable table → IsImageOf count old → IsImageOf count new
+pub made_put : (old new : Tables) (count page : ℕ) (table : Table) → PutsTable old new page table → IsTable table
+    → IsImageOf count old → IsImageOf count new
 made_put old new count page table puts whole is = record {
   pages = ap (λ l. l * 512) puts.count ∙ is.pages;
   made = λ k unmade. ⊎_elim

@@ -1,5 +1,7 @@
 -- What a change of a tree makes of the replica that it is.
-use Rattle.std.proofs.Common.{◌≡◌, ◌≢◌, ℕ, zero, suc, ◌*◌, ◌/◌, ◌<◌, Bool, true, false, not, cond, List, [], ◌∷◌, length, map, replicate, get_or, set, Option, None, Some, is_some, refl, sym, ap, subst, ◌∙◌, inl, inr, arith, ⊎_elim}
+use Rattle.std.proofs.Common.{◌≡◌, ◌≢◌, ℕ, zero, suc, ◌*◌, ◌/◌, ◌<◌, Bool, true, false, not, cond, List, [], ◌∷◌}
+use Rattle.std.proofs.Common.{length, map, replicate, get_or, set, Option, None, Some, is_some, refl, sym, ap, subst}
+use Rattle.std.proofs.Common.{◌∙◌, inl, inr, arith, ⊎_elim}
 use Rattle.std.proofs.lemmas.List.{length-map}
 use Rattle.std.specs.List.{All}
 use Rattle.std.specs.Prelude.{Contains, IfSome, MatchOption}
@@ -23,7 +25,9 @@ use Rattle.layer_chain.proofs.ChangeLemmas.{snapped_reads, snapped_others, snapp
 use Rattle.layer_chain.proofs.ReadLaws.{cases_named}
 use Rattle.replica_node.proofs.ListedLemmas.{length-listed, listed-all}
 use Rattle.replica_node.proofs.MadeLemmas.{made_empty}
-use Rattle.replica_node.specs.Node.{Kept, Node, node_of, kept_in, disk_in, head_disk, own_in, made_in, layer_names, disk_named, IsImageOf, IsNode, IsKept, IsFree, IsSpareOf, no_room, no_own, blank, snapped_node, reverted_node, marked, marked_if_named}
+use Rattle.replica_node.specs.Node.{Kept, Node, node_of, kept_in, disk_in, head_disk, own_in, made_in, layer_names}
+use Rattle.replica_node.specs.Node.{disk_named, IsImageOf, IsNode, IsKept, IsFree, IsSpareOf, no_room, no_own, blank}
+use Rattle.replica_node.specs.Node.{snapped_node, reverted_node, marked, marked_if_named}
 
 -- ---- room, and blocks of its own
 
@@ -42,7 +46,8 @@ own_in-empty image page_count count e =
     listed-all (λ block. is_some (block_at image block)) count false (λ block. ap is_some (e.blocks block))
 
 -- a spare head has no room, and no block
-no_room-empty : (t : Tree) (spare : Tables) (page_count count : ℕ) → IsEmpty spare page_count → made_in spare count ≡ no_room (node_of t count)
+no_room-empty : (t : Tree) (spare : Tables) (page_count count : ℕ) → IsEmpty spare page_count
+    → made_in spare count ≡ no_room (node_of t count)
 no_room-empty t spare page_count count e =
     made_in-empty spare page_count count e ∙ ap (λ n. replicate n false) (sym (length-made_in t.head count))
 
@@ -51,7 +56,8 @@ no_own-empty t spare page_count count e =
     own_in-empty spare page_count count e ∙ ap (λ n. replicate n false) (sym (length-own_in t.head count))
 
 -- a spare head has the pages of the tree
-pub spare_pages : (t : Tree) (count : ℕ) (node : Node) (spare : Tables) → node_of t count ≡ node → IsSpareOf node spare → length spare * 512 ≡ count
+pub spare_pages : (t : Tree) (count : ℕ) (node : Node) (spare : Tables) → node_of t count ≡ node → IsSpareOf node spare
+    → length spare * 512 ≡ count
 spare_pages t count node spare view is = is.0 ∙ sym (ap (λ n. length n.room) view) ∙ length-made_in t.head count
 
 -- the image of the layer is one of so many blocks
@@ -69,7 +75,8 @@ same_kept m a b o u p q = cc
 pub some_name : (a b : List ℕ) → Some a ≡ Some b → a ≡ b
 some_name a b e = cc
 
-is_new : (xs layers : List Layer) (count : ℕ) (name : List ℕ) → All (λ (k : Kept). k.meta.name ≢ name) (map (kept_in layers count) xs) → IsNew name xs
+is_new : (xs layers : List Layer) (count : ℕ) (name : List ℕ)
+    → All (λ (k : Kept). k.meta.name ≢ name) (map (kept_in layers count) xs) → IsNew name xs
 is_new [] layers count name all = tt
 is_new (x ∷ xs) layers count name all = (
   All-head (λ (k : Kept). k.meta.name ≢ name) (kept_in layers count x) (map (kept_in layers count) xs) all,
@@ -82,7 +89,8 @@ there_from [] layers count name i within e = absurd (omega arith)
 there_from (x ∷ xs) layers count name zero within e = inl e
 there_from (x ∷ xs) layers count name (suc i) within e = inr (there_from xs layers count name i (omega arith) e)
 
-is_there : (xs layers : List Layer) (count : ℕ) (name : List ℕ) → Contains (layer_names (map (kept_in layers count) xs)) name → IsThere (Some name) xs
+is_there : (xs layers : List Layer) (count : ℕ) (name : List ℕ)
+    → Contains (layer_names (map (kept_in layers count) xs)) name → IsThere (Some name) xs
 is_there xs layers count name c = there_from xs layers count name c.0
     (omega (arith, c.1, length-map {A = Kept} {B = List ℕ}, length-map {A = Layer} {B = Kept})) c.2
 
@@ -90,26 +98,31 @@ is_there xs layers count name c = there_from xs layers count name c.0
 pub free_in : (t : Tree) (count : ℕ) (node : Node) (name : List ℕ) → node_of t count ≡ node → IsFree node name → IsNew name t.layers
 free_in t count node name view free = is_new t.layers t.layers count name (subst (λ n. IsFree n name) (sym view) free)
 
-pub there_in : (t : Tree) (count : ℕ) (node : Node) (name : List ℕ) → node_of t count ≡ node → IsKept node (Some name) → IsThere (Some name) t.layers
+pub there_in : (t : Tree) (count : ℕ) (node : Node) (name : List ℕ) → node_of t count ≡ node → IsKept node (Some name)
+    → IsThere (Some name) t.layers
 there_in t count node name view there = is_there t.layers t.layers count name (subst (λ n. IsKept n (Some name)) (sym view) there)
 
 -- and back
-free_from : (xs layers : List Layer) (count : ℕ) (name : List ℕ) → IsNew name xs → All (λ (k : Kept). k.meta.name ≢ name) (map (kept_in layers count) xs)
+free_from : (xs layers : List Layer) (count : ℕ) (name : List ℕ) → IsNew name xs
+    → All (λ (k : Kept). k.meta.name ≢ name) (map (kept_in layers count) xs)
 free_from [] layers count name free = All-nil (λ (k : Kept). k.meta.name ≢ name)
 free_from (x ∷ xs) layers count name free =
-    All-cons (λ (k : Kept). k.meta.name ≢ name) (kept_in layers count x) (map (kept_in layers count) xs) free.0 (free_from xs layers count name free.1)
+    All-cons (λ (k : Kept). k.meta.name ≢ name) (kept_in layers count x) (map (kept_in layers count) xs) free.0
+    (free_from xs layers count name free.1)
 
 pub is_free : (t : Tree) (count : ℕ) (node : Node) (name : List ℕ) → node_of t count ≡ node → IsNew name t.layers → IsFree node name
 is_free t count node name view free = subst (λ n. IsFree n name) view (free_from t.layers t.layers count name free)
 
-kept_from : (xs layers : List Layer) (count : ℕ) (name : List ℕ) → IsThere (Some name) xs → Contains (layer_names (map (kept_in layers count) xs)) name
+kept_from : (xs layers : List Layer) (count : ℕ) (name : List ℕ) → IsThere (Some name) xs
+    → Contains (layer_names (map (kept_in layers count) xs)) name
 kept_from [] layers count name there = absurd there
 kept_from (x ∷ xs) layers count name (inl same) = (0, omega arith, same)
 kept_from (x ∷ xs) layers count name (inr older) =
     let rest = kept_from xs layers count name older in
     (suc rest.0, omega (arith, rest.1), rest.2)
 
-pub is_kept : (t : Tree) (count : ℕ) (node : Node) (name : List ℕ) → node_of t count ≡ node → IsThere (Some name) t.layers → IsKept node (Some name)
+pub is_kept : (t : Tree) (count : ℕ) (node : Node) (name : List ℕ) → node_of t count ≡ node → IsThere (Some name) t.layers
+    → IsKept node (Some name)
 is_kept t count node name view there = subst (λ n. IsKept n (Some name)) view (kept_from t.layers t.layers count name there)
 
 -- what a search for the name tells
@@ -140,7 +153,8 @@ node_with layers on number disk room own =
     record { layers = layers; on = on; number = number; disk = disk; room = room; own = own }
 
 -- the same parts, the same replica
-pub same_parts : {a b : List Kept} {c d : Option (List ℕ)} {m n : ℕ} {f g : List ℕ} {r s u v : List Bool} → a ≡ b → c ≡ d → m ≡ n → f ≡ g → r ≡ s → u ≡ v
+pub same_parts : {a b : List Kept} {c d : Option (List ℕ)} {m n : ℕ} {f g : List ℕ} {r s u v : List Bool} → a ≡ b → c ≡ d
+    → m ≡ n → f ≡ g → r ≡ s → u ≡ v
     → node_with a c m f r u ≡ node_with b d n g s v
 same_parts p q x y z w = cc
 
@@ -177,7 +191,8 @@ snapped_whole t count name user_created spare page_count n e pages =
       made = made_empty spare page_count e;
       images = All-cons (HasPages count) (layer_at after.layers 0) t.layers (record { pages = n.pages; made = n.made }) n.images;
       layers = λ want k. ⊎_elim
-          (λ same. ap (λ w. length (bytes_of (reads after.layers w k))) same ∙ ap (λ b. length (bytes_of b)) (snapped_reads t name user_created spare k) ∙ n.head k)
+          (λ same. ap (λ w. length (bytes_of (reads after.layers w k))) same
+          ∙ ap (λ b. length (bytes_of b)) (snapped_reads t name user_created spare k) ∙ n.head k)
           (λ other. ap (λ b. length (bytes_of b)) (snapped_others t name user_created spare want k other) ∙ n.layers want k)
           (cases_named want name);
       head = λ k. ap (λ b. length (bytes_of b)) (snapped_head t name user_created spare k (e.blocks k)) ∙ n.head k;
@@ -191,7 +206,8 @@ named_there [] layers count name there = absurd there
 named_there (x ∷ xs) layers count name there = go (λ older. named_there xs layers count name older) (bytes_eq name (name_of x)) refl
   where
     go : (IsThere (Some name) xs → disk_named (map (kept_in layers count) xs) name ≡ disk_in layers count name) → (b : Bool)
-        → bytes_eq name (name_of x) ≡ b → cond b (disk_in layers count (name_of x)) (disk_named (map (kept_in layers count) xs) name) ≡ disk_in layers count name
+        → bytes_eq name (name_of x) ≡ b → cond b (disk_in layers count (name_of x))
+        (disk_named (map (kept_in layers count) xs) name) ≡ disk_in layers count name
     go rest true is = ap (disk_in layers count) (sym ((bytes_eq-Decides name (name_of x)).0 is))
     go rest false is = ⊎_elim
         (λ same. absurd (false≢true (sym is ∙ (bytes_eq-Decides name (name_of x)).1 (sym same))))
@@ -233,7 +249,8 @@ unmarked_others (x ∷ xs) layers count name free =
 
     other : (b : Bool) → bytes_eq name (name_of x) ≡ b → marked_if_named name (kept_in layers count x) ≡ kept_in layers count x
     other true is = absurd (free.0 (sym ((bytes_eq-Decides name (name_of x)).0 is)))
-    other false is = ap (λ b. cond b (record (kept_in layers count x) { meta = record x.meta { marked = true } }) (kept_in layers count x)) is
+    other false is = ap (λ b. cond b (record (kept_in layers count x) { meta = record x.meta { marked = true } })
+        (kept_in layers count x)) is
 
 marked_here : (layers : List Layer) (count : ℕ) (name : List ℕ) (x : Layer) → name_of x ≡ name
     → marked_if_named name (kept_in layers count x) ≡ kept_in layers count (change.marked_layer x)
@@ -243,7 +260,8 @@ marked_here layers count name x is =
 
 marked_at_place : (xs layers : List Layer) (count : ℕ) (name : List ℕ) (place : ℕ) → IsLayers xs → place < length xs
     → name_of (layer_at xs place) ≡ name
-    → map (marked_if_named name) (map (kept_in layers count) xs) ≡ map (kept_in layers count) (set xs place (change.marked_layer (layer_at xs place)))
+    → map (marked_if_named name) (map (kept_in layers count) xs) ≡ map (kept_in layers count)
+    (set xs place (change.marked_layer (layer_at xs place)))
 marked_at_place [] layers count name place tree within is = absurd (omega arith)
 marked_at_place (x ∷ xs) layers count name zero tree within is =
     both (marked_here layers count name x is) (unmarked_others xs layers count name (subst (λ n. IsNew n xs) is tree.0))
@@ -266,7 +284,8 @@ marked_at_place (x ∷ xs) layers count name (suc place) tree within is =
 
     other : (b : Bool) → bytes_eq name (name_of x) ≡ b → marked_if_named name (kept_in layers count x) ≡ kept_in layers count x
     other true is = absurd (apart (sym ((bytes_eq-Decides name (name_of x)).0 is)))
-    other false is = ap (λ b. cond b (record (kept_in layers count x) { meta = record x.meta { marked = true } }) (kept_in layers count x)) is
+    other false is = ap (λ b. cond b (record (kept_in layers count x) { meta = record x.meta { marked = true } })
+        (kept_in layers count x)) is
 
 -- the same readings, the same layers
 same_readings : (xs old new : List Layer) (count : ℕ) → ((n : List ℕ) → disk_in new count n ≡ disk_in old count n)
@@ -317,7 +336,8 @@ blank_block t page_count k none e = both (e.blocks k) (no_reading t.layers t.on 
 pub length-none : length (bytes_of None) ≡ 4096
 length-none = length-zeros 4096
 
-pub as_disk : (image : Tables) (n : ℕ) → IsEmpty image n → joined (λ k. bytes_of (block_at image k)) (length image * 512) ≡ zeros (n * 2097152)
+pub as_disk : (image : Tables) (n : ℕ) → IsEmpty image n
+    → joined (λ k. bytes_of (block_at image k)) (length image * 512) ≡ zeros (n * 2097152)
 unfolding disk_of
 as_disk image n e = disk_of-empty image n e
 
@@ -339,6 +359,8 @@ blank_node t page_count count size none e root first pages blocks bytes =
     ∙ ap (λ n. joined (λ k. bytes_of (block_at t.head k)) n) (sym (ap (λ l. l * 512) e.count ∙ pages))
     ∙ as_disk t.head page_count e ∙ ap zeros bytes in
     let layers : map (kept_in t.layers count) t.layers ≡ [] = ap (map (kept_in t.layers count)) none in
-    let room : made_in t.head count ≡ replicate (size / 4096) false = made_in-empty t.head page_count count e ∙ ap (λ n. replicate n false) (sym blocks) in
-    let own : own_in t.head count ≡ replicate (size / 4096) false = own_in-empty t.head page_count count e ∙ ap (λ n. replicate n false) (sym blocks) in
+    let room : made_in t.head count ≡ replicate (size / 4096) false = made_in-empty t.head page_count count e
+    ∙ ap (λ n. replicate n false) (sym blocks) in
+    let own : own_in t.head count ≡ replicate (size / 4096) false = own_in-empty t.head page_count count e
+    ∙ ap (λ n. replicate n false) (sym blocks) in
     same_parts layers root first disk room own

@@ -1,5 +1,7 @@
 -- Bytes that are written over a block that the head has.
-use Rattle.std.proofs.Common.{◌≡◌, ⊎_elim, ℕ, ◌+◌, ◌*◌, ◌/◌, ◌≤◌, Bool, true, false, List, ◌++◌, length, take, drop, refl, sym, ap, ◌∙◌, arith, append-nil, append_assoc, length-append, length-take, length-drop}
+use Rattle.std.proofs.Common.{◌≡◌, ⊎_elim, ℕ, ◌+◌, ◌*◌, ◌/◌, ◌≤◌, Bool, true, false, List, ◌++◌, length, take, drop}
+use Rattle.std.proofs.Common.{refl, sym, ap, ◌∙◌, arith, append-nil, append_assoc, length-append, length-take}
+use Rattle.std.proofs.Common.{length-drop}
 use Rattle.std.specs.Prelude.{◌||◌}
 use Rattle.std.proofs.lemmas.Bool.{false≢true, cases_lt}
 use Rattle.std.proofs.lemmas.List.{drop_all, get_or_past, length-take-le}
@@ -13,7 +15,8 @@ use Rattle.replica_node.proofs.ListedLemmas.{length-listed, listed-at, listed-sa
 -- ---- bytes that are written where bytes were written
 
 -- they are what is read there
-written_there : (disk : List ℕ) (at : ℕ) (bytes : List ℕ) (n : ℕ) → at + length bytes ≤ length disk → length bytes ≡ n → bytes_at (with_bytes_at disk at bytes) at n ≡ bytes
+written_there : (disk : List ℕ) (at : ℕ) (bytes : List ℕ) (n : ℕ) → at + length bytes ≤ length disk → length bytes ≡ n
+    → bytes_at (with_bytes_at disk at bytes) at n ≡ bytes
 written_there disk at bytes n inside long =
     let front = take at disk in
     let rest = drop (at + length bytes) disk in
@@ -30,7 +33,8 @@ written_there disk at bytes n inside long =
     part _ (omega arith)
 
 -- as many at the same place are all that stays
-written_again : (disk : List ℕ) (at : ℕ) (a b : List ℕ) → at + length a ≤ length disk → length a ≡ length b → with_bytes_at (with_bytes_at disk at a) at b ≡ with_bytes_at disk at b
+written_again : (disk : List ℕ) (at : ℕ) (a b : List ℕ) → at + length a ≤ length disk → length a ≡ length b
+    → with_bytes_at (with_bytes_at disk at a) at b ≡ with_bytes_at disk at b
 written_again disk at a b inside long =
     let front = take at disk in
     let rest = drop (at + length a) disk in
@@ -46,12 +50,14 @@ written_again disk at a b inside long =
 
 -- three parts one behind another, as many as all that was there
 written_whole : (old front bytes back : List ℕ) → length front + length bytes + length back ≡ length old
-    → with_bytes_at (with_bytes_at (with_bytes_at old 0 front) (length front) bytes) (length front + length bytes) back ≡ (front ++ bytes) ++ back
+    → with_bytes_at (with_bytes_at (with_bytes_at old 0 front) (length front) bytes) (length front + length bytes)
+    back ≡ (front ++ bytes) ++ back
 written_whole old front bytes back long =
     let two = length-append front bytes in
     let three = length-append (front ++ bytes) back in
     let all = (front ++ bytes) ++ back in
-    ap (λ l. with_bytes_at l (length front + length bytes) back) (with_bytes_at-append old 0 front bytes (length front) (omega arith) (omega arith))
+    ap (λ l. with_bytes_at l (length front + length bytes) back)
+    (with_bytes_at-append old 0 front bytes (length front) (omega arith) (omega arith))
     ∙ with_bytes_at-append old 0 (front ++ bytes) back (length front + length bytes) (omega (arith, two)) (omega (arith, two))
     ∙ ap (λ l. all ++ l) (drop_all (0 + length all) old (omega (arith, two, three)))
     ∙ append-nil all
@@ -74,7 +80,8 @@ own_again own first n =
     let f = λ (k : ℕ). is_among first n k || has_own own k in
     let long = length-listed f (length own) in
     listed-same (λ k. is_among first n k || has_own (listed f (length own)) k) f (length (listed f (length own)))
-    (λ k h. ap (λ b. is_among first n k || b) (listed-at f (length own) k (omega (arith, h, long))) ∙ or_again (is_among first n k) (has_own own k))
+    (λ k h. ap (λ b. is_among first n k || b) (listed-at f (length own) k (omega (arith, h, long)))
+    ∙ or_again (is_among first n k) (has_own own k))
     ∙ ap (listed f) long
 
 -- what is there stays there
@@ -88,27 +95,38 @@ own_stays own first n k there =
 
 -- ---- the replica
 
-pub put_stays : (old new : Node) (block : ℕ) (b : List ℕ) → new ≡ put_at old block b → has_own old.own block ≡ true → has_own new.own block ≡ true
+pub put_stays : (old new : Node) (block : ℕ) (b : List ℕ) → new ≡ put_at old block b → has_own old.own block ≡ true
+    → has_own new.own block ≡ true
 put_stays old new block b is there = ap (λ (n : Node). has_own n.own block) is ∙ own_stays old.own block (length b / 4096) block there
 
 -- a block that is put twice is put once
-put_again : (node : Node) (block : ℕ) (a b : List ℕ) → block * 4096 + 4096 ≤ length node.disk → length a ≡ 4096 → length b ≡ 4096 → put_at (put_at node block a) block b ≡ put_at node block b
+put_again : (node : Node) (block : ℕ) (a b : List ℕ) → block * 4096 + 4096 ≤ length node.disk → length a ≡ 4096
+    → length b ≡ 4096 → put_at (put_at node block a) block b ≡ put_at node block b
 put_again node block a b inside la lb =
     let same : length a ≡ length b = omega arith in
-    ap (λ d. record node { disk = d; own = own_with (own_with node.own block (length a / 4096)) block (length b / 4096) }) (written_again node.disk (block * 4096) a b (omega arith) same)
-    ∙ ap (λ n. record node { disk = with_bytes_at node.disk (block * 4096) b; own = own_with (own_with node.own block (n / 4096)) block (length b / 4096) }) same
+    ap (λ d. record node { disk = d; own = own_with (own_with node.own block (length a / 4096)) block (length b / 4096) })
+    (written_again node.disk (block * 4096) a b (omega arith) same)
+    ∙ ap (λ n. record node {
+      disk = with_bytes_at node.disk (block * 4096) b;
+      own =
+          own_with (own_with node.own block (n / 4096)) block (length b / 4096);
+    }) same
     ∙ ap (λ o. record node { disk = with_bytes_at node.disk (block * 4096) b; own = o }) (own_again node.own block (length b / 4096))
 
 -- a part of a block that was put is written over
-put_over : (node old new : Node) (block start : ℕ) (b bytes : List ℕ) → block * 4096 + 4096 ≤ length node.disk → length b ≡ 4096 → start + length bytes ≤ 4096 → old ≡ put_at node block b
-    → new ≡ put_at old block (with_bytes_at (bytes_at old.disk (block * 4096) 4096) start bytes) → new ≡ put_at node block (with_bytes_at b start bytes)
+put_over : (node old new : Node) (block start : ℕ) (b bytes : List ℕ) → block * 4096 + 4096 ≤ length node.disk
+    → length b ≡ 4096 → start + length bytes ≤ 4096 → old ≡ put_at node block b
+    → new ≡ put_at old block (with_bytes_at (bytes_at old.disk (block * 4096) 4096) start bytes)
+    → new ≡ put_at node block (with_bytes_at b start bytes)
 put_over node old new block start b bytes inside whole part was is =
     is ∙ ap (λ (n : Node). put_at n block (with_bytes_at (bytes_at n.disk (block * 4096) 4096) start bytes)) was
-    ∙ ap (λ l. put_at (put_at node block b) block (with_bytes_at l start bytes)) (written_there node.disk (block * 4096) b 4096 (omega arith) whole)
+    ∙ ap (λ l. put_at (put_at node block b) block (with_bytes_at l start bytes))
+    (written_there node.disk (block * 4096) b 4096 (omega arith) whole)
     ∙ put_again node block b (with_bytes_at b start bytes) inside whole (length-with_bytes_at b start bytes (omega arith) ∙ whole)
 
 -- three parts one behind another, over the whole block
-pub put_parts : (node n1 n2 n3 : Node) (block : ℕ) (front bytes back : List ℕ) → block * 4096 + 4096 ≤ length node.disk → length front + length bytes + length back ≡ 4096
+pub put_parts : (node n1 n2 n3 : Node) (block : ℕ) (front bytes back : List ℕ) → block * 4096 + 4096 ≤ length node.disk
+    → length front + length bytes + length back ≡ 4096
     → n1 ≡ put_at node block (with_bytes_at (bytes_at node.disk (block * 4096) 4096) 0 front)
     → n2 ≡ put_at n1 block (with_bytes_at (bytes_at n1.disk (block * 4096) 4096) (length front) bytes)
     → n3 ≡ put_at n2 block (with_bytes_at (bytes_at n2.disk (block * 4096) 4096) (length front + length bytes) back)

@@ -1,5 +1,6 @@
 -- Which blocks a layer itself has, once a page is folded.
-use Rattle.std.proofs.Common.{◌≡◌, ◌≢◌, ⊎_elim, ℕ, zero, suc, ◌/◌, ◌<◌, true, false, not, cond, List, [], ◌∷◌, length, map, Option, None, Some, is_some, refl, sym, ap, ◌∙◌, arith}
+use Rattle.std.proofs.Common.{◌≡◌, ◌≢◌, ⊎_elim, ℕ, zero, suc, ◌/◌, ◌<◌, true, false, not, cond, List, [], ◌∷◌, length}
+use Rattle.std.proofs.Common.{map, Option, None, Some, is_some, refl, sym, ap, ◌∙◌, arith}
 use Rattle.std.specs.Prelude.{◌&&◌, ◌||◌}
 use Rattle.std.specs.Option.{option_or}
 use Rattle.std.specs.Str.{bytes_eq}
@@ -36,7 +37,8 @@ own_laid_over above old new count page lays =
     let after = λ (k : ℕ). (is_in page k && has_own (own_in above count) k) || has_own (own_in old count) k in
     listed-same (λ k. is_some (block_at new k)) after count (λ k h. each k h) ∙ ap (listed after) (sym (length-own_in old count))
   where
-    each : (k : ℕ) → k < count → is_some (block_at new k) ≡ ((is_in page k && has_own (own_in above count) k) || has_own (own_in old count) k)
+    each : (k : ℕ) → k < count
+        → is_some (block_at new k) ≡ ((is_in page k && has_own (own_in above count) k) || has_own (own_in old count) k)
     each k h = ⊎_elim
         (λ e. ap is_some (lays.blocks k e) ∙ some_of (block_at above k) (block_at old k)
         ∙ ap (λ b. b || is_some (block_at old k)) (sym (own_at above count k h))
@@ -46,7 +48,8 @@ own_laid_over above old new count page lays =
         ∙ ap (λ b. (b && has_own (own_in above count) k) || has_own (own_in old count) k) (sym (is_in-other page k n)))
         (cases_eq (k / 512) page)
 
-pub own_emptied : (old new : Tables) (count page : ℕ) → EmptiesPage old new page → own_in new count ≡ own_without_page page (own_in old count)
+pub own_emptied : (old new : Tables) (count page : ℕ) → EmptiesPage old new page
+    → own_in new count ≡ own_without_page page (own_in old count)
 own_emptied old new count page empties =
     let after = λ (k : ℕ). not (is_in page k) && has_own (own_in old count) k in
     listed-same (λ k. is_some (block_at new k)) after count (λ k h. each k h) ∙ ap (listed after) (sym (length-own_in old count))

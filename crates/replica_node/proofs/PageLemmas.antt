@@ -1,5 +1,6 @@
 -- A page of a disk that reads otherwise.
-use Rattle.std.proofs.Common.{◌≡◌, ◌≢◌, ℕ, zero, suc, ◌+◌, ◌-◌, ◌*◌, ◌/◌, ◌<◌, ◌≤◌, List, ◌++◌, length, take, drop, sym, refl, ap, ◌∙◌, arith, append_assoc, append-nil}
+use Rattle.std.proofs.Common.{◌≡◌, ◌≢◌, ℕ, zero, suc, ◌+◌, ◌-◌, ◌*◌, ◌/◌, ◌<◌, ◌≤◌, List, ◌++◌, length, take, drop}
+use Rattle.std.proofs.Common.{sym, refl, ap, ◌∙◌, arith, append_assoc, append-nil}
 use Rattle.std.proofs.Math.Seq.{take-append_seam, drop-append_seam, drop-append-add}
 use Rattle.vol_units.specs.Bytes.{bytes_at, with_bytes_at}
 use Rattle.sparse_image.specs.Disk.{joined}
@@ -42,8 +43,10 @@ behind_page : (page k : ℕ) → page * 512 + 512 ≤ k → k / 512 ≢ page
 behind_page page k h = λ e. omega arith
 
 -- blocks that are those of g in a page, and those of f elsewhere, are f's disk with that page of g's
-pub joined-page : (f g h : ℕ → List ℕ) (count page : ℕ) → page * 512 + 512 ≤ count → ((k : ℕ) → length (f k) ≡ 4096) → ((k : ℕ) → length (g k) ≡ 4096)
-    → ((k : ℕ) → k / 512 ≡ page → h k ≡ g k) → ((k : ℕ) → k / 512 ≢ page → h k ≡ f k) → joined h count ≡ with_page_of page (joined g count) (joined f count)
+pub joined-page : (f g h : ℕ → List ℕ) (count page : ℕ) → page * 512 + 512 ≤ count → ((k : ℕ) → length (f k) ≡ 4096)
+    → ((k : ℕ) → length (g k) ≡ 4096)
+    → ((k : ℕ) → k / 512 ≡ page → h k ≡ g k) → ((k : ℕ) → k / 512 ≢ page → h k ≡ f k)
+    → joined h count ≡ with_page_of page (joined g count) (joined f count)
 joined-page f g h count page room whole_f whole_g inside outside =
     let first = page * 512 in
     let rest = count - (first + 512) in
@@ -56,7 +59,8 @@ joined-page f g h count page room whole_f whole_g inside outside =
     let bytes : first * 4096 ≡ page * 2097152 = omega arith in
     cut h
     ∙ ap (λ l. l ++ part h ++ back h) (joined-same f h first (λ k b. outside k (before_page page k b)))
-    ∙ ap (λ l. joined f first ++ l ++ back h) (joined-same (λ k. g (first + k)) (λ k. h (first + k)) 512 (λ k b. inside (first + k) (in_page page k b)))
+    ∙ ap (λ l. joined f first ++ l ++ back h)
+    (joined-same (λ k. g (first + k)) (λ k. h (first + k)) 512 (λ k b. inside (first + k) (in_page page k b)))
     ∙ ap (λ l. joined f first ++ part g ++ l) (joined-same (λ k. f (first + 512 + k)) (λ k. h (first + 512 + k)) rest
     (λ k b. outside (first + 512 + k) (behind_page page (first + 512 + k) (omega arith))))
     ∙ sym (part_put (joined f first) (part f) (back f) (joined g first) (part g) (back g) (page * 2097152) 2097152

@@ -1,5 +1,6 @@
 -- The places that are made in the head of a replica.
-use Rattle.std.proofs.Common.{◌≡◌, ⊎_elim, ℕ, ◌*◌, ◌/◌, ◌<◌, ◌≤◌, Bool, true, false, ◌||◌, List, length, get_or, map, Result, Ok, Err, OnOk, OnErr, is_some, sym, ap, subst, ◌∙◌, arith}
+use Rattle.std.proofs.Common.{◌≡◌, ⊎_elim, ℕ, ◌*◌, ◌/◌, ◌<◌, ◌≤◌, Bool, true, false, ◌||◌, List, length, get_or, map}
+use Rattle.std.proofs.Common.{Result, Ok, Err, OnOk, OnErr, is_some, sym, ap, subst, ◌∙◌, arith}
 use Rattle.std.proofs.lemmas.Bool.{false≢true, cases_lt}
 use Rattle.std.proofs.lemmas.Bool.Decides.{nat_tests}
 use Rattle.std.proofs.lemmas.List.{get_or_past}
@@ -21,11 +22,13 @@ use Rattle.replica_node.proofs.ReadLemmas.{length-node}
 made_at : (image : Tables) (count block : ℕ) → block < count → get_or (made_in image count) block false ≡ has_page image (block / 512)
 made_at image count block inside = listed-at (λ k. has_page image (k / 512)) count block inside
 
-pub end_within : (t : Tree) (count : ℕ) (node : Node) (end : ℕ) → node_of t count ≡ node → IsNode t count → end * 4096 ≤ length node.disk → end ≤ count
+pub end_within : (t : Tree) (count : ℕ) (node : Node) (end : ℕ) → node_of t count ≡ node → IsNode t count
+    → end * 4096 ≤ length node.disk → end ≤ count
 end_within t count node end view n inside = omega (arith, length-node t count node view n)
 
 -- room of the replica is room of the tree
-pub has_pages : (t : Tree) (count : ℕ) (node : Node) (range : BlockRange) → node_of t count ≡ node → range.end ≤ count → HasRoom node range → HasPages t.head range
+pub has_pages : (t : Tree) (count : ℕ) (node : Node) (range : BlockRange) → node_of t count ≡ node → range.end ≤ count
+    → HasRoom node range → HasPages t.head range
 has_pages t count node range view inside room = λ block is.
     sym (made_at t.head count block (omega (arith, is.1))) ∙ subst (λ x. HasRoom x range) (sym view) room block is
 
@@ -52,7 +55,8 @@ made_node old new count node range view rest makes =
 page_of_block : (range : BlockRange) (block : ℕ) → HasBlock range block → is_page_of range (block / 512) ≡ true
 page_of_block range block is = grind (arith, nat_tests)
 
-room_at : (room : List Bool) (range : BlockRange) (block : ℕ) → block < length room → get_or (room_with room range) block false ≡ (is_page_of range (block / 512) || has_own room block)
+room_at : (room : List Bool) (range : BlockRange) (block : ℕ) → block < length room
+    → get_or (room_with room range) block false ≡ (is_page_of range (block / 512) || has_own room block)
 room_at room range block inside = listed-at (λ k. is_page_of range (k / 512) || has_own room k) (length room) block inside
 
 -- a write of the range finds its places
@@ -64,16 +68,19 @@ room_made node new range inside is = subst (λ n. HasRoom n range) (sym is) (λ 
 room_kept : (node : Node) (range : BlockRange) → KeepsRoom node (with_room node range)
 room_kept node range = λ block made.
     ⊎_elim
-    (λ inside. room_at node.room range block inside ∙ ap (λ b. is_page_of range (block / 512) || b) made ∙ or-true (is_page_of range (block / 512)))
+    (λ inside. room_at node.room range block inside ∙ ap (λ b. is_page_of range (block / 512) || b) made
+    ∙ or-true (is_page_of range (block / 512)))
     (λ past. absurd (false≢true (sym (get_or_past node.room block false past) ∙ made)))
     (cases_lt block (length node.room))
 
 -- the same of an answer
-pub answer_kept : {T E : Type 0} (r : Result T E) (node new : Node) (range : BlockRange) → OnOk r (new ≡ with_room node range) → OnErr r (new ≡ node) → KeepsRoom node new
+pub answer_kept : {T E : Type 0} (r : Result T E) (node new : Node) (range : BlockRange)
+    → OnOk r (new ≡ with_room node range) → OnErr r (new ≡ node) → KeepsRoom node new
 answer_kept (Ok x) node new range made same = subst (KeepsRoom node) (sym made) (room_kept node range)
 answer_kept (Err e) node new range made same = subst (KeepsRoom node) (sym same) (λ block is. is)
 
 -- and nothing else is new
-pub answer_same : {T E : Type 0} (r : Result T E) (node new : Node) (range : BlockRange) → OnOk r (new ≡ with_room node range) → OnErr r (new ≡ node) → new ≡ with_room_of node new
+pub answer_same : {T E : Type 0} (r : Result T E) (node new : Node) (range : BlockRange)
+    → OnOk r (new ≡ with_room node range) → OnErr r (new ≡ node) → new ≡ with_room_of node new
 answer_same (Ok x) node new range made same = made ∙ ap (λ n. with_room_of node n) (sym made)
 answer_same (Err e) node new range made same = same ∙ ap (λ n. with_room_of node n) (sym same)

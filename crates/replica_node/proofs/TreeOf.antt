@@ -1,5 +1,6 @@
 -- The layers of a replica as snapshots are those of the tree that it is.
-use Rattle.std.proofs.Common.{◌≡◌, ℕ, ◌*◌, ◌<◌, List, [], ◌∷◌, length, map, Option, None, Some, MatchOption, refl, sym, ap, subst, ◌∙◌, arith}
+use Rattle.std.proofs.Common.{◌≡◌, ℕ, ◌*◌, ◌<◌, List, [], ◌∷◌, length, map, Option, None, Some, MatchOption, refl}
+use Rattle.std.proofs.Common.{sym, ap, subst, ◌∙◌, arith}
 use Rattle.std.specs.Prelude.{All}
 use Rattle.std.proofs.lemmas.List.Elements.{All-nil, All-cons}
 use Rattle.volume_model.specs.Names.{NamesOnce}
@@ -50,9 +51,11 @@ next_is tree on None purged = sym (next_is_none tree on purged)
 next_is tree on (Some part) first = sym (next_is_first tree on part first)
 
 pub next_of_node : (t : Tree) (count : ℕ) (node : Node) (found : Option FoldOrDrop) → node_of t count ≡ node
-    → MatchOption found (IsPurged (snapshots_in t) t.on) (λ part. IsFirst (snapshots_in t) t.on part) → found ≡ next_in (tree_of node) node.on
+    → MatchOption found (IsPurged (snapshots_in t) t.on) (λ part. IsFirst (snapshots_in t) t.on part)
+    → found ≡ next_in (tree_of node) node.on
 next_of_node t count node found view told =
-    next_is (snapshots_in t) t.on found told ∙ ap (λ ss. next_in ss t.on) (sym (tree_is t count node view)) ∙ ap (λ n. next_in (tree_of node) n.on) view
+    next_is (snapshots_in t) t.on found told ∙ ap (λ ss. next_in ss t.on) (sym (tree_is t count node view))
+    ∙ ap (λ n. next_in (tree_of node) n.on) view
 
 -- how a layer of the tree can go is how that of the replica can
 pub way_of_node : (t : Tree) (count : ℕ) (node : Node) (name : List ℕ) (found : Option FoldOrDrop) → node_of t count ≡ node
@@ -61,7 +64,8 @@ pub way_of_node : (t : Tree) (count : ℕ) (node : Node) (name : List ℕ) (foun
 way_of_node t count node name found view told =
     subst (λ (on : Option (List ℕ)). MatchOption found (HasNoWay (tree_of node) on name) (λ part. IsWayOf (tree_of node) on name part))
     (ap (λ n. n.on) view)
-    (subst (λ (ss : List Snapshot). MatchOption found (HasNoWay ss t.on name) (λ part. IsWayOf ss t.on name part)) (sym (tree_is t count node view)) told)
+    (subst (λ (ss : List Snapshot). MatchOption found (HasNoWay ss t.on name) (λ part. IsWayOf ss t.on name part))
+    (sym (tree_is t count node view)) told)
 
 -- each layer has a place for a page of the volume, and is told of as many blocks
 pub page_inside : (t : Tree) (count : ℕ) (node : Node) (place page : ℕ) → node_of t count ≡ node → IsNode t count
@@ -73,13 +77,15 @@ page_inside t count node place page view n inside within =
 own_lengths : (xs layers : List Layer) (count : ℕ) → All (λ (k : Kept). length k.own ≡ count) (map (kept_in layers count) xs)
 own_lengths [] layers count = All-nil (λ (k : Kept). length k.own ≡ count)
 own_lengths (x ∷ xs) layers count =
-    All-cons (λ (k : Kept). length k.own ≡ count) (kept_in layers count x) (map (kept_in layers count) xs) (length-own_in x.image count) (own_lengths xs layers count)
+    All-cons (λ (k : Kept). length k.own ≡ count) (kept_in layers count x) (map (kept_in layers count) xs)
+    (length-own_in x.image count) (own_lengths xs layers count)
 
 disk_lengths : (xs layers : List Layer) (count : ℕ) → ((name : List ℕ) → length (disk_in layers count name) ≡ count * 4096)
     → All (λ (k : Kept). length k.disk ≡ count * 4096) (map (kept_in layers count) xs)
 disk_lengths [] layers count whole = All-nil (λ (k : Kept). length k.disk ≡ count * 4096)
 disk_lengths (x ∷ xs) layers count whole =
-    All-cons (λ (k : Kept). length k.disk ≡ count * 4096) (kept_in layers count x) (map (kept_in layers count) xs) (whole (name_of x)) (disk_lengths xs layers count whole)
+    All-cons (λ (k : Kept). length k.disk ≡ count * 4096) (kept_in layers count x) (map (kept_in layers count) xs)
+    (whole (name_of x)) (disk_lengths xs layers count whole)
 
 -- each layer's disk is as long as the head's
 pub disk_count : (t : Tree) (count : ℕ) (node : Node) → node_of t count ≡ node → IsNode t count
@@ -87,7 +93,8 @@ pub disk_count : (t : Tree) (count : ℕ) (node : Node) → node_of t count ≡ 
 disk_count t count node view n =
     subst (λ m. All (λ (k : Kept). length k.disk ≡ m) node.layers) (sym (length-node t count node view n))
     (subst (λ a. All (λ (k : Kept). length k.disk ≡ count * 4096) a.layers) view
-    (disk_lengths t.layers t.layers count (λ name. length-joined (λ k. bytes_of (reads t.layers (Some name) k)) count (n.layers (Some name)))))
+    (disk_lengths t.layers t.layers count
+    (λ name. length-joined (λ k. bytes_of (reads t.layers (Some name) k)) count (n.layers (Some name)))))
 
 pub own_count : (t : Tree) (count : ℕ) (node : Node) → node_of t count ≡ node → All (λ (k : Kept). length k.own ≡ count) node.layers
 own_count t count node view = subst (λ n. All (λ (k : Kept). length k.own ≡ count) n.layers) view (own_lengths t.layers t.layers count)

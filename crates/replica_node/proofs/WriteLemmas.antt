@@ -1,5 +1,7 @@
 -- Blocks that are put into the head of a replica.
-use Rattle.std.proofs.Common.{◌≡◌, ◌≢◌, ⊎_elim, ℕ, suc, ◌+◌, ◌*◌, ◌/◌, ◌<◌, ◌≤◌, Bool, true, false, cond, ◌||◌, List, [], ◌∷◌, ◌++◌, length, take, drop, get_or, map, Option, None, Some, is_some, refl, sym, ap, subst, ◌∙◌, arith, append-nil, add-one, length-append, lit<}
+use Rattle.std.proofs.Common.{◌≡◌, ◌≢◌, ⊎_elim, ℕ, suc, ◌+◌, ◌*◌, ◌/◌, ◌<◌, ◌≤◌, Bool, true, false, cond, ◌||◌, List}
+use Rattle.std.proofs.Common.{[], ◌∷◌, ◌++◌, length, take, drop, get_or, map, Option, None, Some, is_some, refl, sym}
+use Rattle.std.proofs.Common.{ap, subst, ◌∙◌, arith, append-nil, add-one, length-append, lit<}
 use Rattle.std.proofs.lemmas.Bool.{false≢true, cases_eq}
 use Rattle.std.proofs.lemmas.Bool.Decides.{nat_tests}
 use Rattle.std.specs.List.{All, flat_map}
@@ -44,7 +46,8 @@ read_here : (old new : Tree) (block : ℕ) (b : Option (List ℕ)) → PutsBlock
 read_here old new block b p =
     ap (λ o. option_or o (reads new.layers new.on block)) p.changes.here ∙ some_over b (reads new.layers new.on block) p.full
 
-read_elsewhere : (old new : Tree) (block : ℕ) (b : Option (List ℕ)) → PutsBlock old new block b → (k : ℕ) → k ≢ block → head_reads new k ≡ head_reads old k
+read_elsewhere : (old new : Tree) (block : ℕ) (b : Option (List ℕ)) → PutsBlock old new block b → (k : ℕ) → k ≢ block
+    → head_reads new k ≡ head_reads old k
 read_elsewhere old new block b p k other =
     both (p.changes.others k other) (layers_same old new p.rest) (on_same old new p.rest)
   where
@@ -139,7 +142,8 @@ none_put t first n = record {
 }
 
 -- one block more is put
-pub one_put : (start old new : Tree) (first i : ℕ) (blocks : List (Option (List ℕ))) (b : Option (List ℕ)) → PutsBlocks start old first (take i blocks)
+pub one_put : (start old new : Tree) (first i : ℕ) (blocks : List (Option (List ℕ))) (b : Option (List ℕ))
+    → PutsBlocks start old first (take i blocks)
     → i < length blocks → get_or blocks i b ≡ b → first + length blocks ≤ length start.head * 512
     → IsNode start (length start.head * 512) → PutsBlock old new (first + i) b → PutsBlocks start new first (take (i + 1) blocks)
 one_put start old new first i blocks b so_far inside is room n p =
@@ -150,7 +154,8 @@ one_put start old new first i blocks b so_far inside is room n p =
     let more : take (i + 1) blocks ≡ take i blocks ++ b ∷ [] =
     ap (λ m. take m blocks) (add-one i) ∙ take-suc blocks i b inside ∙ ap (λ x. take i blocks ++ x ∷ []) is in
     let bytes : bytes_in (take (i + 1) blocks) ≡ bytes_in (take i blocks) ++ bytes_of b =
-    ap (flat_map bytes_of) more ∙ flat_map-append bytes_of (take i blocks) (b ∷ []) ∙ ap (λ l. bytes_in (take i blocks) ++ l) (append-nil (bytes_of b)) in
+    ap (flat_map bytes_of) more ∙ flat_map-append bytes_of (take i blocks) (b ∷ [])
+    ∙ ap (λ l. bytes_in (take i blocks) ++ l) (append-nil (bytes_of b)) in
     let disk_len : length (head_disk start count) ≡ count * 4096 = length-joined (λ k. bytes_of (head_reads start k)) count n.head in
     record {
       rest = p.rest ∙ ap (λ t. with_head t new.head) so_far.rest;
@@ -175,7 +180,8 @@ same_room a b count same =
     listed-same (λ k. has_page b (k / 512)) (λ k. has_page a (k / 512)) count (λ k h. same (k / 512))
 
 -- what is put into a tree is put into the replica
-pub put_blocks : (old new : Tree) (count : ℕ) (node : Node) (first : ℕ) (blocks : List (Option (List ℕ))) → node_of old count ≡ node → IsNode old count
+pub put_blocks : (old new : Tree) (count : ℕ) (node : Node) (first : ℕ) (blocks : List (Option (List ℕ)))
+    → node_of old count ≡ node → IsNode old count
     → PutsBlocks old new first blocks → node_of new count ≡ put_at node first (bytes_in blocks)
 put_blocks old new count node first blocks view n p =
     let disk : head_disk new count ≡ with_bytes_at (head_disk old count) (first * 4096) (bytes_in blocks) =
@@ -213,7 +219,8 @@ some_block None there = absurd (false≢true there)
 some_block (Some b) there = (b, refl)
 
 -- such a block is what the head reads as there
-own_block : (t : Tree) (count : ℕ) (node : Node) (block : ℕ) (b : List ℕ) → node_of t count ≡ node → IsNode t count → block * 4096 < length node.disk
+own_block : (t : Tree) (count : ℕ) (node : Node) (block : ℕ) (b : List ℕ) → node_of t count ≡ node → IsNode t count
+    → block * 4096 < length node.disk
     → block_at t.head block ≡ Some b → b ≡ bytes_at node.disk (block * 4096) 4096
 own_block t count node block b view n inside is =
     sym (ap (λ o. bytes_of (option_or o (reads t.layers t.on block))) is) ∙ node_block t count node None block view n tt inside
@@ -240,7 +247,8 @@ head_blocks_are t count node first many view n inside =
 
 -- a part of it is written over
 puts_part : (old new : Tree) (count : ℕ) (block start : ℕ) (bytes b : List ℕ) → IsNode old count → block_at old.head block ≡ Some b
-    → ChangesBlock old.head new.head block (option_map (λ x. with_bytes_at x start bytes) (block_at old.head block)) → new ≡ with_head old new.head
+    → ChangesBlock old.head new.head block (option_map (λ x. with_bytes_at x start bytes) (block_at old.head block))
+    → new ≡ with_head old new.head
     → start + length bytes ≤ 4096 → PutsBlock old new block (Some (with_bytes_at b start bytes))
 puts_part old new count block start bytes b n is changes rest part =
     let whole : length b ≡ 4096 = sym (ap (λ o. length (bytes_of (option_or o (reads old.layers old.on block)))) is) ∙ n.head block in
@@ -253,7 +261,8 @@ puts_part old new count block start bytes b n is changes rest part =
     }
 
 -- one block that is put is a list of one
-one_block : (old new : Tree) (count : ℕ) (node : Node) (block : ℕ) (b : List ℕ) → node_of old count ≡ node → IsNode old count → block < count
+one_block : (old new : Tree) (count : ℕ) (node : Node) (block : ℕ) (b : List ℕ) → node_of old count ≡ node
+    → IsNode old count → block < count
     → PutsBlock old new block (Some b) → node_of new count ≡ put_at node block b
 one_block old new count node block b view n inside p =
     let all = length old.head * 512 in
@@ -264,9 +273,11 @@ one_block old new count node block b view n inside p =
     (subst (λ k. PutsBlock old new k (Some b)) (sym first) p) in
     put_blocks old new count node block (Some b ∷ []) view n put ∙ ap (put_at node block) (append-nil b)
 
-pub overwritten : (old new : Tree) (count : ℕ) (node : Node) (block start : ℕ) (bytes : List ℕ) (there : Bool) → node_of old count ≡ node → IsNode old count
+pub overwritten : (old new : Tree) (count : ℕ) (node : Node) (block start : ℕ) (bytes : List ℕ) (there : Bool)
+    → node_of old count ≡ node → IsNode old count
     → block * 4096 < length node.disk → start + length bytes ≤ 4096 → there ≡ is_some (block_at old.head block) → there ≡ true
-    → ChangesBlock old.head new.head block (option_map (λ x. with_bytes_at x start bytes) (block_at old.head block)) → new ≡ with_head old new.head
+    → ChangesBlock old.head new.head block (option_map (λ x. with_bytes_at x start bytes) (block_at old.head block))
+    → new ≡ with_head old new.head
     → (IsNode new count) × (node_of new count ≡ put_at node block (with_bytes_at (bytes_at node.disk (block * 4096) 4096) start bytes))
 overwritten old new count node block start bytes there view n inside part is found changes rest =
     let o = some_block (block_at old.head block) (sym is ∙ found) in

@@ -1,6 +1,7 @@
 -- What folding a page of a child onto its parent, putting the child in the parent's place, and dropping a layer make
 -- of a replica. Which layers can go is told of them as snapshots, in volume_model's specs/Purge.antt.
-use Rattle.std.specs.Prelude.{◌≡◌, ℕ, zero, suc, ◌*◌, ◌/◌, Bool, true, false, not, ◌&&◌, ◌||◌, ◌==◌, List, [], ◌∷◌, length, map, Option, is_some, if◌then◌else◌}
+use Rattle.std.specs.Prelude.{◌≡◌, ℕ, zero, suc, ◌*◌, ◌/◌, Bool, true, false, not, ◌&&◌, ◌||◌, ◌==◌, List, [], ◌∷◌}
+use Rattle.std.specs.Prelude.{length, map, Option, is_some, if◌then◌else◌}
 use Rattle.std.specs.Str.{bytes_eq}
 use Rattle.vol_units.specs.Bytes.{bytes_at, with_bytes_at}
 use Rattle.vol_units.specs.declared.size.TheConstants.{PAGE_BYTES}

@@ -1,6 +1,7 @@
 -- The blocks that each layer of a replica itself has, how they make its readings, and what a page of blocks makes of
 -- the replica.
-use Rattle.std.specs.Prelude.{◌≡◌, ℕ, ◌+◌, ◌*◌, ◌%◌, ◌<◌, Bool, false, ◌&&◌, List, [], ◌∷◌, length, map, replicate, Option, Some, None, if◌then◌else◌}
+use Rattle.std.specs.Prelude.{◌≡◌, ℕ, ◌+◌, ◌*◌, ◌%◌, ◌<◌, Bool, false, ◌&&◌, List, [], ◌∷◌, length, map, replicate}
+use Rattle.std.specs.Prelude.{Option, Some, None, if◌then◌else◌}
 use Rattle.std.specs.Str.{bytes_eq}
 use Rattle.vol_units.specs.Bytes.{zeros, bytes_at}
 use Rattle.vol_units.specs.declared.size.TheConstants.{BLOCK_BYTES}

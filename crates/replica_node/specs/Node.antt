@@ -1,5 +1,7 @@
 -- One replica as those above it see it: what its head and each of its layers read as.
-use Rattle.std.specs.Prelude.{◌≡◌, ℕ, zero, suc, ◌+◌, ◌*◌, ◌/◌, Bool, true, false, List, [], ◌∷◌, ◌++◌, length, map, replicate, Option, Some, None, is_some, if◌then◌else◌, Contains, All, ◌≢◌, slice_index_or}
+use Rattle.std.specs.Prelude.{◌≡◌, ℕ, zero, suc, ◌+◌, ◌*◌, ◌/◌, Bool, true, false, List, [], ◌∷◌, ◌++◌, length, map}
+use Rattle.std.specs.Prelude.{replicate, Option, Some, None, is_some, if◌then◌else◌, Contains, All, ◌≢◌}
+use Rattle.std.specs.Prelude.{slice_index_or}
 use Rattle.std.specs.Str.{bytes_eq}
 use Rattle.vol_units.specs.Bytes.{zeros}
 use Rattle.vol_units.specs.declared.size.TheConstants.{BLOCK_BYTES}

@@ -1,5 +1,6 @@
 -- The places that writes find made in the head of a replica, and what a write puts there.
-use Rattle.std.specs.Prelude.{◌≡◌, ℕ, ◌+◌, ◌*◌, ◌/◌, Bool, true, false, ◌&&◌, ◌||◌, nat_le, nat_lt, List, Option, None, Some, is_some, length, slice_index_or, if◌then◌else◌}
+use Rattle.std.specs.Prelude.{◌≡◌, ℕ, ◌+◌, ◌*◌, ◌/◌, Bool, true, false, ◌&&◌, ◌||◌, nat_le, nat_lt, List, Option}
+use Rattle.std.specs.Prelude.{None, Some, is_some, length, slice_index_or, if◌then◌else◌}
 use Rattle.std.specs.List.{flat_map}
 use Rattle.vol_units.specs.Bytes.{bytes_at, with_bytes_at}
 use Rattle.vol_units.specs.declared.range.BlockRange.{BlockRange}

@@ -1,5 +1,6 @@
 -- What a purge takes out of a replica changes neither its disk nor a copy.
-use Rattle.std.proofs.Common.{◌≡◌, ℕ, zero, suc, ◌/◌, Bool, true, false, cond, ◌||◌, List, [], ◌∷◌, length, map, refl, sym, ap, subst, ◌∙◌, ⊎_elim}
+use Rattle.std.proofs.Common.{◌≡◌, ℕ, zero, suc, ◌/◌, Bool, true, false, cond, ◌||◌, List, [], ◌∷◌, length, map, refl}
+use Rattle.std.proofs.Common.{sym, ap, subst, ◌∙◌, ⊎_elim}
 use Rattle.std.specs.List.{All}
 use Rattle.std.specs.Prelude.{Option}
 use Rattle.std.specs.Str.{bytes_eq}
@@ -15,7 +16,8 @@ use Rattle.volume_model.proofs.NamesLemmas.{marked_has_name}
 use Rattle.volume_model.proofs.PurgeLemmas.{any_cases}
 use Rattle.vol_units.specs.declared.size.TheConstants.{PAGE_BYTES}
 use Rattle.replica_node.specs.Node.{Kept, Node}
-use Rattle.replica_node.specs.Fold.{tree_of, page_folded_in, page_folded, pages_folded, folded_away, put_down, layers_without, replaced_node, dropped_node}
+use Rattle.replica_node.specs.Fold.{tree_of, page_folded_in, page_folded, pages_folded, folded_away, put_down}
+use Rattle.replica_node.specs.Fold.{layers_without, replaced_node, dropped_node}
 use Rattle.replica_node.proofs.FoldedNode.{page_folded_tree, dropped_tree, replaced_tree}
 use Rattle.replica_state.specs.Volume.{copies_in, volume_of_node, with_layers_of}
 use Rattle.replica_state.proofs.VolumeLemmas.{snap, same_volume}
@@ -30,7 +32,8 @@ none_named : (p : List ℕ) (ks : List Kept) → has_name (map snap ks) p ≡ fa
 none_named p [] none = All-nil (λ (k : Kept). k.meta.name ≡ p → k.meta.marked ≡ true)
 none_named p (k ∷ ks) none = go (bytes_eq p k.meta.name) refl none (λ rest. none_named p ks rest)
   where
-    go : (b : Bool) → bytes_eq p k.meta.name ≡ b → (b || has_name (map snap ks) p) ≡ false → (has_name (map snap ks) p ≡ false → MarkedAll p ks)
+    go : (b : Bool) → bytes_eq p k.meta.name ≡ b → (b || has_name (map snap ks) p) ≡ false
+        → (has_name (map snap ks) p ≡ false → MarkedAll p ks)
         → MarkedAll p (k ∷ ks)
     go true same is rest = absurd (false≢true (sym is))
     go false same is rest = All-cons (λ (k : Kept). k.meta.name ≡ p → k.meta.marked ≡ true) k ks
@@ -50,7 +53,8 @@ marked_all p (k ∷ ks) once marked = ⊎_elim
 -- ---- the copies
 
 -- a layer with its copy, which is as before unless the layer is marked
-one_copy : (a b : Kept) (ks ls : List Kept) → a.meta.marked ≡ b.meta.marked → a.meta.name ≡ b.meta.name → (b.meta.marked ≡ false → a.disk ≡ b.disk)
+one_copy : (a b : Kept) (ks ls : List Kept) → a.meta.marked ≡ b.meta.marked → a.meta.name ≡ b.meta.name
+    → (b.meta.marked ≡ false → a.disk ≡ b.disk)
     → copies_in ks ≡ copies_in ls → copies_in (a ∷ ks) ≡ copies_in (b ∷ ls)
 one_copy a b ks ls mark name disk rest = go b.meta.marked mark refl disk
   where
@@ -63,17 +67,25 @@ one_copy a b ks ls mark name disk rest = go b.meta.marked mark refl disk
     go false ma mb same = rw (ma, mb) (both name (same refl) rest)
 
 -- a page that is folded changes no copy
-folded_copies : (layers ks : List Kept) (p c : List ℕ) (page : ℕ) → MarkedAll p ks → copies_in (map (page_folded_in layers p c page) ks) ≡ copies_in ks
+folded_copies : (layers ks : List Kept) (p c : List ℕ) (page : ℕ) → MarkedAll p ks
+    → copies_in (map (page_folded_in layers p c page) ks) ≡ copies_in ks
 folded_copies layers [] p c page marked = refl
 folded_copies layers (k ∷ ks) p c page marked =
-    go (folded_copies layers ks p c page (All-tail (λ (k : Kept). k.meta.name ≡ p → k.meta.marked ≡ true) k ks marked)) (bytes_eq c k.meta.name) refl (bytes_eq p k.meta.name) refl
+    go (folded_copies layers ks p c page (All-tail (λ (k : Kept). k.meta.name ≡ p → k.meta.marked ≡ true) k ks marked))
+    (bytes_eq c k.meta.name) refl (bytes_eq p k.meta.name) refl
   where
-    go : copies_in (map (page_folded_in layers p c page) ks) ≡ copies_in ks → (s : Bool) → bytes_eq c k.meta.name ≡ s → (t : Bool) → bytes_eq p k.meta.name ≡ t
+    go : copies_in (map (page_folded_in layers p c page) ks) ≡ copies_in ks → (s : Bool) → bytes_eq c k.meta.name ≡ s
+        → (t : Bool) → bytes_eq p k.meta.name ≡ t
         → copies_in (map (page_folded_in layers p c page) (k ∷ ks)) ≡ copies_in (k ∷ ks)
-    go rest true child t parent = one_copy (page_folded_in layers p c page k) k (map (page_folded_in layers p c page) ks) ks (rw child refl) (rw child refl) (λ e. rw child refl) rest
-    go rest false child true parent = one_copy (page_folded_in layers p c page k) k (map (page_folded_in layers p c page) ks) ks (rw (child, parent) refl) (rw (child, parent) refl)
-        (λ e. absurd (false≢true (sym e ∙ All-head (λ (k : Kept). k.meta.name ≡ p → k.meta.marked ≡ true) k ks marked (sym ((bytes_eq-Decides p k.meta.name).0 parent))))) rest
-    go rest false child false parent = one_copy (page_folded_in layers p c page k) k (map (page_folded_in layers p c page) ks) ks (rw (child, parent) refl) (rw (child, parent) refl) (λ e. rw (child, parent) refl) rest
+    go rest true child t parent = one_copy (page_folded_in layers p c page k) k (map (page_folded_in layers p c page) ks) ks
+        (rw child refl) (rw child refl) (λ e. rw child refl) rest
+    go rest false child true parent = one_copy (page_folded_in layers p c page k) k
+        (map (page_folded_in layers p c page) ks) ks (rw (child, parent) refl) (rw (child, parent) refl)
+        (λ e. absurd (false≢true (sym e ∙ All-head (λ (k : Kept). k.meta.name ≡ p → k.meta.marked ≡ true) k ks marked
+        (sym ((bytes_eq-Decides p k.meta.name).0 parent))))) rest
+    go rest false child false parent = one_copy (page_folded_in layers p c page k) k
+        (map (page_folded_in layers p c page) ks) ks (rw (child, parent) refl) (rw (child, parent) refl)
+        (λ e. rw (child, parent) refl) rest
 
 -- nor does it when a marked layer is out
 without_copies : (ks : List Kept) (p : List ℕ) → MarkedAll p ks → copies_in (layers_without p ks) ≡ copies_in ks
@@ -81,19 +93,24 @@ without_copies [] p marked = refl
 without_copies (k ∷ ks) p marked =
     go (without_copies ks p (All-tail (λ (k : Kept). k.meta.name ≡ p → k.meta.marked ≡ true) k ks marked)) (bytes_eq p k.meta.name) refl
   where
-    go : copies_in (layers_without p ks) ≡ copies_in ks → (t : Bool) → bytes_eq p k.meta.name ≡ t → copies_in (cond t ks (k ∷ layers_without p ks)) ≡ copies_in (k ∷ ks)
-    go rest true same = rw (All-head (λ (k : Kept). k.meta.name ≡ p → k.meta.marked ≡ true) k ks marked (sym ((bytes_eq-Decides p k.meta.name).0 same))) refl
+    go : copies_in (layers_without p ks) ≡ copies_in ks → (t : Bool) → bytes_eq p k.meta.name ≡ t
+        → copies_in (cond t ks (k ∷ layers_without p ks)) ≡ copies_in (k ∷ ks)
+    go rest true same = rw (All-head (λ (k : Kept). k.meta.name ≡ p → k.meta.marked ≡ true) k ks marked
+        (sym ((bytes_eq-Decides p k.meta.name).0 same))) refl
     go rest false same = one_copy k k (layers_without p ks) ks refl refl (λ e. refl) rest
 
 -- and a layer that is put down keeps its copy
-put_down_copies : (ks : List Kept) (c : List ℕ) (parent : Option (List ℕ)) (own : List Bool) → copies_in (map (put_down c parent own) ks) ≡ copies_in ks
+put_down_copies : (ks : List Kept) (c : List ℕ) (parent : Option (List ℕ)) (own : List Bool)
+    → copies_in (map (put_down c parent own) ks) ≡ copies_in ks
 put_down_copies [] c parent own = refl
 put_down_copies (k ∷ ks) c parent own = go (put_down_copies ks c parent own) (bytes_eq c k.meta.name) refl
   where
     go : copies_in (map (put_down c parent own) ks) ≡ copies_in ks → (t : Bool) → bytes_eq c k.meta.name ≡ t
         → copies_in (map (put_down c parent own) (k ∷ ks)) ≡ copies_in (k ∷ ks)
-    go rest true same = one_copy (put_down c parent own k) k (map (put_down c parent own) ks) ks (rw same refl) (rw same refl) (λ e. rw same refl) rest
-    go rest false same = one_copy (put_down c parent own k) k (map (put_down c parent own) ks) ks (rw same refl) (rw same refl) (λ e. rw same refl) rest
+    go rest true same = one_copy (put_down c parent own k) k (map (put_down c parent own) ks) ks (rw same refl)
+        (rw same refl) (λ e. rw same refl) rest
+    go rest false same = one_copy (put_down c parent own k) k (map (put_down c parent own) ks) ks (rw same refl)
+        (rw same refl) (λ e. rw same refl) rest
 
 -- ---- what each step makes of the volume, where no name comes twice
 
@@ -106,7 +123,8 @@ page_folded_volume n p c page once can =
 pub replaced_volume : (n : Node) (p c : List ℕ) → NamesOnce (tree_of n) → CanFold (tree_of n) n.on p c
     → volume_of_node (replaced_node n p c) ≡ purged (volume_of_node n) (part.Fold p c)
 replaced_volume n p c once can =
-    same_volume n (put_down_copies (layers_without p n.layers) c _ _ ∙ without_copies n.layers p (marked_all p n.layers once can.marked)) (replaced_tree n p c)
+    same_volume n (put_down_copies (layers_without p n.layers) c _ _
+    ∙ without_copies n.layers p (marked_all p n.layers once can.marked)) (replaced_tree n p c)
 
 pub dropped_volume : (n : Node) (p : List ℕ) → NamesOnce (tree_of n) → CanDrop (tree_of n) n.on p
     → volume_of_node (dropped_node n p) ≡ purged (volume_of_node n) (part.Drop p)
@@ -150,7 +168,9 @@ folded_volume n p c once can =
 
 pub folded_head : (n new : Node) (p c : List ℕ) → new ≡ folded_away n p c → new ≡ with_layers_of n new
 folded_head n new p c is =
-    subst (λ m. m ≡ with_layers_of n m) (sym is) (ap (λ (m : Node). record m { layers = (folded_away n p c).layers }) (pages_head n p c (length n.disk / PAGE_BYTES)))
+    subst (λ m. m ≡ with_layers_of n m) (sym is)
+    (ap (λ (m : Node). record m { layers = (folded_away n p c).layers })
+    (pages_head n p c (length n.disk / PAGE_BYTES)))
 
 pub dropped_head : (old new : Node) (p : List ℕ) → new ≡ dropped_node old p → new ≡ with_layers_of old new
 dropped_head old new p is = subst (λ n. n ≡ with_layers_of old n) (sym is) refl

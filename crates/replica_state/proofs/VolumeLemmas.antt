@@ -1,5 +1,6 @@
 -- What is told of the volume that a replica is, and what changes it, is told of the replica.
-use Rattle.std.proofs.Common.{◌≡◌, ◌≢◌, ℕ, suc, ◌+◌, Bool, true, false, not, cond, ◌||◌, List, [], ◌∷◌, length, map, Some, refl, sym, ap, ◌∙◌, arith}
+use Rattle.std.proofs.Common.{◌≡◌, ◌≢◌, ℕ, suc, ◌+◌, Bool, true, false, not, cond, ◌||◌, List, [], ◌∷◌, length, map}
+use Rattle.std.proofs.Common.{Some, refl, sym, ap, ◌∙◌, arith}
 use Rattle.std.specs.List.{All}
 use Rattle.std.specs.Prelude.{Contains}
 use Rattle.std.specs.Str.{bytes_eq}
@@ -45,7 +46,8 @@ free_in [] name none = All-nil (λ (k : Kept). k.meta.name ≢ name)
 free_in (k ∷ ks) name none = go (bytes_eq name k.meta.name) refl none (λ rest. free_in ks name rest)
   where
     go : (t : Bool) → bytes_eq name k.meta.name ≡ t → (t || has_name (map snap ks) name) ≡ false
-        → (has_name (map snap ks) name ≡ false → All (λ (k : Kept). k.meta.name ≢ name) ks) → All (λ (k : Kept). k.meta.name ≢ name) (k ∷ ks)
+        → (has_name (map snap ks) name ≡ false → All (λ (k : Kept). k.meta.name ≢ name) ks)
+        → All (λ (k : Kept). k.meta.name ≢ name) (k ∷ ks)
     go true same is rest = absurd (false≢true (sym is))
     go false same is rest = All-cons (λ (k : Kept). k.meta.name ≢ name) k ks
         (λ e. false≢true (sym same ∙ (bytes_eq-Decides name k.meta.name).1 (sym e))) (rest is)
@@ -73,8 +75,10 @@ copy_of_live [] name live = refl
 copy_of_live (k ∷ ks) name live = go k.meta.marked refl (bytes_eq name k.meta.name) refl (λ older. copy_of_live ks name older) live
   where
     go : (marked : Bool) → k.meta.marked ≡ marked → (t : Bool) → bytes_eq name k.meta.name ≡ t
-        → (is_live (map snap ks) name ≡ true → copy_of (copies_in ks) name ≡ disk_named ks name) → cond t (not k.meta.marked) (is_live (map snap ks) name) ≡ true
-        → copy_of (cond k.meta.marked (copies_in ks) (record { name = k.meta.name; disk = k.disk } ∷ copies_in ks)) name ≡ cond t k.disk (disk_named ks name)
+        → (is_live (map snap ks) name ≡ true → copy_of (copies_in ks) name ≡ disk_named ks name)
+        → cond t (not k.meta.marked) (is_live (map snap ks) name) ≡ true
+        → copy_of (cond k.meta.marked (copies_in ks) (record { name = k.meta.name; disk = k.disk } ∷ copies_in ks))
+        name ≡ cond t k.disk (disk_named ks name)
     go true marked true same rest is = absurd (false≢true (sym (ap not marked) ∙ is))
     go true marked false same rest is = rw marked (rest is)
     go false marked true same rest is = rw (marked, same) refl
@@ -90,7 +94,8 @@ without_marked : (ks : List Kept) (name : List ℕ) → copies_in (map (marked_i
 without_marked [] name = refl
 without_marked (k ∷ ks) name = go (without_marked ks name) (bytes_eq name k.meta.name) refl k.meta.marked refl
   where
-    go : copies_in (map (marked_if_named name) ks) ≡ without (copies_in ks) name → (t : Bool) → bytes_eq name k.meta.name ≡ t → (marked : Bool) → k.meta.marked ≡ marked
+    go : copies_in (map (marked_if_named name) ks) ≡ without (copies_in ks) name → (t : Bool)
+        → bytes_eq name k.meta.name ≡ t → (marked : Bool) → k.meta.marked ≡ marked
         → copies_in (map (marked_if_named name) (k ∷ ks)) ≡ without (copies_in (k ∷ ks)) name
     go rest true same true marked = rw (same, marked) rest
     go rest true same false marked = rw (same, marked) (rw same rest)
@@ -101,7 +106,8 @@ without_marked (k ∷ ks) name = go (without_marked ks name) (bytes_eq name k.me
 same_mark : (k : Kept) (name : List ℕ) → snap (marked_if_named name k) ≡ marked_if name (snap k)
 same_mark k name = one (bytes_eq name k.meta.name)
   where
-    one : (t : Bool) → snap (cond t (record k { meta = record k.meta { marked = true } }) k) ≡ cond t (record (snap k) { marked = true }) (snap k)
+    one : (t : Bool) → snap (cond t (record k { meta = record k.meta { marked = true } }) k) ≡ cond t
+        (record (snap k) { marked = true }) (snap k)
     one true = refl
     one false = refl
 

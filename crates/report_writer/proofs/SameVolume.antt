@@ -49,11 +49,13 @@ same_end ms vs v many each =
     ∙ ap (λ l. mode_lines 0 ms ++ source_lines (λ r. replica_line Chain r v) 0 ms ++ l) (same_lines Digest 0 ms vs v many each)
 
 -- Where each replica that is read and written is the volume that the journal tells of, what is written is the report.
-pub written_is_report : (heads : List (List Head)) (book : Book) (opening : Spot) (nodes : List Node) (other : Node) → book.opening.modes ≡ opening.modes
+pub written_is_report : (heads : List (List Head)) (book : Book) (opening : Spot) (nodes : List Node) (other : Node)
+    → book.opening.modes ≡ opening.modes
     → length nodes ≡ length (modes_of book) → EachNodeIs (modes_of book) nodes other (replay opening.state book.entries).volume
     → written_text heads book (map volume_of_node nodes) ≡ report_of heads opening book.entries
 written_is_report heads book opening nodes other began many each =
     let v = (replay opening.state book.entries).volume in
-    ap (λ l. call_lines heads book.entries ++ l) (same_end (modes_of book) (map volume_of_node nodes) v (length-map nodes volume_of_node ∙ many)
+    ap (λ l. call_lines heads book.entries ++ l)
+    (same_end (modes_of book) (map volume_of_node nodes) v (length-map nodes volume_of_node ∙ many)
     (each_volume (modes_of book) nodes other v many each))
     ∙ ap (λ ms. call_lines heads book.entries ++ end_lines (modes_after ms book.entries) v) began

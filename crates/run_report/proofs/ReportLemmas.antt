@@ -1,5 +1,6 @@
 -- How the lines of a report are printed from left to right.
-use Rattle.std.proofs.Common.{◌≡◌, ℕ, suc, ◌+◌, ◌<◌, ◌≤◌, Bool, true, false, cond, eqb, List, [], ◌∷◌, ◌++◌, length, get_or, drop, refl, sym, ap, ◌∙◌, append_assoc, append-nil, add-one, drop-cons}
+use Rattle.std.proofs.Common.{◌≡◌, ℕ, suc, ◌+◌, ◌<◌, ◌≤◌, Bool, true, false, cond, eqb, List, [], ◌∷◌, ◌++◌, length}
+use Rattle.std.proofs.Common.{get_or, drop, refl, sym, ap, ◌∙◌, append_assoc, append-nil, add-one, drop-cons}
 use Rattle.std.proofs.Math.ListN.{drop_of_length-le}
 use Rattle.std.proofs.lemmas.Bool.{eq-eqb, ne_eqb}
 use Rattle.volume_model.specs.declared.entry.Entry.{Entry}
@@ -22,24 +23,29 @@ pub next_line : (into whole : List ℕ) (place : ℕ) (entries : List Entry) (e 
     → into ++ journal_lines place (drop place entries) ≡ whole
     → (into ++ entry_line place e) ++ journal_lines (place + 1) (drop (place + 1) entries) ≡ whole
 next_line into whole place entries e inside is text =
-    let cut : drop place entries ≡ e ∷ drop (suc place) entries = drop-cons entries place e inside ∙ ap (λ x. x ∷ drop (suc place) entries) is in
+    let cut : drop place entries ≡ e ∷ drop (suc place) entries = drop-cons entries place e inside
+    ∙ ap (λ x. x ∷ drop (suc place) entries) is in
     append_assoc into (entry_line place e) _
     ∙ ap (λ n. into ++ (entry_line place e ++ journal_lines n (drop n entries))) (add-one place)
     ∙ ap (λ l. into ++ journal_lines place l) (sym cut) ∙ text
 
 -- the answers of a stream from an entry on
-answers-cut : (stream place : ℕ) (entries : List Entry) (a : Answer) → place < length entries → get_or entries place (entry.Answer a) ≡ entry.Answer a
+answers-cut : (stream place : ℕ) (entries : List Entry) (a : Answer) → place < length entries
+    → get_or entries place (entry.Answer a) ≡ entry.Answer a
     → answers_from stream place (drop place entries)
-    ≡ cond (eqb a.stream stream) ((place, a) ∷ answers_from stream (place + 1) (drop (place + 1) entries)) (answers_from stream (place + 1) (drop (place + 1) entries))
+    ≡ cond (eqb a.stream stream) ((place, a) ∷ answers_from stream (place + 1) (drop (place + 1) entries))
+    (answers_from stream (place + 1) (drop (place + 1) entries))
 answers-cut stream place entries a inside is =
     let cut : drop place entries ≡ entry.Answer a ∷ drop (suc place) entries =
     drop-cons entries place (entry.Answer a) inside ∙ ap (λ x. x ∷ drop (suc place) entries) is in
     ap (answers_from stream place) cut
-    ∙ ap (λ n. cond (eqb a.stream stream) ((place, a) ∷ answers_from stream n (drop n entries)) (answers_from stream n (drop n entries))) (sym (add-one place))
+    ∙ ap (λ n. cond (eqb a.stream stream) ((place, a) ∷ answers_from stream n (drop n entries))
+    (answers_from stream n (drop n entries))) (sym (add-one place))
 
 -- The entry answers the next header.
 pub next_reply : (into whole : List ℕ) (stream next place : ℕ) (heads : List Head) (entries : List Entry) (h : Head) (a : Answer)
-    → place < length entries → get_or entries place (entry.Answer a) ≡ entry.Answer a → next < length heads → get_or heads next h ≡ h → a.stream ≡ stream
+    → place < length entries → get_or entries place (entry.Answer a) ≡ entry.Answer a → next < length heads
+    → get_or heads next h ≡ h → a.stream ≡ stream
     → into ++ reply_lines (drop next heads) (answers_from stream place (drop place entries)) ≡ whole
     → (into ++ reply_line h a) ++ reply_lines (drop (next + 1) heads) (answers_from stream (place + 1) (drop (place + 1) entries)) ≡ whole
 next_reply into whole stream next place heads entries h a inside is room at own text =
@@ -74,7 +80,8 @@ pub skip_mark : (into whole : List ℕ) (stream next place : ℕ) (heads : List 
     → into ++ reply_lines (drop next heads) (answers_from stream place (drop place entries)) ≡ whole
     → into ++ reply_lines (drop next heads) (answers_from stream (place + 1) (drop (place + 1) entries)) ≡ whole
 skip_mark into whole stream next place heads entries e inside is mark text =
-    let cut : drop place entries ≡ e ∷ drop (suc place) entries = drop-cons entries place e inside ∙ ap (λ x. x ∷ drop (suc place) entries) is in
+    let cut : drop place entries ≡ e ∷ drop (suc place) entries = drop-cons entries place e inside
+    ∙ ap (λ x. x ∷ drop (suc place) entries) is in
     let answers : answers_from stream place (drop place entries) ≡ answers_from stream (place + 1) (drop (place + 1) entries) =
     ap (answers_from stream place) cut ∙ answers_from-mark stream place e (drop (suc place) entries) mark
     ∙ ap (λ n. answers_from stream n (drop n entries)) (sym (add-one place)) in
@@ -104,7 +111,8 @@ pub next_stream : (into whole : List ℕ) (stream : ℕ) (streams : List (List H
     → into ++ replies_from stream (drop stream streams) entries ≡ whole
     → (into ++ reply_lines hs (answers_of stream entries)) ++ replies_from (stream + 1) (drop (stream + 1) streams) entries ≡ whole
 next_stream into whole stream streams entries hs inside is text =
-    let cut : drop stream streams ≡ hs ∷ drop (suc stream) streams = drop-cons streams stream hs inside ∙ ap (λ x. x ∷ drop (suc stream) streams) is in
+    let cut : drop stream streams ≡ hs ∷ drop (suc stream) streams = drop-cons streams stream hs inside
+    ∙ ap (λ x. x ∷ drop (suc stream) streams) is in
     append_assoc into (reply_lines hs (answers_of stream entries)) _
     ∙ ap (λ n. into ++ (reply_lines hs (answers_of stream entries) ++ replies_from n (drop n streams) entries)) (add-one stream)
     ∙ ap (λ l. into ++ replies_from stream l entries) (sym cut) ∙ text

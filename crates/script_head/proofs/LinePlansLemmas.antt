@@ -33,8 +33,10 @@ RisesAbove-front low (m ∷ ms) ns (above, rises) = (above, RisesAbove-front m m
 
 pub NoPairTwice-push : (ps : List LinePlan) (p : LinePlan) → NoPairTwice ps → All (λ q. AreApart q p) ps → NoPairTwice (ps ++ p ∷ [])
 NoPairTwice-push [] p none apart = (All-nil (AreApart p), tt)
-NoPairTwice-push (q ∷ qs) p (first, none) apart =
-    (All-push (AreApart q) qs p first (All-head (λ r. AreApart r p) q qs apart), NoPairTwice-push qs p none (All-tail (λ r. AreApart r p) q qs apart))
+NoPairTwice-push (q ∷ qs) p (first, none) apart = (
+  All-push (AreApart q) qs p first (All-head (λ r. AreApart r p) q qs apart),
+  NoPairTwice-push qs p none (All-tail (λ r. AreApart r p) q qs apart),
+)
 
 All-front : (P : LinePlan → Type 0) (ps qs : List LinePlan) → All P (ps ++ qs) → All P ps
 All-front P [] qs all = All-nil P

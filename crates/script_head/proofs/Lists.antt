@@ -1,5 +1,6 @@
 -- A list that is read item after item.
-use Rattle.std.proofs.Common.{◌≡◌, ℕ, zero, suc, ◌+◌, ◌<◌, List, [], ◌∷◌, ◌++◌, length, get_or, take, drop, Option, Some, option_and_then, Err, refl, sym, ap, subst, arith}
+use Rattle.std.proofs.Common.{◌≡◌, ℕ, zero, suc, ◌+◌, ◌<◌, List, [], ◌∷◌, ◌++◌, length, get_or, take, drop, Option}
+use Rattle.std.proofs.Common.{Some, option_and_then, Err, refl, sym, ap, subst, arith}
 use Rattle.std.proofs.lemmas.List.{take_more, take-append-drop}
 use Rattle.serde_json.specs.Data.{Data, Items}
 use Rattle.serde_json.specs.Find.{as_array}
@@ -21,7 +22,8 @@ AreItems-append IsItem (v ∷ vs) ws [] ys none are = absurd none
 AreItems-append IsItem (v ∷ vs) ws (x ∷ xs) ys (is, more) are = (is, AreItems-append IsItem vs ws xs ys more are)
 
 -- one item more is read
-pub one_more : {A : Type 0} (IsItem : Data → A → Type 0) (vs : List Value) (i : ℕ) (v : Value) (xs : List A) (x : A) → i < length vs → v ≡ get_or vs i v
+pub one_more : {A : Type 0} (IsItem : Data → A → Type 0) (vs : List Value) (i : ℕ) (v : Value) (xs : List A) (x : A)
+    → i < length vs → v ≡ get_or vs i v
     → AreItems IsItem (items_view (take i vs)) xs → IsItem (view v) x → AreItems IsItem (items_view (take (i + 1) vs)) (xs ++ x ∷ [])
 one_more IsItem vs i v xs x within there are is =
     let here : IsItem (view (get_or vs i v)) x = subst (λ (w : Value). IsItem (view w) x) there is in
@@ -36,14 +38,16 @@ each_is IsItem (w ∷ ws) zero v (x ∷ xs) within (is, more) = (x, is)
 each_is IsItem (w ∷ ws) (suc i) v (x ∷ xs) within (is, more) = each_is IsItem ws i v xs (omega arith) more
 
 -- where one item is nothing, the items are no list
-pub one_refused : {A : Type 0} (m : Member) (IsItem : Data → A → Type 0) (vs : List Value) (i : ℕ) (v : Value) (e : HeadError) → i < length vs → v ≡ get_or vs i v
+pub one_refused : {A : Type 0} (m : Member) (IsItem : Data → A → Type 0) (vs : List Value) (i : ℕ) (v : Value)
+    (e : HeadError) → i < length vs → v ≡ get_or vs i v
     → Reads m (IsItem (view v)) (Err e) → Reads m (AreItems IsItem (items_view vs)) (Err e)
 one_refused m IsItem vs i v e within there =
     Reads-err m (IsItem (view v)) (AreItems IsItem (items_view vs)) e
     (λ xs are. let found = each_is IsItem vs i v xs within are in (found.0, subst (λ w. IsItem (view w) found.0) (sym there) found.1))
 
 -- nor a good list of some kind
-pub one_refused_of : {A : Type 0} (m : Member) (IsItem : Data → A → Type 0) (Is : List A → Type 0) (vs : List Value) (i : ℕ) (v : Value) (e : HeadError) → i < length vs → v ≡ get_or vs i v
+pub one_refused_of : {A : Type 0} (m : Member) (IsItem : Data → A → Type 0) (Is : List A → Type 0) (vs : List Value) (i : ℕ)
+    (v : Value) (e : HeadError) → i < length vs → v ≡ get_or vs i v
     → Reads m (IsItem (view v)) (Err e) → Reads m (λ xs. AreItems IsItem (items_view vs) xs × Is xs) (Err e)
 one_refused_of m IsItem Is vs i v e within there refused =
     Reads-err m (AreItems IsItem (items_view vs)) (λ xs. AreItems IsItem (items_view vs) xs × Is xs) e (λ xs both. (xs, both.0))
@@ -64,18 +68,22 @@ pub none_behind : {A : Type 0} (IsItem : Data → A → Type 0) → ((d : Data) 
     → AreItems IsItem (items_view (take i vs)) xs → IsItem (view v) x → (Is (xs ++ x ∷ []) → ⊥)
     → (zs : List A) → AreItems IsItem (items_view vs) zs × Is zs → ⊥
 none_behind IsItem one Is front vs i v xs x within there are is bad zs (all, good) =
-    let cut = AreItems-front IsItem (take (i + 1) vs) (drop (i + 1) vs) zs (subst (λ l. AreItems IsItem (items_view l) zs) (sym (take-append-drop (i + 1) vs)) all) in
-    let same = one_list IsItem one (items_view (take (i + 1) vs)) cut.0 (xs ++ x ∷ []) cut.2 (one_more IsItem vs i v xs x within there are is) in
+    let cut = AreItems-front IsItem (take (i + 1) vs) (drop (i + 1) vs) zs
+    (subst (λ l. AreItems IsItem (items_view l) zs) (sym (take-append-drop (i + 1) vs)) all) in
+    let same = one_list IsItem one (items_view (take (i + 1) vs)) cut.0 (xs ++ x ∷ []) cut.2
+    (one_more IsItem vs i v xs x within there are is) in
     bad (subst Is same (front cut.0 cut.1 (subst Is cut.3 good)))
 
 -- there are as many
-pub length-AreItems : {A : Type 0} (IsItem : Data → A → Type 0) (vs : List Value) (xs : List A) → AreItems IsItem (items_view vs) xs → length xs ≡ length vs
+pub length-AreItems : {A : Type 0} (IsItem : Data → A → Type 0) (vs : List Value) (xs : List A)
+    → AreItems IsItem (items_view vs) xs → length xs ≡ length vs
 length-AreItems IsItem [] [] are = refl
 length-AreItems IsItem [] (x ∷ xs) are = absurd are
 length-AreItems IsItem (v ∷ vs) [] are = absurd are
 length-AreItems IsItem (v ∷ vs) (x ∷ xs) (is, more) = ap suc (length-AreItems IsItem vs xs more)
 
 -- the list that is there is that of these values
-pub items_there : {A : Type 0} (IsItem : Data → A → Type 0) (found : Option Data) (vs : List Value) (xs : List A) → option_and_then as_array found ≡ Some (items_view vs)
+pub items_there : {A : Type 0} (IsItem : Data → A → Type 0) (found : Option Data) (vs : List Value) (xs : List A)
+    → option_and_then as_array found ≡ Some (items_view vs)
     → HasItems IsItem found xs → AreItems IsItem (items_view vs) xs
 items_there IsItem found vs xs there (items, here, are) = subst (λ (ds : Items). AreItems IsItem ds xs) (same_value _ here there) are

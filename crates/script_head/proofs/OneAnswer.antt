@@ -17,7 +17,8 @@ same_object : (line : List ℕ) (d e : Data) → IsObject line d → IsObject li
 same_object line d e p q = same_value (read line) p.value q.value
 
 abbrev head_of : List StreamHead → List LinePlan → List ℕ → List ℕ → ℕ → ℕ → ScriptHead
-head_of streams lines now volume size replicas = record { streams = streams; lines = lines; now = now; volume = volume; size = size; replicas = replicas }
+head_of streams lines now volume size replicas =
+    record { streams = streams; lines = lines; now = now; volume = volume; size = size; replicas = replicas }
 
 same_parts : {streams ss : List StreamHead} {lines ls : List LinePlan} {now n volume v : List ℕ} {size s replicas r : ℕ}
     → streams ≡ ss → lines ≡ ls → now ≡ n → volume ≡ v → size ≡ s → replicas ≡ r
@@ -29,8 +30,10 @@ same_head d a b p q =
     let replicas : a.replicas ≡ b.replicas = same_value _ p.replicas.0 q.replicas.0 in
     let streams = same_streams b.replicas _ a.streams b.streams (subst (λ n. HasStreams d n a.streams) replicas p.streams).0 q.streams.0 in
     let lines : HasLines d (length b.streams) b.replicas a.lines =
-    subst (λ (ss : List StreamHead). HasLines d (length ss) b.replicas a.lines) streams (subst (λ n. HasLines d (length a.streams) n a.lines) replicas p.lines) in
-    same_parts streams (same_plans (length b.streams) b.replicas _ a.lines b.lines lines q.lines) (same_value _ p.now.0 q.now.0) (same_value _ p.volume.0 q.volume.0)
+    subst (λ (ss : List StreamHead). HasLines d (length ss) b.replicas a.lines) streams
+    (subst (λ n. HasLines d (length a.streams) n a.lines) replicas p.lines) in
+    same_parts streams (same_plans (length b.streams) b.replicas _ a.lines b.lines lines q.lines)
+    (same_value _ p.now.0 q.now.0) (same_value _ p.volume.0 q.volume.0)
     (same_value _ p.size.0 q.size.0) replicas
 
 -- these members are all good
@@ -50,7 +53,13 @@ all_good d head is = (
         is.open_flag,
         (
           is.save_flag,
-          ((head.now, is.now), ((head.replicas, head.streams, is.replicas, is.streams), ((head.replicas, head.streams, head.lines, is.replicas, is.streams, is.lines), tt))),
+          (
+            (head.now, is.now),
+            (
+              (head.replicas, head.streams, is.replicas, is.streams),
+              ((head.replicas, head.streams, head.lines, is.replicas, is.streams, is.lines), tt),
+            ),
+          ),
         ),
       ),
     ),
@@ -71,7 +80,8 @@ one_bad (n ∷ ns) d a b (inr (good, later)) (inl (same, worse)) = absurd (worse
 one_bad (n ∷ ns) d a b (inr (good, later)) (inr (fine, more)) = one_bad ns d a b later more
 
 -- another answer beside each of the three
-beside_head : (line : List ℕ) (head : ScriptHead) (b : Result ScriptHead HeadError) → b ≢ Err NoMemory → Says line head → AnswersLine line b → Ok head ≡ b
+beside_head : (line : List ℕ) (head : ScriptHead) (b : Result ScriptHead HeadError) → b ≢ Err NoMemory → Says line head
+    → AnswersLine line b → Ok head ≡ b
 beside_head line head (Ok other) told (d, object, is) (e, too, also) =
     ap Ok (same_head d head other is (subst (λ x. IsScriptHead x other) (sym (same_object line d e object too)) also))
 beside_head line head (Err Json) told (d, object, is) none = absurd (none d object)
@@ -79,12 +89,14 @@ beside_head line head (Err (BadMember m)) told (d, object, is) (e, too, bad) =
     absurd (none_bad in_order d m (all_good d head is) (subst (λ x. IsFirstBad x m) (sym (same_object line d e object too)) bad))
 beside_head line head (Err NoMemory) told says free = absurd (told refl)
 
-beside_bad : (line : List ℕ) (m : Member) (b : Result ScriptHead HeadError) → b ≢ Err NoMemory → HasFirstBad line m → AnswersLine line b → Err (BadMember m) ≡ b
+beside_bad : (line : List ℕ) (m : Member) (b : Result ScriptHead HeadError) → b ≢ Err NoMemory → HasFirstBad line m
+    → AnswersLine line b → Err (BadMember m) ≡ b
 beside_bad line m (Ok head) told (d, object, bad) (e, too, is) =
     absurd (none_bad in_order e m (all_good e head is) (subst (λ x. IsFirstBad x m) (same_object line d e object too) bad))
 beside_bad line m (Err Json) told (d, object, bad) none = absurd (none d object)
 beside_bad line m (Err (BadMember n)) told (d, object, bad) (e, too, worse) =
-    ap (λ (k : Member). Err (BadMember k)) (one_bad in_order d m n bad (subst (λ x. IsFirstBad x n) (sym (same_object line d e object too)) worse))
+    ap (λ (k : Member). Err (BadMember k))
+    (one_bad in_order d m n bad (subst (λ x. IsFirstBad x n) (sym (same_object line d e object too)) worse))
 beside_bad line m (Err NoMemory) told bad free = absurd (told refl)
 
 beside_json : (line : List ℕ) (b : Result ScriptHead HeadError) → b ≢ Err NoMemory → IsNoObject line → AnswersLine line b → Err Json ≡ b

@@ -41,16 +41,19 @@ same_list IsItem one found xs ys (ds, there, are) (es, here, also) =
     one_list IsItem one ds xs ys are (subst (λ items. AreItems IsItem items ys) (same_value _ here there) also)
 
 one_command : (replicas : ℕ) (d : Data) (a b : Command) → IsCommandItem replicas d a → IsCommandItem replicas d b → a ≡ b
-one_command replicas d a b (text, there, is, names) (other, here, too, also) = same_text text a b is (subst (λ t. IsCommand t b) (same_value _ here there) too)
+one_command replicas d a b (text, there, is, names) (other, here, too, also) =
+    same_text text a b is (subst (λ t. IsCommand t b) (same_value _ here there) too)
 
 one_stream : (replicas : ℕ) (d : Data) (a b : StreamHead) → IsStreamItem replicas d a → IsStreamItem replicas d b → a ≡ b
 one_stream replicas d (Frames m) (Frames n) is too = ap Frames (same_value _ is.0 too.0)
 one_stream replicas d (Frames m) (Control cs) is too = absurd (missing _ _ is.0 too.2)
 one_stream replicas d (Control cs) (Frames n) is too = absurd (missing _ _ too.0 is.2)
-one_stream replicas d (Control cs) (Control es) is too = ap Control (same_list (IsCommandItem replicas) (one_command replicas) _ cs es is.0 too.0)
+one_stream replicas d (Control cs) (Control es) is too =
+    ap Control (same_list (IsCommandItem replicas) (one_command replicas) _ cs es is.0 too.0)
 
 -- two lists of streams under one member
-pub same_streams : (replicas : ℕ) (found : Option Data) (ss ts : List StreamHead) → HasItems (IsStreamItem replicas) found ss → HasItems (IsStreamItem replicas) found ts → ss ≡ ts
+pub same_streams : (replicas : ℕ) (found : Option Data) (ss ts : List StreamHead)
+    → HasItems (IsStreamItem replicas) found ss → HasItems (IsStreamItem replicas) found ts → ss ≡ ts
 same_streams replicas = same_list (IsStreamItem replicas) (one_stream replicas)
 
 pub one_carry : (d : Data) (m n : ℕ) → IsCarryItem d m → IsCarryItem d n → m ≡ n
@@ -62,12 +65,15 @@ plan_with worker replica fail = record { worker = worker; replica = replica; fai
 same_parts : {w x r s : ℕ} {f g : List ℕ} → w ≡ x → r ≡ s → f ≡ g → plan_with w r f ≡ plan_with x s g
 same_parts a b c = cc
 
-pub one_plan : (streams replicas : ℕ) (d : Data) (p q : LinePlan) → IsLinePlan streams replicas d p → IsLinePlan streams replicas d q → p ≡ q
+pub one_plan : (streams replicas : ℕ) (d : Data) (p q : LinePlan) → IsLinePlan streams replicas d p
+    → IsLinePlan streams replicas d q → p ≡ q
 one_plan streams replicas d p q is too =
     same_parts (same_value _ is.worker.0 too.worker.0) (same_value _ is.replica.0 too.replica.0)
     (same_list IsCarryItem one_carry _ p.fail q.fail is.fail.0 too.fail.0)
 
 -- two lists of plans under one member
-pub same_plans : (streams replicas : ℕ) (found : Option Data) (ps qs : List LinePlan) → ArePlans streams replicas found ps → ArePlans streams replicas found qs → ps ≡ qs
+pub same_plans : (streams replicas : ℕ) (found : Option Data) (ps qs : List LinePlan) → ArePlans streams replicas found ps
+    → ArePlans streams replicas found qs → ps ≡ qs
 same_plans streams replicas None ps qs are also = are ∙ sym also
-same_plans streams replicas (Some d) ps qs are also = same_list (IsLinePlan streams replicas) (one_plan streams replicas) (Some d) ps qs are.0 also.0
+same_plans streams replicas (Some d) ps qs are also =
+    same_list (IsLinePlan streams replicas) (one_plan streams replicas) (Some d) ps qs are.0 also.0

@@ -23,7 +23,8 @@ Reads-err m Has Is (BadMember n) would (same, none) = (same, λ u is. let t = wo
 Reads-err m Has Is NoMemory would refused = tt
 
 -- what it is once it is the other
-pub Reads-along : {T : Type 0} (m : Member) (Has Is : T → Type 0) (r : Result T HeadError) → ((t : T) → Has t → Is t) → ((t : T) → Is t → Has t)
+pub Reads-along : {T : Type 0} (m : Member) (Has Is : T → Type 0) (r : Result T HeadError) → ((t : T) → Has t → Is t)
+    → ((t : T) → Is t → Has t)
     → Reads m Has r → Reads m Is r
 Reads-along m Has Is (Ok t) to back has = to t has
 Reads-along m Has Is (Err Json) to back refused = refused
@@ -32,10 +33,12 @@ Reads-along m Has Is (Err NoMemory) to back free = free
 
 -- ---- texts that are no command of such a script
 
-pub no_text : (replicas : ℕ) (d : Data) (text : List ℕ) → as_str d ≡ Some text → IsNoCommand text → (b : Command) → IsCommandItem replicas d b → ⊥
+pub no_text : (replicas : ℕ) (d : Data) (text : List ℕ) → as_str d ≡ Some text → IsNoCommand text → (b : Command)
+    → IsCommandItem replicas d b → ⊥
 no_text replicas d text there none b (other, here, is, names) = none b (subst (λ t. IsCommand t b) (same_value _ here there) is)
 
-pub no_replica : (replicas : ℕ) (d : Data) (text : List ℕ) (c : Command) → as_str d ≡ Some text → IsCommand text c → (NamesReplica replicas c → ⊥)
+pub no_replica : (replicas : ℕ) (d : Data) (text : List ℕ) (c : Command) → as_str d ≡ Some text → IsCommand text c
+    → (NamesReplica replicas c → ⊥)
     → (b : Command) → IsCommandItem replicas d b → ⊥
 no_replica replicas d text c there is none b (other, here, too, names) =
     let same = same_text text b c (subst (λ t. IsCommand t b) (same_value _ here there) too) is in
@@ -52,7 +55,8 @@ pub record GoodBefore (d : Data) (replicas : ℕ) : Type 0 where
   pub saves : IsGood d Save
   pub now : IsGood d Now
 
-no_streams : (d : Data) (replicas : ℕ) → HasReplicas d replicas → ((streams : List StreamHead) → HasStreams d replicas streams → ⊥) → IsGood d Streams → ⊥
+no_streams : (d : Data) (replicas : ℕ) → HasReplicas d replicas
+    → ((streams : List StreamHead) → HasStreams d replicas streams → ⊥) → IsGood d Streams → ⊥
 no_streams d replicas many none (count, streams, there, has) =
     none streams (subst (λ n. HasStreams d n streams) (same_value _ there.0 many.0) has)
 
@@ -61,9 +65,11 @@ no_lines : (d : Data) (replicas : ℕ) (streams : List StreamHead) → HasReplic
 no_lines d replicas streams many has none (count, heads, plans, there, here, are) =
     let same : count ≡ replicas = same_value _ there.0 many.0 in
     let alike = same_streams replicas _ heads streams (subst (λ n. HasStreams d n heads) same here).0 has.0 in
-    none plans (subst (λ (ss : List StreamHead). HasLines d (length ss) replicas plans) alike (subst (λ n. HasLines d (length heads) n plans) same are))
+    none plans (subst (λ (ss : List StreamHead). HasLines d (length ss) replicas plans) alike
+    (subst (λ n. HasLines d (length heads) n plans) same are))
 
-pub refused_at_streams : (d : Data) (replicas : ℕ) (e : HeadError) → GoodBefore d replicas → Reads Streams (HasStreams d replicas) (Err e) → AnswersObject d (Err e)
+pub refused_at_streams : (d : Data) (replicas : ℕ) (e : HeadError) → GoodBefore d replicas
+    → Reads Streams (HasStreams d replicas) (Err e) → AnswersObject d (Err e)
 refused_at_streams d replicas Json good refused = refused
 refused_at_streams d replicas (BadMember n) good (same, none) =
     inr (
@@ -87,7 +93,8 @@ refused_at_streams d replicas (BadMember n) good (same, none) =
     )
 refused_at_streams d replicas NoMemory good refused = tt
 
-pub refused_at_lines : (d : Data) (replicas : ℕ) (streams : List StreamHead) (e : HeadError) → GoodBefore d replicas → HasStreams d replicas streams
+pub refused_at_lines : (d : Data) (replicas : ℕ) (streams : List StreamHead) (e : HeadError) → GoodBefore d replicas
+    → HasStreams d replicas streams
     → Reads Lines (HasLines d (length streams) replicas) (Err e) → AnswersObject d (Err e)
 refused_at_lines d replicas streams Json good has refused = refused
 refused_at_lines d replicas streams (BadMember n) good has (same, none) =

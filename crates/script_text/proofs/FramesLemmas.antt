@@ -1,5 +1,6 @@
 -- Lemmas on specs/Frames.antt.
-use Rattle.std.proofs.Common.{◌≡◌, ◌∙◌, ℕ, zero, suc, ◌≤◌, List, [], ◌∷◌, ◌++◌, length, refl, sym, ap, subst, arith, append_assoc, append-nil}
+use Rattle.std.proofs.Common.{◌≡◌, ◌∙◌, ℕ, zero, suc, ◌≤◌, List, [], ◌∷◌, ◌++◌, length, refl, sym, ap, subst, arith}
+use Rattle.std.proofs.Common.{append_assoc, append-nil}
 use Rattle.std.proofs.lemmas.List.{append_cancel_left}
 use Rattle.std.proofs.lemmas.List.Elements.{All-head, All-tail, All-push}
 use Rattle.std.proofs.lemmas.List.Concat.{flat_map-append}
@@ -30,7 +31,8 @@ one_front bytes r s f g p q =
     (same, append_cancel_left (spelled f) r s (text ∙ ap (λ h. spelled h ++ s) (sym same)))
 
 -- so they do not begin with a Close and with a call
-pub no_close_and_call : (bytes r s : List ℕ) (f g : Frame) → BeginsWithFrame bytes f r → IsClose f → BeginsWithFrame bytes g s → (IsClose g → ⊥) → ⊥
+pub no_close_and_call : (bytes r s : List ℕ) (f g : Frame) → BeginsWithFrame bytes f r → IsClose f
+    → BeginsWithFrame bytes g s → (IsClose g → ⊥) → ⊥
 no_close_and_call bytes r s f g x closes y calls = calls (ap (λ (h : Frame). h.head.kind) (sym (one_front bytes r s f g x y).0) ∙ closes)
 
 -- ---- calls at the front
@@ -38,7 +40,8 @@ no_close_and_call bytes r s f g x closes y calls = calls (ap (λ (h : Frame). h.
 spellings-push : (frames : List Frame) (f : Frame) → spellings (frames ++ f ∷ []) ≡ spellings frames ++ spelled f
 spellings-push frames f = flat_map-append spelled frames (f ∷ []) ∙ ap (λ l. spellings frames ++ l) (append-nil (spelled f))
 
-pub one_call_more : (bytes : List ℕ) (frames : List Frame) (f : Frame) (rest more : List ℕ) → BeginWithCalls bytes frames rest → BeginsWithFrame rest f more → (IsClose f → ⊥)
+pub one_call_more : (bytes : List ℕ) (frames : List Frame) (f : Frame) (rest more : List ℕ)
+    → BeginWithCalls bytes frames rest → BeginsWithFrame rest f more → (IsClose f → ⊥)
     → BeginWithCalls bytes (frames ++ f ∷ []) more
 one_call_more bytes frames f rest more begin front calls = record {
   calls = All-push IsCall frames f begin.calls (front.whole, calls);
@@ -47,12 +50,14 @@ one_call_more bytes frames f rest more begin front calls = record {
       ∙ ap (λ l. l ++ more) (sym (spellings-push frames f));
 }
 
-first_call : (bytes : List ℕ) (f : Frame) (fs : List Frame) (r : List ℕ) → BeginWithCalls bytes (f ∷ fs) r → BeginsWithFrame bytes f (spellings fs ++ r) × (IsClose f → ⊥)
+first_call : (bytes : List ℕ) (f : Frame) (fs : List Frame) (r : List ℕ) → BeginWithCalls bytes (f ∷ fs) r
+    → BeginsWithFrame bytes f (spellings fs ++ r) × (IsClose f → ⊥)
 first_call bytes f fs r begin =
     let call = All-head IsCall f fs begin.calls in
     (record { whole = call.0; text = begin.text ∙ append_assoc (spelled f) (spellings fs) r }, call.1)
 
-other_calls : (bytes : List ℕ) (f : Frame) (fs : List Frame) (r : List ℕ) → BeginWithCalls bytes (f ∷ fs) r → BeginWithCalls (spellings fs ++ r) fs r
+other_calls : (bytes : List ℕ) (f : Frame) (fs : List Frame) (r : List ℕ) → BeginWithCalls bytes (f ∷ fs) r
+    → BeginWithCalls (spellings fs ++ r) fs r
 other_calls bytes f fs r begin = record { calls = All-tail IsCall f fs begin.calls; text = refl }
 
 -- no further call stands there, or there is no room for it
@@ -60,7 +65,8 @@ abbrev pub AreAll : ℕ → List Frame → List ℕ → Type 0
 AreAll room frames rest = (f : Frame) (more : List ℕ) → BeginsWithFrame rest f more → (IsClose f → ⊥) → room ≤ length frames
 
 -- bytes begin with one list of all calls that there is room for
-pub one_run : (room : ℕ) (bytes : List ℕ) (fs gs : List Frame) (r s : List ℕ) → BeginWithCalls bytes fs r → length fs ≤ room → AreAll room fs r
+pub one_run : (room : ℕ) (bytes : List ℕ) (fs gs : List Frame) (r s : List ℕ) → BeginWithCalls bytes fs r → length fs ≤ room
+    → AreAll room fs r
     → BeginWithCalls bytes gs s → length gs ≤ room → AreAll room gs s → (fs ≡ gs) × (r ≡ s)
 one_run room bytes [] [] r s p m all q n also = (refl, sym p.text ∙ q.text)
 one_run room bytes [] (g ∷ gs) r s p m all q n also =
@@ -75,7 +81,8 @@ one_run zero bytes (f ∷ fs) (g ∷ gs) r s p m all q n also = absurd (omega ar
 one_run (suc room) bytes (f ∷ fs) (g ∷ gs) r s p m all q n also =
     let front = one_front bytes _ _ f g (first_call bytes f fs r p).0 (first_call bytes g gs s q).0 in
     let rest = other_calls bytes g gs s q in
-    let tail = one_run room (spellings fs ++ r) fs gs r s (other_calls bytes f fs r p) (omega arith) (λ h more begin calls. omega (arith, all h more begin calls))
+    let tail = one_run room (spellings fs ++ r) fs gs r s (other_calls bytes f fs r p) (omega arith)
+    (λ h more begin calls. omega (arith, all h more begin calls))
     (subst (λ b. BeginWithCalls b gs s) (sym front.1) rest) (omega arith) (λ h more begin calls. omega (arith, also h more begin calls)) in
     (both front.0 tail.0, tail.1)
   where

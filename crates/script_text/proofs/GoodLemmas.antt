@@ -1,5 +1,6 @@
 -- What is good in each script.
-use Rattle.std.proofs.Common.{◌≡◌, ℕ, suc, ◌≤◌, ◌==◌, ◌&&◌, Bool, true, false, cond, List, [], ◌∷◌, length, All, Option, Some, None, refl, ap, subst, sym, arith}
+use Rattle.std.proofs.Common.{◌≡◌, ℕ, suc, ◌≤◌, ◌==◌, ◌&&◌, Bool, true, false, cond, List, [], ◌∷◌, length, All}
+use Rattle.std.proofs.Common.{Option, Some, None, refl, ap, subst, sym, arith}
 use Rattle.std.proofs.lemmas.List.Elements.{All-nil, All-cons, All-head, All-tail}
 use Rattle.command_text.specs.declared.command.Command.{Command}
 use Rattle.serde_json.specs.Data.{Data, Items, no_items, item}
@@ -34,7 +35,8 @@ few_replicas input script is =
     (subst (λ n. 1 ≤ n) (sym is.replicas) r.1, subst (λ n. n ≤ 8) (sym is.replicas) r.2)
 
 -- there are as many streams as the first line says
-as_many : (heads : List StreamHead) (bytes : List ℕ) (streams : List Stream) → AreStreams heads bytes streams → length streams ≡ length heads
+as_many : (heads : List StreamHead) (bytes : List ℕ) (streams : List Stream) → AreStreams heads bytes streams
+    → length streams ≡ length heads
 as_many [] bytes [] are = refl
 as_many [] bytes (s ∷ ss) are = absurd are
 as_many (h ∷ hs) bytes [] are = absurd are
@@ -51,7 +53,8 @@ few_streams input script is =
 good_command : (replicas : ℕ) (d : Data) (c : Command) → IsCommandItem replicas d c → IsGoodCommand replicas c
 good_command replicas d c (text, there, is, names) = record { named = is.named; there = names }
 
-good_stream : (replicas : ℕ) (d : Data) (h : StreamHead) (bytes : List ℕ) (s : Stream) → IsStreamItem replicas d h → IsStreamOf h bytes s → IsGoodStream replicas s
+good_stream : (replicas : ℕ) (d : Data) (h : StreamHead) (bytes : List ℕ) (s : Stream) → IsStreamItem replicas d h
+    → IsStreamOf h bytes s → IsGoodStream replicas s
 good_stream replicas d (head.Frames count) bytes (stream.Frames frames) says is = All-asked frames is.1.calls
 good_stream replicas d (head.Frames count) bytes (stream.Control commands) says is = absurd is
 good_stream replicas d (head.Control commands) bytes (stream.Frames frames) says is = absurd is
@@ -116,12 +119,15 @@ one_of : (b : Bool) (these those : List ℕ) → AreCarries these → AreCarries
 one_of true these those good fine = good
 one_of false these those good fine = fine
 
-planned_of : (streams replicas : ℕ) (plans : List LinePlan) (worker replica : ℕ) → All (IsGoodPlan streams replicas) plans → AreCarries (planned plans worker replica)
+planned_of : (streams replicas : ℕ) (plans : List LinePlan) (worker replica : ℕ) → All (IsGoodPlan streams replicas) plans
+    → AreCarries (planned plans worker replica)
 planned_of streams replicas [] worker replica good = no_carries
 planned_of streams replicas (p ∷ ps) worker replica good =
-    one_of (p.worker == worker && p.replica == replica) p.fail (planned ps worker replica) (All-head (IsGoodPlan streams replicas) p ps good).carries
+    one_of (p.worker == worker && p.replica == replica) p.fail (planned ps worker replica)
+    (All-head (IsGoodPlan streams replicas) p ps good).carries
     (planned_of streams replicas ps worker replica (All-tail (IsGoodPlan streams replicas) p ps good))
 
-pub rising_carries : (input : List ℕ) (script : Script) (worker replica : ℕ) → IsScript input script → AreCarries (planned script.lines worker replica)
+pub rising_carries : (input : List ℕ) (script : Script) (worker replica : ℕ) → IsScript input script
+    → AreCarries (planned script.lines worker replica)
 rising_carries input script worker replica is =
     planned_of (length script.streams) script.replicas script.lines worker replica (good_plans input script is).0

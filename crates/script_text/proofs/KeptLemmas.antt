@@ -1,5 +1,6 @@
 -- Lemmas on specs/Kept.antt.
-use Rattle.std.proofs.Common.{◌≡◌, ◌∙◌, ℕ, suc, ◌+◌, ◌≤◌, List, [], ◌∷◌, ◌++◌, length, map, take, drop, refl, sym, ap, subst, arith, append_assoc}
+use Rattle.std.proofs.Common.{◌≡◌, ◌∙◌, ℕ, suc, ◌+◌, ◌≤◌, List, [], ◌∷◌, ◌++◌, length, map, take, drop, refl, sym, ap}
+use Rattle.std.proofs.Common.{subst, arith, append_assoc}
 use Rattle.std.proofs.Math.Seq.{drop-append_seam, drop-append-add}
 use Rattle.std.proofs.lemmas.List.{take-append-drop, length-take-le}
 use Rattle.frame_wire.specs.declared.head.Head.{Head}
@@ -12,15 +13,18 @@ use Rattle.script_text.specs.Kept.{span, frame_under, frames_under, behind_frame
 use Rattle.script_text.proofs.FramesLemmas.{one_call_more}
 
 -- one more header takes the frame that stands behind those before
-pub behind_frames-push : (hs : List Head) (h : Head) (bytes : List ℕ) → behind_frames (hs ++ h ∷ []) bytes ≡ drop (span h) (behind_frames hs bytes)
+pub behind_frames-push : (hs : List Head) (h : Head) (bytes : List ℕ)
+    → behind_frames (hs ++ h ∷ []) bytes ≡ drop (span h) (behind_frames hs bytes)
 behind_frames-push [] h bytes = refl
 behind_frames-push (g ∷ gs) h bytes = behind_frames-push gs h (drop (span g) bytes)
 
-pub frames-push : (hs : List Head) (h : Head) (bytes : List ℕ) → frames_under (hs ++ h ∷ []) bytes ≡ frames_under hs bytes ++ frame_under h (behind_frames hs bytes) ∷ []
+pub frames-push : (hs : List Head) (h : Head) (bytes : List ℕ) → frames_under (hs ++ h ∷ []) bytes ≡ frames_under hs bytes
+    ++ frame_under h (behind_frames hs bytes) ∷ []
 frames-push [] h bytes = refl
 frames-push (g ∷ gs) h bytes = ap (λ fs. frame_under g bytes ∷ fs) (frames-push gs h (drop (span g) bytes))
 
-pub holds-push : (hs : List Head) (h : Head) (bytes : List ℕ) → HoldFrames hs bytes → span h ≤ length (behind_frames hs bytes) → HoldFrames (hs ++ h ∷ []) bytes
+pub holds-push : (hs : List Head) (h : Head) (bytes : List ℕ) → HoldFrames hs bytes
+    → span h ≤ length (behind_frames hs bytes) → HoldFrames (hs ++ h ∷ []) bytes
 holds-push [] h bytes holds more = (more, tt)
 holds-push (g ∷ gs) h bytes holds more = (holds.0, holds-push gs h (drop (span g) bytes) holds.1 more)
 
@@ -34,23 +38,35 @@ heads-frames [] bytes = refl
 heads-frames (h ∷ hs) bytes = ap (λ l. h ∷ l) (heads-frames hs (drop (span h) bytes))
 
 -- bytes that hold a frame begin with the one of its header
-pub front_frame : (bytes : List ℕ) (h : Head) → HoldsFrame bytes longest_call h → BeginsWithFrame bytes (frame_under h bytes) (drop (span h) bytes)
+pub front_frame : (bytes : List ℕ) (h : Head) → HoldsFrame bytes longest_call h
+    → BeginsWithFrame bytes (frame_under h bytes) (drop (span h) bytes)
 front_frame bytes h (rest, begin, long, most) =
     let n : length (header h) ≡ header_length = omega arith in
-    let after : drop header_length bytes ≡ rest = subst (λ k. drop k bytes ≡ rest) n (ap (drop (length (header h))) begin.whole ∙ drop-append_seam (header h) rest) in
+    let after : drop header_length bytes ≡ rest =
+    subst (λ k. drop k bytes ≡ rest) n (ap (drop (length (header h))) begin.whole ∙ drop-append_seam (header h) rest) in
     let more : drop (span h) bytes ≡ drop h.len rest =
-    subst (λ k. drop (k + h.len) bytes ≡ drop h.len rest) n (ap (drop (length (header h) + h.len)) begin.whole ∙ drop-append-add (header h) rest h.len) in
+    subst (λ k. drop (k + h.len) bytes ≡ drop h.len rest) n
+    (ap (drop (length (header h) + h.len)) begin.whole ∙ drop-append-add (header h) rest h.len) in
     record {
-      whole = record { head = begin.head; body = length-take-le h.len (drop header_length bytes) (omega (arith, ap length after, long)); most = most };
+      whole = record {
+        head = begin.head;
+        body = length-take-le h.len (drop header_length bytes)
+            (omega (arith, ap length after, long));
+        most = most;
+      };
       text =
-          begin.whole ∙ ap (λ l. header h ++ l) (sym (take-append-drop h.len rest)) ∙ sym (append_assoc (header h) (take h.len rest) (drop h.len rest))
-          ∙ ap (λ l. (header h ++ take h.len l) ++ drop h.len rest) (sym after) ∙ ap (λ l. (header h ++ take h.len (drop header_length bytes)) ++ l) (sym more);
+          begin.whole ∙ ap (λ l. header h ++ l) (sym (take-append-drop h.len rest))
+          ∙ sym (append_assoc (header h) (take h.len rest) (drop h.len rest))
+          ∙ ap (λ l. (header h ++ take h.len l) ++ drop h.len rest) (sym after)
+          ∙ ap (λ l. (header h ++ take h.len (drop header_length bytes)) ++ l) (sym more);
     }
 
 -- one call more is kept by its header
-pub one_frame_more : (bytes : List ℕ) (hs : List Head) (h : Head) (rest : List ℕ) → BeginWithCalls bytes (frames_under hs bytes) rest → HoldFrames hs bytes → rest ≡ behind_frames hs bytes
+pub one_frame_more : (bytes : List ℕ) (hs : List Head) (h : Head) (rest : List ℕ)
+    → BeginWithCalls bytes (frames_under hs bytes) rest → HoldFrames hs bytes → rest ≡ behind_frames hs bytes
     → BeginsWithFrame rest (frame_under h rest) (drop (span h) rest) → span h ≤ length rest → (IsClose (frame_under h rest) → ⊥)
-    → BeginWithCalls bytes (frames_under (hs ++ h ∷ []) bytes) (drop (span h) rest) × HoldFrames (hs ++ h ∷ []) bytes × (drop (span h) rest ≡ behind_frames (hs ++ h ∷ []) bytes)
+    → BeginWithCalls bytes (frames_under (hs ++ h ∷ []) bytes) (drop (span h) rest) × HoldFrames (hs ++ h ∷ []) bytes
+    × (drop (span h) rest ≡ behind_frames (hs ++ h ∷ []) bytes)
 one_frame_more bytes hs h rest begin holds is front within calls =
     let at = behind_frames hs bytes in
     let begins = subst (λ r. BeginWithCalls bytes (frames_under hs bytes) r) is begin in

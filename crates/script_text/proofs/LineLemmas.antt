@@ -1,5 +1,6 @@
 -- Lemmas on specs/Line.antt.
-use Rattle.std.proofs.Common.{◌≡◌, ◌≢◌, ◌∙◌, ℕ, ◌+◌, ◌<◌, ◌≤◌, Bool, cond, eqb, List, [], ◌∷◌, ◌++◌, length, get_or, take, drop, Option, Some, None, IfSome, IfNone, refl, sym, ap, inl, inr, arith}
+use Rattle.std.proofs.Common.{◌≡◌, ◌≢◌, ◌∙◌, ℕ, ◌+◌, ◌<◌, ◌≤◌, Bool, cond, eqb, List, [], ◌∷◌, ◌++◌, length, get_or}
+use Rattle.std.proofs.Common.{take, drop, Option, Some, None, IfSome, IfNone, refl, sym, ap, inl, inr, arith}
 use Rattle.std.specs.List.{All, position, position_or_len}
 use Rattle.std.proofs.lemmas.Bool.{eqb-true, eqb-false, cases_lt, lt-ltb}
 use Rattle.std.proofs.lemmas.List.{get_or-take, get_or_at, length-take, take-append-drop, drop_more}
@@ -51,7 +52,8 @@ no_cut input line body none cut = not_there longest_line input line body none cu
         let len : length input ≡ length (line ++ 10 ∷ body) = ap length whole in
         let inside : length line < length (take most input) = omega (arith, length-take most input, length_more line body) in
         let at : get_or (take most input) (length line) 0 ≡ 10 =
-        get_or-take most input (length line) 0 short ∙ ap (λ l. get_or l (length line) 0) whole ∙ get_or_at line 10 body 0 (length line) refl in
+        get_or-take most input (length line) 0 short ∙ ap (λ l. get_or l (length line) 0) whole
+        ∙ get_or_at line 10 body 0 (length line) refl in
         All-get_or IsOther (take most input) (length line) 0 inside all at
       where
         length_more : (line body : List ℕ) → length line < length (line ++ 10 ∷ body)
@@ -81,7 +83,8 @@ cut_at most input n found =
     )
 
 pub no_line : (front : List ℕ) → position IsFeed front ≡ None → All IsOther front
-no_line front none = All-from_get_or IsOther front 0 (λ k below. eqb-false _ _ (fails_before_first IsFeed front k 0 (omega (arith, past none))))
+no_line front none = All-from_get_or IsOther front 0
+    (λ k below. eqb-false _ _ (fails_before_first IsFeed front k 0 (omega (arith, past none))))
   where
     past : position IsFeed front ≡ None → length front ≤ position_or_len IsFeed front
     past e = elim (cases_lt (position_or_len IsFeed front) (length front)) [
@@ -93,12 +96,14 @@ no_line front none = All-from_get_or IsOther front 0 (λ k below. eqb-false _ _ 
         found h = cc
 
 -- what the search finds none of
-pub HasNoLine-from_position : (input : List ℕ) (found : Option ℕ) → found ≡ position IsFeed (take longest_line input) → IfNone found (HasNoLine input)
+pub HasNoLine-from_position : (input : List ℕ) (found : Option ℕ) → found ≡ position IsFeed (take longest_line input)
+    → IfNone found (HasNoLine input)
 HasNoLine-from_position input None is = no_line (take longest_line input) (sym is)
 HasNoLine-from_position input (Some n) is = tt
 
 -- and what it finds
-pub IsCut-from_position : (input : List ℕ) (found : Option ℕ) → length input ≤ most_input → found ≡ position IsFeed (take longest_line input)
+pub IsCut-from_position : (input : List ℕ) (found : Option ℕ) → length input ≤ most_input
+    → found ≡ position IsFeed (take longest_line input)
     → IfSome found (λ n. IsCut input (take n input) (drop (n + 1) input)) × IfSome found (λ n. n < length input)
 IsCut-from_position input None most is = (tt, tt)
 IsCut-from_position input (Some n) most is =

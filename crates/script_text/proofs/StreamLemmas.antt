@@ -1,5 +1,6 @@
 -- Lemmas on specs/Streams.antt, for one stream.
-use Rattle.std.proofs.Common.{◌≡◌, ◌≢◌, ◌==◌, ◌∙◌, ℕ, ◌+◌, ◌-◌, ◌≤◌, Bool, true, false, cond, List, [], ◌∷◌, length, refl, sym, ap, inl, inr, arith, length-append}
+use Rattle.std.proofs.Common.{◌≡◌, ◌≢◌, ◌==◌, ◌∙◌, ℕ, ◌+◌, ◌-◌, ◌≤◌, Bool, true, false, cond, List, [], ◌∷◌, length}
+use Rattle.std.proofs.Common.{refl, sym, ap, inl, inr, arith, length-append}
 use Rattle.std.proofs.lemmas.Bool.{eqb-false, eqb-true, ne_eqb}
 use Rattle.std.specs.List.{All}
 use Rattle.std.proofs.lemmas.List.Elements.{All-weaker}
@@ -29,13 +30,15 @@ module _ (room place end : ℕ) (bytes : List ℕ) (frames : List Frame) (rest :
   bad_here some none = (frames, rest, begin, few, inl (some, none, omega (arith, length_front)))
 
   -- bytes go on behind a frame that ends the stream
-  pub bad_behind_close : (f : Frame) (more : List ℕ) → BeginsWithFrame rest f more → IsClose f → more ≢ [] → IsNoStream room place bytes (end - length more) what.Frame
+  pub bad_behind_close : (f : Frame) (more : List ℕ) → BeginsWithFrame rest f more → IsClose f → more ≢ []
+      → IsNoStream room place bytes (end - length more) what.Frame
   bad_behind_close f more front closes some =
       let len : length rest ≡ length (spelled f) + length more = ap length front.text ∙ length-append (spelled f) more in
       (frames, rest, begin, few, inr (length (spelled f), (f, more, front, closes, some, refl), omega (arith, length_front, len)))
 
   -- a call stands there, and there is no room for it
-  pub call_too_many : (f : Frame) (more : List ℕ) → BeginsWithFrame rest f more → (IsClose f → ⊥) → room ≤ length frames → IsNoStream room place bytes (end - length rest) what.Calls
+  pub call_too_many : (f : Frame) (more : List ℕ) → BeginsWithFrame rest f more → (IsClose f → ⊥) → room ≤ length frames
+      → IsNoStream room place bytes (end - length rest) what.Calls
   call_too_many f more front calls full = (frames, rest, begin, few, (omega arith, (f, more, front, calls), omega (arith, length_front)))
 
 -- the frames of a stream ask calls

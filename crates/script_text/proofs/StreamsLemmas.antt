@@ -1,5 +1,6 @@
 -- Lemmas on specs/Streams.antt, for streams that stand one after another.
-use Rattle.std.proofs.Common.{◌≡◌, ◌⊎◌, ◌∙◌, ℕ, ◌+◌, ◌-◌, ◌≤◌, List, [], ◌∷◌, ◌++◌, length, take, drop, sum_by, Result, Ok, Err, refl, sym, ap, subst, inl, inr, arith, append_assoc, append-nil}
+use Rattle.std.proofs.Common.{◌≡◌, ◌⊎◌, ◌∙◌, ℕ, ◌+◌, ◌-◌, ◌≤◌, List, [], ◌∷◌, ◌++◌, length, take, drop, sum_by}
+use Rattle.std.proofs.Common.{Result, Ok, Err, refl, sym, ap, subst, inl, inr, arith, append_assoc, append-nil}
 use Rattle.std.proofs.lemmas.List.{length-drop}
 use Rattle.std.proofs.lemmas.List.Sums.{sum_by-cons, sum_by_push}
 use Rattle.script_head.specs.declared.head.StreamHead.{StreamHead}
@@ -17,18 +18,22 @@ use Rattle.script_text.specs.Streams.{stream_length, frame_count, IsBadAt, IsStr
 use Rattle.script_text.specs.Refusals.{AnswersStreams, AnswersBody}
 
 -- the streams so far, and the bytes that are left for the others
-pub record AreReadSoFar (room place : ℕ) (heads : List StreamHead) (bytes : List ℕ) (streams : List Stream) (left : ℕ) (others : List StreamHead) (rest : List ℕ) : Type 0 where
+pub record AreReadSoFar (room place : ℕ) (heads : List StreamHead) (bytes : List ℕ) (streams : List Stream) (left : ℕ)
+    (others : List StreamHead) (rest : List ℕ) : Type 0 where
   pub few : sum_by frame_count streams + left ≡ room
   pub whole : sum_by byte_count others ≡ length rest
   pub within : length rest ≤ length bytes
   pub found : (more : List Stream) → AreStreams others rest more → AreStreams heads bytes (streams ++ more)
-  pub bad : (at : ℕ) (why : What) → AreNoStreams left (place + length bytes - length rest) others rest at why → AreNoStreams room place heads bytes at why
+  pub bad : (at : ℕ) (why : What) → AreNoStreams left (place + length bytes - length rest) others rest at why
+      → AreNoStreams room place heads bytes at why
 
 -- what is left holds the next stream
-next_within : (h : StreamHead) (hs : List StreamHead) (rest : List ℕ) → sum_by byte_count (h ∷ hs) ≡ length rest → byte_count h ≤ length rest
+next_within : (h : StreamHead) (hs : List StreamHead) (rest : List ℕ) → sum_by byte_count (h ∷ hs) ≡ length rest
+    → byte_count h ≤ length rest
 next_within h hs rest whole = omega (arith, sum_by-cons byte_count h hs)
 
-one_read : (room place : ℕ) (heads : List StreamHead) (bytes : List ℕ) (streams : List Stream) (left : ℕ) (h : StreamHead) (hs : List StreamHead) (rest : List ℕ) (s : Stream)
+one_read : (room place : ℕ) (heads : List StreamHead) (bytes : List ℕ) (streams : List Stream) (left : ℕ) (h : StreamHead)
+    (hs : List StreamHead) (rest : List ℕ) (s : Stream)
     → AreReadSoFar room place heads bytes streams left (h ∷ hs) rest → IsStreamOf h (take (byte_count h) rest) s → frame_count s ≤ left
     → AreReadSoFar room place heads bytes (streams ++ s ∷ []) (left - frame_count s) hs (drop (byte_count h) rest)
 one_read room place heads bytes streams left h hs rest s read is few =
@@ -42,12 +47,18 @@ one_read room place heads bytes streams left h hs rest s read is few =
       bad = λ at why are.
           let next : place + length bytes - length (drop (byte_count h) rest) ≡ place + length bytes - length rest + byte_count h =
           omega (arith, size, read.within, inside) in
-          read.bad at why (inr (s, is, few, subst (λ p. AreNoStreams (left - frame_count s) p hs (drop (byte_count h) rest) at why) next are));
+          read.bad at why (inr (
+            s,
+            is,
+            few,
+            subst (λ p. AreNoStreams (left - frame_count s) p hs (drop (byte_count h) rest) at why) next are,
+          ));
     }
 
 -- ---- a step of a loop over the heads, where the next stream has n bytes
 
-module _ (room place : ℕ) (heads : List StreamHead) (bytes : List ℕ) (streams : List Stream) (left : ℕ) (rest : List ℕ) (others : List StreamHead) (h : StreamHead) (hs : List StreamHead) (n : ℕ)
+module _ (room place : ℕ) (heads : List StreamHead) (bytes : List ℕ) (streams : List Stream) (left : ℕ) (rest : List ℕ)
+    (others : List StreamHead) (h : StreamHead) (hs : List StreamHead) (n : ℕ)
     (next : others ≡ h ∷ hs) (count : n ≡ byte_count h) (read : AreReadSoFar room place heads bytes streams left others rest) where
   read_next : AreReadSoFar room place heads bytes streams left (h ∷ hs) rest
   read_next = subst (λ l. AreReadSoFar room place heads bytes streams left l rest) next read
@@ -62,9 +73,11 @@ module _ (room place : ℕ) (heads : List StreamHead) (bytes : List ℕ) (stream
       (one_read room place heads bytes streams left h hs rest s read_next (subst (λ l. IsStreamOf h l s) (front_of front is) stands) few)
 
 -- there is no other
-pub all_read : (room place : ℕ) (heads : List StreamHead) (bytes : List ℕ) (streams : List Stream) (left : ℕ) (rest : List ℕ) (others : List StreamHead) → length others ≡ 0
+pub all_read : (room place : ℕ) (heads : List StreamHead) (bytes : List ℕ) (streams : List Stream) (left : ℕ)
+    (rest : List ℕ) (others : List StreamHead) → length others ≡ 0
     → AreReadSoFar room place heads bytes streams left others rest → AnswersStreams room place heads bytes (Ok streams)
-all_read room place heads bytes streams left rest [] none read = (subst (AreStreams heads bytes) (append-nil streams) (read.found [] tt), omega (arith, read.few))
+all_read room place heads bytes streams left rest [] none read =
+    (subst (AreStreams heads bytes) (append-nil streams) (read.found [] tt), omega (arith, read.few))
 all_read room place heads bytes streams left rest (h ∷ hs) none read = absurd (omega arith)
 
 -- ---- the calls of all streams
@@ -82,16 +95,26 @@ calls_of_all [] bytes [] are = refl
 calls_of_all [] bytes (s ∷ ss) are = absurd are
 calls_of_all (h ∷ hs) bytes [] are = absurd are
 calls_of_all (h ∷ hs) bytes (s ∷ ss) (is, are) =
-    omega (arith, calls_of_one h (take (byte_count h) bytes) s is, calls_of_all hs (drop (byte_count h) bytes) ss are, sum_by-cons stream_length s ss, sum_by-cons frame_count s ss, sum_by-cons command_count h hs)
+    omega (
+      arith,
+      calls_of_one h (take (byte_count h) bytes) s is,
+      calls_of_all hs (drop (byte_count h) bytes) ss are,
+      sum_by-cons stream_length s ss,
+      sum_by-cons frame_count s ss,
+      sum_by-cons command_count h hs,
+    )
 
 -- ---- the streams as the rest of an input
 
 -- only calls and frames are bad in streams
-pub calls_or_frame : (heads : List StreamHead) (room place : ℕ) (bytes : List ℕ) (bad : ℕ) (why : What) → AreNoStreams room place heads bytes bad why → (why ≡ what.Calls) ⊎ (why ≡ what.Frame)
+pub calls_or_frame : (heads : List StreamHead) (room place : ℕ) (bytes : List ℕ) (bad : ℕ) (why : What)
+    → AreNoStreams room place heads bytes bad why → (why ≡ what.Calls) ⊎ (why ≡ what.Frame)
 calls_or_frame [] room place bytes bad why are = absurd are
-calls_or_frame (head.Frames count ∷ hs) room place bytes bad why (inl (frames, rest, begin, few, stands)) = of_one (room - length frames) (place + length (spellings frames)) rest bad why stands
+calls_or_frame (head.Frames count ∷ hs) room place bytes bad why (inl (frames, rest, begin, few, stands)) =
+    of_one (room - length frames) (place + length (spellings frames)) rest bad why stands
   where
-    of_one : (left place : ℕ) (rest : List ℕ) (bad : ℕ) (why : What) → IsBadAt left place rest bad why → (why ≡ what.Calls) ⊎ (why ≡ what.Frame)
+    of_one : (left place : ℕ) (rest : List ℕ) (bad : ℕ) (why : What) → IsBadAt left place rest bad why → (why ≡ what.Calls)
+        ⊎ (why ≡ what.Frame)
     of_one left place rest bad what.Frame stands = inr refl
     of_one left place rest bad what.Calls stands = inl refl
     of_one left place rest bad why stands = absurd stands
@@ -103,9 +126,14 @@ rest_is_neither (inl e) = cc
 rest_is_neither (inr e) = cc
 
 -- the streams beside few enough commands
-pub answers_body : (place : ℕ) (heads : List StreamHead) (body : List ℕ) (room : ℕ) (r : Result (List Stream) ScriptError) → sum_by byte_count heads ≡ length body
-    → sum_by command_count heads ≤ most_calls → room ≡ most_calls - sum_by command_count heads → AnswersStreams room place heads body r → AnswersBody place heads body r
-answers_body place heads body room (Ok streams) whole few is (are, most) = (whole, are, omega (arith, calls_of_all heads body streams are, few, is, most))
-answers_body place heads body room (Err (Bad bad what.Rest)) whole few is none = absurd (rest_is_neither (calls_or_frame heads room place body bad what.Rest none))
-answers_body place heads body room (Err (Bad bad why)) whole few is none = (whole, inr (few, subst (λ n. AreNoStreams n place heads body bad why) is none))
+pub answers_body : (place : ℕ) (heads : List StreamHead) (body : List ℕ) (room : ℕ) (r : Result (List Stream) ScriptError)
+    → sum_by byte_count heads ≡ length body
+    → sum_by command_count heads ≤ most_calls → room ≡ most_calls - sum_by command_count heads
+    → AnswersStreams room place heads body r → AnswersBody place heads body r
+answers_body place heads body room (Ok streams) whole few is (are, most) =
+    (whole, are, omega (arith, calls_of_all heads body streams are, few, is, most))
+answers_body place heads body room (Err (Bad bad what.Rest)) whole few is none =
+    absurd (rest_is_neither (calls_or_frame heads room place body bad what.Rest none))
+answers_body place heads body room (Err (Bad bad why)) whole few is none =
+    (whole, inr (few, subst (λ n. AreNoStreams n place heads body bad why) is none))
 answers_body place heads body room (Err NoMemory) whole few is free = free

@@ -9,7 +9,8 @@ use Rattle.layer_chain.proofs.ChangeLemmas.{snapped_reads, snapped_others, snapp
 use Rattle.layer_chain.proofs.TreeShape.{apart}
 use Rattle.snapshot_ops.specs.Ops.{metas, TakesSnapshot, Reverts, Marks}
 
-pub takes : (t : Tree) (name : List ℕ) (user_created : Bool) (spare : Tables) → user_created ≡ not (begins_sys name) → ((block : ℕ) → block_at spare block ≡ None) → TakesSnapshot t (snapped_tree t name user_created spare) name
+pub takes : (t : Tree) (name : List ℕ) (user_created : Bool) (spare : Tables) → user_created ≡ not (begins_sys name)
+    → ((block : ℕ) → block_at spare block ≡ None) → TakesSnapshot t (snapped_tree t name user_created spare) name
 takes t name user_created spare users empty = record {
   metas = ap (λ (b : Bool). record { name = name; parent = t.on; marked = false; user_created = b; created = None } ∷ metas t) users;
   next = record { blocks = empty; on = refl; number = refl };
@@ -18,7 +19,8 @@ takes t name user_created spare users empty = record {
   head = λ block. snapped_head t name user_created spare block (empty block);
 }
 
-pub reverts : (t : Tree) (name : List ℕ) (spare : Tables) → ((block : ℕ) → block_at spare block ≡ None) → Reverts t (reverted_tree t name spare) name
+pub reverts : (t : Tree) (name : List ℕ) (spare : Tables) → ((block : ℕ) → block_at spare block ≡ None)
+    → Reverts t (reverted_tree t name spare) name
 reverts t name spare empty = record {
   layers = refl;
   next = record { blocks = empty; on = refl; number = refl };

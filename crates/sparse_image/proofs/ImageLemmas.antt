@@ -1,11 +1,14 @@
 -- Lemmas on specs/Image.antt: what a table that is set in an image changes.
-use Rattle.std.proofs.Common.{◌≡◌, ◌≢◌, ⊎_elim, ℕ, ◌+◌, ◌/◌, ◌%◌, ◌<◌, ◌≤◌, Bool, true, false, ◌||◌, ◌&&◌, nat_le, nat_lt, eqb, List, [], ◌∷◌, length, replicate, set, get_or-set_same, get_or-set_other, length-set, Option, None, sym, refl, ap, ◌∙◌, subst, arith}
+use Rattle.std.proofs.Common.{◌≡◌, ◌≢◌, ⊎_elim, ℕ, ◌+◌, ◌/◌, ◌%◌, ◌<◌, ◌≤◌, Bool, true, false, ◌||◌, ◌&&◌, nat_le}
+use Rattle.std.proofs.Common.{nat_lt, eqb, List, [], ◌∷◌, length, replicate, set, get_or-set_same, get_or-set_other}
+use Rattle.std.proofs.Common.{length-set, Option, None, sym, refl, ap, ◌∙◌, subst, arith}
 use Rattle.std.specs.Option.{option_map, option_or}
 use Rattle.std.proofs.lemmas.List.{set_past, get_or-replicate, get_or_past, length-replicate}
 use Rattle.std.proofs.lemmas.Bool.{cases_eq, cases_lt, eq-eqb, ne_eqb, false≢true}
 use Rattle.std.proofs.Math.Bool.{or-true}
 use Rattle.std.proofs.lemmas.Bool.Decides.{nat_tests}
-use Rattle.sparse_image.specs.Image.{Table, Tables, place_at, table_at, block_at, has_page, IsEmpty, MakesPages, ChangesBlock, EmptiesPage, LaysPageOver, PutsTable, page_over}
+use Rattle.sparse_image.specs.Image.{Table, Tables, place_at, table_at, block_at, has_page, IsEmpty, MakesPages}
+use Rattle.sparse_image.specs.Image.{ChangesBlock, EmptiesPage, LaysPageOver, PutsTable, page_over}
 use Rattle.sparse_image.specs.Whole.{IsTable, IsImage}
 use Rattle.sparse_image.proofs.TableLemmas.{place_at-page_over, length-page_over}
 
@@ -23,7 +26,9 @@ SetsTable-set image page table inside = record {
 }
 
 -- the same of a table that was read, laid over and is back
-pub SetsTable-over : (above below : Tables) (page : ℕ) (upper lower after : Table) → page < length below → upper ≡ table_at above page → lower ≡ table_at below page → after ≡ page_over upper lower → SetsTable below (set below page after) page (page_over (table_at above page) (table_at below page))
+pub SetsTable-over : (above below : Tables) (page : ℕ) (upper lower after : Table) → page < length below
+    → upper ≡ table_at above page → lower ≡ table_at below page → after ≡ page_over upper lower
+    → SetsTable below (set below page after) page (page_over (table_at above page) (table_at below page))
 SetsTable-over above below page upper lower after inside up low over =
     subst (SetsTable below (set below page after) page)
     (over ∙ ap (λ t. page_over t lower) up ∙ ap (page_over (table_at above page)) low)
@@ -35,11 +40,15 @@ unfolding block_at
 block_of_none image block none = ap (λ t. place_at t (block % 512)) none
 
 -- a page that is made is one of the image
-pub has_page-inside : (image : Tables) (page : ℕ) → has_page image page ≡ true → (page < length image) × (length (table_at image page) ≡ 512)
+pub has_page-inside : (image : Tables) (page : ℕ) → has_page image page ≡ true → (page < length image)
+    × (length (table_at image page) ≡ 512)
 unfolding has_page
 has_page-inside image page made =
-    let whole : length (table_at image page) ≡ 512 = grind (arith, nat_tests) in
-    (⊎_elim (λ inside. inside) (λ past. absurd (omega (arith, ap length (get_or_past image page [] past)))) (cases_lt page (length image)), whole)
+    let whole : length (table_at image page) ≡ 512 = grind (arith, nat_tests) in (
+      ⊎_elim (λ inside. inside) (λ past. absurd (omega (arith, ap length (get_or_past image page [] past))))
+          (cases_lt page (length image)),
+      whole,
+    )
 
 module _ (old new : Tables) (page : ℕ) (table : Table) (s : SetsTable old new page table) where
   block_here : (block : ℕ) → block / 512 ≡ page → block_at new block ≡ place_at table (block % 512)
@@ -92,7 +101,9 @@ unfolding has_page
 has_page-read image page table read = ap (λ t. eqb (length t) 512) (sym read)
 
 -- a new table for a page that was not made
-pub MakesPages-set : (image : Tables) (page places : ℕ) (table : Table) → page < length image → table ≡ replicate places None → places ≡ 512 → table_at image page ≡ [] → MakesPages image (set image page table) (λ p. eqb p page)
+pub MakesPages-set : (image : Tables) (page places : ℕ) (table : Table) → page < length image
+    → table ≡ replicate places None → places ≡ 512 → table_at image page ≡ []
+    → MakesPages image (set image page table) (λ p. eqb p page)
 MakesPages-set image page places table inside new whole none =
     let s = SetsTable-set image page table inside in
     record {
@@ -137,7 +148,8 @@ MakesPages-made image page made = record {
 }
 
 -- the pages behind the first are made, and the first was there
-pub MakesPages-there : (old new : Tables) (first end : ℕ) → first < end → has_page old first ≡ true → MakesPages old new (from_to (first + 1) end) → MakesPages old new (from_to first end)
+pub MakesPages-there : (old new : Tables) (first end : ℕ) → first < end → has_page old first ≡ true
+    → MakesPages old new (from_to (first + 1) end) → MakesPages old new (from_to first end)
 MakesPages-there old new first end some there makes = record {
   count = makes.count;
   blocks = makes.blocks;
@@ -149,7 +161,8 @@ MakesPages-there old new first end some there makes = record {
 }
 
 -- the pages behind the first are made, and then the first
-pub MakesPages-first : (old mid new : Tables) (first end : ℕ) → first < end → MakesPages old mid (from_to (first + 1) end) → MakesPages mid new (λ p. eqb p first) → MakesPages old new (from_to first end)
+pub MakesPages-first : (old mid new : Tables) (first end : ℕ) → first < end → MakesPages old mid (from_to (first + 1) end)
+    → MakesPages mid new (λ p. eqb p first) → MakesPages old new (from_to first end)
 MakesPages-first old mid new first end some later makes = record {
   count = makes.count ∙ later.count;
   blocks = λ block. makes.blocks block ∙ later.blocks block;
@@ -162,7 +175,8 @@ MakesPages-first old mid new first end some later makes = record {
 }
 
 -- a page that was not made is none once those behind it are
-pub still_unmade : (old mid : Tables) (first end : ℕ) → MakesPages old mid (from_to (first + 1) end) → IsImage mid → table_at old first ≡ [] → table_at mid first ≡ []
+pub still_unmade : (old mid : Tables) (first end : ℕ) → MakesPages old mid (from_to (first + 1) end) → IsImage mid
+    → table_at old first ≡ [] → table_at mid first ≡ []
 unfolding has_page
 still_unmade old mid first end later whole none =
     unmade_none (table_at mid first) (whole.tables first)
@@ -188,7 +202,9 @@ IsEmpty-replicate page_count = record {
         (cases_lt page page_count)
 
 -- a place set in a table, where the place holds it after
-pub ChangesBlock-set : (old new : Tables) (block : ℕ) (b : Option (List ℕ)) → SetsTable old new (block / 512) (set (table_at old (block / 512)) (block % 512) b) → place_at (set (table_at old (block / 512)) (block % 512) b) (block % 512) ≡ b → ChangesBlock old new block b
+pub ChangesBlock-set : (old new : Tables) (block : ℕ) (b : Option (List ℕ))
+    → SetsTable old new (block / 512) (set (table_at old (block / 512)) (block % 512) b)
+    → place_at (set (table_at old (block / 512)) (block % 512) b) (block % 512) ≡ b → ChangesBlock old new block b
 unfolding block_at has_page
 ChangesBlock-set old new block b s holds =
     let page = block / 512 in
@@ -213,7 +229,8 @@ ChangesBlock-set old new block b s holds =
     }
 
 -- a block that is changed where it stands
-pub place_at-map_set : (table : Table) (i : ℕ) (f : List ℕ → List ℕ) → place_at (set table i (option_map f (place_at table i))) i ≡ option_map f (place_at table i)
+pub place_at-map_set : (table : Table) (i : ℕ) (f : List ℕ → List ℕ)
+    → place_at (set table i (option_map f (place_at table i))) i ≡ option_map f (place_at table i)
 place_at-map_set table i f =
     ⊎_elim
     (λ inside. get_or-set_same table i (option_map f (place_at table i)) None inside)
@@ -246,7 +263,8 @@ or_false true = refl
 or_false false = refl
 
 -- a table laid over another is made where one of the two was
-made_over : (above below : Table) → IsTable above → IsTable below → eqb (length (page_over above below)) 512 ≡ (eqb (length above) 512 || eqb (length below) 512)
+made_over : (above below : Table) → IsTable above → IsTable below
+    → eqb (length (page_over above below)) 512 ≡ (eqb (length above) 512 || eqb (length below) 512)
 made_over [] below a b = refl
 made_over (x ∷ above) [] a b = or_false (eqb (length (x ∷ above)) 512)
 made_over (x ∷ above) (y ∷ below) a b =
@@ -255,7 +273,9 @@ made_over (x ∷ above) (y ∷ below) a b =
     ap (λ k. eqb k 512) (length-page_over (x ∷ above) (y ∷ below) (m ∙ sym n) ∙ n)
     ∙ sym (ap (λ k. eqb k 512 || eqb (length (y ∷ below)) 512) m)
 
-pub LaysPageOver-set : (above old new : Tables) (page : ℕ) → SetsTable old new page (page_over (table_at above page) (table_at old page)) → IsTable (table_at above page) → IsTable (table_at old page) → LaysPageOver above old new page
+pub LaysPageOver-set : (above old new : Tables) (page : ℕ)
+    → SetsTable old new page (page_over (table_at above page) (table_at old page)) → IsTable (table_at above page)
+    → IsTable (table_at old page) → LaysPageOver above old new page
 unfolding block_at has_page
 LaysPageOver-set above old new page s a b =
     let table = page_over (table_at above page) (table_at old page) in
@@ -271,15 +291,19 @@ LaysPageOver-set above old new page s a b =
     }
 
 -- the same of a table that was read, changed at a place and is back
-pub ChangesBlock-put : (image : Tables) (block : ℕ) (before after : Table) (b : Option (List ℕ)) → block / 512 < length image → before ≡ table_at image (block / 512) → after ≡ set before (block % 512) b → place_at (set before (block % 512) b) (block % 512) ≡ b → ChangesBlock image (set image (block / 512) after) block b
+pub ChangesBlock-put : (image : Tables) (block : ℕ) (before after : Table) (b : Option (List ℕ))
+    → block / 512 < length image → before ≡ table_at image (block / 512) → after ≡ set before (block % 512) b
+    → place_at (set before (block % 512) b) (block % 512) ≡ b → ChangesBlock image (set image (block / 512) after) block b
 ChangesBlock-put image block before after b inside read written holds =
     let page = block / 512 in
     ChangesBlock-set image (set image page after) block b
-    (subst (λ t. SetsTable image (set image page after) page t) (written ∙ ap (λ t. set t (block % 512) b) read) (SetsTable-set image page after inside))
+    (subst (λ t. SetsTable image (set image page after) page t) (written ∙ ap (λ t. set t (block % 512) b) read)
+    (SetsTable-set image page after inside))
     (ap (λ t. place_at (set t (block % 512) b) (block % 512)) (sym read) ∙ holds)
 
 -- a block past the image's end is not there, and stays so
-pub ChangesBlock-past : (image : Tables) (block : ℕ) (f : List ℕ → List ℕ) → length image ≤ block / 512 → (block_at image block ≡ None) × ChangesBlock image image block (option_map f (block_at image block))
+pub ChangesBlock-past : (image : Tables) (block : ℕ) (f : List ℕ → List ℕ) → length image ≤ block / 512
+    → (block_at image block ≡ None) × ChangesBlock image image block (option_map f (block_at image block))
 ChangesBlock-past image block f past =
     let none = block_of_none image block (get_or_past image (block / 512) [] past) in
     (none, record { count = refl; here = none ∙ sym (ap (option_map f) none); others = λ _ _. refl; pages = λ _. refl })

@@ -1,5 +1,6 @@
 -- The blocks of an image, by their numbers, and its pages.
-use Rattle.std.specs.Prelude.{◌≡◌, ◌≢◌, ℕ, ◌+◌, ◌*◌, ◌/◌, ◌%◌, max, min, nat_lt, Bool, false, ◌||◌, ◌==◌, ◌<◌, true, List, [], ◌∷◌, length, Option, None, is_some, slice_index_or}
+use Rattle.std.specs.Prelude.{◌≡◌, ◌≢◌, ℕ, ◌+◌, ◌*◌, ◌/◌, ◌%◌, max, min, nat_lt, Bool, false, ◌||◌, ◌==◌, ◌<◌, true}
+use Rattle.std.specs.Prelude.{List, [], ◌∷◌, length, Option, None, is_some, slice_index_or}
 use Rattle.std.specs.Option.{option_or}
 use Rattle.vol_units.specs.declared.range.BlockRange.{BlockRange}
 use Rattle.sparse_image.specs.declared.block.TheConstants.{PAGE_BLOCKS}

@@ -17,12 +17,26 @@ pub entries-append : (xs ys : List Placed) → entries_in (xs ++ ys) ≡ entries
 entries-append xs ys = map-append (λ (p : Placed). p.entry) xs ys
 
 pub entries_none : (m : Mine) (os : List OwnCall) → with_entries m [] [] os ≡ with_running m os
-entries_none m os = λ i. record { stream = m.stream; replicas = m.replicas; entries = append-nil m.entries i; running = os; log = longer_none m.log i }
+entries_none m os = λ i. record {
+  stream = m.stream;
+  replicas = m.replicas;
+  entries = append-nil m.entries i;
+  running =
+      os;
+  log = longer_none m.log i;
+}
 
 pub entries_twice : (m : Mine) (xs ys : List Placed) (es fs : List Entry) (os ps : List OwnCall)
     → with_entries (with_entries m xs es os) ys fs ps ≡ with_entries m (xs ++ ys) (es ++ fs) ps
 entries_twice m xs ys es fs os ps =
-    λ i. record { stream = m.stream; replicas = m.replicas; entries = append_assoc m.entries xs ys i; running = ps; log = longer_twice m.log es fs i }
+    λ i. record {
+      stream = m.stream;
+      replicas = m.replicas;
+      entries = append_assoc m.entries xs ys i;
+      running = ps;
+      log =
+          longer_twice m.log es fs i;
+    }
 
 pub more_none : (m : Mine) (os : List OwnCall) → with_more m [] os ≡ with_running m os
 more_none m os = entries_none m os

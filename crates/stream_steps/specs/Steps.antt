@@ -1,5 +1,6 @@
 -- What the core's steps say to the stream for which they are taken.
-use Rattle.std.specs.Prelude.{◌≡◌, ◌⊎◌, ℕ, ◌+◌, ◌*◌, ◌<◌, ℤ, true, false, List, [], ◌∷◌, ◌++◌, length, slice_set, All, is_some, Option, IfSome}
+use Rattle.std.specs.Prelude.{◌≡◌, ◌⊎◌, ℕ, ◌+◌, ◌*◌, ◌<◌, ℤ, true, false, List, [], ◌∷◌, ◌++◌, length, slice_set, All}
+use Rattle.std.specs.Prelude.{is_some, Option, IfSome}
 use Rattle.vol_units.specs.Range.{place_of, blocks_around}
 use Rattle.vol_units.specs.declared.range.BlockRange.{BlockRange}
 use Rattle.vol_units.specs.declared.size.TheConstants.{BLOCK_BYTES}
@@ -27,7 +28,8 @@ use Rattle.volume_model.specs.declared.mark.Mark.{Mark}
 use Rattle.volume_model.specs.declared.mark.Mark.TheVariants as mark
 use Rattle.volume_model.specs.Modes.{HasSource}
 use Rattle.volume_model.specs.OneWorker.{entries_at}
-use Rattle.stream_steps.specs.Mine.{Mine, OwnCall, Log, with_entries, with_more, with_running, answer_placed, fault_placed, length_of, log_length}
+use Rattle.stream_steps.specs.Mine.{Mine, OwnCall, Log, with_entries, with_more, with_running, answer_placed}
+use Rattle.stream_steps.specs.Mine.{fault_placed, length_of, log_length}
 
 -- ---- enrolled
 

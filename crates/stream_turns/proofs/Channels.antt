@@ -1,5 +1,6 @@
 -- The lines of a worker, one after another: new ones, and those that are taken back.
-use Rattle.std.proofs.Common.{◌≡◌, ℕ, ◌+◌, List, [], ◌∷◌, ◌++◌, length, map, Option, sym, ap, subst, ◌∙◌, arith, slice_index_or, add-zero, take, drop}
+use Rattle.std.proofs.Common.{◌≡◌, ℕ, ◌+◌, List, [], ◌∷◌, ◌++◌, length, map, Option, sym, ap, subst, ◌∙◌, arith}
+use Rattle.std.proofs.Common.{slice_index_or, add-zero, take, drop}
 use Rattle.std.proofs.Math.Seq.{take-append_seam}
 use Rattle.std.specs.Prelude.{IfSome, None}
 use Rattle.std.proofs.lemmas.List.{map-append, length-append, length-map, append-nil, get_or_past}
@@ -14,15 +15,18 @@ use Rattle.turn_laws.specs.Turns.{IsTurn, TellsOthers}
 use Rattle.stream_turns.specs.Turn.{AreNewLines}
 use Rattle.turn_laws.proofs.OneTurn.{noted}
 
-lined_more : (worker first : ℕ) (es : List Ends) (e : Ends) → AreLinesOf worker first es → e ≡ record { worker = worker; replica = first + length es } → AreLinesOf worker first (es ++ e ∷ [])
+lined_more : (worker first : ℕ) (es : List Ends) (e : Ends) → AreLinesOf worker first es
+    → e ≡ record { worker = worker; replica = first + length es } → AreLinesOf worker first (es ++ e ∷ [])
 lined_more worker first [] e lined is = (is ∙ ap (λ n. record { worker = worker; replica = n }) (add-zero first), tt)
 lined_more worker first (x ∷ es) e lined is =
     (lined.0, lined_more worker (first + 1) es e lined.1 (is ∙ ap (λ n. record { worker = worker; replica = n }) (omega arith)))
 
-more_lines : (worker n : ℕ) (ends : List Ends) (counts : List ℕ) (told : List (Option (List (List ℕ)))) (e : Ends) (k : ℕ) (t : Option (List (List ℕ))) → AreNewLines worker n ends counts told
+more_lines : (worker n : ℕ) (ends : List Ends) (counts : List ℕ) (told : List (Option (List (List ℕ)))) (e : Ends) (k : ℕ)
+    (t : Option (List (List ℕ))) → AreNewLines worker n ends counts told
     → IsNewLine e k t worker n → AreNewLines worker (n + 1) (ends ++ e ∷ []) (counts ++ k ∷ []) (told ++ t ∷ [])
 more_lines worker n ends counts told e k t lines new = record {
-  lined = lined_more worker 0 ends e lines.lined (new.between ∙ ap (λ m. record { worker = worker; replica = m }) (omega (arith, lines.many)));
+  lined = lined_more worker 0 ends e lines.lined
+      (new.between ∙ ap (λ m. record { worker = worker; replica = m }) (omega (arith, lines.many)));
   many = omega (arith, length-append ends (e ∷ []), lines.many);
   unfailed = All-append (λ m. m ≡ 0) counts (k ∷ []) lines.unfailed (All-cons (λ m. m ≡ 0) k [] new.unfailed (All-nil (λ m. m ≡ 0)));
   empty = All-append (λ t. IfSome t (λ frames. frames ≡ [])) told (t ∷ []) lines.empty
@@ -30,27 +34,38 @@ more_lines worker n ends counts told e k t lines new = record {
 }
 
 -- one channel more
-pub more_channels : (C L : Type 0) (line : C → L) (ends : L → Ends) (count : L → ℕ) (told : L → Option (List (List ℕ))) (worker n : ℕ) (cs more : List C) (c : C) (l : L)
-    → more ≡ cs ++ c ∷ [] → line c ≡ l → AreNewLines worker n (map (λ (x : C). ends (line x)) cs) (map (λ (x : C). count (line x)) cs) (map (λ (x : C). told (line x)) cs)
+pub more_channels : (C L : Type 0) (line : C → L) (ends : L → Ends) (count : L → ℕ) (told : L → Option (List (List ℕ)))
+    (worker n : ℕ) (cs more : List C) (c : C) (l : L)
+    → more ≡ cs ++ c ∷ [] → line c ≡ l
+    → AreNewLines worker n (map (λ (x : C). ends (line x)) cs) (map (λ (x : C). count (line x)) cs)
+    (map (λ (x : C). told (line x)) cs)
     → IsNewLine (ends l) (count l) (told l) worker n
-    → AreNewLines worker (n + 1) (map (λ (x : C). ends (line x)) more) (map (λ (x : C). count (line x)) more) (map (λ (x : C). told (line x)) more)
+    → AreNewLines worker (n + 1) (map (λ (x : C). ends (line x)) more) (map (λ (x : C). count (line x)) more)
+    (map (λ (x : C). told (line x)) more)
 more_channels C L line ends count told worker n cs more c l is at lines new =
     three _ _ _ _ _ _ (sym (mapped ends)) (sym (mapped count)) (sym (mapped told))
     (more_lines worker n _ _ _ (ends l) (count l) (told l) lines new)
   where
     mapped : {X : Type 0} (f : L → X) → map (λ (x : C). f (line x)) more ≡ map (λ (x : C). f (line x)) cs ++ f l ∷ []
-    mapped f = ap (map (λ (x : C). f (line x))) is ∙ map-append (λ (x : C). f (line x)) cs (c ∷ []) ∙ ap (λ y. map (λ (x : C). f (line x)) cs ++ f y ∷ []) at
+    mapped f = ap (map (λ (x : C). f (line x))) is ∙ map-append (λ (x : C). f (line x)) cs (c ∷ [])
+        ∙ ap (λ y. map (λ (x : C). f (line x)) cs ++ f y ∷ []) at
 
-    three : (es es' : List Ends) (ns ns' : List ℕ) (ts ts' : List (Option (List (List ℕ)))) → es ≡ es' → ns ≡ ns' → ts ≡ ts' → AreNewLines worker (n + 1) es ns ts → AreNewLines worker (n + 1) es' ns' ts'
-    three es es' ns ns' ts ts' e f g lines = subst (λ x. AreNewLines worker (n + 1) x ns' ts') e (subst (λ x. AreNewLines worker (n + 1) es x ts') f (subst (AreNewLines worker (n + 1) es ns) g lines))
+    three : (es es' : List Ends) (ns ns' : List ℕ) (ts ts' : List (Option (List (List ℕ)))) → es ≡ es' → ns ≡ ns' → ts ≡ ts'
+        → AreNewLines worker (n + 1) es ns ts → AreNewLines worker (n + 1) es' ns' ts'
+    three es es' ns ns' ts ts' e f g lines =
+        subst (λ x. AreNewLines worker (n + 1) x ns' ts') e
+        (subst (λ x. AreNewLines worker (n + 1) es x ts') f (subst (AreNewLines worker (n + 1) es ns) g lines))
 
 -- as many lines as replicas tell of themselves
-pub many_told : {C L : Type 0} (line : C → L) (ends : L → Ends) (count : L → ℕ) (new old : List C) (n : ℕ) → length new ≡ length old → length (map (λ (x : C). ends (line x)) old) ≡ n
+pub many_told : {C L : Type 0} (line : C → L) (ends : L → Ends) (count : L → ℕ) (new old : List C) (n : ℕ)
+    → length new ≡ length old → length (map (λ (x : C). ends (line x)) old) ≡ n
     → length (map (λ (x : C). count (line x)) new) ≡ n
-many_told line ends count new old n same many = omega (arith, length-map new (λ x. count (line x)), length-map old (λ x. ends (line x)), same, many)
+many_told line ends count new old n same many =
+    omega (arith, length-map new (λ x. count (line x)), length-map old (λ x. ends (line x)), same, many)
 
 -- once none is left, all are taken back
-pub all_records : {T : Type 0} (C : Type 0) (told : C → T) (f g : ℕ → ℕ → T) (worker : ℕ) (all taken left : List C) → all ≡ taken ++ left → left ≡ [] → RecordsOf f g worker (map told taken)
+pub all_records : {T : Type 0} (C : Type 0) (told : C → T) (f g : ℕ → ℕ → T) (worker : ℕ) (all taken left : List C)
+    → all ≡ taken ++ left → left ≡ [] → RecordsOf f g worker (map told taken)
     → RecordsOf f g worker (map told all)
 all_records C told f g worker all taken left cut none records =
     subst (λ l. RecordsOf f g worker (map told l)) (sym (cut ∙ ap (λ l. taken ++ l) none ∙ append-nil taken)) records
@@ -61,17 +76,21 @@ pub tells_on : {T : Type 0} (f g h : ℕ → ℕ → T) → TellsSame f g → Te
 tells_on f g h p q worker replica = q worker replica ∙ p worker replica
 
 -- lines of another worker stay as they were
-pub others_stay : {T : Type 0} (f g h : ℕ → ℕ → T) (worker : ℕ) (told : List T) → TellsSame f g → RecordsOf g h worker told → TellsOthers worker f h
+pub others_stay : {T : Type 0} (f g h : ℕ → ℕ → T) (worker : ℕ) (told : List T) → TellsSame f g → RecordsOf g h worker told
+    → TellsOthers worker f h
 others_stay f g h worker told same records w r apart = records.others w r (λ both. apart both.0) ∙ same w r
 
 -- a slice is put back into its vector
-pub back_whole : {C : Type 0} (len : ℕ) (items now new : List C) → len ≡ length items → now ≡ items → length new ≡ length now → take len (new ++ drop (length new) items) ≡ new
+pub back_whole : {C : Type 0} (len : ℕ) (items now new : List C) → len ≡ length items → now ≡ items
+    → length new ≡ length now → take len (new ++ drop (length new) items) ≡ new
 back_whole len items now new whole same many =
-    ap (λ n. take n (new ++ drop (length new) items)) (omega (arith, whole, ap length same, many)) ∙ take-append_seam new (drop (length new) items)
+    ap (λ n. take n (new ++ drop (length new) items)) (omega (arith, whole, ap length same, many))
+    ∙ take-append_seam new (drop (length new) items)
 
 -- Lines of a worker to so many replicas, in a vector of which a slice was given: they were used, and put back.
 module _ (w m n len : ℕ) (C : Type 0) (ends : C → Ends) (count : C → ℕ) (told : C → Option (List (List ℕ))) (items now new : List C)
-    (lines : AreNewLines w m (map ends items) (map count items) (map told items)) (at : m ≡ n) (whole : len ≡ length items) (value : now ≡ items) (many : length new ≡ length now) (same : map ends new ≡ map ends now) where
+    (lines : AreNewLines w m (map ends items) (map count items) (map told items)) (at : m ≡ n) (whole : len ≡ length items)
+    (value : now ≡ items) (many : length new ≡ length now) (same : map ends new ≡ map ends now) where
   abbrev back : List C
   back = take len (new ++ drop (length new) items)
 
@@ -85,7 +104,8 @@ module _ (w m n len : ℕ) (C : Type 0) (ends : C → Ends) (count : C → ℕ) 
   lined = subst (AreLinesOf w 0) (sym (ap (map ends) is ∙ same ∙ ap (map ends) value)) lines.lined
 
   -- what they told is noted
-  pub noted_back : (opening : Spot) (cs : List Call) (before after : List Entry) (counts counts' : ℕ → ℕ → ℕ) (told0 told' : ℕ → ℕ → Option (List (List ℕ))) → length opening.modes ≡ n
+  pub noted_back : (opening : Spot) (cs : List Call) (before after : List Entry) (counts counts' : ℕ → ℕ → ℕ)
+      (told0 told' : ℕ → ℕ → Option (List (List ℕ))) → length opening.modes ≡ n
       → IsTurn opening n w cs before after (λ r. slice_index_or (map count new) r 0) (told_in (map told new))
       → ((worker : ℕ) → AreLinesOf worker 0 (map ends back) → RecordsOf counts counts' worker (map count back))
       → ((worker : ℕ) → AreLinesOf worker 0 (map ends back) → RecordsOf told0 told' worker (map told back))
@@ -93,9 +113,12 @@ module _ (w m n len : ℕ) (C : Type 0) (ends : C → Ends) (count : C → ℕ) 
   noted_back opening cs before after counts counts' told0 told' modes turn counted carried =
       noted opening n w cs before after (λ r. slice_index_or (map count new) r 0) (counts' w) (told_in (map told new)) (told' w) modes turn
       (λ r high. get_or_past (map count new) r 0 (omega (arith, length-map new count, as_many, high)))
-      (λ r low. (counted w lined).here r 0 (omega (arith, length-map back count, ap length is, as_many, low)) ∙ ap (λ l. slice_index_or (map count l) r 0) is)
-      (λ r low. (carried w lined).here r None (omega (arith, length-map back told, ap length is, as_many, low)) ∙ ap (λ l. slice_index_or (map told l) r None) is)
+      (λ r low. (counted w lined).here r 0 (omega (arith, length-map back count, ap length is, as_many, low))
+      ∙ ap (λ l. slice_index_or (map count l) r 0) is)
+      (λ r low. (carried w lined).here r None (omega (arith, length-map back told, ap length is, as_many, low))
+      ∙ ap (λ l. slice_index_or (map told l) r None) is)
 
   -- and other lines tell the same
-  pub others_back : {T : Type 0} (note : C → T) (f g h : ℕ → ℕ → T) → TellsSame f g → ((worker : ℕ) → AreLinesOf worker 0 (map ends back) → RecordsOf g h worker (map note back)) → TellsOthers w f h
+  pub others_back : {T : Type 0} (note : C → T) (f g h : ℕ → ℕ → T) → TellsSame f g
+      → ((worker : ℕ) → AreLinesOf worker 0 (map ends back) → RecordsOf g h worker (map note back)) → TellsOthers w f h
   others_back note f g h before records = others_stay f g h w (map note back) before (records w lined)

@@ -24,11 +24,13 @@ same_bytes (x ∷ xs) (y ∷ ys) many each = λ i. each 0 i ∷ same_bytes xs ys
 rw_is_up : Rw ≢ Err
 rw_is_up e = cc
 
-pub replicas_are : (s : State) → IsSound s → s.tickets ≡ [] → (r : ℕ) → mode_of (modes_in s) r ≡ Rw → volume_of_node (node_at s.nodes r) ≡ (told_of s).volume
+pub replicas_are : (s : State) → IsSound s → s.tickets ≡ [] → (r : ℕ) → mode_of (modes_in s) r ≡ Rw
+    → volume_of_node (node_at s.nodes r) ≡ (told_of s).volume
 replicas_are s sound rest r up =
     let agree = (calm_of s sound (none_started s.whole sound.whole)).clients.agree in
     let here : mode_of (modes_in s) r ≢ Err = λ e. rw_is_up (sym up ∙ e) in
-    let disk = same_bytes (node_at s.nodes r).disk (told_of s).volume.disk (agree.sizes r here ∙ sym agree.disk) (λ k. agree.bytes r k up (unheld k)) in
+    let disk = same_bytes (node_at s.nodes r).disk (told_of s).volume.disk (agree.sizes r here ∙ sym agree.disk)
+    (λ k. agree.bytes r k up (unheld k)) in
     λ i. record { disk = disk i; copies = agree.copies r up i; snapshots = agree.tree r here i }
   where
     unheld : (k : ℕ) → IsUnheld s.tickets k

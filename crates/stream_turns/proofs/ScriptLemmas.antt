@@ -31,14 +31,17 @@ stream_taken : (replicas : ℕ) (h : StreamHead) (bytes : List ℕ) (s : Stream)
 stream_taken replicas (head.Frames count) bytes (stream.Frames frames) is good = All-weaker IsCall IsAsked asked_call frames is.1.calls
 stream_taken replicas (head.Frames count) bytes (stream.Control commands) is good = absurd is
 stream_taken replicas (head.Control commands) bytes (stream.Frames frames) is good = absurd is
-stream_taken replicas (head.Control others) bytes (stream.Control commands) is good = All-weaker (IsGoodCommand replicas) IsForWorker (for_commands replicas) commands good
+stream_taken replicas (head.Control others) bytes (stream.Control commands) is good =
+    All-weaker (IsGoodCommand replicas) IsForWorker (for_commands replicas) commands good
 
-streams_taken : (replicas : ℕ) (heads : List StreamHead) (bytes : List ℕ) (streams : List Stream) → AreStreams heads bytes streams → All (IsGoodStream replicas) streams → All IsTaken streams
+streams_taken : (replicas : ℕ) (heads : List StreamHead) (bytes : List ℕ) (streams : List Stream)
+    → AreStreams heads bytes streams → All (IsGoodStream replicas) streams → All IsTaken streams
 streams_taken replicas [] bytes [] are good = All-nil IsTaken
 streams_taken replicas [] bytes (s ∷ ss) are good = absurd are
 streams_taken replicas (h ∷ hs) bytes [] are good = absurd are
 streams_taken replicas (h ∷ hs) bytes (s ∷ ss) are good =
-    All-cons IsTaken s ss (stream_taken replicas h _ s are.0 (All-head (IsGoodStream replicas) s ss good)) (streams_taken replicas hs _ ss are.1 (All-tail (IsGoodStream replicas) s ss good))
+    All-cons IsTaken s ss (stream_taken replicas h _ s are.0 (All-head (IsGoodStream replicas) s ss good))
+    (streams_taken replicas hs _ ss are.1 (All-tail (IsGoodStream replicas) s ss good))
 
 pub all_taken : (input : List ℕ) (script : Script) → IsScript input script → All IsTaken script.streams
 all_taken input script is = streams_taken script.replicas is.head.streams is.body script.streams is.streams (good_streams input script is)

@@ -1,5 +1,7 @@
 -- How far the serving of streams has come, and what it has made once none is left.
-use Rattle.std.proofs.Common.{◌≡◌, ◌≢◌, ℕ, zero, suc, false, ◌+◌, ◌<◌, ◌≤◌, inl, inr, List, [], ◌∷◌, ◌++◌, length, map, replicate, Option, Result, Ok, Err as Failed, IfOk, sym, refl, ap, subst, ◌∙◌, arith, append_assoc, append-nil}
+use Rattle.std.proofs.Common.{◌≡◌, ◌≢◌, ℕ, zero, suc, false, ◌+◌, ◌<◌, ◌≤◌, inl, inr, List, [], ◌∷◌, ◌++◌, length}
+use Rattle.std.proofs.Common.{map, replicate, Option, Result, Ok, Err as Failed, IfOk, sym, refl, ap, subst, ◌∙◌}
+use Rattle.std.proofs.Common.{arith, append_assoc, append-nil}
 use Rattle.std.proofs.lemmas.Bool.{cases_lt}
 use Rattle.std.proofs.lemmas.List.{length-append, length-map, map-append, length-replicate, get_or-replicate, get_or_past}
 use Rattle.volume_model.specs.declared.call.Call.{Call}
@@ -36,7 +38,8 @@ use Rattle.turn_laws.proofs.Streams.{no_turns, more_turns}
 
 -- ---- stream after stream
 
-pub record StreamsSoFar (number : ℕ) (all rest : List Stream) (w0 w : World) (counts : ℕ → ℕ → ℕ) (told : ℕ → ℕ → Option (List (List ℕ))) : Type 0 where
+pub record StreamsSoFar (number : ℕ) (all rest : List Stream) (w0 w : World) (counts : ℕ → ℕ → ℕ)
+    (told : ℕ → ℕ → Option (List (List ℕ))) : Type 0 where
   pub done : List Stream
   pub cut : all ≡ done ++ rest
   pub count : number ≡ length done
@@ -44,7 +47,8 @@ pub record StreamsSoFar (number : ℕ) (all rest : List Stream) (w0 w : World) (
   pub origin : KeepsOrigin w0 w
   pub turns : HaveTurns (map stream_calls done) w0 w counts told
 
-pub no_streams : (all : List Stream) (w : World) (counts : ℕ → ℕ → ℕ) (told : ℕ → ℕ → Option (List (List ℕ))) → IsBetween w → w.journal.entries ≡ [] → StreamsSoFar 0 all all w w counts told
+pub no_streams : (all : List Stream) (w : World) (counts : ℕ → ℕ → ℕ) (told : ℕ → ℕ → Option (List (List ℕ))) → IsBetween w
+    → w.journal.entries ≡ [] → StreamsSoFar 0 all all w w counts told
 no_streams all w counts told between begun = record {
   done = [];
   cut = refl;
@@ -56,15 +60,19 @@ no_streams all w counts told between begun = record {
 }
 
 -- the next stream has no entry yet
-pub is_first : (number : ℕ) (all rest : List Stream) (w0 w : World) (counts : ℕ → ℕ → ℕ) (told : ℕ → ℕ → Option (List (List ℕ))) → StreamsSoFar number all rest w0 w counts told → HasNoEntry number w
+pub is_first : (number : ℕ) (all rest : List Stream) (w0 w : World) (counts : ℕ → ℕ → ℕ) (told : ℕ → ℕ → Option (List (List ℕ)))
+    → StreamsSoFar number all rest w0 w counts told → HasNoEntry number w
 is_first number all rest w0 w counts told far =
     ap (λ (o : Origin). own_entries number o.opening.modes w.journal.entries) far.origin
     ∙ far.turns.none number (omega (arith, far.count, length-map far.done stream_calls))
 
 -- one stream more
-pub streams_more : (number later : ℕ) (all rest : List Stream) (x : Stream) (w0 w w2 : World) (counts counts' : ℕ → ℕ → ℕ) (told told' : ℕ → ℕ → Option (List (List ℕ)))
-    → StreamsSoFar number all (x ∷ rest) w0 w counts told → IsBetween w2 → KeepsOrigin w w2 → HasTurn (stream_calls x) number w w2 (counts' number) (told' number)
-    → TellsOthers number counts counts' → TellsOthers number told told' → later ≡ number + 1 → StreamsSoFar later all rest w0 w2 counts' told'
+pub streams_more : (number later : ℕ) (all rest : List Stream) (x : Stream) (w0 w w2 : World) (counts counts' : ℕ → ℕ → ℕ)
+    (told told' : ℕ → ℕ → Option (List (List ℕ)))
+    → StreamsSoFar number all (x ∷ rest) w0 w counts told → IsBetween w2 → KeepsOrigin w w2
+    → HasTurn (stream_calls x) number w w2 (counts' number) (told' number)
+    → TellsOthers number counts counts' → TellsOthers number told told' → later ≡ number + 1
+    → StreamsSoFar later all rest w0 w2 counts' told'
 streams_more number later all rest x w0 w w2 counts counts' told told' far between origin turn same_counts same_told next = record {
   done = far.done ++ x ∷ [];
   cut = far.cut ∙ sym (append_assoc far.done (x ∷ []) rest);
@@ -72,7 +80,8 @@ streams_more number later all rest x w0 w w2 counts counts' told told' far betwe
   between = between;
   origin = origin ∙ far.origin;
   turns = subst (λ css. HaveTurns css w0 w2 counts' told') (sym (map-append stream_calls far.done (x ∷ [])))
-      (more_turns (opening_of (state_of w0)) (length w0.nodes.items) css (stream_calls x) w.journal.entries w2.journal.entries counts counts' told told' far.turns own
+      (more_turns (opening_of (state_of w0)) (length w0.nodes.items) css (stream_calls x) w.journal.entries
+      w2.journal.entries counts counts' told told' far.turns own
       (λ v r apart. same_counts v r (λ e. apart (e ∙ at))) (λ v r apart. same_told v r (λ e. apart (e ∙ at))));
 }
   where
@@ -83,20 +92,24 @@ streams_more number later all rest x w0 w w2 counts counts' told told' far betwe
     at = far.count ∙ sym (length-map far.done stream_calls)
 
     moved : {o p : Spot} {n m u v : ℕ} → o ≡ p → n ≡ m → u ≡ v
-        → IsTurn o n u (stream_calls x) w.journal.entries w2.journal.entries (counts' u) (told' u) → IsTurn p m v (stream_calls x) w.journal.entries w2.journal.entries (counts' v) (told' v)
+        → IsTurn o n u (stream_calls x) w.journal.entries w2.journal.entries (counts' u) (told' u)
+        → IsTurn p m v (stream_calls x) w.journal.entries w2.journal.entries (counts' v) (told' v)
     moved {o} {p} {n} {m} {u} {v} e f g t =
         subst (λ y. IsTurn p m y (stream_calls x) w.journal.entries w2.journal.entries (counts' y) (told' y)) g
         (subst (λ y. IsTurn p y u (stream_calls x) w.journal.entries w2.journal.entries (counts' u) (told' u)) f
         (subst (λ y. IsTurn y n u (stream_calls x) w.journal.entries w2.journal.entries (counts' u) (told' u)) e t))
 
-    own : IsTurn (opening_of (state_of w0)) (length w0.nodes.items) (length css) (stream_calls x) w.journal.entries w2.journal.entries (counts' (length css)) (told' (length css))
+    own : IsTurn (opening_of (state_of w0)) (length w0.nodes.items) (length css) (stream_calls x) w.journal.entries
+        w2.journal.entries (counts' (length css)) (told' (length css))
     own = moved (same_opening (state_of w0) (state_of w) far.origin) (same_replicas (state_of w0) (state_of w) far.origin) at turn
 
 -- once none is left
-pub streams_all : (number : ℕ) (all rest : List Stream) (w0 w : World) (counts : ℕ → ℕ → ℕ) (told : ℕ → ℕ → Option (List (List ℕ))) → StreamsSoFar number all rest w0 w counts told → rest ≡ []
+pub streams_all : (number : ℕ) (all rest : List Stream) (w0 w : World) (counts : ℕ → ℕ → ℕ) (told : ℕ → ℕ → Option (List (List ℕ)))
+    → StreamsSoFar number all rest w0 w counts told → rest ≡ []
     → HaveTurns (map stream_calls all) w0 w counts told
 streams_all number all rest w0 w counts told far none =
-    subst (λ xs. HaveTurns (map stream_calls xs) w0 w counts told) (sym (far.cut ∙ ap (λ xs. far.done ++ xs) none ∙ append-nil far.done)) far.turns
+    subst (λ xs. HaveTurns (map stream_calls xs) w0 w counts told)
+    (sym (far.cut ∙ ap (λ xs. far.done ++ xs) none ∙ append-nil far.done)) far.turns
 
 -- what is kept of each, once one more is
 pub one_kept : {X Y : Type 0} (of : X → Y) (all rest : List X) (x : X) (y : Y) (kept more : List Y) → more ≡ kept ++ y ∷ [] → y ≡ of x
@@ -111,20 +124,24 @@ all_false zero i = refl
 all_false (suc n) zero = refl
 all_false (suc n) (suc i) = all_false n i
 
-module _ (size replicas streams : ℕ) (s : State) (begun : IsOpenedOn size (blank_opening replicas) (replicate replicas (blank size)) streams s) where
+module _ (size replicas streams : ℕ) (s : State)
+    (begun : IsOpenedOn size (blank_opening replicas) (replicate replicas (blank size)) streams s) where
   err_read : Err ≢ Rw
   err_read e = cc
 
   there : begun.source < replicas
   there = elim (cases_lt begun.source replicas) [
     | inl low ↦ low
-    | inr high ↦ absurd (err_read (sym (get_or_past (replicate replicas Rw) begun.source Err (omega (arith, high, length-replicate replicas Rw))) ∙ begun.first.read))
+    | inr high ↦ absurd (err_read
+        (sym (get_or_past (replicate replicas Rw) begun.source Err (omega (arith, high, length-replicate replicas Rw)))
+        ∙ begun.first.read))
   ]
 
   pub begins_blank : opening_of s ≡ record { state = plain_of (zeros size); modes = replicate replicas Rw }
   begins_blank =
       ap opening_of begun.state
-      ∙ ap (λ (n : Node). record { state = record { volume = volume_of_node n; used = [] }; modes = replicate replicas Rw }) (get_or-replicate replicas begun.source (blank size) (blank 0) there)
+      ∙ ap (λ (n : Node). record { state = record { volume = volume_of_node n; used = [] }; modes = replicate replicas Rw })
+      (get_or-replicate replicas begun.source (blank size) (blank 0) there)
 
   pub begins_many : length s.nodes ≡ replicas
   begins_many = ap (λ (x : State). length x.nodes) begun.state ∙ length-replicate replicas (blank size)
@@ -133,7 +150,8 @@ module _ (size replicas streams : ℕ) (s : State) (begun : IsOpenedOn size (bla
   begins_none = λ stream. ap (λ (x : State). gave_up_at x.gave_up stream) begun.state ∙ all_false streams stream
 
 -- so nothing is open of it
-pub begins_between : (script : Script) (w : World) (n : ℕ) → IsSound (state_of w) → IsOpenedOn script.size (blank_opening script.replicas) (replicate script.replicas (blank script.size)) n (state_of w)
+pub begins_between : (script : Script) (w : World) (n : ℕ) → IsSound (state_of w)
+    → IsOpenedOn script.size (blank_opening script.replicas) (replicate script.replicas (blank script.size)) n (state_of w)
     → script.replicas ≤ 8 → IsBetween w
 begins_between script w n sound begun few =
     let many : length w.nodes.items ≡ script.replicas = begins_many script.size script.replicas n (state_of w) begun in
@@ -148,7 +166,9 @@ begins_between script w n sound begun few =
 -- ---- all of it
 
 -- Of a World that began so: nothing is open of it any more, and each stream's own entries are what they should be.
-module _ (script : Script) (w : World) (s : Served) (streams : List Stream) (n : ℕ) (begun : IsOpenedOn script.size (blank_opening script.replicas) (replicate script.replicas (blank script.size)) n (state_of w))
+module _ (script : Script) (w : World) (s : Served) (streams : List Stream) (n : ℕ)
+    (begun : IsOpenedOn script.size (blank_opening script.replicas) (replicate script.replicas (blank script.size)) n
+    (state_of w))
     (between : IsBetween s.world) (origin : KeepsOrigin w s.world) (same : streams ≡ script.streams) where
   opened : s.world.journal.opening ≡ blank_opening script.replicas
   opened = ap (λ (o : Origin). o.opening) origin ∙ ap (λ (x : State). x.book.opening) begun.state
@@ -165,8 +185,10 @@ module _ (script : Script) (w : World) (s : Served) (streams : List Stream) (n :
   abbrev entries : List Entry
   entries = s.world.journal.entries
 
-  pub served_is : (counts : ℕ → ℕ → ℕ) (told : ℕ → ℕ → Option (List (List ℕ))) → ((v : ℕ) → calls_of v entries ≡ stream_of (map stream_calls streams) v)
-      → ((v r : ℕ) → last_count v r entries ≤ counts v r) → ((v : ℕ) → AreCarried (length w.nodes.items) (told v) (own_entries v (opening_of (state_of w)).modes entries))
+  pub served_is : (counts : ℕ → ℕ → ℕ) (told : ℕ → ℕ → Option (List (List ℕ)))
+      → ((v : ℕ) → calls_of v entries ≡ stream_of (map stream_calls streams) v)
+      → ((v r : ℕ) → last_count v r entries ≤ counts v r)
+      → ((v : ℕ) → AreCarried (length w.nodes.items) (told v) (own_entries v (opening_of (state_of w)).modes entries))
       → s.heads.items ≡ map heads_of streams → IsServed script counts told s
   served_is counts told calls counted carried heads = record {
     heads = heads ∙ ap (map heads_of) same;
@@ -188,21 +210,31 @@ module _ (script : Script) (w : World) (s : Served) (streams : List Stream) (n :
         ∙ ap (λ (o : Spot). (replay o.state entries).volume) (same_opening (state_of w) (state_of s.world) origin ∙ start);
   }
 
-  pub served_in_turn : (counts : ℕ → ℕ → ℕ) (told : ℕ → ℕ → Option (List (List ℕ))) → HaveTurns (map stream_calls streams) w s.world counts told → IsServedInTurn script counts s
-  served_in_turn counts told turns well = turns.turns (λ v low r here. well v r (omega (arith, low, length-map streams stream_calls, ap length same)) (omega (arith, here, many)))
+  pub served_in_turn : (counts : ℕ → ℕ → ℕ) (told : ℕ → ℕ → Option (List (List ℕ)))
+      → HaveTurns (map stream_calls streams) w s.world counts told → IsServedInTurn script counts s
+  served_in_turn counts told turns well =
+      turns.turns (λ v low r here. well v r (omega (arith, low, length-map streams stream_calls, ap length same))
+      (omega (arith, here, many)))
       ∙ (λ i. served (start i) (map stream_calls (same i)))
 
-pub each_served : {E : Type 0} (script : Script) (w : World) (res : Result Served E) (streams : List Stream) (counts : ℕ → ℕ → ℕ) (told : ℕ → ℕ → Option (List (List ℕ))) (n : ℕ)
-    → IsOpenedOn script.size (blank_opening script.replicas) (replicate script.replicas (blank script.size)) n (state_of w) → IfOk res (λ s. IsBetween s.world)
-    → IfOk res (λ s. KeepsOrigin w s.world) → IfOk res (λ s. HaveTurns (map stream_calls streams) w s.world counts told) → streams ≡ script.streams
+pub each_served : {E : Type 0} (script : Script) (w : World) (res : Result Served E) (streams : List Stream)
+    (counts : ℕ → ℕ → ℕ) (told : ℕ → ℕ → Option (List (List ℕ))) (n : ℕ)
+    → IsOpenedOn script.size (blank_opening script.replicas) (replicate script.replicas (blank script.size)) n (state_of w)
+    → IfOk res (λ s. IsBetween s.world)
+    → IfOk res (λ s. KeepsOrigin w s.world) → IfOk res (λ s. HaveTurns (map stream_calls streams) w s.world counts told)
+    → streams ≡ script.streams
     → IfOk res (λ s. s.heads.items ≡ map heads_of streams) → IfOk res (IsServed script counts told)
 each_served script w (Ok s) streams counts told n begun between origin turns same heads =
     served_is script w s streams n begun between origin same counts told turns.calls turns.counted turns.carried heads
 each_served script w (Failed e) streams counts told n begun between origin turns same heads = tt
 
-pub each_in_turn : {E : Type 0} (script : Script) (w : World) (res : Result Served E) (streams : List Stream) (counts : ℕ → ℕ → ℕ) (told : ℕ → ℕ → Option (List (List ℕ))) (n : ℕ)
-    → IsOpenedOn script.size (blank_opening script.replicas) (replicate script.replicas (blank script.size)) n (state_of w) → IfOk res (λ s. IsBetween s.world)
-    → IfOk res (λ s. KeepsOrigin w s.world) → IfOk res (λ s. HaveTurns (map stream_calls streams) w s.world counts told) → streams ≡ script.streams
+pub each_in_turn : {E : Type 0} (script : Script) (w : World) (res : Result Served E) (streams : List Stream)
+    (counts : ℕ → ℕ → ℕ) (told : ℕ → ℕ → Option (List (List ℕ))) (n : ℕ)
+    → IsOpenedOn script.size (blank_opening script.replicas) (replicate script.replicas (blank script.size)) n (state_of w)
+    → IfOk res (λ s. IsBetween s.world)
+    → IfOk res (λ s. KeepsOrigin w s.world) → IfOk res (λ s. HaveTurns (map stream_calls streams) w s.world counts told)
+    → streams ≡ script.streams
     → IfOk res (IsServedInTurn script counts)
-each_in_turn script w (Ok s) streams counts told n begun between origin turns same = served_in_turn script w s streams n begun between origin same counts told turns
+each_in_turn script w (Ok s) streams counts told n begun between origin turns same =
+    served_in_turn script w s streams n begun between origin same counts told turns
 each_in_turn script w (Failed e) streams counts told n begun between origin turns same = tt

@@ -1,5 +1,6 @@
 -- Once all seats are back, each stream has ended in the World that is taken up, and nothing is open of it.
-use Rattle.std.proofs.Common.{◌≡◌, ℕ, ◌<◌, ◌≤◌, List, [], ◌∷◌, length, map, Option, Some, None, inl, inr, sym, ap, subst, ◌∙◌, arith, get_or, slice_index_or}
+use Rattle.std.proofs.Common.{◌≡◌, ℕ, ◌<◌, ◌≤◌, List, [], ◌∷◌, length, map, Option, Some, None, inl, inr, sym, ap}
+use Rattle.std.proofs.Common.{subst, ◌∙◌, arith, get_or, slice_index_or}
 use Rattle.std.proofs.lemmas.List.{length-map}
 use Rattle.std.specs.List.{All}
 use Rattle.volume_model.specs.declared.call.Call.{Call}
@@ -37,13 +38,15 @@ has_number n x [] has = has
 has_number n x (p ∷ ps) (inl e) = inl e.0
 has_number n x (p ∷ ps) (inr has) = inr (has_number n x ps has)
 
-pair_finds : (w : WorldOnDesk) (js : List (ℕ × WorldOnDesk)) (n : ℕ) (x : WorldOnDesk) → FindsEach world_account w js → HasPair n x js → Finds world_account (Some n) w x
+pair_finds : (w : WorldOnDesk) (js : List (ℕ × WorldOnDesk)) (n : ℕ) (x : WorldOnDesk) → FindsEach world_account w js
+    → HasPair n x js → Finds world_account (Some n) w x
 pair_finds w [] n x fits has = absurd has
 pair_finds w (p ∷ ps) n x fits (inl e) = subst (λ (z : ℕ × WorldOnDesk). Finds world_account (Some z.0) w z.1) (λ i. (e.0 i, e.1 i)) fits.0
 pair_finds w (p ∷ ps) n x fits (inr has) = pair_finds w ps n x fits.1 has
 
 -- each number that was given is back
-pub has_all : {L : Type 0} (count : L → ℕ) (told : L → Option (List (List ℕ))) (tasks : List (Task L)) (v : Known WorldOnDesk) (counts : ℕ → ℕ → ℕ) (carried : ℕ → ℕ → Option (List (List ℕ))) → AreNumbered tasks
+pub has_all : {L : Type 0} (count : L → ℕ) (told : L → Option (List (List ℕ))) (tasks : List (Task L))
+    (v : Known WorldOnDesk) (counts : ℕ → ℕ → ℕ) (carried : ℕ → ℕ → Option (List (List ℕ))) → AreNumbered tasks
     → All (IsIn count told v.joined counts carried) tasks → v.made ≡ length tasks → (n : ℕ) → n < v.made → HasNumber n v.joined
 has_all count told tasks v counts carried numbered joined made n low =
     let there : n < length tasks = omega (arith, low, made) in
@@ -52,29 +55,37 @@ has_all count told tasks v counts carried numbered joined made n low =
     subst (λ m. HasNumber m v.joined) (numbered n x there) (has_number (get_or tasks n x).number (last_of i.seat) v.joined i.pair)
 
 -- Of the first seat, whose tasks all are back and taken in, and of the World w that is taken up.
-module _ {L : Type 0} (ends : L → Ends) (count : L → ℕ) (told : L → Option (List (List ℕ))) (d : Desk WorldOnDesk) (tasks : List (Task L)) (v : Known WorldOnDesk) (w : WorldOnDesk)
-    (counts : ℕ → ℕ → ℕ) (carried : ℕ → ℕ → Option (List (List ℕ))) (first : v.number ≡ None) (fits : Fits world_account w v) (numbered : AreNumbered tasks) (back : All (IsBack ends count told d) tasks)
+module _ {L : Type 0} (ends : L → Ends) (count : L → ℕ) (told : L → Option (List (List ℕ))) (d : Desk WorldOnDesk)
+    (tasks : List (Task L)) (v : Known WorldOnDesk) (w : WorldOnDesk)
+    (counts : ℕ → ℕ → ℕ) (carried : ℕ → ℕ → Option (List (List ℕ))) (first : v.number ≡ None)
+    (fits : Fits world_account w v) (numbered : AreNumbered tasks) (back : All (IsBack ends count told d) tasks)
     (joined : All (IsIn count told v.joined counts carried) tasks) where
   some_same : {A : Type 0} (x y : A) (o : Option A) → o ≡ Some x → o ≡ Some y → x ≡ y
   some_same x y o e f = let g : Some x ≡ Some y = sym e ∙ f in cc
 
   -- the task at a place has ended
-  one_ended : (j : Task L) → IsBack ends count told d j → IsIn count told v.joined counts carried j → HasEnded j.number (stream_calls j.stream) (counts j.number) (carried j.number) (laid w)
+  one_ended : (j : Task L) → IsBack ends count told d j → IsIn count told v.joined counts carried j
+      → HasEnded j.number (stream_calls j.stream) (counts j.number) (carried j.number) (laid w)
   one_ended j b i =
       let same : i.seat ≡ b.seat = some_same i.seat b.seat j.seat i.has b.has in
-      let finds = pair_finds w v.joined j.number (last_of b.seat) fits.joined (subst (λ (x : Seat WorldOnDesk). HasPair j.number (last_of x) v.joined) same i.pair) in
+      let finds = pair_finds w v.joined j.number (last_of b.seat) fits.joined
+      (subst (λ (x : Seat WorldOnDesk). HasPair j.number (last_of x) v.joined) same i.pair) in
       let later = found_later j.number w (last_of b.seat) finds in
       let ended = b.ended in
       let nodes : length (laid w).nodes ≡ length j.channels.items = ap (λ (o : Origin). o.replicas) later.origin ∙ sym b.many in
-      ended_noted j.number (length j.channels.items) (stream_calls j.stream) (counts_in count j.channels.items) (carried_in told j.channels.items) (counts j.number) (carried j.number) (laid w) fits.sound nodes
+      ended_noted j.number (length j.channels.items) (stream_calls j.stream) (counts_in count j.channels.items)
+      (carried_in told j.channels.items) (counts j.number) (carried j.number) (laid w) fits.sound nodes
       (length-map j.channels.items (λ c. count c.line)) i.counted i.noted
-      (ended_later j.number (stream_calls j.stream) (λ r. slice_index_or (counts_in count j.channels.items) r 0) (told_in (carried_in told j.channels.items)) (laid (last_of b.seat)) (laid w) later ended)
+      (ended_later j.number (stream_calls j.stream) (λ r. slice_index_or (counts_in count j.channels.items) r 0)
+      (told_in (carried_in told j.channels.items)) (laid (last_of b.seat)) (laid w) later ended)
 
-  module _ (streams : List Stream) (are : map (λ (j : Task L). j.stream) tasks ≡ streams) (made : v.made ≡ length streams) (many : length (laid w).indices ≡ length streams) where
+  module _ (streams : List Stream) (are : map (λ (j : Task L). j.stream) tasks ≡ streams) (made : v.made ≡ length streams)
+      (many : length (laid w).indices ≡ length streams) where
     as_many : length tasks ≡ length streams
     as_many = sym (length-map tasks (λ (j : Task L). j.stream)) ∙ ap length are
 
-    each_ended : (n : ℕ) → n < length (map stream_calls streams) → HasEnded n (stream_of (map stream_calls streams) n) (counts n) (carried n) (laid w)
+    each_ended : (n : ℕ) → n < length (map stream_calls streams)
+        → HasEnded n (stream_of (map stream_calls streams) n) (counts n) (carried n) (laid w)
     each_ended n low =
         let there : n < length tasks = omega (arith, low, as_many, length-map streams stream_calls) in
         let x = element tasks n there in
@@ -84,7 +95,8 @@ module _ {L : Type 0} (ends : L → Ends) (count : L → ℕ) (told : L → Opti
         map_at stream_calls streams n j.stream [] (omega (arith, there, as_many))
         ∙ ap stream_calls (ap (λ l. get_or l n j.stream) (sym are) ∙ map_at (λ (j : Task L). j.stream) tasks n x j.stream there) in
         let ended = one_ended j (back n x there) (joined n x there) in
-        subst (λ css. HasEnded n css (counts n) (carried n) (laid w)) (sym here) (subst (λ m. HasEnded m (stream_calls j.stream) (counts m) (carried m) (laid w)) at ended)
+        subst (λ css. HasEnded n css (counts n) (carried n) (laid w)) (sym here)
+        (subst (λ m. HasEnded m (stream_calls j.stream) (counts m) (carried m) (laid w)) at ended)
 
     pub have_ended : HaveEnded (map stream_calls streams) counts carried (laid w)
     have_ended = record {
@@ -95,7 +107,8 @@ module _ {L : Type 0} (ends : L → Ends) (count : L → ℕ) (told : L → Opti
 
 -- ---- nothing is open
 
-pub between_is : (css : List (List Call)) (counts : ℕ → ℕ → ℕ) (told : ℕ → ℕ → Option (List (List ℕ))) (w : World) → IsSound (state_of w) → length w.nodes.items ≤ 8 → HaveEnded css counts told (state_of w)
+pub between_is : (css : List (List Call)) (counts : ℕ → ℕ → ℕ) (told : ℕ → ℕ → Option (List (List ℕ))) (w : World)
+    → IsSound (state_of w) → length w.nodes.items ≤ 8 → HaveEnded css counts told (state_of w)
     → IsBetween w
 between_is css counts told w sound few ended = record {
   sound = sound;

@@ -1,5 +1,6 @@
 -- The tasks of all streams: dealt out, and done.
-use Rattle.std.proofs.Common.{◌≡◌, ℕ, suc, ◌+◌, ◌<◌, ◌≤◌, true, false, List, [], ◌∷◌, ◌++◌, length, map, get_or, Option, Some, Result, Ok, OnOk, All, refl, sym, ap, subst, ◌∙◌, arith}
+use Rattle.std.proofs.Common.{◌≡◌, ℕ, suc, ◌+◌, ◌<◌, ◌≤◌, true, false, List, [], ◌∷◌, ◌++◌, length, map, get_or}
+use Rattle.std.proofs.Common.{Option, Some, Result, Ok, OnOk, All, refl, sym, ap, subst, ◌∙◌, arith}
 use Rattle.std.proofs.Common.{Err as Failed}
 use Rattle.std.specs.Prelude.{is_err}
 use Rattle.std.proofs.lemmas.List.{map-append, length-append}
@@ -29,19 +30,23 @@ pub many_more : {A : Type 0} (xs more : List A) (x : A) (k : ℕ) → more ≡ x
 many_more xs more x k is many = omega (arith, ap length is, length-append xs (x ∷ []), many)
 
 -- two lists with the same at each place
-same_map : {A B : Type 0} (f : A → B) (xs ys : List A) → length ys ≡ length xs → ((k : ℕ) (x y : A) → k < length xs → f (get_or ys k y) ≡ f (get_or xs k x)) → map f ys ≡ map f xs
+same_map : {A B : Type 0} (f : A → B) (xs ys : List A) → length ys ≡ length xs
+    → ((k : ℕ) (x y : A) → k < length xs → f (get_or ys k y) ≡ f (get_or xs k x)) → map f ys ≡ map f xs
 same_map f [] [] many each = refl
 same_map f [] (y ∷ ys) many each = absurd (omega (arith, many))
 same_map f (x ∷ xs) [] many each = absurd (omega (arith, many))
-same_map f (x ∷ xs) (y ∷ ys) many each = λ i. each 0 x y (omega arith) i ∷ same_map f xs ys (omega (arith, many)) (λ k a b low. each (suc k) a b (omega (arith, low))) i
+same_map f (x ∷ xs) (y ∷ ys) many each = λ i. each 0 x y (omega arith) i ∷ same_map f xs ys (omega (arith, many))
+    (λ k a b low. each (suc k) a b (omega (arith, low))) i
 
 module _ {L : Type 0} (ends : L → Ends) (count : L → ℕ) (told : L → Option (List (List ℕ))) (d : Desk WorldOnDesk) where
   -- ---- dealt out
 
   -- a stream with a seat that has just been split off, and new lines
-  pub is_task : (j : Task L) (seat : Seat WorldOnDesk) (w : WorldOnDesk) (k : ℕ) → j.seat ≡ Some seat → IsAtWork d seat j.number → last_of seat ≡ w → (mine_at j.number (laid w)).running ≡ []
+  pub is_task : (j : Task L) (seat : Seat WorldOnDesk) (w : WorldOnDesk) (k : ℕ) → j.seat ≡ Some seat
+      → IsAtWork d seat j.number → last_of seat ≡ w → (mine_at j.number (laid w)).running ≡ []
       → (mine_at j.number (laid w)).entries ≡ [] → IsTaken j.stream → k ≡ length (laid w).nodes → k ≤ 8
-      → AreNewLines j.number k (ends_in ends j.channels.items) (counts_in count j.channels.items) (carried_in told j.channels.items) → IsTask ends count told d j
+      → AreNewLines j.number k (ends_in ends j.channels.items) (counts_in count j.channels.items)
+      (carried_in told j.channels.items) → IsTask ends count told d j
   is_task j seat w k has work last idle none taken many few lines = record {
     seat = seat;
     has = has;
@@ -52,26 +57,33 @@ module _ {L : Type 0} (ends : L → Ends) (count : L → ℕ) (told : L → Opti
     };
     taken = taken;
     few = subst (λ n. n ≤ 8) replicas few;
-    lines = subst (λ n. AreNewLines j.number n (ends_in ends j.channels.items) (counts_in count j.channels.items) (carried_in told j.channels.items)) replicas lines;
+    lines = subst (λ n. AreNewLines j.number n (ends_in ends j.channels.items) (counts_in count j.channels.items)
+        (carried_in told j.channels.items)) replicas lines;
   }
     where
       replicas : k ≡ length (laid (last_of seat)).nodes
       replicas = many ∙ sym (ap (λ (x : WorldOnDesk). length (laid x).nodes) last)
 
-  pub tasks_more : (tasks more : List (Task L)) (j : Task L) → more ≡ tasks ++ j ∷ [] → All (IsTask ends count told d) tasks → IsTask ends count told d j → All (IsTask ends count told d) more
-  tasks_more tasks more j is all one = subst (All (IsTask ends count told d)) (sym is) (each_snoc (λ k i. IsTask ends count told d i) tasks j all one)
+  pub tasks_more : (tasks more : List (Task L)) (j : Task L) → more ≡ tasks ++ j ∷ [] → All (IsTask ends count told d) tasks
+      → IsTask ends count told d j → All (IsTask ends count told d) more
+  tasks_more tasks more j is all one =
+      subst (All (IsTask ends count told d)) (sym is) (each_snoc (λ k i. IsTask ends count told d i) tasks j all one)
 
-  pub numbers_more : (tasks more : List (Task L)) (j : Task L) → more ≡ tasks ++ j ∷ [] → AreNumbered tasks → j.number ≡ length tasks → AreNumbered more
+  pub numbers_more : (tasks more : List (Task L)) (j : Task L) → more ≡ tasks ++ j ∷ [] → AreNumbered tasks
+      → j.number ≡ length tasks → AreNumbered more
   numbers_more tasks more j is all one = subst AreNumbered (sym is) (each_snoc (λ k i. i.number ≡ k) tasks j all one)
 
-  pub streams_more : (tasks more : List (Task L)) (j : Task L) (ss : List Stream) → more ≡ tasks ++ j ∷ [] → map (λ (i : Task L). i.stream) tasks ≡ ss → map (λ (i : Task L). i.stream) more ≡ ss ++ j.stream ∷ []
-  streams_more tasks more j ss is so_far = ap (map (λ (i : Task L). i.stream)) is ∙ map-append (λ (i : Task L). i.stream) tasks (j ∷ []) ∙ ap (λ l. l ++ j.stream ∷ []) so_far
+  pub streams_more : (tasks more : List (Task L)) (j : Task L) (ss : List Stream) → more ≡ tasks ++ j ∷ []
+      → map (λ (i : Task L). i.stream) tasks ≡ ss → map (λ (i : Task L). i.stream) more ≡ ss ++ j.stream ∷ []
+  streams_more tasks more j ss is so_far = ap (map (λ (i : Task L). i.stream)) is
+      ∙ map-append (λ (i : Task L). i.stream) tasks (j ∷ []) ∙ ap (λ l. l ++ j.stream ∷ []) so_far
 
   -- ---- done
 
   module _ (dealt tasks : List (Task L)) (done : AreDone ends count told d dealt tasks) where
     pub all_back : All (λ (j : Task L). j.served ≡ true) tasks → All (IsBack ends count told d) tasks
-    all_back served k y low = let there : k < length dealt = omega (arith, low, done.many) in (done.each k (element dealt k there) y there).back (served k y low)
+    all_back served k y low = let there : k < length dealt = omega (arith, low, done.many) in
+        (done.each k (element dealt k there) y there).back (served k y low)
 
     pub all_numbered : AreNumbered dealt → AreNumbered tasks
     all_numbered numbered k y low =
@@ -82,5 +94,6 @@ module _ {L : Type 0} (ends : L → Ends) (count : L → ℕ) (told : L → Opti
     pub all_streams : map (λ (j : Task L). j.stream) tasks ≡ map (λ (j : Task L). j.stream) dealt
     all_streams = same_map (λ (j : Task L). j.stream) dealt tasks done.many (λ k x y low. (done.each k x y low).stream)
 
-    pub all_heads : (streams : List Stream) → map (λ (j : Task L). j.stream) dealt ≡ streams → map (λ (j : Task L). heads_of j.stream) tasks ≡ map heads_of streams
+    pub all_heads : (streams : List Stream) → map (λ (j : Task L). j.stream) dealt ≡ streams
+        → map (λ (j : Task L). heads_of j.stream) tasks ≡ map heads_of streams
     all_heads streams are = map_twice (λ (j : Task L). j.stream) heads_of tasks ∙ ap (map heads_of) (all_streams ∙ are)

@@ -1,5 +1,6 @@
 -- What a worker leaves of its stream at a desk, and that it stays so whatever others do.
-use Rattle.std.proofs.Common.{◌≡◌, ℕ, ◌≤◌, ◌<◌, false, List, [], ◌∷◌, ◌++◌, length, map, Option, None, inl, inr, sym, refl, ap, subst, ◌∙◌, arith, slice_index_or}
+use Rattle.std.proofs.Common.{◌≡◌, ℕ, ◌≤◌, ◌<◌, false, List, [], ◌∷◌, ◌++◌, length, map, Option, None, inl, inr, sym}
+use Rattle.std.proofs.Common.{refl, ap, subst, ◌∙◌, arith, slice_index_or}
 use Rattle.std.proofs.lemmas.Bool.{cases_lt}
 use Rattle.std.proofs.lemmas.List.{get_or_past}
 use Rattle.command_text.specs.declared.command.Command.{Command}
@@ -37,10 +38,12 @@ module _ (n : ℕ) (s s2 : State) (counts : List ℕ) (told : List (Option (List
   abbrev own : List Placed
   own = own_entries n s2.book.opening.modes s2.book.entries
 
-  counted : ((r : ℕ) → last_count n r (entries_in own) ≤ slice_index_or counts r 0) → (r : ℕ) → last_count n r s2.book.entries ≤ slice_index_or counts r 0
+  counted : ((r : ℕ) → last_count n r (entries_in own) ≤ slice_index_or counts r 0) → (r : ℕ)
+      → last_count n r s2.book.entries ≤ slice_index_or counts r 0
   counted shown r = subst (λ k. k ≤ slice_index_or counts r 0) (own_last n r s2.book.opening.modes s2.book.entries) (shown r)
 
-  pub frames_ended : (cs : List Call) → turning s2 n ≡ [] → (client.mine_at n s).entries ≡ [] → IsShown (client.mine_at n s2) counts told → Grew cs (client.mine_at n s) (client.mine_at n s2)
+  pub frames_ended : (cs : List Call) → turning s2 n ≡ [] → (client.mine_at n s).entries ≡ []
+      → IsShown (client.mine_at n s2) counts told → Grew cs (client.mine_at n s) (client.mine_at n s2)
       → HasEnded n cs (λ r. slice_index_or counts r 0) (told_in told) s2
   frames_ended cs turns none shown grew =
       let is : own ≡ grew.added = ap (λ (m : Mine). m.entries) grew.is ∙ ap (λ l. l ++ grew.added) none in
@@ -54,7 +57,8 @@ module _ (n : ℕ) (s s2 : State) (counts : List ℕ) (told : List (Option (List
         carried = shown.answered;
       }
 
-  pub commands_ended : (cs : List Command) → (commands.mine_at n s).entries ≡ [] → IsShown (commands.mine_at n s2) counts told → Commanded cs (commands.mine_at n s) (commands.mine_at n s2)
+  pub commands_ended : (cs : List Command) → (commands.mine_at n s).entries ≡ []
+      → IsShown (commands.mine_at n s2) counts told → Commanded cs (commands.mine_at n s) (commands.mine_at n s2)
       → HasEnded n (map call.Command cs) (λ r. slice_index_or counts r 0) (told_in told) s2
   commands_ended cs none shown grew =
       let is : own ≡ grew.own = ap (λ (m : Mine). m.entries) grew.is ∙ ap (λ l. l ++ grew.own) none in
@@ -64,7 +68,8 @@ module _ (n : ℕ) (s s2 : State) (counts : List ℕ) (told : List (Option (List
         calls = idle.calls;
         gave_up = gave_up;
         asked = sym (own_asked n s2.book.opening.modes s2.book.entries) ∙ ap (λ ps. calls_of n (entries_in ps)) is
-            ∙ answered n (entries_in grew.own) cs (own_streams cs (commands.mine_at n s) (commands.mine_at n s2) grew) ∙ own_calls cs (commands.mine_at n s) (commands.mine_at n s2) grew;
+            ∙ answered n (entries_in grew.own) cs (own_streams cs (commands.mine_at n s) (commands.mine_at n s2) grew)
+            ∙ own_calls cs (commands.mine_at n s) (commands.mine_at n s2) grew;
         counted = counted shown.counted;
         carried = shown.answered;
       }
@@ -72,15 +77,18 @@ module _ (n : ℕ) (s s2 : State) (counts : List ℕ) (told : List (Option (List
 -- ---- it stays so
 
 -- of a later World
-pub ended_later : (n : ℕ) (cs : List Call) (counts : ℕ → ℕ) (told : ℕ → Option (List (List ℕ))) (s t : State) → IsLater n s t → HasEnded n cs counts told s
+pub ended_later : (n : ℕ) (cs : List Call) (counts : ℕ → ℕ) (told : ℕ → Option (List (List ℕ))) (s t : State)
+    → IsLater n s t → HasEnded n cs counts told s
     → HasEnded n cs counts told t
 ended_later n cs counts told s t later ended = record {
   turns = later.turns ∙ ended.turns;
   calls = later.calls ∙ ended.calls;
   gave_up = later.gave_up ∙ ended.gave_up;
-  asked = sym (own_asked n t.book.opening.modes t.book.entries) ∙ ap (λ ps. calls_of n (entries_in ps)) own ∙ own_asked n s.book.opening.modes s.book.entries ∙ ended.asked;
+  asked = sym (own_asked n t.book.opening.modes t.book.entries) ∙ ap (λ ps. calls_of n (entries_in ps)) own
+      ∙ own_asked n s.book.opening.modes s.book.entries ∙ ended.asked;
   counted = λ r. subst (λ k. k ≤ counts r)
-      (sym (sym (own_last n r t.book.opening.modes t.book.entries) ∙ ap (λ ps. last_count n r (entries_in ps)) own ∙ own_last n r s.book.opening.modes s.book.entries)) (ended.counted r);
+      (sym (sym (own_last n r t.book.opening.modes t.book.entries) ∙ ap (λ ps. last_count n r (entries_in ps)) own
+      ∙ own_last n r s.book.opening.modes s.book.entries)) (ended.counted r);
   carried = subst (λ (m : Mine). AreCarried m.replicas told m.entries) (sym same) ended.carried;
 }
   where
@@ -91,8 +99,10 @@ ended_later n cs counts told s t later ended = record {
     own = ap (λ (m : Mine). m.entries) same
 
 -- and by what the lines told when they were taken back
-pub ended_noted : (n k : ℕ) (cs : List Call) (ns : List ℕ) (ts : List (Option (List (List ℕ)))) (counts : ℕ → ℕ) (told : ℕ → Option (List (List ℕ))) (t : State) → IsSound t → length t.nodes ≡ k → length ns ≡ k
-    → ((r : ℕ) → r < k → counts r ≡ slice_index_or ns r 0) → ((r : ℕ) → r < k → told r ≡ told_in ts r) → HasEnded n cs (λ r. slice_index_or ns r 0) (told_in ts) t → HasEnded n cs counts told t
+pub ended_noted : (n k : ℕ) (cs : List Call) (ns : List ℕ) (ts : List (Option (List (List ℕ)))) (counts : ℕ → ℕ)
+    (told : ℕ → Option (List (List ℕ))) (t : State) → IsSound t → length t.nodes ≡ k → length ns ≡ k
+    → ((r : ℕ) → r < k → counts r ≡ slice_index_or ns r 0) → ((r : ℕ) → r < k → told r ≡ told_in ts r)
+    → HasEnded n cs (λ r. slice_index_or ns r 0) (told_in ts) t → HasEnded n cs counts told t
 ended_noted n k cs ns ts counts told t sound many as_many same_counts same_told ended = record {
   turns = ended.turns;
   calls = ended.calls;
@@ -102,5 +112,6 @@ ended_noted n k cs ns ts counts told t sound many as_many same_counts same_told 
     | inl low ↦ omega (arith, ended.counted r, same_counts r low)
     | inr high ↦ omega (arith, ended.counted r, get_or_past ns r 0 (omega (arith, high, as_many)))
   ];
-  carried = told_carried (length t.nodes) n (told_in ts) told (λ r low. same_told r (omega (arith, low, many))) t.book.opening.modes t.book.entries (modes_many t sound) ended.carried;
+  carried = told_carried (length t.nodes) n (told_in ts) told (λ r low. same_told r (omega (arith, low, many)))
+      t.book.opening.modes t.book.entries (modes_many t sound) ended.carried;
 }

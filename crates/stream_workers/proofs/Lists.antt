@@ -1,5 +1,6 @@
 -- Lists that are gone through one after another.
-use Rattle.std.proofs.Common.{◌≡◌, ℕ, zero, suc, ◌<◌, List, [], ◌∷◌, ◌++◌, length, map, get_or, refl, sym, ap, ◌∙◌, subst, arith, append-nil, append_assoc}
+use Rattle.std.proofs.Common.{◌≡◌, ℕ, zero, suc, ◌<◌, List, [], ◌∷◌, ◌++◌, length, map, get_or, refl, sym, ap, ◌∙◌}
+use Rattle.std.proofs.Common.{subst, arith, append-nil, append_assoc}
 use Rattle.std.proofs.lemmas.List.{map-append}
 
 module _ {A : Type 0} where
@@ -9,7 +10,8 @@ module _ {A : Type 0} where
   each_snoc P [] x all last zero d low = last
   each_snoc P [] x all last (suc k) d low = absurd (omega arith)
   each_snoc P (y ∷ ys) x all last zero d low = all 0 d (omega arith)
-  each_snoc P (y ∷ ys) x all last (suc k) d low = each_snoc (λ (i : ℕ). P (suc i)) ys x (λ i e l. all (suc i) e (omega arith)) last k d (omega arith)
+  each_snoc P (y ∷ ys) x all last (suc k) d low =
+      each_snoc (λ (i : ℕ). P (suc i)) ys x (λ i e l. all (suc i) e (omega arith)) last k d (omega arith)
 
   at_middle : (xs : List A) (x : A) (ys : List A) (d : A) → get_or (xs ++ x ∷ ys) (length xs) d ≡ x
   at_middle [] x ys d = refl
@@ -20,10 +22,12 @@ module _ {A : Type 0} where
   middle_below (y ∷ xs) x ys = let r = middle_below xs x ys in omega arith
 
   -- what holds of each by its place, of the one that comes after xs
-  pub at_next : (P : ℕ → A → Type 0) (all xs ys rest : List A) (x : A) → xs ++ rest ≡ all → rest ≡ x ∷ ys → ((k : ℕ) (d : A) → k < length all → P k (get_or all k d)) → P (length xs) x
+  pub at_next : (P : ℕ → A → Type 0) (all xs ys rest : List A) (x : A) → xs ++ rest ≡ all → rest ≡ x ∷ ys
+      → ((k : ℕ) (d : A) → k < length all → P k (get_or all k d)) → P (length xs) x
   at_next P all xs ys rest x whole is each =
       let e : xs ++ x ∷ ys ≡ all = ap (λ r. xs ++ r) (sym is) ∙ whole in
-      subst (P (length xs)) (ap (λ l. get_or l (length xs) x) (sym e) ∙ at_middle xs x ys x) (each (length xs) x (subst (λ l. length xs < length l) e (middle_below xs x ys)))
+      subst (P (length xs)) (ap (λ l. get_or l (length xs) x) (sym e) ∙ at_middle xs x ys x)
+      (each (length xs) x (subst (λ l. length xs < length l) e (middle_below xs x ys)))
 
   pub whole_next : (all xs ys rest : List A) (x : A) → xs ++ rest ≡ all → rest ≡ x ∷ ys → (xs ++ x ∷ []) ++ ys ≡ all
   whole_next all xs ys rest x whole is = append_assoc xs (x ∷ []) ys ∙ (ap (λ r. xs ++ r) (sym is) ∙ whole)
@@ -32,7 +36,8 @@ module _ {A : Type 0} where
   whole_end all xs [] whole none = sym (append-nil xs) ∙ whole
   whole_end all xs (x ∷ rest) whole none = absurd (omega arith)
 
-  pub map_snoc : {B : Type 0} (f : A → B) (xs : List A) (x : A) (ys more : List B) → more ≡ ys ++ f x ∷ [] → ys ≡ map f xs → more ≡ map f (xs ++ x ∷ [])
+  pub map_snoc : {B : Type 0} (f : A → B) (xs : List A) (x : A) (ys more : List B) → more ≡ ys ++ f x ∷ [] → ys ≡ map f xs
+      → more ≡ map f (xs ++ x ∷ [])
   map_snoc f xs x ys more pushed so_far = pushed ∙ ap (λ l. l ++ f x ∷ []) so_far ∙ sym (map-append f xs (x ∷ []))
 
   pub element : (xs : List A) (k : ℕ) → k < length xs → A

@@ -1,5 +1,6 @@
 -- Streams that have ended so are served.
-use Rattle.std.proofs.Common.{◌≡◌, ℕ, ◌≤◌, List, [], length, map, replicate, Option, Result, Ok, Err as Failed, IfOk, inl, inr, sym, ap, subst, ◌∙◌, arith}
+use Rattle.std.proofs.Common.{◌≡◌, ℕ, ◌≤◌, List, [], length, map, replicate, Option, Result, Ok, Err as Failed, IfOk}
+use Rattle.std.proofs.Common.{inl, inr, sym, ap, subst, ◌∙◌, arith}
 use Rattle.std.proofs.lemmas.Bool.{cases_lt}
 use Rattle.std.proofs.lemmas.List.{get_or_past}
 use Rattle.std.proofs.lemmas.List.Elements.{All-nil}
@@ -26,7 +27,8 @@ use Rattle.stream_turns.proofs.SoFar.{served_is}
 use Rattle.stream_workers.specs.Ended.{HaveEnded}
 use Rattle.stream_workers.proofs.Own.{own_asked, own_last}
 
-module _ (css : List (List Call)) (counts : ℕ → ℕ → ℕ) (told : ℕ → ℕ → Option (List (List ℕ))) (w w2 : World) (origin : KeepsOrigin w w2) (ended : HaveEnded css counts told (state_of w2)) where
+module _ (css : List (List Call)) (counts : ℕ → ℕ → ℕ) (told : ℕ → ℕ → Option (List (List ℕ))) (w w2 : World)
+    (origin : KeepsOrigin w w2) (ended : HaveEnded css counts told (state_of w2)) where
   abbrev entries : List Entry
   entries = w2.journal.entries
 
@@ -36,28 +38,36 @@ module _ (css : List (List Call)) (counts : ℕ → ℕ → ℕ) (told : ℕ →
   each_asked : (v : ℕ) → calls_of v entries ≡ stream_of css v
   each_asked v = elim (cases_lt v (length css)) [
     | inl low ↦ (ended.each v low).asked
-    | inr past ↦ sym (own_asked v w2.journal.opening.modes entries) ∙ ap (λ ps. calls_of v (entries_in ps)) (none_past v past) ∙ sym (get_or_past css v [] past)
+    | inr past ↦ sym (own_asked v w2.journal.opening.modes entries)
+        ∙ ap (λ ps. calls_of v (entries_in ps)) (none_past v past) ∙ sym (get_or_past css v [] past)
   ]
 
   each_counted : (v r : ℕ) → last_count v r entries ≤ counts v r
   each_counted v r = elim (cases_lt v (length css)) [
     | inl low ↦ (ended.each v low).counted r
-    | inr past ↦ subst (λ k. k ≤ counts v r) (sym (sym (own_last v r w2.journal.opening.modes entries) ∙ ap (λ ps. last_count v r (entries_in ps)) (none_past v past))) (omega arith)
+    | inr past ↦ subst (λ k. k ≤ counts v r)
+        (sym (sym (own_last v r w2.journal.opening.modes entries) ∙ ap (λ ps. last_count v r (entries_in ps)) (none_past v past)))
+        (omega arith)
   ]
 
   each_here : (v : ℕ) → AreCarried (length w2.nodes.items) (told v) (own_entries v w2.journal.opening.modes entries)
   each_here v = elim (cases_lt v (length css)) [
     | inl low ↦ (ended.each v low).carried
-    | inr past ↦ subst (AreCarried (length w2.nodes.items) (told v)) (sym (none_past v past)) (All-nil (λ (p : Placed). IsCarried (length w2.nodes.items) (told v) p.modes p.entry))
+    | inr past ↦ subst (AreCarried (length w2.nodes.items) (told v)) (sym (none_past v past))
+        (All-nil (λ (p : Placed). IsCarried (length w2.nodes.items) (told v) p.modes p.entry))
   ]
 
   each_carried : (v : ℕ) → AreCarried (length w.nodes.items) (told v) (own_entries v (opening_of (state_of w)).modes entries)
   each_carried v = subst (λ (o : Origin). AreCarried o.replicas (told v) (own_entries v o.opening.modes entries)) origin (each_here v)
 
-pub each_served : {E : Type 0} (script : Script) (w : World) (res : Result Served E) (streams : List Stream) (counts : ℕ → ℕ → ℕ) (told : ℕ → ℕ → Option (List (List ℕ))) (n : ℕ)
-    → IsOpenedOn script.size (blank_opening script.replicas) (replicate script.replicas (blank script.size)) n (state_of w) → IfOk res (λ s. IsBetween s.world) → IfOk res (λ s. KeepsOrigin w s.world)
-    → IfOk res (λ s. HaveEnded (map stream_calls streams) counts told (state_of s.world)) → streams ≡ script.streams → IfOk res (λ s. s.heads.items ≡ map heads_of streams) → IfOk res (IsServed script counts told)
+pub each_served : {E : Type 0} (script : Script) (w : World) (res : Result Served E) (streams : List Stream)
+    (counts : ℕ → ℕ → ℕ) (told : ℕ → ℕ → Option (List (List ℕ))) (n : ℕ)
+    → IsOpenedOn script.size (blank_opening script.replicas) (replicate script.replicas (blank script.size)) n (state_of w)
+    → IfOk res (λ s. IsBetween s.world) → IfOk res (λ s. KeepsOrigin w s.world)
+    → IfOk res (λ s. HaveEnded (map stream_calls streams) counts told (state_of s.world)) → streams ≡ script.streams
+    → IfOk res (λ s. s.heads.items ≡ map heads_of streams) → IfOk res (IsServed script counts told)
 each_served script w (Ok s) streams counts told n begun between origin ended same heads =
     let css = map stream_calls streams in
-    served_is script w s streams n begun between origin same counts told (each_asked css counts told w s.world origin ended) (each_counted css counts told w s.world origin ended) (each_carried css counts told w s.world origin ended) heads
+    served_is script w s streams n begun between origin same counts told (each_asked css counts told w s.world origin ended)
+    (each_counted css counts told w s.world origin ended) (each_carried css counts told w s.world origin ended) heads
 each_served script w (Failed e) streams counts told n begun between origin ended same heads = tt

@@ -20,14 +20,18 @@ abbrev calls_at : ℕ → ℕ → List Entry → List Call
 calls_at n place es = map (λ (p : ℕ × Answer). p.1.call) (answers_from n place es)
 
 -- of a first entry that is an answer, and one that is a mark
-answer_calls : (n p q : ℕ) (b : Bool) (modes : List Mode) (a : Answer) (more : List Placed) (es : List Entry) → eqb a.stream n ≡ b → ((i j : ℕ) → calls_at n i (entries_in more) ≡ calls_at n j es)
-    → calls_at n p (entries_in (cond b (record { modes = modes; entry = entry.Answer a } ∷ more) more)) ≡ map (λ (p : ℕ × Answer). p.1.call) (cond b ((q, a) ∷ answers_from n (suc q) es) (answers_from n (suc q) es))
+answer_calls : (n p q : ℕ) (b : Bool) (modes : List Mode) (a : Answer) (more : List Placed) (es : List Entry)
+    → eqb a.stream n ≡ b → ((i j : ℕ) → calls_at n i (entries_in more) ≡ calls_at n j es)
+    → calls_at n p (entries_in (cond b (record { modes = modes; entry = entry.Answer a } ∷ more) more)) ≡ map
+    (λ (p : ℕ × Answer). p.1.call) (cond b ((q, a) ∷ answers_from n (suc q) es) (answers_from n (suc q) es))
 answer_calls n p q true modes a more es e rest =
-    ap (λ (b : Bool). map (λ (p : ℕ × Answer). p.1.call) (cond b ((p, a) ∷ answers_from n (suc p) (entries_in more)) (answers_from n (suc p) (entries_in more)))) e
+    ap (λ (b : Bool). map (λ (p : ℕ × Answer). p.1.call)
+    (cond b ((p, a) ∷ answers_from n (suc p) (entries_in more)) (answers_from n (suc p) (entries_in more)))) e
     ∙ ap (λ l. a.call ∷ l) (rest (suc p) (suc q))
 answer_calls n p q false modes a more es e rest = rest p (suc q)
 
-mark_calls : (n p q : ℕ) (b : Bool) (modes : List Mode) (m : Mark) (more : List Placed) (es : List Entry) → ((i j : ℕ) → calls_at n i (entries_in more) ≡ calls_at n j es)
+mark_calls : (n p q : ℕ) (b : Bool) (modes : List Mode) (m : Mark) (more : List Placed) (es : List Entry)
+    → ((i j : ℕ) → calls_at n i (entries_in more) ≡ calls_at n j es)
     → calls_at n p (entries_in (cond b (record { modes = modes; entry = entry.Mark m } ∷ more) more)) ≡ calls_at n (suc q) es
 mark_calls n p q true modes m more es rest = rest (suc p) (suc q)
 mark_calls n p q false modes m more es rest = rest p (suc q)
@@ -55,15 +59,20 @@ first_same x y xs ys e = cc
 more_same : {A : Type 0} (x y : A) (xs ys : List A) → x ∷ xs ≡ y ∷ ys → xs ≡ ys
 more_same x y xs ys e = cc
 
-answered_at : (n p : ℕ) (es : List Entry) (cs : List Command) → map (λ (a : Answer). a.stream) (answers_in es) ≡ map (λ (c : Command). n) cs → calls_at n p es ≡ map (λ (a : Answer). a.call) (answers_in es)
+answered_at : (n p : ℕ) (es : List Entry) (cs : List Command)
+    → map (λ (a : Answer). a.stream) (answers_in es) ≡ map (λ (c : Command). n) cs
+    → calls_at n p es ≡ map (λ (a : Answer). a.call) (answers_in es)
 answered_at n p [] cs e = refl
 answered_at n p (entry.Mark m ∷ es) cs e = answered_at n (suc p) es cs e
 answered_at n p (entry.Answer a ∷ es) [] e = absurd cc
 answered_at n p (entry.Answer a ∷ es) (c ∷ cs) e =
     let own = first_same a.stream n (map (λ (x : Answer). x.stream) (answers_in es)) (map (λ (x : Command). n) cs) e in
     let more = more_same a.stream n (map (λ (x : Answer). x.stream) (answers_in es)) (map (λ (x : Command). n) cs) e in
-    ap (λ (b : Bool). map (λ (p : ℕ × Answer). p.1.call) (cond b ((p, a) ∷ answers_from n (suc p) es) (answers_from n (suc p) es))) (eq-eqb a.stream n own)
+    ap (λ (b : Bool). map (λ (p : ℕ × Answer). p.1.call) (cond b ((p, a) ∷ answers_from n (suc p) es) (answers_from n (suc p) es)))
+    (eq-eqb a.stream n own)
     ∙ ap (λ l. a.call ∷ l) (answered_at n (suc p) es cs more)
 
-pub answered : (n : ℕ) (es : List Entry) (cs : List Command) → map (λ (a : Answer). a.stream) (answers_in es) ≡ map (λ (c : Command). n) cs → calls_of n es ≡ map (λ (a : Answer). a.call) (answers_in es)
+pub answered : (n : ℕ) (es : List Entry) (cs : List Command)
+    → map (λ (a : Answer). a.stream) (answers_in es) ≡ map (λ (c : Command). n) cs
+    → calls_of n es ≡ map (λ (a : Answer). a.call) (answers_in es)
 answered n es cs e = answered_at n 0 es cs e

@@ -15,17 +15,21 @@ not_none : {A : Type 0} (b : Bool) (x : A) (xs : List A) → b ≡ true → cond
 not_none true x xs is e = cc
 not_none false x xs is e = cc
 
-no_calls : (m : ℕ) (ts : List Ticket) (cs : List OpenCall) → length cs ≡ length ts → ((i : ℕ) → i < length ts → (open_at cs i).stream < m) → ((n : ℕ) → n < m → calls_in n ts cs ≡ []) → ts ≡ []
+no_calls : (m : ℕ) (ts : List Ticket) (cs : List OpenCall) → length cs ≡ length ts
+    → ((i : ℕ) → i < length ts → (open_at cs i).stream < m) → ((n : ℕ) → n < m → calls_in n ts cs ≡ []) → ts ≡ []
 no_calls m [] cs paired within none = refl
 no_calls m (t ∷ ts) [] paired within none = absurd (omega (arith, paired))
 no_calls m (t ∷ ts) (c ∷ cs) paired within none =
-    absurd (not_none (eqb c.stream c.stream) (t, c) (calls_in c.stream ts cs) (eq-eqb c.stream c.stream refl) (none c.stream (within 0 (omega arith))))
+    absurd (not_none (eqb c.stream c.stream) (t, c) (calls_in c.stream ts cs) (eq-eqb c.stream c.stream refl)
+    (none c.stream (within 0 (omega arith))))
 
-no_commands : (m : ℕ) (ts : List Ticket) (cs : List MaintCall) → length cs ≡ length ts → ((k : ℕ) → k < length cs → (command_at cs k).stream < m) → ((n : ℕ) → n < m → commands_in n ts cs ≡ []) → cs ≡ []
+no_commands : (m : ℕ) (ts : List Ticket) (cs : List MaintCall) → length cs ≡ length ts
+    → ((k : ℕ) → k < length cs → (command_at cs k).stream < m) → ((n : ℕ) → n < m → commands_in n ts cs ≡ []) → cs ≡ []
 no_commands m ts [] paired within none = refl
 no_commands m [] (c ∷ cs) paired within none = absurd (omega (arith, paired))
 no_commands m (t ∷ ts) (c ∷ cs) paired within none =
-    absurd (not_none (eqb c.stream c.stream) (t, c) (commands_in c.stream ts cs) (eq-eqb c.stream c.stream refl) (none c.stream (within 0 (omega arith))))
+    absurd (not_none (eqb c.stream c.stream) (t, c) (commands_in c.stream ts cs) (eq-eqb c.stream c.stream refl)
+    (none c.stream (within 0 (omega arith))))
 
 module _ (s : State) (sound : IsSound s) where
   pub rest_is : ((n : ℕ) → n < length s.indices → running s n ≡ []) → s.tickets ≡ []

@@ -1,5 +1,6 @@
 -- What is kept of each task that was taken in, while more are.
-use Rattle.std.proofs.Common.{◌≡◌, ◌≢◌, ℕ, ◌<◌, List, [], ◌∷◌, ◌++◌, length, map, get_or, Option, None, inl, inr, refl, sym, ap, subst, ◌∙◌, arith}
+use Rattle.std.proofs.Common.{◌≡◌, ◌≢◌, ℕ, ◌<◌, List, [], ◌∷◌, ◌++◌, length, map, get_or, Option, None, inl, inr}
+use Rattle.std.proofs.Common.{refl, sym, ap, subst, ◌∙◌, arith}
 use Rattle.std.specs.List.{All}
 use Rattle.std.proofs.lemmas.List.{length-map}
 use Rattle.desk_lock.specs.declared.views.Known.{Known}
@@ -10,8 +11,10 @@ use Rattle.stream_workers.specs.declared.task.Task.{Task}
 use Rattle.stream_workers.specs.Tasks.{HasPair, IsIn, IsJoinedIn, counts_in, carried_in}
 use Rattle.stream_workers.proofs.Lists.{each_snoc}
 
-module _ {L : Type 0} (count : L → ℕ) (told : L → Option (List (List ℕ))) (j : Task L) (v v2 : Known WorldOnDesk) (counts counts' : ℕ → ℕ → ℕ) (carried carried' : ℕ → ℕ → Option (List (List ℕ)))
-    (joins : IsJoinedIn j v v2) (counted : RecordsOf counts counts' j.number (counts_in count j.channels.items)) (noted : RecordsOf carried carried' j.number (carried_in told j.channels.items)) where
+module _ {L : Type 0} (count : L → ℕ) (told : L → Option (List (List ℕ))) (j : Task L) (v v2 : Known WorldOnDesk)
+    (counts counts' : ℕ → ℕ → ℕ) (carried carried' : ℕ → ℕ → Option (List (List ℕ)))
+    (joins : IsJoinedIn j v v2) (counted : RecordsOf counts counts' j.number (counts_in count j.channels.items))
+    (noted : RecordsOf carried carried' j.number (carried_in told j.channels.items)) where
   joined_is : v2.joined ≡ (j.number, last_of joins.seat) ∷ v.joined
   joined_is = ap (λ (k : Known WorldOnDesk). k.joined) joins.is
 
@@ -36,7 +39,8 @@ module _ {L : Type 0} (count : L → ℕ) (told : L → Option (List (List ℕ))
   }
 
   -- the tasks before have the numbers of their places, and this one the next
-  pub more_in : (done : List (Task L)) → ((k : ℕ) (d : Task L) → k < length done → (get_or done k d).number ≡ k) → j.number ≡ length done → All (IsIn count told v.joined counts carried) done
+  pub more_in : (done : List (Task L)) → ((k : ℕ) (d : Task L) → k < length done → (get_or done k d).number ≡ k)
+      → j.number ≡ length done → All (IsIn count told v.joined counts carried) done
       → All (IsIn count told v2.joined counts' carried') (done ++ j ∷ [])
   more_in done numbers next all =
       each_snoc (λ k i. IsIn count told v2.joined counts' carried' i) done j
@@ -46,9 +50,12 @@ module _ {L : Type 0} (count : L → ℕ) (told : L → Option (List (List ℕ))
       less k n low e = omega (arith, low, e)
 
 -- those of the first
-pub first_of : {A : Type 0} (P : ℕ → A → Type 0) (xs rest all : List A) → xs ++ rest ≡ all → ((k : ℕ) (d : A) → k < length all → P k (get_or all k d)) → (k : ℕ) (d : A) → k < length xs → P k (get_or xs k d)
+pub first_of : {A : Type 0} (P : ℕ → A → Type 0) (xs rest all : List A) → xs ++ rest ≡ all
+    → ((k : ℕ) (d : A) → k < length all → P k (get_or all k d)) → (k : ℕ) (d : A) → k < length xs → P k (get_or xs k d)
 first_of P [] rest all whole each k d low = absurd (omega arith)
-first_of P (x ∷ xs) rest all whole each k d low = subst (P k) (get_first (x ∷ xs) rest k d low) (subst (λ l. P k (get_or l k d)) (sym whole) (each k d (subst (λ l. k < length l) whole (longer (x ∷ xs) rest k low))))
+first_of P (x ∷ xs) rest all whole each k d low =
+    subst (P k) (get_first (x ∷ xs) rest k d low)
+    (subst (λ l. P k (get_or l k d)) (sym whole) (each k d (subst (λ l. k < length l) whole (longer (x ∷ xs) rest k low))))
   where
     get_first : {A : Type 0} (xs ys : List A) (k : ℕ) (d : A) → k < length xs → get_or (xs ++ ys) k d ≡ get_or xs k d
     get_first [] ys k d low = absurd (omega arith)

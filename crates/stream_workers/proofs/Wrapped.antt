@@ -4,7 +4,8 @@ use Rattle.std.specs.Prelude.{IfSome}
 use Rattle.outer_traits.specs.declared.ends.Ends.{Ends}
 use Rattle.outer_traits.specs.Lines.{IsNewLine, Records}
 
-pub same_new : (e e2 : Ends) (k k2 : ℕ) (t t2 : Option (List (List ℕ))) (w r : ℕ) → e2 ≡ e → k2 ≡ k → t2 ≡ t → IsNewLine e k t w r → IsNewLine e2 k2 t2 w r
+pub same_new : (e e2 : Ends) (k k2 : ℕ) (t t2 : Option (List (List ℕ))) (w r : ℕ) → e2 ≡ e → k2 ≡ k → t2 ≡ t
+    → IsNewLine e k t w r → IsNewLine e2 k2 t2 w r
 same_new e e2 k k2 t t2 w r ends count carried new = record {
   between = ends ∙ new.between;
   unfailed = count ∙ new.unfailed;

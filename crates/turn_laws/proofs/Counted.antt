@@ -7,7 +7,8 @@ rises_further : (a b before : ℕ) (ns : List ℕ) → a ≤ b → RisesTo a bef
 rises_further a b before [] up rise = tt
 rises_further a b before (n ∷ ns) up rise = (rise.0, omega (arith, rise.1, up), rises_further a b n ns up rise.2)
 
-pub faults_shown : (counted : ℕ → ℕ → ℕ) (es : List Entry) → CountsRise es → ((w r : ℕ) → last_count w r es ≤ counted w r) → FaultsShown counted es
+pub faults_shown : (counted : ℕ → ℕ → ℕ) (es : List Entry) → CountsRise es → ((w r : ℕ) → last_count w r es ≤ counted w r)
+    → FaultsShown counted es
 faults_shown counted es rise most w r = rises_further (last_count w r es) (counted w r) 0 (fault_counts w r es) (most w r) (rise w r)
 
 rises_to_none : (ns : List ℕ) → RisesTo 0 0 ns → ns ≡ []
@@ -16,4 +17,5 @@ rises_to_none (n ∷ ns) rise = absurd (omega (arith, rise.0, rise.1))
 
 -- a line that counted none has no mark
 pub none_counted : (w r : ℕ) (es : List Entry) → CountsRise es → last_count w r es ≤ 0 → fault_counts w r es ≡ []
-none_counted w r es rise none = rises_to_none (fault_counts w r es) (rises_further (last_count w r es) 0 0 (fault_counts w r es) none (rise w r))
+none_counted w r es rise none =
+    rises_to_none (fault_counts w r es) (rises_further (last_count w r es) 0 0 (fault_counts w r es) none (rise w r))

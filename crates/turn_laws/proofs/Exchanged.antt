@@ -14,16 +14,21 @@ module _ (replicas : ℕ) (carried : ℕ → ℕ → Option (List (List ℕ))) w
   Each modes es = (w : ℕ) → AreCarried replicas (carried w) (own_entries w modes es)
 
   -- those behind the first
-  behind : (w : ℕ) (b : Bool) (p : Placed) (more : List Placed) → AreCarried replicas (carried w) (cond b (p ∷ more) more) → AreCarried replicas (carried w) more
+  behind : (w : ℕ) (b : Bool) (p : Placed) (more : List Placed) → AreCarried replicas (carried w) (cond b (p ∷ more) more)
+      → AreCarried replicas (carried w) more
   behind w true p more each = All-tail (λ (q : Placed). IsCarried replicas (carried w) q.modes q.entry) p more each
   behind w false p more each = each
 
   later : (modes : List Mode) (e : Entry) (es : List Entry) → Each modes (e ∷ es) → Each (modes_after_entry modes e) es
-  later modes e es each w = behind w (is_own w e) (record { modes = modes; entry = e }) (own_entries w (modes_after_entry modes e) es) (each w)
+  later modes e es each w = behind w (is_own w e) (record { modes = modes; entry = e })
+      (own_entries w (modes_after_entry modes e) es) (each w)
 
   here : (modes : List Mode) (e : Entry) (es : List Entry) → Each modes (e ∷ es) → CarriedHere replicas carried modes e
-  here modes (entry.Answer a) es each = All-head (λ (q : Placed). IsCarried replicas (carried a.stream) q.modes q.entry) (record { modes = modes; entry = entry.Answer a }) (own_entries a.stream modes es)
-      (subst (λ b. AreCarried replicas (carried a.stream) (cond b (record { modes = modes; entry = entry.Answer a } ∷ own_entries a.stream modes es) (own_entries a.stream modes es))) (eq-eqb a.stream a.stream refl) (each a.stream))
+  here modes (entry.Answer a) es each = All-head (λ (q : Placed). IsCarried replicas (carried a.stream) q.modes q.entry)
+      (record { modes = modes; entry = entry.Answer a }) (own_entries a.stream modes es)
+      (subst (λ b. AreCarried replicas (carried a.stream)
+      (cond b (record { modes = modes; entry = entry.Answer a } ∷ own_entries a.stream modes es) (own_entries a.stream modes es)))
+      (eq-eqb a.stream a.stream refl) (each a.stream))
   here modes (entry.Mark m) es each = tt
 
   pub exchanged : (modes : List Mode) (es : List Entry) → Each modes es → ExchangesShown replicas carried modes es

@@ -1,6 +1,7 @@
 -- The entries of a stream's calls, call by call: marks, and then the answer. They are the stream's own, and each call is
 -- answered once and in order.
-use Rattle.std.proofs.Common.{◌≡◌, ℕ, suc, ◌+◌, inl, ⊎_elim, cond, List, [], ◌∷◌, ◌++◌, length, map, Option, sym, refl, ap, subst, ◌∙◌, eq-eqb}
+use Rattle.std.proofs.Common.{◌≡◌, ℕ, suc, ◌+◌, inl, ⊎_elim, cond, List, [], ◌∷◌, ◌++◌, length, map, Option, sym}
+use Rattle.std.proofs.Common.{refl, ap, subst, ◌∙◌, eq-eqb}
 use Rattle.std.specs.List.{All}
 use Rattle.std.proofs.lemmas.List.Elements.{All-head, All-tail, All-weaker}
 use Rattle.command_text.specs.declared.command.Command.{Command}
@@ -71,18 +72,41 @@ AreGroups w [] es = es ≡ []
 AreGroups w (c ∷ cs) es = (first more : List Entry) × (es ≡ first ++ more) × IsGroup w c first × AreGroups w cs more
 
 abbrev pub served_group : (w : ℕ) (log : Option Log) (c : Call) (es : List Entry) → Serves w log c es → IsGroup w c es
-served_group w log c es s = record { marks = s.marks; answer = s.answer; is = s.is; before = marks_before w s.marks (All-weaker (IsOwnFault w) (MayComeBefore w) (fault_may w) s.marks s.faults); call = s.call; by = s.by }
+served_group w log c es s =
+    record {
+      marks = s.marks;
+      answer = s.answer;
+      is = s.is;
+      before =
+          marks_before w s.marks (All-weaker (IsOwnFault w) (MayComeBefore w) (fault_may w) s.marks s.faults);
+      call = s.call;
+      by =
+          s.by;
+    }
 
-abbrev pub commanded_group : (w : ℕ) (log : Option Log) (c : Command) (es : List Entry) → Commands w log c es → IsGroup w (call.Command c) es
-commanded_group w log c es s = record { marks = s.marks; answer = s.answer; is = s.is; before = marks_before w s.marks s.are; call = s.call; by = s.by }
+abbrev pub commanded_group : (w : ℕ) (log : Option Log) (c : Command) (es : List Entry) → Commands w log c es
+    → IsGroup w (call.Command c) es
+commanded_group w log c es s =
+    record {
+      marks = s.marks;
+      answer = s.answer;
+      is = s.is;
+      before = marks_before w s.marks s.are;
+      call = s.call;
+      by =
+          s.by;
+    }
 
 pub served_groups : (w : ℕ) (log : Option Log) (cs : List Call) (es : List Entry) → AreServed w log cs es → AreGroups w cs es
 served_groups w log [] es done = done
-served_groups w log (c ∷ cs) es done = (done.0, done.1, done.2, served_group w log c done.0 done.3, served_groups w (longer log done.0) cs done.1 done.4)
+served_groups w log (c ∷ cs) es done =
+    (done.0, done.1, done.2, served_group w log c done.0 done.3, served_groups w (longer log done.0) cs done.1 done.4)
 
-pub commanded_groups : (w : ℕ) (log : Option Log) (cs : List Command) (es : List Entry) → AreCommanded w log cs es → AreGroups w (map call.Command cs) es
+pub commanded_groups : (w : ℕ) (log : Option Log) (cs : List Command) (es : List Entry) → AreCommanded w log cs es
+    → AreGroups w (map call.Command cs) es
 commanded_groups w log [] es done = done
-commanded_groups w log (c ∷ cs) es done = (done.0, done.1, done.2, commanded_group w log c done.0 done.3, commanded_groups w (longer log done.0) cs done.1 done.4)
+commanded_groups w log (c ∷ cs) es done =
+    (done.0, done.1, done.2, commanded_group w log c done.0 done.3, commanded_groups w (longer log done.0) cs done.1 done.4)
 
 -- ---- they are the stream's own
 
@@ -96,7 +120,9 @@ group_own w c es g = subst (MayAppend w) (sym g.is) (MayAppend-append w g.marks 
 
 pub groups_own : (w : ℕ) (cs : List Call) (es : List Entry) → AreGroups w cs es → MayAppend w es
 groups_own w [] es done = subst (MayAppend w) (sym done) tt
-groups_own w (c ∷ cs) es done = subst (MayAppend w) (sym done.2) (MayAppend-append w done.0 done.1 (group_own w c done.0 done.3) (groups_own w cs done.1 done.4))
+groups_own w (c ∷ cs) es done =
+    subst (MayAppend w) (sym done.2)
+    (MayAppend-append w done.0 done.1 (group_own w c done.0 done.3) (groups_own w cs done.1 done.4))
 
 -- ---- their answers
 
@@ -113,7 +139,8 @@ group_answers w place c es more g =
     ∙ one_answer w (place + length g.marks) g.answer g.by)
 
 -- each call once and in order
-pub groups_calls : (w place : ℕ) (cs : List Call) (es : List Entry) → AreGroups w cs es → map (λ (p : ℕ × Answer). p.1.call) (answers_from w place es) ≡ cs
+pub groups_calls : (w place : ℕ) (cs : List Call) (es : List Entry) → AreGroups w cs es
+    → map (λ (p : ℕ × Answer). p.1.call) (answers_from w place es) ≡ cs
 groups_calls w place [] es done = ap (λ l. map (λ (p : ℕ × Answer). p.1.call) (answers_from w place l)) done
 groups_calls w place (c ∷ cs) es done =
     ap (λ l. map (λ (p : ℕ × Answer). p.1.call) (answers_from w place l)) done.2

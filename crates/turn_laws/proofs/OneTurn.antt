@@ -1,5 +1,6 @@
 -- What serving one stream leaves is its turn.
-use Rattle.std.proofs.Common.{◌≡◌, ℕ, suc, ◌+◌, ◌<◌, ◌≤◌, inl, inr, Bool, true, false, cond, eqb, List, [], ◌∷◌, ◌++◌, length, map, Option, Some, sym, refl, ap, subst, ◌∙◌, arith, append_assoc, append-nil}
+use Rattle.std.proofs.Common.{◌≡◌, ℕ, suc, ◌+◌, ◌<◌, ◌≤◌, inl, inr, Bool, true, false, cond, eqb, List, [], ◌∷◌, ◌++◌}
+use Rattle.std.proofs.Common.{length, map, Option, Some, sym, refl, ap, subst, ◌∙◌, arith, append_assoc, append-nil}
 use Rattle.std.specs.Prelude.{IfSome}
 use Rattle.std.specs.List.{All}
 use Rattle.std.proofs.lemmas.Bool.{cases_lt}
@@ -38,7 +39,8 @@ use Rattle.turn_laws.proofs.Turns.{log_at, frames_turn, commands_turn, back_none
 not_some : {A : Type 0} (x : A) (xs : List A) → x ∷ xs ≡ [] → ⊥
 not_some x xs e = cc
 
-no_answer : (b : Bool) (p : Placed) (q : ℕ × Answer) (ps : List Placed) (qs : List (ℕ × Answer)) → cond b (p ∷ ps) ps ≡ [] → (ps ≡ [] → qs ≡ []) → cond b (q ∷ qs) qs ≡ []
+no_answer : (b : Bool) (p : Placed) (q : ℕ × Answer) (ps : List Placed) (qs : List (ℕ × Answer)) → cond b (p ∷ ps) ps ≡ []
+    → (ps ≡ [] → qs ≡ []) → cond b (q ∷ qs) qs ≡ []
 no_answer true p q ps qs e more = absurd (not_some p ps e)
 no_answer false p q ps qs e more = more e
 
@@ -49,16 +51,20 @@ tail_none false p ps e = e
 pub none_answered : (w place : ℕ) (modes : List Mode) (es : List Entry) → own_entries w modes es ≡ [] → answers_from w place es ≡ []
 none_answered w place modes [] none = refl
 none_answered w place modes (entry.Answer a ∷ es) none =
-    no_answer (eqb a.stream w) (record { modes = modes; entry = entry.Answer a }) (place, a) (own_entries w modes es) (answers_from w (suc place) es) none (none_answered w (suc place) modes es)
+    no_answer (eqb a.stream w) (record { modes = modes; entry = entry.Answer a }) (place, a) (own_entries w modes es)
+    (answers_from w (suc place) es) none (none_answered w (suc place) modes es)
 none_answered w place modes (entry.Mark m ∷ es) none =
     let after = modes_after_entry modes (entry.Mark m) in
-    none_answered w (suc place) after es (tail_none (is_own_mark w m) (record { modes = modes; entry = entry.Mark m }) (own_entries w after es) none)
+    none_answered w (suc place) after es
+    (tail_none (is_own_mark w m) (record { modes = modes; entry = entry.Mark m }) (own_entries w after es) none)
 
 -- ---- what is behind a part of a legal journal
 
 pub legal_behind : (opening : Spot) (front xs ys : List Entry) → LegalAfter opening front (xs ++ ys) → LegalAfter opening (front ++ xs) ys
 legal_behind opening front [] ys legal = subst (λ l. LegalAfter opening l ys) (sym (append-nil front)) legal
-legal_behind opening front (x ∷ xs) ys legal = subst (λ l. LegalAfter opening l ys) (append_assoc front (x ∷ []) xs) (legal_behind opening (front ++ x ∷ []) xs ys legal.1)
+legal_behind opening front (x ∷ xs) ys legal =
+    subst (λ l. LegalAfter opening l ys) (append_assoc front (x ∷ []) xs)
+    (legal_behind opening (front ++ x ∷ []) xs ys legal.1)
 
 -- ---- what the lines told, by the wiring
 
@@ -72,14 +78,17 @@ module _ (replicas w : ℕ) (before told : ℕ → Option (List (List ℕ))) (sa
       err_up : Err ≡ Rw → ⊥
       err_up e = cc
 
-  told_of : (modes : List Mode) (c : Call) (r : Reply) → length modes ≡ replicas → CarriedOf replicas before modes c r → CarriedOf replicas told modes c r
-  told_of modes (call.Read offset n) (reply.Read bytes) many had = (had.0, had.1, subst (λ x. IfSome x (HasRead offset bytes)) (sym (same had.0 had.1)) had.2)
+  told_of : (modes : List Mode) (c : Call) (r : Reply) → length modes ≡ replicas → CarriedOf replicas before modes c r
+      → CarriedOf replicas told modes c r
+  told_of modes (call.Read offset n) (reply.Read bytes) many had =
+      (had.0, had.1, subst (λ x. IfSome x (HasRead offset bytes)) (sym (same had.0 had.1)) had.2)
   told_of modes (call.Read offset n) reply.Done many had = tt
   told_of modes (call.Read offset n) (reply.Status layers ms) many had = tt
   told_of modes (call.Read offset n) (reply.Aborted place) many had = tt
   told_of modes (call.Read offset n) (reply.Refused why) many had = tt
   told_of modes (call.Write offset bytes) (reply.Read read) many had = tt
-  told_of modes (call.Write offset bytes) reply.Done many had = λ r up. subst (λ x. IfSome x (HasWrite offset bytes)) (sym (same r (up_there modes many r up))) (had r up)
+  told_of modes (call.Write offset bytes) reply.Done many had =
+      λ r up. subst (λ x. IfSome x (HasWrite offset bytes)) (sym (same r (up_there modes many r up))) (had r up)
   told_of modes (call.Write offset bytes) (reply.Status layers ms) many had = tt
   told_of modes (call.Write offset bytes) (reply.Aborted place) many had = tt
   told_of modes (call.Write offset bytes) (reply.Refused why) many had = tt
@@ -87,19 +96,24 @@ module _ (replicas w : ℕ) (before told : ℕ → Option (List (List ℕ))) (sa
   told_of modes (call.Other kind) r many had = tt
   told_of modes (call.Command c) r many had = tt
 
-  told_entry : (modes : List Mode) (e : Entry) → length modes ≡ replicas → IsCarried replicas before modes e → IsCarried replicas told modes e
+  told_entry : (modes : List Mode) (e : Entry) → length modes ≡ replicas → IsCarried replicas before modes e
+      → IsCarried replicas told modes e
   told_entry modes (entry.Answer a) many had = told_of modes a.call a.reply many had
   told_entry modes (entry.Mark m) many had = tt
 
-  told_more : (b : Bool) (modes : List Mode) (e : Entry) (ps : List Placed) → length modes ≡ replicas → (AreCarried replicas before ps → AreCarried replicas told ps)
-      → AreCarried replicas before (cond b (record { modes = modes; entry = e } ∷ ps) ps) → AreCarried replicas told (cond b (record { modes = modes; entry = e } ∷ ps) ps)
+  told_more : (b : Bool) (modes : List Mode) (e : Entry) (ps : List Placed) → length modes ≡ replicas
+      → (AreCarried replicas before ps → AreCarried replicas told ps)
+      → AreCarried replicas before (cond b (record { modes = modes; entry = e } ∷ ps) ps)
+      → AreCarried replicas told (cond b (record { modes = modes; entry = e } ∷ ps) ps)
   told_more true modes e ps many more had =
       All-cons (λ (p : Placed). IsCarried replicas told p.modes p.entry) (record { modes = modes; entry = e }) ps
-      (told_entry modes e many (All-head (λ (p : Placed). IsCarried replicas before p.modes p.entry) (record { modes = modes; entry = e }) ps had))
+      (told_entry modes e many
+      (All-head (λ (p : Placed). IsCarried replicas before p.modes p.entry) (record { modes = modes; entry = e }) ps had))
       (more (All-tail (λ (p : Placed). IsCarried replicas before p.modes p.entry) (record { modes = modes; entry = e }) ps had))
   told_more false modes e ps many more had = more had
 
-  pub told_carried : (modes : List Mode) (es : List Entry) → length modes ≡ replicas → AreCarried replicas before (own_entries w modes es) → AreCarried replicas told (own_entries w modes es)
+  pub told_carried : (modes : List Mode) (es : List Entry) → length modes ≡ replicas
+      → AreCarried replicas before (own_entries w modes es) → AreCarried replicas told (own_entries w modes es)
   told_carried modes [] many had = All-nil (λ (p : Placed). IsCarried replicas told p.modes p.entry)
   told_carried modes (e ∷ es) many had =
       let after = modes_after_entry modes e in
@@ -107,7 +121,8 @@ module _ (replicas w : ℕ) (before told : ℕ → Option (List (List ℕ))) (sa
 
 -- ---- the stream's part of the journal
 
-module _ (opening : Spot) (replicas w : ℕ) (before added after : List Entry) (is : after ≡ before ++ added) (none : own_entries w opening.modes before ≡ [])
+module _ (opening : Spot) (replicas w : ℕ) (before added after : List Entry) (is : after ≡ before ++ added)
+    (none : own_entries w opening.modes before ≡ [])
     (legal : IsLegal opening after) (order : SeenInOrder after) (rise : CountsRise after) where
   legal_added : LegalAfter opening before added
   legal_added = legal_behind opening [] before added (subst (IsLegal opening) is legal)
@@ -116,11 +131,13 @@ module _ (opening : Spot) (replicas w : ℕ) (before added after : List Entry) (
   order_added = subst (InOrderFrom 0 0) all (order w)
     where
       all : answers_from w 0 after ≡ answers_from w (length before) added
-      all = ap (answers_from w 0) is ∙ answers_from-append w 0 before added ∙ ap (λ l. l ++ answers_from w (0 + length before) added) (none_answered w 0 opening.modes before none)
+      all = ap (answers_from w 0) is ∙ answers_from-append w 0 before added
+          ∙ ap (λ l. l ++ answers_from w (0 + length before) added) (none_answered w 0 opening.modes before none)
           ∙ ap (λ n. answers_from w n added) (omega arith)
 
   module _ (counts : ℕ → ℕ) (told : ℕ → Option (List (List ℕ))) (past : (r : ℕ) → replicas ≤ r → counts r ≡ 0)
-      (counted : (r : ℕ) → last_count w r (entries_in (own_entries w opening.modes after)) ≤ counts r) (carried : AreCarried replicas told (own_entries w opening.modes after)) where
+      (counted : (r : ℕ) → last_count w r (entries_in (own_entries w opening.modes after)) ≤ counts r)
+      (carried : AreCarried replicas told (own_entries w opening.modes after)) where
     shown : (r : ℕ) → last_count w r after ≤ counts r
     shown r = subst (λ l. last_in 0 l ≤ counts r) (own_faults w r opening.modes after) (counted r)
 
@@ -135,7 +152,8 @@ module _ (opening : Spot) (replicas w : ℕ) (before added after : List Entry) (
     unfaulted well r = back_none (fault_counts w r before) (fault_counts w r added)
         (sym (fault_counts-append w r before added) ∙ ap (fault_counts w r) (sym is) ∙ none_counted w r after rise (no_count well r))
 
-    pub frames_are : (cs : List Call) → All IsFrameCall cs → AreServed w (Some (log_at opening before)) cs added → IsTurn opening replicas w cs before after counts told
+    pub frames_are : (cs : List Call) → All IsFrameCall cs → AreServed w (Some (log_at opening before)) cs added
+        → IsTurn opening replicas w cs before after counts told
     frames_are cs frames served = record {
       added = added;
       is = is;
@@ -146,7 +164,8 @@ module _ (opening : Spot) (replicas w : ℕ) (before added after : List Entry) (
       turn = λ well. frames_turn opening w 0 0 cs before added frames served (unfaulted well) legal_added order_added;
     }
 
-    pub commands_are : (cs : List Command) → AreCommanded w (Some (log_at opening before)) cs added → IsTurn opening replicas w (map call.Command cs) before after counts told
+    pub commands_are : (cs : List Command) → AreCommanded w (Some (log_at opening before)) cs added
+        → IsTurn opening replicas w (map call.Command cs) before after counts told
     commands_are cs done = record {
       added = added;
       is = is;
@@ -160,8 +179,10 @@ module _ (opening : Spot) (replicas w : ℕ) (before added after : List Entry) (
 -- ---- the lines are taken back
 
 -- what they told is noted
-pub noted : (opening : Spot) (replicas w : ℕ) (cs : List Call) (before after : List Entry) (counts counts' : ℕ → ℕ) (told told' : ℕ → Option (List (List ℕ))) → length opening.modes ≡ replicas
-    → IsTurn opening replicas w cs before after counts told → ((r : ℕ) → replicas ≤ r → counts r ≡ 0) → ((r : ℕ) → r < replicas → counts' r ≡ counts r)
+pub noted : (opening : Spot) (replicas w : ℕ) (cs : List Call) (before after : List Entry) (counts counts' : ℕ → ℕ)
+    (told told' : ℕ → Option (List (List ℕ))) → length opening.modes ≡ replicas
+    → IsTurn opening replicas w cs before after counts told → ((r : ℕ) → replicas ≤ r → counts r ≡ 0)
+    → ((r : ℕ) → r < replicas → counts' r ≡ counts r)
     → ((r : ℕ) → r < replicas → told' r ≡ told r) → IsTurn opening replicas w cs before after counts' told'
 noted opening replicas w cs before after counts counts' told told' many turn past same_counts same_told = record {
   added = turn.added;

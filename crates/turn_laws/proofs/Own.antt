@@ -24,7 +24,8 @@ cond_false b x y e = ap (λ t. cond t x y) e
 -- no faults
 faults_mark : (w v r : ℕ) (m : Mark) (ns : List ℕ) → v ≢ w → MayAppendMark w m → count_first v r m ns ≡ ns
 faults_mark w v r (mark.Purged part) ns apart own = refl
-faults_mark w v r (mark.Fault s q n) ns apart own = cond_false (eqb s v && eqb q r) (n ∷ ns) ns (ap (λ b. b && eqb q r) (other w v apart s own))
+faults_mark w v r (mark.Fault s q n) ns apart own =
+    cond_false (eqb s v && eqb q r) (n ∷ ns) ns (ap (λ b. b && eqb q r) (other w v apart s own))
 faults_mark w v r (mark.Failed q) ns apart own = refl
 faults_mark w v r (mark.Added q source name) ns apart own = refl
 faults_mark w v r (mark.Promoted q) ns apart own = refl
@@ -39,7 +40,8 @@ no_faults w v r (entry.Mark m ∷ es) apart own = faults_mark w v r m (fault_cou
 pub no_answers : (w v place : ℕ) (es : List Entry) → v ≢ w → MayAppend w es → answers_from v place es ≡ []
 no_answers w v place [] apart own = refl
 no_answers w v place (entry.Answer a ∷ es) apart own =
-    cond_false (eqb a.stream v) ((place, a) ∷ answers_from v (suc place) es) (answers_from v (suc place) es) (other w v apart a.stream own.0)
+    cond_false (eqb a.stream v) ((place, a) ∷ answers_from v (suc place) es) (answers_from v (suc place) es)
+    (other w v apart a.stream own.0)
     ∙ no_answers w v (suc place) es apart own.1
 no_answers w v place (entry.Mark m ∷ es) apart own = no_answers w v (suc place) es apart own.1
 
@@ -56,24 +58,30 @@ pub none_own : (w v : ℕ) (modes : List Mode) (es : List Entry) → v ≢ w →
 none_own w v modes [] apart own = refl
 none_own w v modes (entry.Answer a ∷ es) apart own =
     let more = own_entries v modes es in
-    cond_false (eqb a.stream v) (record { modes = modes; entry = entry.Answer a } ∷ more) more (other w v apart a.stream own.0) ∙ none_own w v modes es apart own.1
+    cond_false (eqb a.stream v) (record { modes = modes; entry = entry.Answer a } ∷ more) more
+    (other w v apart a.stream own.0) ∙ none_own w v modes es apart own.1
 none_own w v modes (entry.Mark m ∷ es) apart own =
     let after = modes_after_entry modes (entry.Mark m) in
     let more = own_entries v after es in
-    cond_false (is_own_mark v m) (record { modes = modes; entry = entry.Mark m } ∷ more) more (not_own_mark w v m apart own.0) ∙ none_own w v after es apart own.1
+    cond_false (is_own_mark v m) (record { modes = modes; entry = entry.Mark m } ∷ more) more
+    (not_own_mark w v m apart own.0) ∙ none_own w v after es apart own.1
 
 -- ---- of the stream itself
 
-pub own-append : (n : ℕ) (modes : List Mode) (xs ys : List Entry) → own_entries n modes (xs ++ ys) ≡ own_entries n modes xs ++ own_entries n (modes_after modes xs) ys
+pub own-append : (n : ℕ) (modes : List Mode) (xs ys : List Entry) → own_entries n modes (xs ++ ys) ≡ own_entries n modes xs
+    ++ own_entries n (modes_after modes xs) ys
 own-append n modes [] ys = refl
-own-append n modes (x ∷ xs) ys = by (is_own n x) (record { modes = modes; entry = x }) _ _ _ (own-append n (modes_after_entry modes x) xs ys)
+own-append n modes (x ∷ xs) ys = by (is_own n x) (record { modes = modes; entry = x }) _ _ _
+    (own-append n (modes_after_entry modes x) xs ys)
   where
-    by : (b : Bool) (p : Placed) (all front back : List Placed) → all ≡ front ++ back → cond b (p ∷ all) all ≡ cond b (p ∷ front) front ++ back
+    by : (b : Bool) (p : Placed) (all front back : List Placed) → all ≡ front ++ back
+        → cond b (p ∷ all) all ≡ cond b (p ∷ front) front ++ back
     by true p all front back e = ap (λ l. p ∷ l) e
     by false p all front back e = e
 
 -- its own entries tell all faults of its lines
-counted_own : (w r : ℕ) (b : Bool) (p : Placed) (more : List Placed) (m : Mark) → p.entry ≡ entry.Mark m → (b ≡ false → (ns : List ℕ) → count_first w r m ns ≡ ns)
+counted_own : (w r : ℕ) (b : Bool) (p : Placed) (more : List Placed) (m : Mark) → p.entry ≡ entry.Mark m
+    → (b ≡ false → (ns : List ℕ) → count_first w r m ns ≡ ns)
     → fault_counts w r (entries_in (cond b (p ∷ more) more)) ≡ count_first w r m (fault_counts w r (entries_in more))
 counted_own w r true p more m is other = ap (λ e. fault_counts w r (e ∷ entries_in more)) is
 counted_own w r false p more m is other = sym (other refl (fault_counts w r (entries_in more)))
@@ -86,11 +94,13 @@ unmarked w r (mark.Added q source name) none ns = refl
 unmarked w r (mark.Promoted q) none ns = refl
 unmarked w r (mark.Aborted q) none ns = refl
 
-either : (w r : ℕ) (b : Bool) (p : Placed) (more : List Placed) (a : Answer) → p.entry ≡ entry.Answer a → fault_counts w r (entries_in (cond b (p ∷ more) more)) ≡ fault_counts w r (entries_in more)
+either : (w r : ℕ) (b : Bool) (p : Placed) (more : List Placed) (a : Answer) → p.entry ≡ entry.Answer a
+    → fault_counts w r (entries_in (cond b (p ∷ more) more)) ≡ fault_counts w r (entries_in more)
 either w r true p more a is = ap (λ e. fault_counts w r (e ∷ entries_in more)) is
 either w r false p more a is = refl
 
-pub own_faults : (w r : ℕ) (modes : List Mode) (es : List Entry) → fault_counts w r (entries_in (own_entries w modes es)) ≡ fault_counts w r es
+pub own_faults : (w r : ℕ) (modes : List Mode) (es : List Entry)
+    → fault_counts w r (entries_in (own_entries w modes es)) ≡ fault_counts w r es
 own_faults w r modes [] = refl
 own_faults w r modes (entry.Answer a ∷ es) =
     either w r (eqb a.stream w) (record { modes = modes; entry = entry.Answer a }) (own_entries w modes es) a refl ∙ own_faults w r modes es

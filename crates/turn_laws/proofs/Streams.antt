@@ -1,5 +1,6 @@
 -- One stream's turn behind those of others.
-use Rattle.std.proofs.Common.{◌≡◌, ◌≢◌, ℕ, zero, suc, ◌+◌, ◌<◌, ◌≤◌, inl, inr, Bool, true, false, cond, eqb, List, [], ◌∷◌, ◌++◌, length, map, Option, sym, refl, ap, subst, ◌∙◌, arith}
+use Rattle.std.proofs.Common.{◌≡◌, ◌≢◌, ℕ, zero, suc, ◌+◌, ◌<◌, ◌≤◌, inl, inr, Bool, true, false, cond, eqb, List, []}
+use Rattle.std.proofs.Common.{◌∷◌, ◌++◌, length, map, Option, sym, refl, ap, subst, ◌∙◌, arith}
 use Rattle.std.proofs.lemmas.Bool.Decides.{eqb_tells}
 use Rattle.std.proofs.lemmas.List.{append-nil, length-append, map-append, get_or_past}
 use Rattle.volume_model.specs.declared.call.Call.{Call}
@@ -37,14 +38,16 @@ elsewhere (ds ∷ css) cs (suc w) apart = elsewhere css cs w (λ e. apart (ap su
 abbrev pub calls_at : ℕ → ℕ → List Entry → List Call
 calls_at w place es = map (λ (p : ℕ × Answer). p.1.call) (answers_from w place es)
 
-either : (b : Bool) (p q : ℕ) (a : Answer) (xs ys : List (ℕ × Answer)) → map (λ (p : ℕ × Answer). p.1.call) xs ≡ map (λ (p : ℕ × Answer). p.1.call) ys
+either : (b : Bool) (p q : ℕ) (a : Answer) (xs ys : List (ℕ × Answer))
+    → map (λ (p : ℕ × Answer). p.1.call) xs ≡ map (λ (p : ℕ × Answer). p.1.call) ys
     → map (λ (p : ℕ × Answer). p.1.call) (cond b ((p, a) ∷ xs) xs) ≡ map (λ (p : ℕ × Answer). p.1.call) (cond b ((q, a) ∷ ys) ys)
 either true p q a xs ys e = ap (λ l. a.call ∷ l) e
 either false p q a xs ys e = e
 
 anywhere : (w p q : ℕ) (es : List Entry) → calls_at w p es ≡ calls_at w q es
 anywhere w p q [] = refl
-anywhere w p q (entry.Answer a ∷ es) = either (eqb a.stream w) p q a (answers_from w (suc p) es) (answers_from w (suc q) es) (anywhere w (suc p) (suc q) es)
+anywhere w p q (entry.Answer a ∷ es) = either (eqb a.stream w) p q a (answers_from w (suc p) es) (answers_from w (suc q) es)
+    (anywhere w (suc p) (suc q) es)
 anywhere w p q (entry.Mark m ∷ es) = anywhere w (suc p) (suc q) es
 
 pub calls_of-append : (w : ℕ) (xs ys : List Entry) → calls_of w (xs ++ ys) ≡ calls_of w xs ++ calls_of w ys
@@ -55,7 +58,8 @@ calls_of-append w xs ys =
 
 -- ---- no stream
 
-pub no_turns : (opening : Spot) (replicas : ℕ) (counts : ℕ → ℕ → ℕ) (carried : ℕ → ℕ → Option (List (List ℕ))) → AreTurns opening replicas [] [] counts carried
+pub no_turns : (opening : Spot) (replicas : ℕ) (counts : ℕ → ℕ → ℕ) (carried : ℕ → ℕ → Option (List (List ℕ)))
+    → AreTurns opening replicas [] [] counts carried
 no_turns opening replicas counts carried = record {
   none = λ w past. refl;
   calls = λ w. refl;
@@ -66,35 +70,44 @@ no_turns opening replicas counts carried = record {
 
 -- ---- one more
 
-module _ (opening : Spot) (replicas : ℕ) (css : List (List Call)) (cs : List Call) (before after : List Entry) (counts counts' : ℕ → ℕ → ℕ) (carried carried' : ℕ → ℕ → Option (List (List ℕ)))
-    (turns : AreTurns opening replicas css before counts carried) (one : IsTurn opening replicas (length css) cs before after (counts' (length css)) (carried' (length css)))
-    (same_counts : (w r : ℕ) → w ≢ length css → counts' w r ≡ counts w r) (same_carried : (w r : ℕ) → w ≢ length css → carried' w r ≡ carried w r) where
+module _ (opening : Spot) (replicas : ℕ) (css : List (List Call)) (cs : List Call) (before after : List Entry)
+    (counts counts' : ℕ → ℕ → ℕ) (carried carried' : ℕ → ℕ → Option (List (List ℕ)))
+    (turns : AreTurns opening replicas css before counts carried)
+    (one : IsTurn opening replicas (length css) cs before after (counts' (length css)) (carried' (length css)))
+    (same_counts : (w r : ℕ) → w ≢ length css → counts' w r ≡ counts w r)
+    (same_carried : (w r : ℕ) → w ≢ length css → carried' w r ≡ carried w r) where
   -- what others see stays
   own_stays : (w : ℕ) → w ≢ length css → own_entries w opening.modes after ≡ own_entries w opening.modes before
   own_stays w apart =
       ap (own_entries w opening.modes) one.is ∙ own-append w opening.modes before one.added
-      ∙ ap (λ l. own_entries w opening.modes before ++ l) (none_own (length css) w (modes_after opening.modes before) one.added apart one.own) ∙ append-nil (own_entries w opening.modes before)
+      ∙ ap (λ l. own_entries w opening.modes before ++ l)
+      (none_own (length css) w (modes_after opening.modes before) one.added apart one.own)
+      ∙ append-nil (own_entries w opening.modes before)
 
   count_stays : (w r : ℕ) → w ≢ length css → last_count w r after ≡ last_count w r before
   count_stays w r apart =
-      ap (last_count w r) one.is ∙ last_count-append w r before one.added ∙ ap (last_in (last_count w r before)) (no_faults (length css) w r one.added apart one.own)
+      ap (last_count w r) one.is ∙ last_count-append w r before one.added
+      ∙ ap (last_in (last_count w r before)) (no_faults (length css) w r one.added apart one.own)
 
   calls_stay : (w : ℕ) → w ≢ length css → calls_of w after ≡ calls_of w before
   calls_stay w apart =
       ap (calls_of w) one.is ∙ calls_of-append w before one.added
-      ∙ ap (λ l. calls_of w before ++ map (λ (p : ℕ × Answer). p.1.call) l) (no_answers (length css) w 0 one.added apart one.own) ∙ append-nil (calls_of w before)
+      ∙ ap (λ l. calls_of w before ++ map (λ (p : ℕ × Answer). p.1.call) l)
+      (no_answers (length css) w 0 one.added apart one.own) ∙ append-nil (calls_of w before)
 
   calls_more : calls_of (length css) after ≡ cs
   calls_more =
       ap (calls_of (length css)) one.is ∙ calls_of-append (length css) before one.added
-      ∙ ap (λ l. l ++ calls_of (length css) one.added) (turns.calls (length css) ∙ get_or_past css (length css) [] (omega arith)) ∙ one.calls
+      ∙ ap (λ l. l ++ calls_of (length css) one.added) (turns.calls (length css) ∙ get_or_past css (length css) [] (omega arith))
+      ∙ one.calls
 
   many : length (css ++ cs ∷ []) ≡ suc (length css)
   many = omega (arith, length-append css (cs ∷ []))
 
   all_turns : ((w : ℕ) → w < length (css ++ cs ∷ []) → AreWell replicas (counts' w)) → after ≡ served opening (css ++ cs ∷ [])
   all_turns well =
-      one.is ∙ (λ i. first i ++ (one.turn (well (length css) (omega (arith, many))) ∙ second) i) ∙ sym (served_streams-push opening 0 0 css cs)
+      one.is ∙ (λ i. first i ++ (one.turn (well (length css) (omega (arith, many))) ∙ second) i)
+      ∙ sym (served_streams-push opening 0 0 css cs)
     where
       first : before ≡ served opening css
       first = turns.turns (λ w low r there. sym (same_counts w r (omega (arith, low))) ∙ well w (omega (arith, low, many)) r there)
@@ -123,7 +136,8 @@ module _ (opening : Spot) (replicas : ℕ) (css : List (List Call)) (cs : List C
     carried = λ w. elim (eqb_tells w (length css)) [
       | inl is ↦ subst (λ n. AreCarried replicas (carried' n) (own_entries n opening.modes after)) (sym is.1) one.carried
       | inr other ↦ subst (AreCarried replicas (carried' w)) (sym (own_stays w other.1))
-          (subst (λ told. AreCarried replicas told (own_entries w opening.modes before)) (λ i r. sym (same_carried w r other.1) i) (turns.carried w))
+          (subst (λ told. AreCarried replicas told (own_entries w opening.modes before))
+          (λ i r. sym (same_carried w r other.1) i) (turns.carried w))
     ];
     turns = all_turns;
   }

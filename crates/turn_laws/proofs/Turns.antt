@@ -1,5 +1,6 @@
 -- Where none of its lines failed, a stream's entries are those that one worker makes of its calls there.
-use Rattle.std.proofs.Common.{◌≡◌, ℕ, suc, ◌+◌, ◌&&◌, inl, inr, ⊎_elim, eqb, Bool, true, false, cond, List, [], ◌∷◌, ◌++◌, length, map, sym, refl, ap, subst, ◌∙◌, eq-eqb}
+use Rattle.std.proofs.Common.{◌≡◌, ℕ, suc, ◌+◌, ◌&&◌, inl, inr, ⊎_elim, eqb, Bool, true, false, cond, List, [], ◌∷◌}
+use Rattle.std.proofs.Common.{◌++◌, length, map, sym, refl, ap, subst, ◌∙◌, eq-eqb}
 use Rattle.std.specs.Prelude.{Option, None, Some}
 use Rattle.std.specs.Option.{option_or}
 use Rattle.std.specs.List.{All}
@@ -25,7 +26,8 @@ use Rattle.volume_model.specs.Faults.{fault_counts}
 use Rattle.volume_model.specs.Modes.{HasSource, HasNoSource, source_of, asks_replica, is_change}
 use Rattle.volume_model.specs.Rebuilds.{added_by}
 use Rattle.volume_model.specs.History.{Spot, says_no_replica, IsAnswered, IsEnded, LegalAfter, answers_from, InOrderFrom}
-use Rattle.volume_model.specs.OneWorker.{behind_entries, want_of_replica, refused_at, marks_unless, reply_for, answer_for, entries_at, after_done, behind, served_from}
+use Rattle.volume_model.specs.OneWorker.{behind_entries, want_of_replica, refused_at, marks_unless, reply_for}
+use Rattle.volume_model.specs.OneWorker.{answer_for, entries_at, after_done, behind, served_from}
 use Rattle.volume_model.proofs.FaultLemmas.{fault_counts-append}
 use Rattle.volume_model.proofs.SpotLemmas.{source_is}
 use Rattle.volume_model.proofs.OneWorkerLemmas.{same_after}
@@ -55,12 +57,14 @@ none_is modes none = go (source_of modes) refl
     go None is = refl
     go (Some s) is = absurd (none s (source_is modes s is).read)
 
-none_against : (x : Option Refusal) (asks : Bool) (source : Option ℕ) → x ≡ None → asks ≡ false → option_or x (want_of_replica asks source) ≡ None
+none_against : (x : Option Refusal) (asks : Bool) (source : Option ℕ) → x ≡ None → asks ≡ false
+    → option_or x (want_of_replica asks source) ≡ None
 none_against (Some why) asks source e f = absurd cc
 none_against None true source e f = absurd cc
 none_against None false source e f = refl
 
-module _ (spot : Spot) (a : Answer) (is : IsAnswered spot.state spot.modes a) (source : (bytes : List ℕ) → a.reply ≡ reply.Read bytes → HasSource spot.modes) where
+module _ (spot : Spot) (a : Answer) (is : IsAnswered spot.state spot.modes a)
+    (source : (bytes : List ℕ) → a.reply ≡ reply.Read bytes → HasSource spot.modes) where
   -- a read that gave bytes and a write that was done had a replica
   had_source : (c : Call) → a.call ≡ c → IsFrameCall c → asks_replica c ≡ true → a.reply ≡ reply_for None spot c → HasSource spot.modes
   had_source (call.Read offset n) at frame asks r = source _ r
@@ -69,17 +73,24 @@ module _ (spot : Spot) (a : Answer) (is : IsAnswered spot.state spot.modes a) (s
   had_source (call.Other kind) at frame asks r = absurd cc
   had_source (call.Command c) at frame asks r = absurd frame
 
-  as_refused : IsFrameCall a.call → (why : Option Refusal) → refusal_of spot.modes spot.state a.call ≡ why → a.reply ≡ reply_for why spot a.call → a.reply ≡ reply_for (refused_at spot a.call) spot a.call
-  as_refused frame (Some why) at r = r ∙ ap (λ x. reply_for (option_or x (want_of_replica (asks_replica a.call) (source_of spot.modes))) spot a.call) (sym at)
+  as_refused : IsFrameCall a.call → (why : Option Refusal) → refusal_of spot.modes spot.state a.call ≡ why
+      → a.reply ≡ reply_for why spot a.call → a.reply ≡ reply_for (refused_at spot a.call) spot a.call
+  as_refused frame (Some why) at r = r
+      ∙ ap (λ x. reply_for (option_or x (want_of_replica (asks_replica a.call) (source_of spot.modes))) spot a.call)
+      (sym at)
   as_refused frame None at r = elim (cases_Bool (asks_replica a.call)) [
     | inl asks ↦ r ∙ ap (λ x. reply_for x spot a.call) (sym (with_source spot a.call (had_source a.call refl frame asks r) ∙ at))
-    | inr none ↦ r ∙ ap (λ x. reply_for x spot a.call) (sym (none_against (refusal_of spot.modes spot.state a.call) (asks_replica a.call) (source_of spot.modes) at none))
+    | inr none ↦ r ∙ ap (λ x. reply_for x spot a.call)
+        (sym (none_against (refusal_of spot.modes spot.state a.call) (asks_replica a.call) (source_of spot.modes) at none))
   ]
 
-  wanting : HasNoSource spot.modes → refusal_of spot.modes spot.state a.call ≡ None → asks_replica a.call ≡ true → refused_at spot a.call ≡ Some refusal.NoReplica
-  wanting none refused asks = all (refusal_of spot.modes spot.state a.call) (asks_replica a.call) (source_of spot.modes) refused asks (none_is spot.modes none)
+  wanting : HasNoSource spot.modes → refusal_of spot.modes spot.state a.call ≡ None → asks_replica a.call ≡ true
+      → refused_at spot a.call ≡ Some refusal.NoReplica
+  wanting none refused asks = all (refusal_of spot.modes spot.state a.call) (asks_replica a.call) (source_of spot.modes)
+      refused asks (none_is spot.modes none)
     where
-      all : (x : Option Refusal) (b : Bool) (s : Option ℕ) → x ≡ None → b ≡ true → s ≡ None → option_or x (want_of_replica b s) ≡ Some refusal.NoReplica
+      all : (x : Option Refusal) (b : Bool) (s : Option ℕ) → x ≡ None → b ≡ true → s ≡ None
+          → option_or x (want_of_replica b s) ≡ Some refusal.NoReplica
       all x b s e f g = rw (e, f, g) refl
 
   -- it is answered as one worker answers it there
@@ -108,7 +119,8 @@ frame_added (call.Other kind) frame = refl
 frame_added (call.Command c) frame = absurd frame
 
 -- an answer is known by its parts
-same_answer : (a : Answer) (c : Call) (r : Reply) (w place index : ℕ) → a.call ≡ c → a.reply ≡ r → a.index ≡ index → a.saw ≡ place → a.stream ≡ w
+same_answer : (a : Answer) (c : Call) (r : Reply) (w place index : ℕ) → a.call ≡ c → a.reply ≡ r → a.index ≡ index
+    → a.saw ≡ place → a.stream ≡ w
     → entry.Answer a ≡ entry.Answer (record { call = c; reply = r; index = index; saw = place; stream = w })
 same_answer a c r w place index e f g h k = λ i. entry.Answer (record { call = e i; reply = f i; index = g i; saw = h i; stream = k i })
 
@@ -137,7 +149,8 @@ abbrev pub served_behind : Spot → List Entry → ℕ → ℕ → List Call →
 served_behind opening before w index cs = served_from (behind_entries opening before) w (length before) index cs
 
 served_more : (opening : Spot) (before first more : List Entry) (w index : ℕ) (c : Call) (cs : List Call)
-    → first ≡ entries_at (behind_entries opening before) w (length before) index c → more ≡ served_behind opening (before ++ first) w (suc index) cs
+    → first ≡ entries_at (behind_entries opening before) w (length before) index c
+    → more ≡ served_behind opening (before ++ first) w (suc index) cs
     → first ++ more ≡ served_behind opening before w index (c ∷ cs)
 served_more opening before first more w index c cs e f = λ i. e i ++ (f ∙ there) i
   where
@@ -157,7 +170,8 @@ served_more opening before first more w index c cs e f = λ i. e i ++ (f ∙ the
 -- ---- the order of answers
 
 -- the index of a group's answer, and those behind it
-pub first_index : (w index least place place' : ℕ) (c : Call) (es more : List Entry) → (g : IsGroup w c es) → place + length es ≡ place' → InOrderFrom index least (answers_from w place (es ++ more))
+pub first_index : (w index least place place' : ℕ) (c : Call) (es more : List Entry) → (g : IsGroup w c es)
+    → place + length es ≡ place' → InOrderFrom index least (answers_from w place (es ++ more))
     → (g.answer.index ≡ index) × InOrderFrom (suc index) (suc (place + length g.marks)) (answers_from w place' more)
 first_index w index least place place' c es more g at order =
     let all = subst (InOrderFrom index least) (group_answers w place c es more g) order in
@@ -170,7 +184,8 @@ marked : (w : ℕ) (m : Mark) (es : List Entry) → IsFaultMark w m → ((r : �
 marked w (mark.Purged part) es is none = is
 marked w (mark.Fault s r n) es is none =
     some_none n (fault_counts w r es)
-    (sym (ap (λ (b : Bool). cond b (n ∷ fault_counts w r es) (fault_counts w r es)) (ap (λ b. b && eqb r r) (eq-eqb s w is) ∙ eq-eqb r r refl)) ∙ none r)
+    (sym (ap (λ (b : Bool). cond b (n ∷ fault_counts w r es) (fault_counts w r es))
+    (ap (λ b. b && eqb r r) (eq-eqb s w is) ∙ eq-eqb r r refl)) ∙ none r)
   where
     some_none : (n : ℕ) (ns : List ℕ) → n ∷ ns ≡ [] → ⊥
     some_none n ns e = cc
@@ -188,7 +203,8 @@ back_none [] ys e = e
 back_none (x ∷ xs) ys e = absurd cc
 
 -- nothing of a first part, and nothing of the rest
-both_none : (w : ℕ) (xs ys : List Entry) → ((r : ℕ) → fault_counts w r (xs ++ ys) ≡ []) → (r : ℕ) → (fault_counts w r xs ≡ []) × (fault_counts w r ys ≡ [])
+both_none : (w : ℕ) (xs ys : List Entry) → ((r : ℕ) → fault_counts w r (xs ++ ys) ≡ []) → (r : ℕ)
+    → (fault_counts w r xs ≡ []) × (fault_counts w r ys ≡ [])
 both_none w xs ys none r =
     let parts : fault_counts w r xs ++ fault_counts w r ys ≡ [] = sym (fault_counts-append w r xs ys) ∙ none r in
     (front_none (fault_counts w r xs) (fault_counts w r ys) parts, back_none (fault_counts w r xs) (fault_counts w r ys) parts)
@@ -201,23 +217,29 @@ no_fault_marks w (entry.Answer a ∷ marks) all none = absurd (All-head (IsOwnFa
 no_fault_marks w (entry.Mark m ∷ marks) all none = absurd (marked w m marks (All-head (IsOwnFault w) (entry.Mark m) marks all) none)
 
 -- such a call's entries are its answer
-alone : (w : ℕ) (log : Log) (c : Call) (es : List Entry) → (s : Serves w (Some log) c es) → ((r : ℕ) → fault_counts w r es ≡ []) → s.marks ≡ []
+alone : (w : ℕ) (log : Log) (c : Call) (es : List Entry) → (s : Serves w (Some log) c es)
+    → ((r : ℕ) → fault_counts w r es ≡ []) → s.marks ≡ []
 alone w log c es s none = no_fault_marks w s.marks s.faults
     (λ r. (both_none w s.marks (entry.Answer s.answer ∷ []) (λ q. ap (fault_counts w q) (sym s.is) ∙ none q) r).0)
 
-frame_turn : (opening : Spot) (w index : ℕ) (c : Call) (before es more : List Entry) → (s : Serves w (Some (log_at opening before)) c es) → IsFrameCall c → s.marks ≡ [] → s.answer.index ≡ index
+frame_turn : (opening : Spot) (w index : ℕ) (c : Call) (before es more : List Entry)
+    → (s : Serves w (Some (log_at opening before)) c es) → IsFrameCall c → s.marks ≡ [] → s.answer.index ≡ index
     → LegalAfter opening before (es ++ more)
     → (es ≡ entries_at (behind_entries opening before) w (length before) index c) × LegalAfter opening (before ++ es) more
 frame_turn opening w index c before es more s frame none at legal =
+    let behind_entries_here = behind_entries opening before in
     let only : es ≡ entry.Answer s.answer ∷ [] = s.is ∙ ap (λ l. l ++ entry.Answer s.answer ∷ []) none in
     let stands = subst (λ l. LegalAfter opening before (l ++ more)) only legal in
-    let answered : IsAnswered (behind_entries opening before).state (behind_entries opening before).modes s.answer =
-    subst (λ x. IsEnded x before (behind_entries opening before).state (behind_entries opening before).modes s.answer) (ap added_by s.call ∙ frame_added c frame) stands.0 in (
-      only ∙ frame_entries (behind_entries opening before) s.answer c w (length before) index frame answered (λ bytes is. s.source bytes is none) s.call at s.saw s.by,
+    let answered : IsAnswered behind_entries_here.state behind_entries_here.modes s.answer =
+    subst (λ x. IsEnded x before behind_entries_here.state behind_entries_here.modes s.answer)
+    (ap added_by s.call ∙ frame_added c frame) stands.0 in (
+      only ∙ frame_entries behind_entries_here s.answer c w (length before) index frame answered
+          (λ bytes is. s.source bytes is none) s.call at s.saw s.by,
       subst (λ l. LegalAfter opening (before ++ l) more) (sym only) stands.1,
     )
 
-pub frames_turn : (opening : Spot) (w index least : ℕ) (cs : List Call) (before es : List Entry) → All IsFrameCall cs → AreServed w (Some (log_at opening before)) cs es
+pub frames_turn : (opening : Spot) (w index least : ℕ) (cs : List Call) (before es : List Entry) → All IsFrameCall cs
+    → AreServed w (Some (log_at opening before)) cs es
     → ((r : ℕ) → fault_counts w r es ≡ []) → LegalAfter opening before es → InOrderFrom index least (answers_from w (length before) es)
     → es ≡ served_behind opening before w index cs
 frames_turn opening w index least [] before es frames done none legal order = done
@@ -232,7 +254,8 @@ frames_turn opening w index least (c ∷ cs) before es frames done none legal or
     let here = frame_turn opening w index c before first more s (All-head IsFrameCall c cs frames)
     (alone w (log_at opening before) c first s (λ r. (parts r).0)) next.0
     (subst (LegalAfter opening before) done.2 legal) in
-    let rest = frames_turn opening w (suc index) (suc (length before + length group.marks)) cs (before ++ first) more (All-tail IsFrameCall c cs frames)
+    let rest = frames_turn opening w (suc index) (suc (length before + length group.marks)) cs (before ++ first) more
+    (All-tail IsFrameCall c cs frames)
     (subst (λ l. AreServed w l cs more) (longer_at opening before first) done.4)
     (λ r. (parts r).1) here.1 next.1 in
     done.2 ∙ served_more opening before first more w index c cs here.0 rest
@@ -256,18 +279,22 @@ unfaulted w (entry.Mark m ∷ marks) all none = ⊎_elim
     unshown (mark.Promoted q) not r = refl
     unshown (mark.Aborted q) not r = refl
 
-pub commands_turn : (opening : Spot) (w index least : ℕ) (cs : List Command) (before es : List Entry) → AreCommanded w (Some (log_at opening before)) cs es
-    → ((r : ℕ) → fault_counts w r es ≡ []) → InOrderFrom index least (answers_from w (length before) es) → es ≡ served_behind opening before w index (map call.Command cs)
+pub commands_turn : (opening : Spot) (w index least : ℕ) (cs : List Command) (before es : List Entry)
+    → AreCommanded w (Some (log_at opening before)) cs es
+    → ((r : ℕ) → fault_counts w r es ≡ []) → InOrderFrom index least (answers_from w (length before) es)
+    → es ≡ served_behind opening before w index (map call.Command cs)
 commands_turn opening w index least [] before es done none order = done
 commands_turn opening w index least (c ∷ cs) before es done none order =
     let first = done.0 in
     let more = done.1 in
     let s = done.3 in
     let group = commanded_group w (Some (log_at opening before)) c first s in
-    let next = first_index w index least (length before) (length (before ++ first)) (call.Command c) first more group (sym (length-append before first))
+    let next = first_index w index least (length before) (length (before ++ first)) (call.Command c) first more group
+    (sym (length-append before first))
     (subst (λ l. InOrderFrom index least (answers_from w (length before) l)) done.2 order) in
     let parts = both_none w first more (λ r. ap (fault_counts w r) (sym done.2) ∙ none r) in
-    let marks = unfaulted w s.marks s.are (λ r. (both_none w s.marks (entry.Answer s.answer ∷ []) (λ q. ap (fault_counts w q) (sym s.is) ∙ (parts q).0) r).0) in
+    let marks = unfaulted w s.marks s.are
+    (λ r. (both_none w s.marks (entry.Answer s.answer ∷ []) (λ q. ap (fault_counts w q) (sym s.is) ∙ (parts q).0) r).0) in
     let rest = commands_turn opening w (suc index) (suc (length before + length group.marks)) cs (before ++ first) more
     (subst (λ l. AreCommanded w l cs more) (longer_at opening before first) done.4) (λ r. (parts r).1) next.1 in
     done.2 ∙ served_more opening before first more w index (call.Command c) (map call.Command cs)

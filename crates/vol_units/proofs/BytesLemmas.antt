@@ -1,5 +1,6 @@
 -- Lemmas on specs/Bytes.antt.
-use Rattle.std.proofs.Common.{◌≡◌, ℕ, ◌+◌, ◌-◌, ◌≤◌, List, ◌++◌, length, take, drop, sym, ap, ◌∙◌, arith, append_assoc, length-append, length-drop}
+use Rattle.std.proofs.Common.{◌≡◌, ℕ, ◌+◌, ◌-◌, ◌≤◌, List, ◌++◌, length, take, drop, sym, ap, ◌∙◌, arith}
+use Rattle.std.proofs.Common.{append_assoc, length-append, length-drop}
 use Rattle.std.proofs.lemmas.List.{length-replicate, length-take-le, drop-drop, drop-take, take-append-drop, take-take}
 use Rattle.std.proofs.Math.Seq.{take-append_seam, drop-append-add}
 use Rattle.vol_units.specs.Bytes.{zeros, bytes_at, with_bytes_at}
@@ -9,21 +10,30 @@ unfolding zeros
 length-zeros n = length-replicate n 0
 
 -- a write within the disk keeps its size
-pub length-with_bytes_at : (disk : List ℕ) (at : ℕ) (bytes : List ℕ) → at + length bytes ≤ length disk → length (with_bytes_at disk at bytes) ≡ length disk
+pub length-with_bytes_at : (disk : List ℕ) (at : ℕ) (bytes : List ℕ) → at + length bytes ≤ length disk
+    → length (with_bytes_at disk at bytes) ≡ length disk
 length-with_bytes_at disk at bytes inside =
     let front : length (take at disk) ≡ at = length-take-le at disk (omega arith) in
     let rest = drop (at + length bytes) disk in
-    omega (arith, front, length-append (take at disk ++ bytes) rest, length-append (take at disk) bytes, length-drop (at + length bytes) disk)
+    omega (
+      arith,
+      front,
+      length-append (take at disk ++ bytes) rest,
+      length-append (take at disk) bytes,
+      length-drop (at + length bytes) disk,
+    )
 
 -- what was written, and behind it the same bytes as before
-with_bytes_at-front : (disk : List ℕ) (at : ℕ) (bytes : List ℕ) → at + length bytes ≤ length disk → take (at + length bytes) (with_bytes_at disk at bytes) ≡ take at disk ++ bytes
+with_bytes_at-front : (disk : List ℕ) (at : ℕ) (bytes : List ℕ) → at + length bytes ≤ length disk
+    → take (at + length bytes) (with_bytes_at disk at bytes) ≡ take at disk ++ bytes
 with_bytes_at-front disk at bytes inside =
     let front : length (take at disk) ≡ at = length-take-le at disk (omega arith) in
     let long : length (take at disk ++ bytes) ≡ at + length bytes = omega (arith, front, length-append (take at disk) bytes) in
     ap (λ n. take n (with_bytes_at disk at bytes)) (sym long)
     ∙ take-append_seam (take at disk ++ bytes) (drop (at + length bytes) disk)
 
-with_bytes_at-rest : (disk : List ℕ) (at : ℕ) (bytes : List ℕ) (more : ℕ) → at + length bytes ≤ length disk → drop (at + length bytes + more) (with_bytes_at disk at bytes) ≡ drop (at + length bytes + more) disk
+with_bytes_at-rest : (disk : List ℕ) (at : ℕ) (bytes : List ℕ) (more : ℕ) → at + length bytes ≤ length disk
+    → drop (at + length bytes + more) (with_bytes_at disk at bytes) ≡ drop (at + length bytes + more) disk
 with_bytes_at-rest disk at bytes more inside =
     let end = at + length bytes in
     let front : length (take at disk) ≡ at = length-take-le at disk (omega arith) in
@@ -33,7 +43,9 @@ with_bytes_at-rest disk at bytes more inside =
     ∙ drop-drop more end disk
 
 -- bytes written right behind others are one write
-pub with_bytes_at-append : (disk : List ℕ) (at : ℕ) (bytes more : List ℕ) (place : ℕ) → at + length bytes ≤ length disk → place ≡ at + length bytes → with_bytes_at (with_bytes_at disk at bytes) place more ≡ with_bytes_at disk at (bytes ++ more)
+pub with_bytes_at-append : (disk : List ℕ) (at : ℕ) (bytes more : List ℕ) (place : ℕ) → at + length bytes ≤ length disk
+    → place ≡ at + length bytes → with_bytes_at (with_bytes_at disk at bytes) place more ≡ with_bytes_at disk at
+    (bytes ++ more)
 with_bytes_at-append disk at bytes more place inside here =
     let mid = with_bytes_at disk at bytes in
     let end = at + length bytes in
@@ -52,7 +64,8 @@ take-slice xs i k =
     ∙ take-append-drop i (take (i + k) xs)
 
 -- a part of a part
-pub take-within : (xs : List ℕ) (place start count size : ℕ) → start + count ≤ size → take count (drop start (take size (drop place xs))) ≡ take count (drop (place + start) xs)
+pub take-within : (xs : List ℕ) (place start count size : ℕ) → start + count ≤ size
+    → take count (drop start (take size (drop place xs))) ≡ take count (drop (place + start) xs)
 take-within xs place start count size room =
     let parts : start + (size - start) ≡ size = omega arith in
     ap (λ n. take count (drop start (take n (drop place xs)))) (sym parts)
@@ -61,7 +74,8 @@ take-within xs place start count size room =
     ∙ ap (take count) (drop-drop start place xs)
 
 -- the bytes up to a place, and those from there on
-pub bytes_at-append : (disk : List ℕ) (at n more place : ℕ) → place ≡ at + n → bytes_at disk at n ++ bytes_at disk place more ≡ bytes_at disk at (n + more)
+pub bytes_at-append : (disk : List ℕ) (at n more place : ℕ) → place ≡ at + n
+    → bytes_at disk at n ++ bytes_at disk place more ≡ bytes_at disk at (n + more)
 bytes_at-append disk at n more place here =
     let first : at + n - at ≡ n = omega arith in
     let second : place + more - place ≡ more = omega arith in

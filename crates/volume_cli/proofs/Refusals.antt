@@ -21,7 +21,8 @@ use Rattle.volume_cli.specs.Stops.{stop_of, RunFact, RunLeaves, StopLeaves, Prin
 a_run : (asked : Option Words) (words : Words) → asked ≡ Some words → (workers : Workers) × (asked ≡ Some (Run workers))
 a_run asked (Run workers) is = (workers, is)
 
-pub asks_run : (asked : Option Words) (result : Result Words WordsError) (words : Words) → result ≡ Ok words → IfOk result (λ w. asked ≡ Some w)
+pub asks_run : (asked : Option Words) (result : Result Words WordsError) (words : Words) → result ≡ Ok words
+    → IfOk result (λ w. asked ≡ Some w)
     → (workers : Workers) × (asked ≡ Some (Run workers))
 asks_run asked result words at found = a_run asked words (subst (λ r. IfOk r (λ w. asked ≡ Some w)) at found)
 
@@ -40,7 +41,8 @@ no_memory place why e = cc
 
 -- an input is not a script and none
 not_both : (input : List ℕ) (script : Script) (place : ℕ) (why : What) → IsScript input script → IsNoScript input place why → ⊥
-not_both input script place why is bad = apart (one_truth input (Ok script) (bad_at place why) (λ e. apart_too e) (no_memory place why) is bad)
+not_both input script place why is bad =
+    apart (one_truth input (Ok script) (bad_at place why) (λ e. apart_too e) (no_memory place why) is bad)
   where
     apart : Ok script ≡ bad_at place why → ⊥
     apart e = cc
@@ -72,17 +74,21 @@ no_completion None place why answer had = tt
 no_completion (Some told) place why answer had = λ script is. absurd (not_both told script place why is had)
 
 -- what a run had that ends so
-pub stopped_at : (Runs : RunFact) (stop : Stop) (place : ℕ) (why : What) (same : Type 0) (left old new : Option (List ℕ)) → stop ≡ BadScript place why
+pub stopped_at : (Runs : RunFact) (stop : Stop) (place : ℕ) (why : What) (same : Type 0) (left old new : Option (List ℕ))
+    → stop ≡ BadScript place why
     → StopLeaves Runs stop same left old new → HadNoScript left place why
 stopped_at Runs stop place why same left old new is leaves = (subst (λ stop. StopLeaves Runs stop same left old new) is leaves).1
 
-pub stopped_writing : (Runs : RunFact) (stop : Stop) (same : Type 0) (left old new : Option (List ℕ)) → stop ≡ WriteFault → StopLeaves Runs stop same left old new
+pub stopped_writing : (Runs : RunFact) (stop : Stop) (same : Type 0) (left old new : Option (List ℕ)) → stop ≡ WriteFault
+    → StopLeaves Runs stop same left old new
     → PrintsPrefix Runs left old new
 stopped_writing Runs stop same left old new is leaves = subst (λ stop. StopLeaves Runs stop same left old new) is leaves
 
 -- what a refused script leaves
-pub refused_leaves : {T : Type 0} (Runs : RunFact) (result : Result T Stop) (fault : ScriptError) (same : Type 0) (left old new : Option (List ℕ))
-    → IsErrAnd result (λ e. e ≡ stop_of fault) → same → ((place : ℕ) (why : What) → fault ≡ script_error.Bad place why → HadNoScript left place why)
+pub refused_leaves : {T : Type 0} (Runs : RunFact) (result : Result T Stop) (fault : ScriptError) (same : Type 0)
+    (left old new : Option (List ℕ))
+    → IsErrAnd result (λ e. e ≡ stop_of fault) → same
+    → ((place : ℕ) (why : What) → fault ≡ script_error.Bad place why → HadNoScript left place why)
     → RunLeaves Runs result same left old new
 refused_leaves Runs (Ok x) fault same left old new is kept had = absurd is
 refused_leaves Runs (Err e) (script_error.Bad place why) same left old new is kept had =

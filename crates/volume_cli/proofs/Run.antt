@@ -1,5 +1,6 @@
 -- What a run has read, and what it leaves in its sink.
-use Rattle.std.proofs.Common.{◌≡◌, ℕ, ◌≤◌, ◌<◌, List, [], ◌++◌, length, replicate, Option, Some, None, Result, Ok, Err, refl, sym, ap, subst, ◌∙◌, inl, inr, OnOk, arith, length-append, map}
+use Rattle.std.proofs.Common.{◌≡◌, ℕ, ◌≤◌, ◌<◌, List, [], ◌++◌, length, replicate, Option, Some, None, Result, Ok}
+use Rattle.std.proofs.Common.{Err, refl, sym, ap, subst, ◌∙◌, inl, inr, OnOk, arith, length-append, map}
 use Rattle.std.proofs.lemmas.List.{length-replicate}
 use Rattle.std.specs.Io.KnownBytes.{Consumes, IsAtEnd, Appends}
 use Rattle.std.proofs.KnownBytes.{Consumes-whole}
@@ -42,7 +43,8 @@ too_long (Some told) (Some more) input place given is =
 pub had_no_script : (left rest : Option (List ℕ)) (input : List ℕ) (place : ℕ) (why : What) → Consumes left rest input → IsWhole rest input
     → IsNoScript input place why → HadNoScript left place why
 had_no_script left rest input place what.Input given end is = too_long left rest input place given is
-had_no_script left rest input place what.Line given end is = Consumes-whole left rest input (λ told. IsNoScript told place what.Line) given (end is.0) is
+had_no_script left rest input place what.Line given end is =
+    Consumes-whole left rest input (λ told. IsNoScript told place what.Line) given (end is.0) is
 had_no_script left rest input place what.Json given end is =
     Consumes-whole left rest input (λ told. IsNoScript told place what.Json) given (end is.2.most) is
 had_no_script left rest input place (what.Member m) given end is =
@@ -59,31 +61,44 @@ had_no_script left rest input place what.Frame given end is =
 -- a script that was read
 pub had_script : (left rest : Option (List ℕ)) (input : List ℕ) (script : Script) → Consumes left rest input → IsWhole rest input
     → IsScript input script → HadScript left script
-had_script left rest input script given end is = (input, is, Consumes-whole left rest input (λ told. told ≡ input) given (end is.headed.cut.most) refl)
+had_script left rest input script given end is =
+    (input, is, Consumes-whole left rest input (λ told. told ≡ input) given (end is.headed.cut.most) refl)
 
 -- there are few replicas
 pub few_modes : (input : List ℕ) (script : Script) (counted : ℕ → ℕ → ℕ) (carried : ℕ → ℕ → Option (List (List ℕ))) (s : Served)
     → IsScript input script → IsServed script counted carried s → length (modes_of s.world.journal) < 256
 few_modes input script counted carried s is done =
     let few = few_replicas input script is in
-    omega (arith, few.1, length-modes_after s.world.journal.opening.modes s.world.journal.entries, ap (λ (ms : List Mode). length ms) done.opening, length-replicate script.replicas Rw)
+    omega (
+      arith,
+      few.1,
+      length-modes_after s.world.journal.opening.modes s.world.journal.entries,
+      ap (λ (ms : List Mode). length ms) done.opening,
+      length-replicate script.replicas Rw,
+    )
 
 -- the text that is written is the report of the run
-pub written_is : (script : Script) (counted : ℕ → ℕ → ℕ) (carried : ℕ → ℕ → Option (List (List ℕ))) (s : Served) → IsServed script counted carried s
+pub written_is : (script : Script) (counted : ℕ → ℕ → ℕ) (carried : ℕ → ℕ → Option (List (List ℕ))) (s : Served)
+    → IsServed script counted carried s
     → written_text s.heads.items s.world.journal (map volume_of_node s.world.nodes.items) ≡ report_text script s.world.journal.entries
 written_is script counted carried s done =
     written_is_report s.heads.items s.world.journal (opening_of script) s.world.nodes.items (blank 0) done.opening done.many done.replicas
     ∙ ap (λ (hs : List (List Head)). report_of hs (opening_of script) s.world.journal.entries) done.heads
 
 -- what is written of the report of a run
-pub leaves : {T : Type 0} (Runs : RunFact) (result : Result T Stop) (same : Type 0) (left old new : Option (List ℕ)) (script : Script) (journal : List Entry) (text : List ℕ) (before now : ℕ)
+pub leaves : {T : Type 0} (Runs : RunFact) (result : Result T Stop) (same : Type 0) (left old new : Option (List ℕ))
+    (script : Script) (journal : List Entry) (text : List ℕ) (before now : ℕ)
     → HadScript left script → Runs script journal → text ≡ report_text script journal
-    → OnOk result (Appends old new text) → WritesPrefix old new text → WriteCounts result before now → RunLeaves Runs result same left old new
-leaves Runs (Ok x) same left old new script journal text before now had run is whole prefix counts = (script, journal, had, run, subst (Appends old new) is whole)
+    → OnOk result (Appends old new text) → WritesPrefix old new text → WriteCounts result before now
+    → RunLeaves Runs result same left old new
+leaves Runs (Ok x) same left old new script journal text before now had run is whole prefix counts =
+    (script, journal, had, run, subst (Appends old new) is whole)
 leaves Runs (Err (BadScript place why)) same left old new script journal text before now had run is whole prefix counts = absurd counts
 leaves Runs (Err ReadFault) same left old new script journal text before now had run is whole prefix counts = absurd counts
-leaves Runs (Err WriteFault) same left old new script journal text before now had run is whole prefix counts = (script, journal, had, run, subst (WritesPrefix old new) is prefix)
-leaves Runs (Err NoMemory) same left old new script journal text before now had run is whole prefix counts = inr (script, journal, had, run, subst (WritesPrefix old new) is prefix)
+leaves Runs (Err WriteFault) same left old new script journal text before now had run is whole prefix counts =
+    (script, journal, had, run, subst (WritesPrefix old new) is prefix)
+leaves Runs (Err NoMemory) same left old new script journal text before now had run is whole prefix counts =
+    inr (script, journal, had, run, subst (WritesPrefix old new) is prefix)
 
 -- what the counts say of a run that has read its input, and then wrote
 pub run_counts : {T : Type 0} (result : Result T Stop) (s t k l : ℕ) → t ≡ s → WriteCounts result k l → Counts result s t k l

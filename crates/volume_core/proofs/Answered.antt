@@ -48,10 +48,12 @@ asks_one kind.Whole x n = absurd (n refl)
 good_range : (size at n : ℕ) → at + n ≤ size → is_good size (pos at) n ≡ true
 good_range size at n inside = grind (arith, nat_tests)
 
-pub write_free : (modes : List Mode) (p : PlainState) (at : ℕ) (bytes : List ℕ) → at + length bytes ≤ length p.volume.disk → refusal_of modes p (call.Write (pos at) bytes) ≡ None
+pub write_free : (modes : List Mode) (p : PlainState) (at : ℕ) (bytes : List ℕ) → at + length bytes ≤ length p.volume.disk
+    → refusal_of modes p (call.Write (pos at) bytes) ≡ None
 write_free modes p at bytes inside = rw (good_range (length p.volume.disk) at (length bytes) inside) refl
 
-pub read_free : (modes : List Mode) (p : PlainState) (at n : ℕ) → at + n ≤ length p.volume.disk → n ≤ longest_call → refusal_of modes p (call.Read (pos at) n) ≡ None
+pub read_free : (modes : List Mode) (p : PlainState) (at n : ℕ) → at + n ≤ length p.volume.disk → n ≤ longest_call
+    → refusal_of modes p (call.Read (pos at) n) ≡ None
 read_free modes p at n inside short = rw (le-ltb longest_call n short) (rw (good_range (length p.volume.disk) at n inside) refl)
 
 -- ---- as the plain disk answers
@@ -69,21 +71,26 @@ plainly modes p a is fails source purge = record {
   purged = λ e done. absurd (purge e done);
 }
 
-pub refused_plainly : (modes : List Mode) (p : PlainState) (a : Answer) (why : Refusal) → refusal_of modes p a.call ≡ Some why → a.reply ≡ reply.Refused why
+pub refused_plainly : (modes : List Mode) (p : PlainState) (a : Answer) (why : Refusal)
+    → refusal_of modes p a.call ≡ Some why → a.reply ≡ reply.Refused why
     → ((r : ℕ) → a.call ≡ call.Command (command.Fail r) → ⊥) → IsAnswered p modes a
 refused_plainly modes p a why refused is fails =
     let no = λ (done : is_refusal a.reply ≡ false). not_both (is_refusal a.reply) done (ap is_refusal is) in
-    plainly modes p a (is ∙ sym (ap (λ w. (step_unless w modes p a.call).1) refused)) (λ r e. absurd (fails r e)) (λ _ done. absurd (no done)) (λ _ done. no done)
+    plainly modes p a (is ∙ sym (ap (λ w. (step_unless w modes p a.call).1) refused)) (λ r e. absurd (fails r e))
+    (λ _ done. absurd (no done)) (λ _ done. no done)
 
 -- a call that nothing stands against, as nothing does
-pub done_plainly : (modes : List Mode) (p : PlainState) (a : Answer) → refusal_of modes p a.call ≡ None → a.reply ≡ (step_unless None modes p a.call).1
+pub done_plainly : (modes : List Mode) (p : PlainState) (a : Answer) → refusal_of modes p a.call ≡ None
+    → a.reply ≡ (step_unless None modes p a.call).1
     → ((c : Command) → a.call ≡ call.Command c → ⊥) → (is_change a.call ≡ true → HasSource modes) → IsAnswered p modes a
 done_plainly modes p a free is none source =
-    plainly modes p a (is ∙ sym (ap (λ w. (step_unless w modes p a.call).1) free)) (λ r e. absurd (none (command.Fail r) e)) (λ change _. source change) (λ e _. none command.Purge e)
+    plainly modes p a (is ∙ sym (ap (λ w. (step_unless w modes p a.call).1) free)) (λ r e. absurd (none (command.Fail r) e))
+    (λ change _. source change) (λ e _. none command.Purge e)
 
 -- ---- that there is no replica
 
-pub none_answered : (modes : List Mode) (p : PlainState) (a : Answer) → refusal_of modes p a.call ≡ None → asks_replica a.call ≡ true → ((c : Command) → a.call ≡ call.Command c → ⊥)
+pub none_answered : (modes : List Mode) (p : PlainState) (a : Answer) → refusal_of modes p a.call ≡ None
+    → asks_replica a.call ≡ true → ((c : Command) → a.call ≡ call.Command c → ⊥)
     → a.reply ≡ reply.Refused NoReplica → HasNoSource modes → IsAnswered p modes a
 none_answered modes p a free asks none is no_source = record {
   reply = λ says. absurd (not_both (says_no_replica a.reply) says (ap says_no_replica is));

@@ -1,5 +1,6 @@
 -- What steps that append entries without a call leave to other streams, and what their own sees.
-use Rattle.std.proofs.Common.{◌≡◌, ℕ, ◌+◌, ⊎_elim, inl, inr, List, [], ◌∷◌, ◌++◌, length, length-set, map, subst, sym, refl, ap, ◌∙◌, append-nil, append_assoc}
+use Rattle.std.proofs.Common.{◌≡◌, ℕ, ◌+◌, ⊎_elim, inl, inr, List, [], ◌∷◌, ◌++◌, length, length-set, map, subst, sym}
+use Rattle.std.proofs.Common.{refl, ap, ◌∙◌, append-nil, append_assoc}
 use Rattle.std.specs.Prelude.{Option, None, Some}
 use Rattle.volume_model.specs.declared.call.Call.{Call}
 use Rattle.volume_model.specs.declared.call.Reply.{Reply}
@@ -16,7 +17,8 @@ use Rattle.volume_core.specs.State.{State, modes_in, index_at, gave_up_at}
 use Rattle.volume_core.specs.Steps.{with_place, answered, faulted, answer_entry, marked, aborted, behind_fall}
 use Rattle.volume_core.specs.Sound.{IsSound}
 use Rattle.volume_core.specs.Answers.{IsAnsweredNow, failed_by, failed_in, after_fail}
-use Rattle.volume_core.specs.Streams.{calls_in, running, commands_in, turning, open_of, MayAppendMark, MayAppend, MayGo, IsAnsweredTo, HasFault, origin_of}
+use Rattle.volume_core.specs.Streams.{calls_in, running, commands_in, turning, open_of, MayAppendMark, MayAppend}
+use Rattle.volume_core.specs.Streams.{MayGo, IsAnsweredTo, HasFault, origin_of}
 use Rattle.volume_core.proofs.FarLemmas.{GoesOn, Aborts, behind}
 use Rattle.volume_core.proofs.CallLemmas.{calls-idle}
 
@@ -33,7 +35,18 @@ pub record Appends (n : ℕ) (s s1 : State) : Type 0 where
   pub gave_up : s1.gave_up ≡ s.gave_up
 
 same_appends : (n : ℕ) (s : State) → Appends n s s
-same_appends n s = record { marks = []; entries = sym (append-nil s.book.entries); may = tt; origin = refl; tickets = refl; calls = refl; maint = refl; commands = refl; gave_up = refl }
+same_appends n s = record {
+  marks = [];
+  entries = sym (append-nil s.book.entries);
+  may = tt;
+  origin = refl;
+  tickets =
+      refl;
+  calls = refl;
+  maint = refl;
+  commands = refl;
+  gave_up = refl;
+}
 
 -- a fall, behind whose mark a rebuild may end
 module _ (n : ℕ) (s : State) (m : Mark) (r : ℕ) where
@@ -41,7 +54,18 @@ module _ (n : ℕ) (s : State) (m : Mark) (r : ℕ) where
   fell = behind_fall (marked s m) r
 
   alone_appends : MayAppendMark n m → Appends n s (marked s m)
-  alone_appends may = record { marks = entry.Mark m ∷ []; entries = refl; may = (may, tt); origin = refl; tickets = refl; calls = refl; maint = refl; commands = refl; gave_up = refl }
+  alone_appends may = record {
+    marks = entry.Mark m ∷ [];
+    entries = refl;
+    may = (may, tt);
+    origin = refl;
+    tickets =
+        refl;
+    calls = refl;
+    maint = refl;
+    commands = refl;
+    gave_up = refl;
+  }
 
   ends_appends : (t : ℕ) → MayAppendMark n m → Appends n s (aborted (marked s m) t)
   ends_appends t may = record {
@@ -79,7 +103,8 @@ may_append n (entry.Mark m ∷ xs) a may by = (may.0, may_append n xs a may.1 by
 -- a call of a stream that has none open is answered behind them
 module _ (n : ℕ) (s s1 s2 : State) (saw : ℕ) (c : Call) (r : Reply) (more : Appends n s s1) (is : s2 ≡ answered s1 n saw c r) where
   entries_now : s2.book.entries ≡ s.book.entries ++ (more.marks ++ answer_entry s1 n saw c r ∷ [])
-  entries_now = ap (λ (x : State). x.book.entries) is ∙ ap (λ l. l ++ answer_entry s1 n saw c r ∷ []) more.entries ∙ append_assoc s.book.entries more.marks (answer_entry s1 n saw c r ∷ [])
+  entries_now = ap (λ (x : State). x.book.entries) is ∙ ap (λ l. l ++ answer_entry s1 n saw c r ∷ []) more.entries
+      ∙ append_assoc s.book.entries more.marks (answer_entry s1 n saw c r ∷ [])
 
   runs_now : (m : ℕ) → running s2 m ≡ running s m
   runs_now m = ap (λ (x : State). running x m) is ∙ ap (λ ts. calls_in m ts s1.calls) more.tickets ∙ ap (calls_in m s.tickets) more.calls
@@ -87,10 +112,18 @@ module _ (n : ℕ) (s s1 s2 : State) (saw : ℕ) (c : Call) (r : Reply) (more : 
   pub answered_may : IsSound s2 → MayGo n s s2
   answered_may ok2 = record {
     sound = ok2;
-    origin = ap origin_of is ∙ ap (λ k. record { first = s1.first; opening = s1.book.opening; size = s1.size; streams = k; replicas = length s1.nodes }) (length-set s1.indices n (index_at s1.indices n + 1)) ∙ more.origin;
-    added = (more.marks ++ answer_entry s1 n saw c r ∷ [], entries_now, may_append n more.marks (record { call = c; reply = r; index = index_at s1.indices n; saw = saw; stream = n }) more.may refl);
+    origin = ap origin_of is
+        ∙ ap (λ k. record { first = s1.first; opening = s1.book.opening; size = s1.size; streams = k; replicas = length s1.nodes })
+        (length-set s1.indices n (index_at s1.indices n + 1)) ∙ more.origin;
+    added = (
+      more.marks ++ answer_entry s1 n saw c r ∷ [],
+      entries_now,
+      may_append n more.marks (record { call = c; reply = r; index = index_at s1.indices n; saw = saw; stream = n })
+          more.may refl,
+    );
     others = λ m other. runs_now m;
-    turns = λ m other. ap (λ (x : State). turning x m) is ∙ ap (λ ts. commands_in m ts s1.commands) more.maint ∙ ap (commands_in m s.maint) more.commands;
+    turns = λ m other. ap (λ (x : State). turning x m) is ∙ ap (λ ts. commands_in m ts s1.commands) more.maint
+        ∙ ap (commands_in m s.maint) more.commands;
     gave_up = λ m other. ap (λ (x : State). gave_up_at x.gave_up m) is ∙ ap (λ g. gave_up_at g m) more.gave_up;
   }
 
@@ -105,16 +138,40 @@ module _ (n : ℕ) (s s1 s2 : State) (saw : ℕ) (c : Call) (r : Reply) (more : 
   }
 
 pub now_may : (n : ℕ) (s s2 : State) (c : Call) (place : ℕ) → IsAnsweredNow s n c place s2 → IsSound s2 → MayGo n s s2
-now_may n s s2 c place a ok2 = answered_may n s (after_fail (with_place s) (failed_by c)) s2 (length s.book.entries) c _ (placed (fail_appends n (with_place s) (failed_by c))) a.state ok2
+now_may n s s2 c place a ok2 = answered_may n s (after_fail (with_place s) (failed_by c)) s2 (length s.book.entries) c _
+    (placed (fail_appends n (with_place s) (failed_by c))) a.state ok2
   where
     placed : {s1 : State} → Appends n (with_place s) s1 → Appends n s s1
-    placed a = record { marks = a.marks; entries = a.entries; may = a.may; origin = a.origin; tickets = a.tickets; calls = a.calls; maint = a.maint; commands = a.commands; gave_up = a.gave_up }
+    placed a = record {
+      marks = a.marks;
+      entries = a.entries;
+      may = a.may;
+      origin = a.origin;
+      tickets = a.tickets;
+      calls =
+          a.calls;
+      maint = a.maint;
+      commands = a.commands;
+      gave_up = a.gave_up;
+    }
 
 pub now_sees : (n : ℕ) (s s2 : State) (c : Call) (place : ℕ) → IsAnsweredNow s n c place s2 → IsIdle n s.calls → IsAnsweredTo n c s s2
-now_sees n s s2 c place a idle = answered_sees n s (after_fail (with_place s) (failed_by c)) s2 (length s.book.entries) c _ (placed (fail_appends n (with_place s) (failed_by c))) a.state idle
+now_sees n s s2 c place a idle = answered_sees n s (after_fail (with_place s) (failed_by c)) s2 (length s.book.entries) c _
+    (placed (fail_appends n (with_place s) (failed_by c))) a.state idle
   where
     placed : {s1 : State} → Appends n (with_place s) s1 → Appends n s s1
-    placed a = record { marks = a.marks; entries = a.entries; may = a.may; origin = a.origin; tickets = a.tickets; calls = a.calls; maint = a.maint; commands = a.commands; gave_up = a.gave_up }
+    placed a = record {
+      marks = a.marks;
+      entries = a.entries;
+      may = a.may;
+      origin = a.origin;
+      tickets = a.tickets;
+      calls =
+          a.calls;
+      maint = a.maint;
+      commands = a.commands;
+      gave_up = a.gave_up;
+    }
 
 -- a line fails
 module _ (n : ℕ) (s s2 : State) (r count : ℕ) (is : s2 ≡ faulted s n r count) where
@@ -128,14 +185,18 @@ module _ (n : ℕ) (s s2 : State) (r count : ℕ) (is : s2 ≡ faulted s n r cou
         sound = ok2;
         origin = ap origin_of is ∙ more.origin;
         added = (more.marks, ap (λ (x : State). x.book.entries) is ∙ more.entries, more.may);
-        others = λ m other. ap (λ (x : State). running x m) is ∙ ap (λ ts. calls_in m ts (faulted s n r count).calls) more.tickets ∙ ap (calls_in m s.tickets) more.calls;
-        turns = λ m other. ap (λ (x : State). turning x m) is ∙ ap (λ ts. commands_in m ts (faulted s n r count).commands) more.maint ∙ ap (commands_in m s.maint) more.commands;
+        others = λ m other. ap (λ (x : State). running x m) is
+            ∙ ap (λ ts. calls_in m ts (faulted s n r count).calls) more.tickets ∙ ap (calls_in m s.tickets) more.calls;
+        turns = λ m other. ap (λ (x : State). turning x m) is
+            ∙ ap (λ ts. commands_in m ts (faulted s n r count).commands) more.maint
+            ∙ ap (commands_in m s.maint) more.commands;
         gave_up = λ m other. ap (λ (x : State). gave_up_at x.gave_up m) is ∙ ap (λ g. gave_up_at g m) more.gave_up;
       }
 
   pub fault_sees : HasFault n r count s s2
   fault_sees = subst (HasFault n r count s) (sym is) (⊎_elim
-      (λ (x : GoesOn (marked s its_mark) r (faulted s n r count)). subst (HasFault n r count s) (sym x.state) (record { ends = []; most = inl refl; entries = refl; same = refl }))
+      (λ (x : GoesOn (marked s its_mark) r (faulted s n r count)). subst (HasFault n r count s) (sym x.state)
+      (record { ends = []; most = inl refl; entries = refl; same = refl }))
       (λ (x : Aborts (marked s its_mark) r (faulted s n r count)). subst (HasFault n r count s) (sym x.state) (record {
         ends = entry.Mark (mark.Aborted x.b.target) ∷ [];
         most = inr (x.b.target, refl);
@@ -147,4 +208,15 @@ module _ (n : ℕ) (s s2 : State) (r count : ℕ) (is : s2 ≡ faulted s n r cou
 -- ---- nothing but a place
 
 pub nothing_more : (n : ℕ) (s : State) → Appends n s (with_place s)
-nothing_more n s = record { marks = []; entries = sym (append-nil s.book.entries); may = tt; origin = refl; tickets = refl; calls = refl; maint = refl; commands = refl; gave_up = refl }
+nothing_more n s = record {
+  marks = [];
+  entries = sym (append-nil s.book.entries);
+  may = tt;
+  origin = refl;
+  tickets =
+      refl;
+  calls = refl;
+  maint = refl;
+  commands = refl;
+  gave_up = refl;
+}

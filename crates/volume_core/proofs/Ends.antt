@@ -1,5 +1,6 @@
 -- Each step that answers a call keeps the invariant.
-use Rattle.std.proofs.Common.{◌≡◌, ◌≢◌, ℕ, ◌+◌, ◌<◌, ◌≤◌, true, cond, List, [], ◌∷◌, ◌++◌, length, set, length-set, refl, sym, ap, subst, ◌∙◌, pos, arith}
+use Rattle.std.proofs.Common.{◌≡◌, ◌≢◌, ℕ, ◌+◌, ◌<◌, ◌≤◌, true, cond, List, [], ◌∷◌, ◌++◌, length, set, length-set}
+use Rattle.std.proofs.Common.{refl, sym, ap, subst, ◌∙◌, pos, arith}
 use Rattle.std.specs.Prelude.{None, Some}
 use Rattle.std.specs.List.{count_by, remove}
 use Rattle.std.proofs.lemmas.List.Sums.{sum_by-remove}
@@ -44,7 +45,8 @@ use Rattle.volume_core.proofs.Rows.{counts, place_sound}
 use Rattle.volume_core.proofs.Told.{answer_told}
 
 -- the same clients of what is the same
-pub same_clients : (v : Volume) (size n m : ℕ) (es : List Entry) (ms ks : List Mode) (tickets : List Ticket) (calls : List OpenCall) (nodes : List Node) → n ≡ m → ms ≡ ks
+pub same_clients : (v : Volume) (size n m : ℕ) (es : List Entry) (ms ks : List Mode) (tickets : List Ticket)
+    (calls : List OpenCall) (nodes : List Node) → n ≡ m → ms ≡ ks
     → AreClients v size n es ms tickets calls nodes → AreClients v size m es ks tickets calls nodes
 same_clients v size n m es ms ks tickets calls nodes f g ok =
     subst (λ x. AreClients v size m es x tickets calls nodes) g
@@ -57,8 +59,10 @@ module _ (s : State) (stream saw : ℕ) (c : Call) (r : Reply) where
   its_answer = record { call = c; reply = r; index = index_at s.indices stream; saw = saw; stream = stream }
 
   -- of a stream of which no call is open then, with these clients
-  pub answered_on : (v0 v : Volume) (ns0 ns : List Node) (tickets : List Ticket) (calls : List OpenCall) → IsSoundOn v0 ns0 s → IsIdle stream calls → stream < length s.indices → behind_last stream s.book.entries ≤ saw
-      → saw ≤ length s.book.entries → added_by c ≡ None → IsOwn (told_of s) (entry.Answer its_answer) → IsAnswered (told_of s) (modes_in s) its_answer
+  pub answered_on : (v0 v : Volume) (ns0 ns : List Node) (tickets : List Ticket) (calls : List OpenCall)
+      → IsSoundOn v0 ns0 s → IsIdle stream calls → stream < length s.indices → behind_last stream s.book.entries ≤ saw
+      → saw ≤ length s.book.entries → added_by c ≡ None → IsOwn (told_of s) (entry.Answer its_answer)
+      → IsAnswered (told_of s) (modes_in s) its_answer
       → AreClients v s.size (length s.indices) s.book.entries (modes_in s) tickets calls ns
       → count_by (λ t. t.started) tickets + length s.commands + count_by is_up (modes_in s) + owed_end s.rebuild + 1 ≤ s.book.spare
       → IsSoundOn v ns (answered (record s { tickets = tickets; calls = calls }) stream saw c r)
@@ -70,14 +74,17 @@ module _ (s : State) (stream saw : ℕ) (c : Call) (r : Reply) where
       record {
         opened = ok.opened;
         told = answer_told o s.book.entries s.indices s.rebuild s.ended its_answer ok.told is_own none may within refl past seen;
-        clients = same_clients v s.size (length s.indices) (length (set s.indices stream (index_at s.indices stream + 1))) longer (modes_in s) (modes_after o.modes longer) tickets calls ns
+        clients = same_clients v s.size (length s.indices) (length (set s.indices stream (index_at s.indices stream + 1)))
+            longer (modes_in s) (modes_after o.modes longer) tickets calls ns
             (sym (length-set s.indices stream (index_at s.indices stream + 1))) modes
-            (seen_clients v s.size (length s.indices) s.book.entries longer (modes_in s) tickets calls ns (seen_answer s.book.entries calls clients.seen its_answer idle) clients);
+            (seen_clients v s.size (length s.indices) s.book.entries longer (modes_in s) tickets calls ns
+            (seen_answer s.book.entries calls clients.seen its_answer idle) clients);
         spare = omega (arith, room, ap (count_by is_up) modes);
       }
 
   -- the same where no call on the whole volume is started, with those of the volume that it leaves
-  pub answered_sound : (tickets : List Ticket) (calls : List OpenCall) (v : Volume) → IsCalm s → IsIdle stream calls → stream < length s.indices → behind_last stream s.book.entries ≤ saw → saw ≤ length s.book.entries
+  pub answered_sound : (tickets : List Ticket) (calls : List OpenCall) (v : Volume) → IsCalm s → IsIdle stream calls
+      → stream < length s.indices → behind_last stream s.book.entries ≤ saw → saw ≤ length s.book.entries
       → added_by c ≡ None → IsOwn (told_of s) (entry.Answer its_answer) → IsAnswered (told_of s) (modes_in s) its_answer
       → (after_entry (told_of s) (entry.Answer its_answer)).volume ≡ v
       → AreClients v s.size (length s.indices) s.book.entries (modes_in s) tickets calls s.nodes
@@ -100,13 +107,18 @@ range_no_add call.Ping on = absurd on
 range_no_add (call.Other k) on = absurd on
 range_no_add (call.Command c) on = absurd on
 
-pub refused_sound : (v : Volume) (ns : List Node) (s : State) (stream : ℕ) (c : Call) → IsSoundOn v ns s → stream < length s.indices → IsIdle stream s.calls → IsOnRange c
-    → refusal_of (modes_in s) (told_of s) c ≡ Some OutOfRange → IsSoundOn v ns (answered (with_place s) stream (length s.book.entries) c (reply.Refused OutOfRange))
+pub refused_sound : (v : Volume) (ns : List Node) (s : State) (stream : ℕ) (c : Call) → IsSoundOn v ns s
+    → stream < length s.indices → IsIdle stream s.calls → IsOnRange c
+    → refusal_of (modes_in s) (told_of s) c ≡ Some OutOfRange
+    → IsSoundOn v ns (answered (with_place s) stream (length s.book.entries) c (reply.Refused OutOfRange))
 refused_sound v ns s stream c ok within idle on refused =
     let ok2 = place_sound v ns s ok in
     let a = its_answer (with_place s) stream (length s.book.entries) c (reply.Refused OutOfRange) in
-    answered_on (with_place s) stream (length s.book.entries) c (reply.Refused OutOfRange) v v ns ns s.tickets s.calls ok2 idle within (behind_within stream s.book.entries) (omega arith)
-    (range_no_add c on) (range_own (told_of s) a on) (refused_plainly (modes_in s) (told_of s) a OutOfRange refused refl (λ r e. subst IsOnRange e on)) ok.clients (omega (arith, ok.spare))
+    answered_on (with_place s) stream (length s.book.entries) c (reply.Refused OutOfRange) v v ns ns s.tickets s.calls ok2
+    idle within (behind_within stream s.book.entries) (omega arith)
+    (range_no_add c on) (range_own (told_of s) a on)
+    (refused_plainly (modes_in s) (told_of s) a OutOfRange refused refl (λ r e. subst IsOnRange e on)) ok.clients
+    (omega (arith, ok.spare))
 
 -- ---- a call on a range ends
 
@@ -123,30 +135,46 @@ module _ (s : State) (i : ℕ) (ok : IsCalm s) (h : i < length s.tickets) where
   call_in : i < length s.calls
   call_in = omega (arith, ok.clients.paired)
 
-  pub ended_sound : (r : Reply) (v : Volume) → k ≢ kind.Whole → IsAnswered (told_of s) (modes_in s) (its r) → (after_entry (told_of s) (entry.Answer (its r))).volume ≡ v
+  pub ended_sound : (r : Reply) (v : Volume) → k ≢ kind.Whole → IsAnswered (told_of s) (modes_in s) (its r)
+      → (after_entry (told_of s) (entry.Answer (its r))).volume ≡ v
       → AreClients v s.size (length s.indices) s.book.entries (modes_in s) (remove s.tickets i) (remove s.calls i) s.nodes
-      → count_by (λ t. t.started) (remove s.tickets i) + length s.commands + count_by is_up (modes_in s) + owed_end s.rebuild + 1 ≤ s.book.spare → IsCalm (ended s i r)
+      → count_by (λ t. t.started) (remove s.tickets i) + length s.commands + count_by is_up (modes_in s) + owed_end
+      s.rebuild + 1 ≤ s.book.spare → IsCalm (ended s i r)
   ended_sound r v range may after clients room =
       answered_sound s c.stream c.saw (call_asked k c) r (remove s.tickets i) (remove s.calls i) v ok
-      (idle_once_gone s.book.entries s.calls ok.clients.seen i call_in) (ok.clients.fits i h).stream (ok.clients.seen.past i call_in) (ok.clients.seen.saw i call_in)
+      (idle_once_gone s.book.entries s.calls ok.clients.seen i call_in) (ok.clients.fits i h).stream
+      (ok.clients.seen.past i call_in) (ok.clients.seen.saw i call_in)
       (no_add k c range) (λ name e. absurd (no_command k c (command.Snapshot name) range e)) may after clients room
 
   -- the place that a started call has in the journal
-  pub started_room : (ticket_at s.tickets i).started ≡ true → count_by (λ t. t.started) (remove s.tickets i) + length s.commands + count_by is_up (modes_in s) + owed_end s.rebuild + 1 ≤ s.book.spare
-  started_room e = omega (arith, ok.spare, sum_by-remove (λ (t : Ticket). cond t.started 1 0) s.tickets i no_ticket h, counts (ticket_at s.tickets i).started e)
+  pub started_room : (ticket_at s.tickets i).started ≡ true
+      → count_by (λ t. t.started) (remove s.tickets i) + length s.commands + count_by is_up (modes_in s) + owed_end
+      s.rebuild + 1 ≤ s.book.spare
+  started_room e = omega (
+    arith,
+    ok.spare,
+    sum_by-remove (λ (t : Ticket). cond t.started 1 0) s.tickets i no_ticket h,
+    counts (ticket_at s.tickets i).started e,
+  )
 
   -- nothing stands against a call on a range
   on_range : (x : Kind) → k ≡ x → x ≢ kind.Whole → refusal_of (modes_in s) (told_of s) (call_asked x c) ≡ None
-  on_range kind.Read e n = let f = ok.clients.fits i h in read_free (modes_in s) (told_of s) c.at c.length (omega (arith, f.lies.good, ok.clients.agree.disk)) (f.short e)
-  on_range kind.Write e n = let f = ok.clients.fits i h in write_free (modes_in s) (told_of s) c.at c.bytes (omega (arith, f.lies.good, f.count e, ok.clients.agree.disk))
+  on_range kind.Read e n = let f = ok.clients.fits i h in
+      read_free (modes_in s) (told_of s) c.at c.length (omega (arith, f.lies.good, ok.clients.agree.disk)) (f.short e)
+  on_range kind.Write e n = let f = ok.clients.fits i h in
+      write_free (modes_in s) (told_of s) c.at c.bytes (omega (arith, f.lies.good, f.count e, ok.clients.agree.disk))
   on_range kind.Whole e n = absurd (n refl)
 
   -- no replica is left for it
-  pub none_sound : k ≢ kind.Whole → HasNoSource (modes_in s) → count_by (λ t. t.started) (remove s.tickets i) + length s.commands + count_by is_up (modes_in s) + owed_end s.rebuild + 1 ≤ s.book.spare → IsCalm (ended s i (reply.Refused NoReplica))
+  pub none_sound : k ≢ kind.Whole → HasNoSource (modes_in s)
+      → count_by (λ t. t.started) (remove s.tickets i) + length s.commands + count_by is_up (modes_in s) + owed_end
+      s.rebuild + 1 ≤ s.book.spare → IsCalm (ended s i (reply.Refused NoReplica))
   none_sound range none room =
       ended_sound (reply.Refused NoReplica) (told_of s).volume range
-      (none_answered (modes_in s) (told_of s) (its (reply.Refused NoReplica)) (on_range k refl range) (asks_one k c range) (λ x e. no_command k c x range e) refl none) refl
-      (left_clients (told_of s).volume s.size (length s.indices) s.book.entries (modes_in s) s.tickets s.calls s.nodes i ok.clients h (λ r e w. none r e)) room
+      (none_answered (modes_in s) (told_of s) (its (reply.Refused NoReplica)) (on_range k refl range) (asks_one k c range)
+      (λ x e. no_command k c x range e) refl none) refl
+      (left_clients (told_of s).volume s.size (length s.indices) s.book.entries (modes_in s) s.tickets s.calls s.nodes i
+      ok.clients h (λ r e w. none r e)) room
 
   as_asked : (x : Kind) → k ≡ x → call_asked k c ≡ call_asked x c
   as_asked x e = ap (λ y. call_asked y c) e
@@ -157,15 +185,20 @@ module _ (s : State) (i : ℕ) (ok : IsCalm s) (h : i < length s.tickets) where
       let p = told_of s in
       let v = written p.volume (pos c.at) c.bytes in
       ended_sound reply.Done v (write_no_whole k w.writes)
-      (done_plainly (modes_in s) p (its reply.Done) (ap (refusal_of (modes_in s) p) is ∙ on_range kind.Write w.writes (λ e. cc)) (sym (ap (λ x. (step_unless None (modes_in s) p x).1) is)) (λ x e. no_command k c x (write_no_whole k w.writes) e) (λ _. end.reply))
+      (done_plainly (modes_in s) p (its reply.Done)
+      (ap (refusal_of (modes_in s) p) is ∙ on_range kind.Write w.writes (λ e. cc))
+      (sym (ap (λ x. (step_unless None (modes_in s) p x).1) is)) (λ x e. no_command k c x (write_no_whole k w.writes) e)
+      (λ _. end.reply))
       (ap (λ x. (after_call p x).volume) is)
-      (written_clients p.volume s.size (length s.indices) s.book.entries (modes_in s) s.tickets s.calls s.nodes i ok.clients h w end.acknowledged)
+      (written_clients p.volume s.size (length s.indices) s.book.entries (modes_in s) s.tickets s.calls s.nodes i ok.clients
+      h w end.acknowledged)
       (started_room w.started)
   write_sound w (reply.Read bytes) end = absurd end.reply
   write_sound w (reply.Status layers modes) end = absurd end.reply
   write_sound w (reply.Aborted place) end = absurd end.reply
   write_sound w (reply.Refused why) end =
-      subst (λ x. IsCalm (ended s i (reply.Refused x))) (sym end.reply.0) (none_sound (write_no_whole k w.writes) end.reply.1 (started_room w.started))
+      subst (λ x. IsCalm (ended s i (reply.Refused x))) (sym end.reply.0)
+      (none_sound (write_no_whole k w.writes) end.reply.1 (started_room w.started))
 
   -- a read that a replica acknowledged
   pub read_sound : IsReading (ticket_at s.tickets i) → (r : ℕ) → part_at c.parts r ≡ Acked → IsCalm (ended s i (reply.Read c.buffer))
@@ -174,13 +207,19 @@ module _ (s : State) (i : ℕ) (ok : IsCalm s) (h : i < length s.tickets) where
       let p = told_of s in
       let bytes = (ok.clients.reads i h w).read r (subst IsTaken (sym acked) tt) in
       ended_sound (reply.Read c.buffer) p.volume (read_no_whole k w.reads)
-      (done_plainly (modes_in s) p (its (reply.Read c.buffer)) (ap (refusal_of (modes_in s) p) is ∙ on_range kind.Read w.reads (λ e. cc)) (ap reply.Read bytes ∙ sym (ap (λ x. (step_unless None (modes_in s) p x).1) is)) (λ x e. no_command k c x (read_no_whole k w.reads) e)
+      (done_plainly (modes_in s) p (its (reply.Read c.buffer))
+      (ap (refusal_of (modes_in s) p) is ∙ on_range kind.Read w.reads (λ e. cc))
+      (ap reply.Read bytes ∙ sym (ap (λ x. (step_unless None (modes_in s) p x).1) is))
+      (λ x e. no_command k c x (read_no_whole k w.reads) e)
       (λ change. absurd (not_both (is_change (call_asked k c)) (ap is_change is) change)))
       (ap (λ x. (after_call p x).volume) is)
-      (left_clients p.volume s.size (length s.indices) s.book.entries (modes_in s) s.tickets s.calls s.nodes i ok.clients h (λ q e v. write_no_read k v.writes w.reads))
+      (left_clients p.volume s.size (length s.indices) s.book.entries (modes_in s) s.tickets s.calls s.nodes i ok.clients h
+      (λ q e v. write_no_read k v.writes w.reads))
       (started_room w.started)
 
 -- a call that waits, and for which no replica is left
-pub refused_start_sound : (s : State) (i : ℕ) → IsCalm s → i < length s.tickets → (ticket_at s.tickets i).kind ≢ kind.Whole → HasNoSource (modes_in s) → IsCalm (ended (with_place s) i (reply.Refused NoReplica))
+pub refused_start_sound : (s : State) (i : ℕ) → IsCalm s → i < length s.tickets → (ticket_at s.tickets i).kind ≢ kind.Whole
+    → HasNoSource (modes_in s) → IsCalm (ended (with_place s) i (reply.Refused NoReplica))
 refused_start_sound s i ok h range none =
-    none_sound (with_place s) i (place_sound (told_of s).volume s.nodes s ok) h range none (omega (arith, ok.spare, sum_by-remove (λ (t : Ticket). cond t.started 1 0) s.tickets i no_ticket h))
+    none_sound (with_place s) i (place_sound (told_of s).volume s.nodes s ok) h range none
+    (omega (arith, ok.spare, sum_by-remove (λ (t : Ticket). cond t.started 1 0) s.tickets i no_ticket h))

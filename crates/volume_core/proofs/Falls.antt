@@ -1,5 +1,6 @@
 -- A replica fails: the journal gets its mark, and behind it the end of the rebuild in which it has a part.
-use Rattle.std.proofs.Common.{◌≡◌, ◌≢◌, ℕ, ◌+◌, ◌<◌, ◌≤◌, cond, List, [], ◌∷◌, ◌++◌, length, set, length-set, get_or-set_same, refl, sym, ap, subst, ◌∙◌, arith, ⊎_elim}
+use Rattle.std.proofs.Common.{◌≡◌, ◌≢◌, ℕ, ◌+◌, ◌<◌, ◌≤◌, cond, List, [], ◌∷◌, ◌++◌, length, set, length-set}
+use Rattle.std.proofs.Common.{get_or-set_same, refl, sym, ap, subst, ◌∙◌, arith, ⊎_elim}
 use Rattle.std.specs.Prelude.{Option, None, Some}
 use Rattle.std.specs.List.{count_by}
 use Rattle.std.proofs.lemmas.List.{append_assoc, length-append}
@@ -61,7 +62,8 @@ set_again : (modes : List Mode) (r : ℕ) → mode_of modes r ≡ Err → set mo
 set_again modes r e = ap (set modes r) (sym e) ∙ set-get_or modes r Err
 
 -- whether it had or not
-pub failed_again : (v : Volume) (size streams r : ℕ) (es : List Entry) (modes : List Mode) (ts : List Ticket) (cs : List OpenCall) (ns : List Node) → AreClients v size streams es modes ts cs ns
+pub failed_again : (v : Volume) (size streams r : ℕ) (es : List Entry) (modes : List Mode) (ts : List Ticket)
+    (cs : List OpenCall) (ns : List Node) → AreClients v size streams es modes ts cs ns
     → AreClients v size streams es (set modes r Err) ts cs ns
 failed_again v size streams r es modes ts cs ns ok = by (mode_of modes r) refl
   where
@@ -104,7 +106,8 @@ fault_falls stream r count = record { modes = λ ms. refl; far = λ q place x. r
 pub failed_falls : (r : ℕ) → IsFall (mark.Failed r) r
 failed_falls r = record { modes = λ ms. refl; far = λ q place x. refl; own = λ p. tt }
 
-module _ (v : Volume) (ns : List Node) (s : State) (r : ℕ) (m : Mark) (ok : IsSoundOn v ns s) (falls : IsFall m r) (rise : CountsRise (s.book.entries ++ entry.Mark m ∷ [])) where
+module _ (v : Volume) (ns : List Node) (s : State) (r : ℕ) (m : Mark) (ok : IsSoundOn v ns s) (falls : IsFall m r)
+    (rise : CountsRise (s.book.entries ++ entry.Mark m ∷ [])) where
   abbrev o : Spot
   o = opening_of s
 
@@ -115,18 +118,23 @@ module _ (v : Volume) (ns : List Node) (s : State) (r : ℕ) (m : Mark) (ok : Is
   modes_fell = sym (modes_after-push o.modes s.book.entries (entry.Mark m) ∙ falls.modes (modes_in s))
 
   far_fell : (q : ℕ) → rebuild_of q fell ≡ how_far s.rebuild s.ended q
-  far_fell q = rebuild_of-push q s.book.entries (entry.Mark m) ∙ falls.far q (length s.book.entries) (rebuild_of q s.book.entries) ∙ ok.told.ordered.rebuild q
+  far_fell q = rebuild_of-push q s.book.entries (entry.Mark m)
+      ∙ falls.far q (length s.book.entries) (rebuild_of q s.book.entries) ∙ ok.told.ordered.rebuild q
 
   ordered_fell : IsOrdered o fell s.indices s.rebuild s.ended
-  ordered_fell = mark_ordered o s.book.entries s.indices s.rebuild s.rebuild s.ended s.ended m ok.told.ordered (falls.own (replay o.state s.book.entries)) rise far_fell
+  ordered_fell = mark_ordered o s.book.entries s.indices s.rebuild s.rebuild s.ended s.ended m ok.told.ordered
+      (falls.own (replay o.state s.book.entries)) rise far_fell
 
   clients_fell : AreClients v s.size (length s.indices) fell (modes_after o.modes fell) s.tickets s.calls ns
   clients_fell =
-      same_clients v s.size (length s.indices) (length s.indices) fell (set (modes_in s) r Err) (modes_after o.modes fell) s.tickets s.calls ns refl modes_fell
-      (seen_clients v s.size (length s.indices) s.book.entries fell (set (modes_in s) r Err) s.tickets s.calls ns (seen_mark s.book.entries s.calls ok.clients.seen m)
+      same_clients v s.size (length s.indices) (length s.indices) fell (set (modes_in s) r Err) (modes_after o.modes fell)
+      s.tickets s.calls ns refl modes_fell
+      (seen_clients v s.size (length s.indices) s.book.entries fell (set (modes_in s) r Err) s.tickets s.calls ns
+      (seen_mark s.book.entries s.calls ok.clients.seen m)
       (failed_again v s.size (length s.indices) r s.book.entries (modes_in s) s.tickets s.calls ns ok.clients))
 
-  room_fell : mode_of (modes_in s) r ≢ Err → count_by (λ t. t.started) s.tickets + length s.commands + count_by is_up (modes_after o.modes fell) + owed_end s.rebuild + 1 ≤ s.book.spare
+  room_fell : mode_of (modes_in s) r ≢ Err → count_by (λ t. t.started) s.tickets + length s.commands + count_by is_up
+      (modes_after o.modes fell) + owed_end s.rebuild + 1 ≤ s.book.spare
   room_fell up = omega (arith, ok.spare, failed_room (modes_in s) r up, ap (count_by is_up) modes_fell)
 
   -- and the end of the rebuild behind it
@@ -142,17 +150,29 @@ module _ (v : Volume) (ns : List Node) (s : State) (r : ℕ) (m : Mark) (ok : Is
   ordered_over : (b : Rebuilding) → s.rebuild ≡ Some b → IsOrdered o (over b) s.indices None (Some (end_of b))
   ordered_over b begun =
       let was : IsOrdered o fell s.indices (Some b) s.ended = subst (λ x. IsOrdered o fell s.indices x s.ended) begun ordered_fell in
-      mark_ordered o fell s.indices (Some b) None s.ended (Some (end_of b)) (mark.Aborted b.target) was tt (rise-aborted fell b.target rise) (far_aborted fell b s.ended was.rebuild)
+      mark_ordered o fell s.indices (Some b) None s.ended (Some (end_of b)) (mark.Aborted b.target) was tt
+      (rise-aborted fell b.target rise) (far_aborted fell b s.ended was.rebuild)
 
   clients_over : (b : Rebuilding) → AreClients v s.size (length s.indices) (over b) (modes_after o.modes (over b)) s.tickets s.calls ns
   clients_over b =
+      let set_here = set (modes_after o.modes fell) b.target Err in
       let e = mark.Aborted b.target in
-      same_clients v s.size (length s.indices) (length s.indices) (over b) (set (modes_after o.modes fell) b.target Err) (modes_after o.modes (over b)) s.tickets s.calls ns refl (sym (modes_after-push o.modes fell (entry.Mark e)))
-      (seen_clients v s.size (length s.indices) fell (over b) (set (modes_after o.modes fell) b.target Err) s.tickets s.calls ns (seen_mark fell s.calls clients_fell.seen e)
+      same_clients v s.size (length s.indices) (length s.indices) (over b) set_here (modes_after o.modes (over b)) s.tickets
+      s.calls ns refl (sym (modes_after-push o.modes fell (entry.Mark e)))
+      (seen_clients v s.size (length s.indices) fell (over b) set_here s.tickets s.calls ns (seen_mark fell s.calls clients_fell.seen e)
       (failed_again v s.size (length s.indices) b.target fell (modes_after o.modes fell) s.tickets s.calls ns clients_fell))
 
-  room_over : (b : Rebuilding) → s.rebuild ≡ Some b → mode_of (modes_in s) r ≢ Err → count_by (λ t. t.started) s.tickets + length s.commands + count_by is_up (modes_after o.modes (over b)) + 2 ≤ s.book.spare
-  room_over b begun up = omega (arith, ok.spare, ap owed_end begun, failed_room (modes_in s) r up, fewer_up (set (modes_in s) r Err) b.target, ap (count_by is_up) (modes_over b))
+  room_over : (b : Rebuilding) → s.rebuild ≡ Some b → mode_of (modes_in s) r ≢ Err
+      → count_by (λ t. t.started) s.tickets + length s.commands + count_by is_up
+      (modes_after o.modes (over b)) + 2 ≤ s.book.spare
+  room_over b begun up = omega (
+    arith,
+    ok.spare,
+    ap owed_end begun,
+    failed_room (modes_in s) r up,
+    fewer_up (set (modes_in s) r Err) b.target,
+    ap (count_by is_up) (modes_over b),
+  )
 
   -- how far rebuilds are before them, where that one is open
   far_begun : (b : Rebuilding) → s.rebuild ≡ Some b → (q : ℕ) → rebuild_of q s.book.entries ≡ how_far (Some b) s.ended q
@@ -160,11 +180,17 @@ module _ (v : Volume) (ns : List Node) (s : State) (r : ℕ) (m : Mark) (ok : Is
 
   -- a replica without a part in the open rebuild may fall
   falls_apart : mode_of (modes_in s) r ≢ Err → IsApart s.rebuild r → (after : List Entry) → MayFall (modes_in s) s.book.entries after r
-  falls_apart up apart after = record { up = up; ends = λ q t is who. absurd (not_in s.rebuild s.ended q t r (sym (ok.told.ordered.rebuild q) ∙ is) apart who) }
+  falls_apart up apart after =
+      record {
+        up = up;
+        ends =
+            λ q t is who. absurd (not_in s.rebuild s.ended q t r (sym (ok.told.ordered.rebuild q) ∙ is) apart who);
+      }
 
 -- ---- a line fails
 
-module _ (v : Volume) (ns : List Node) (s : State) (stream r count : ℕ) (ok : IsSoundOn v ns s) (up : mode_of (modes_in s) r ≢ Err) (above : last_count stream r s.book.entries < count) where
+module _ (v : Volume) (ns : List Node) (s : State) (stream r count : ℕ) (ok : IsSoundOn v ns s)
+    (up : mode_of (modes_in s) r ≢ Err) (above : last_count stream r s.book.entries < count) where
   abbrev m : Mark
   m = mark.Fault stream r count
 
@@ -192,8 +218,10 @@ module _ (v : Volume) (ns : List Node) (s : State) (stream r count : ℕ) (ok : 
       record {
         opened = ok.opened;
         told = record {
-          legal = subst (IsLegal (opening_of s)) (sym (append_assoc s.book.entries (entry.Mark m ∷ []) (entry.Mark (mark.Aborted b.target) ∷ [])))
-              (legal_fall (opening_of s) s.book.entries stream r count b.target b.source ok.told.legal up (begun_of s.book.entries b s.ended far) (only_of s.book.entries b s.ended far));
+          legal = subst (IsLegal (opening_of s))
+              (sym (append_assoc s.book.entries (entry.Mark m ∷ []) (entry.Mark (mark.Aborted b.target) ∷ [])))
+              (legal_fall (opening_of s) s.book.entries stream r count b.target b.source ok.told.legal up
+              (begun_of s.book.entries b s.ended far) (only_of s.book.entries b s.ended far));
           ordered = ordered_over v ns s r m ok falls rise b begun;
         };
         clients = clients_over v ns s r m ok falls rise b;
@@ -202,10 +230,14 @@ module _ (v : Volume) (ns : List Node) (s : State) (stream r count : ℕ) (ok : 
 
 -- ---- a call is answered where the journal is in order, and legal with the answer
 
-pub answered_legal : (v : Volume) (ns : List Node) (s : State) (stream : ℕ) (c : Call) (r : Reply) (saw : ℕ) → IsOpened (opening_of s) s.book.opening
-    → IsLegal (opening_of s) (s.book.entries ++ entry.Answer (its_answer s stream saw c r) ∷ []) → IsOrdered (opening_of s) s.book.entries s.indices s.rebuild s.ended
-    → AreClients v s.size (length s.indices) s.book.entries (modes_in s) s.tickets s.calls ns → IsIdle stream s.calls → stream < length s.indices → behind_last stream s.book.entries ≤ saw → saw ≤ length s.book.entries
-    → added_by c ≡ None → IsOwn (told_of s) (entry.Answer (its_answer s stream saw c r)) → owed_entries s + 1 ≤ s.book.spare → IsSoundOn v ns (answered s stream saw c r)
+pub answered_legal : (v : Volume) (ns : List Node) (s : State) (stream : ℕ) (c : Call) (r : Reply) (saw : ℕ)
+    → IsOpened (opening_of s) s.book.opening
+    → IsLegal (opening_of s) (s.book.entries ++ entry.Answer (its_answer s stream saw c r) ∷ [])
+    → IsOrdered (opening_of s) s.book.entries s.indices s.rebuild s.ended
+    → AreClients v s.size (length s.indices) s.book.entries (modes_in s) s.tickets s.calls ns → IsIdle stream s.calls
+    → stream < length s.indices → behind_last stream s.book.entries ≤ saw → saw ≤ length s.book.entries
+    → added_by c ≡ None → IsOwn (told_of s) (entry.Answer (its_answer s stream saw c r)) → owed_entries s + 1 ≤ s.book.spare
+    → IsSoundOn v ns (answered s stream saw c r)
 answered_legal v ns s stream c r saw opened legal ordered clients idle within past seen none own room =
     let a = its_answer s stream saw c r in
     let longer = s.book.entries ++ entry.Answer a ∷ [] in
@@ -213,16 +245,23 @@ answered_legal v ns s stream c r saw opened legal ordered clients idle within pa
     let modes : modes_in s ≡ modes_after o.modes longer = sym (modes_after-push o.modes s.book.entries (entry.Answer a)) in
     record {
       opened = opened;
-      told = record { legal = legal; ordered = answer_ordered o s.book.entries s.indices s.rebuild s.ended a ordered own none within refl past seen };
-      clients = same_clients v s.size (length s.indices) (length (set s.indices stream (index_at s.indices stream + 1))) longer (modes_in s) (modes_after o.modes longer) s.tickets s.calls ns
+      told = record {
+        legal = legal;
+        ordered = answer_ordered o s.book.entries s.indices s.rebuild s.ended a ordered own
+            none within refl past seen;
+      };
+      clients = same_clients v s.size (length s.indices) (length (set s.indices stream (index_at s.indices stream + 1)))
+          longer (modes_in s) (modes_after o.modes longer) s.tickets s.calls ns
           (sym (length-set s.indices stream (index_at s.indices stream + 1))) modes
-          (seen_clients v s.size (length s.indices) s.book.entries longer (modes_in s) s.tickets s.calls ns (seen_answer s.book.entries s.calls clients.seen a idle) clients);
+          (seen_clients v s.size (length s.indices) s.book.entries longer (modes_in s) s.tickets s.calls ns
+          (seen_answer s.book.entries s.calls clients.seen a idle) clients);
       spare = omega (arith, room, ap (count_by is_up) modes);
     }
 
 -- ---- a replica is told to fail, and had not
 
-module _ (v : Volume) (ns : List Node) (s : State) (stream r : ℕ) (ok : IsSoundOn v ns s) (within : stream < length s.indices) (idle : IsIdle stream s.calls) (up : mode_of (modes_in s) r ≢ Err) where
+module _ (v : Volume) (ns : List Node) (s : State) (stream r : ℕ) (ok : IsSoundOn v ns s)
+    (within : stream < length s.indices) (idle : IsIdle stream s.calls) (up : mode_of (modes_in s) r ≢ Err) where
   abbrev mf : Mark
   mf = mark.Failed r
 
@@ -254,33 +293,40 @@ module _ (v : Volume) (ns : List Node) (s : State) (stream r : ℕ) (ok : IsSoun
       let longer = es ++ entry.Mark mf ∷ [] in
       let has_failed : (q : ℕ) → c ≡ call.Command (command.Fail q) → mode_of (modes_after o.modes longer) q ≡ Err =
       λ q e. subst (λ n. mode_of (modes_after o.modes longer) n ≡ Err) (same_replica q e)
-      (ap (λ ms. mode_of ms r) (sym (modes_fell v ns s r mf ok falls_told rise_told)) ∙ get_or-set_same (modes_in s) r Err Err (up_in (modes_in s) r up)) in
+      (ap (λ ms. mode_of ms r) (sym (modes_fell v ns s r mf ok falls_told rise_told))
+      ∙ get_or-set_same (modes_in s) r Err Err (up_in (modes_in s) r up)) in
       answered_legal v ns s1 stream c reply.Done (length es) ok.opened
       (subst (IsLegal o) (sym (append_assoc es (entry.Mark mf ∷ []) (entry.Answer a ∷ [])))
       (LegalAfter-append o [] es (entry.Mark mf ∷ entry.Answer a ∷ []) ok.told.legal (
         (falls_apart v ns s r mf ok falls_told rise_told up apart (entry.Answer a ∷ []), refl),
         (plainly (modes_after o.modes longer) (replay o.state longer) a refl has_failed (λ e. absurd cc) (λ e. absurd cc), tt),
       )))
-      (ordered_fell v ns s r mf ok falls_told rise_told) (clients_fell v ns s r mf ok falls_told rise_told) idle within past_one (omega (arith, length-append es (entry.Mark mf ∷ [])))
+      (ordered_fell v ns s r mf ok falls_told rise_told) (clients_fell v ns s r mf ok falls_told rise_told) idle within
+      past_one (omega (arith, length-append es (entry.Mark mf ∷ [])))
       refl (λ name e. absurd cc) (omega (arith, room_fell v ns s r mf ok falls_told rise_told up))
 
-  fail_over : (b : Rebuilding) → s.rebuild ≡ Some b → IsSoundOn v ns (answered (aborted (marked (with_place s) mf) b.target) stream (length es) c reply.Done)
+  fail_over : (b : Rebuilding) → s.rebuild ≡ Some b
+      → IsSoundOn v ns (answered (aborted (marked (with_place s) mf) b.target) stream (length es) c reply.Done)
   fail_over b begun =
       let o = opening_of s in
       let e = mark.Aborted b.target in
       let longer = es ++ entry.Mark mf ∷ [] in
       let far = far_begun v ns s r mf ok falls_told rise_told b begun in
       answered_legal v ns (aborted (marked (with_place s) mf) b.target) stream c reply.Done (length es) ok.opened
-      (subst (IsLegal o) (sym (append_assoc longer (entry.Mark e ∷ []) (entry.Answer a ∷ []) ∙ append_assoc es (entry.Mark mf ∷ []) (entry.Mark e ∷ entry.Answer a ∷ [])))
+      (subst (IsLegal o) (sym (append_assoc longer (entry.Mark e ∷ []) (entry.Answer a ∷ [])
+      ∙ append_assoc es (entry.Mark mf ∷ []) (entry.Mark e ∷ entry.Answer a ∷ [])))
       (legal_fail o es r b.target b.source a ok.told.legal up (begun_of es b s.ended far) (only_of es b s.ended far) refl refl))
       (ordered_over v ns s r mf ok falls_told rise_told b begun) (clients_over v ns s r mf ok falls_told rise_told b) idle within
-      (subst (λ xs. place_behind 0 xs ≤ length es) (sym (mark_more longer e stream)) past_one) (omega (arith, length-append es (entry.Mark mf ∷ []), length-append longer (entry.Mark e ∷ [])))
+      (subst (λ xs. place_behind 0 xs ≤ length es) (sym (mark_more longer e stream)) past_one)
+      (omega (arith, length-append es (entry.Mark mf ∷ []), length-append longer (entry.Mark e ∷ [])))
       refl (λ name f. absurd cc) (omega (arith, room_over v ns s r mf ok falls_told rise_told b begun up))
 
   pub fails_on : IsSoundOn v ns (answered (failed (with_place s) r) stream (length es) c reply.Done)
   fails_on = ⊎_elim
-      (λ (x : GoesOn (marked (with_place s) mf) r (failed (with_place s) r)). subst (λ (y : State). IsSoundOn v ns (answered y stream (length es) c reply.Done)) (sym x.state) (fail_on x.apart))
-      (λ (x : Aborts (marked (with_place s) mf) r (failed (with_place s) r)). subst (λ (y : State). IsSoundOn v ns (answered y stream (length es) c reply.Done)) (sym x.state) (fail_over x.b x.begun))
+      (λ (x : GoesOn (marked (with_place s) mf) r (failed (with_place s) r)). subst
+      (λ (y : State). IsSoundOn v ns (answered y stream (length es) c reply.Done)) (sym x.state) (fail_on x.apart))
+      (λ (x : Aborts (marked (with_place s) mf) r (failed (with_place s) r)). subst
+      (λ (y : State). IsSoundOn v ns (answered y stream (length es) c reply.Done)) (sym x.state) (fail_over x.b x.begun))
       (behind (marked (with_place s) mf) r)
 
 -- and a place is left for the answer of the call that told it so, or of any other that is answered at once
@@ -290,8 +336,10 @@ module _ (v : Volume) (ns : List Node) (s : State) (ok : IsSoundOn v ns s) where
       let m = mark.Failed r in
       let room = failed_room (modes_in s) r up in
       ⊎_elim
-      (λ (x : GoesOn (marked (with_place s) m) r (failed (with_place s) r)). subst (λ (y : State). 0 < y.book.spare) (sym x.state) (omega (arith, ok.spare, room)))
-      (λ (x : Aborts (marked (with_place s) m) r (failed (with_place s) r)). subst (λ (y : State). 0 < y.book.spare) (sym x.state) (omega (arith, ok.spare, room, ap owed_end x.begun)))
+      (λ (x : GoesOn (marked (with_place s) m) r (failed (with_place s) r)). subst (λ (y : State). 0 < y.book.spare)
+      (sym x.state) (omega (arith, ok.spare, room)))
+      (λ (x : Aborts (marked (with_place s) m) r (failed (with_place s) r)). subst (λ (y : State). 0 < y.book.spare)
+      (sym x.state) (omega (arith, ok.spare, room, ap owed_end x.begun)))
       (behind (marked (with_place s) m) r)
 
   left_in : (r : ℕ) (m : Mode) → mode_of (modes_in s) r ≡ m → 0 < (failed_in m (with_place s) r).book.spare

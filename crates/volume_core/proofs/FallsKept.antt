@@ -1,5 +1,6 @@
 -- The fall of a replica keeps the invariant, also where it aborts a rebuild; and so does a call that is answered at once.
-use Rattle.std.proofs.Common.{◌≡◌, ◌≢◌, ◌⊎◌, ℕ, ◌+◌, ◌-◌, ◌<◌, Bool, true, false, cond, List, [], ◌∷◌, ◌++◌, length, set, length-set, refl, sym, ap, subst, ◌∙◌, arith, ⊎_elim}
+use Rattle.std.proofs.Common.{◌≡◌, ◌≢◌, ◌⊎◌, ℕ, ◌+◌, ◌-◌, ◌<◌, Bool, true, false, cond, List, [], ◌∷◌, ◌++◌, length}
+use Rattle.std.proofs.Common.{set, length-set, refl, sym, ap, subst, ◌∙◌, arith, ⊎_elim}
 use Rattle.std.specs.Prelude.{Option, None, Some, IfSome}
 use Rattle.std.proofs.lemmas.List.{append_assoc}
 use Rattle.command_text.specs.declared.command.Command.TheVariants as command
@@ -20,7 +21,8 @@ use Rattle.volume_model.specs.PlainState.{PlainState}
 use Rattle.volume_model.specs.PlainStep.{plain_step, after_call}
 use Rattle.volume_model.specs.Rebuilds.{rebuild_of, AreBehindFalls}
 use Rattle.volume_model.specs.Replay.{is_refusal}
-use Rattle.volume_model.proofs.FallLemmas.{behind_falls_answer, behind_falls_fault, behind_falls_failed, behind_falls_fall, behind_falls_fail}
+use Rattle.volume_model.proofs.FallLemmas.{behind_falls_answer, behind_falls_fault, behind_falls_failed}
+use Rattle.volume_model.proofs.FallLemmas.{behind_falls_fall, behind_falls_fail}
 use Rattle.volume_model.proofs.PushLemmas.{modes_after-push}
 use Rattle.volume_model.proofs.StepLemmas.{replay-push}
 use Rattle.open_calls.specs.Clients.{IsIdle}
@@ -48,22 +50,27 @@ use Rattle.volume_core.proofs.Now.{now_on}
 
 -- ---- the journal has more entries, of which marks let replicas fail, and no other changes modes or volume
 
-module _ (s : State) (ok : IsSound s) (indices : List ℕ) (es : List Entry) (spare : ℕ) (o : Option Rebuilding) (g : Option EndedRebuild) where
+module _ (s : State) (ok : IsSound s) (indices : List ℕ) (es : List Entry) (spare : ℕ) (o : Option Rebuilding)
+    (g : Option EndedRebuild) where
   abbrev pub fallen_to : State
   fallen_to = record s { indices = indices; book = record s.book { entries = es; spare = spare }; rebuild = o; ended = g }
 
-  pub fallen : (ms : List Mode) → ms ≡ modes_in fallen_to → told_of s ≡ told_of fallen_to → length s.indices ≡ length indices → IsWhole (told_of s) ms s.tickets s.calls s.nodes s.whole
+  pub fallen : (ms : List Mode) → ms ≡ modes_in fallen_to → told_of s ≡ told_of fallen_to
+      → length s.indices ≡ length indices → IsWhole (told_of s) ms s.tickets s.calls s.nodes s.whole
       → ((q : ℕ) → mode_of ms q ≡ Rw → mode_of (modes_in s) q ≡ Rw) → AreQueued (length s.indices) es s.maint s.commands
-      → IsRebuilding s.size ms s.tickets s.calls s.whole s.nodes o → AreAdds s.maint s.commands o g → (NoneGaveUp s.gave_up → AreBehindFalls es)
+      → IsRebuilding s.size ms s.tickets s.calls s.whole s.nodes o → AreAdds s.maint s.commands o g
+      → (NoneGaveUp s.gave_up → AreBehindFalls es)
       → IsSoundOn (due s.whole (told_of s).volume) (forms s.whole s.nodes) fallen_to → IsSound fallen_to
   fallen ms modes told many whole fewer queued rebuild adds fell on = record {
     on = on_same s.whole (told_of s) (told_of fallen_to) s.nodes fallen_to told on;
     whole = same_whole (told_of s) (told_of fallen_to) ms (modes_in fallen_to) s.tickets s.calls s.nodes s.whole told modes whole;
-    maint = same_maint (told_of s).volume.snapshots (told_of fallen_to).volume.snapshots (length s.indices) (length indices) es ms (modes_in fallen_to) s.tickets s.calls s.nodes s.maint s.commands
+    maint = same_maint (told_of s).volume.snapshots (told_of fallen_to).volume.snapshots (length s.indices) (length indices)
+        es ms (modes_in fallen_to) s.tickets s.calls s.nodes s.maint s.commands
         (ap (λ (p : PlainState). p.volume.snapshots) told) many modes
         (record {
           queued = queued;
-          fits = λ i l. fits_still (told_of s).volume.snapshots (modes_in s) ms s.nodes s.nodes s.maint s.commands (ticket_at s.tickets i) (open_at s.calls i) fewer (λ q. refl) (ok.maint.fits i l);
+          fits = λ i l. fits_still (told_of s).volume.snapshots (modes_in s) ms s.nodes s.nodes s.maint s.commands
+              (ticket_at s.tickets i) (open_at s.calls i) fewer (λ q. refl) (ok.maint.fits i l);
         });
     disk = ap (λ (p : PlainState). length p.volume.disk) (sym told) ∙ ok.disk;
     rebuild = subst (λ (x : List Mode). IsRebuilding s.size x s.tickets s.calls s.whole s.nodes o) modes rebuild;
@@ -112,7 +119,8 @@ module _ (s : State) (ok : IsSound s) (r : ℕ) (up : mode_of (modes_in s) r ≢
   rebuild_both : (b : Rebuilding) → s.rebuild ≡ Some b → IsRebuilding s.size (both_fell b) s.tickets s.calls s.whole s.nodes None
   rebuild_both b begun = rebuild_failed s.size (modes_in s) s.tickets s.calls s.whole s.nodes b r (is_open b begun)
 
-  adds_both : (b : Rebuilding) (place : ℕ) → s.rebuild ≡ Some b → AreAdds s.maint s.commands None (Some (record { target = b.target; place = place }))
+  adds_both : (b : Rebuilding) (place : ℕ) → s.rebuild ≡ Some b
+      → AreAdds s.maint s.commands None (Some (record { target = b.target; place = place }))
   adds_both b place begun = record {
     of_begun = tt;
     of_ended = subst (λ (x : Option Rebuilding). IfSome x (λ y. HasAdd s.maint s.commands y.target)) begun ok.adds.of_begun;
@@ -120,11 +128,13 @@ module _ (s : State) (ok : IsSound s) (r : ℕ) (up : mode_of (modes_in s) r ≢
   }
 
   open_there : (b : Rebuilding) → s.rebuild ≡ Some b → rebuild_of b.target s.book.entries ≡ rebuild.Open b.source
-  open_there b begun = begun_of s.book.entries b s.ended (λ q. ok.on.told.ordered.rebuild q ∙ ap (λ (x : Option Rebuilding). how_far x s.ended q) begun)
+  open_there b begun = begun_of s.book.entries b s.ended
+      (λ q. ok.on.told.ordered.rebuild q ∙ ap (λ (x : Option Rebuilding). how_far x s.ended q) begun)
 
 -- ---- a line fails
 
-module _ (s : State) (stream r count : ℕ) (ok : IsSound s) (up : mode_of (modes_in s) r ≢ Err) (above : last_count stream r s.book.entries < count) where
+module _ (s : State) (stream r count : ℕ) (ok : IsSound s) (up : mode_of (modes_in s) r ≢ Err)
+    (above : last_count stream r s.book.entries < count) where
   abbrev m : Mark
   m = mark.Fault stream r count
 
@@ -134,19 +144,26 @@ module _ (s : State) (stream r count : ℕ) (ok : IsSound s) (up : mode_of (mode
   fault_alone : IsApart s.rebuild r → IsSound (marked s m)
   fault_alone apart =
       fallen s ok s.indices longer (s.book.spare - 1) s.rebuild s.ended (one_fell s ok r up)
-      (sym (modes_after-push (opening_of s).modes s.book.entries (entry.Mark m))) (sym (replay-push (opening_of s).state s.book.entries (entry.Mark m))) refl
-      (whole_one s ok r up) (fewer_one s ok r up) (queued_mark (length s.indices) s.book.entries m s.maint s.commands ok.maint.queued) (rebuild_one s ok r up apart) ok.adds
+      (sym (modes_after-push (opening_of s).modes s.book.entries (entry.Mark m)))
+      (sym (replay-push (opening_of s).state s.book.entries (entry.Mark m))) refl
+      (whole_one s ok r up) (fewer_one s ok r up)
+      (queued_mark (length s.indices) s.book.entries m s.maint s.commands ok.maint.queued) (rebuild_one s ok r up apart)
+      ok.adds
       (λ none. behind_falls_fault s.book.entries stream r count (ok.fell none))
       (fault_on (due s.whole (told_of s).volume) (forms s.whole s.nodes) s stream r count ok.on up above apart)
 
   fault_ends : (b : Rebuilding) → s.rebuild ≡ Some b → (r ≡ b.target) ⊎ (r ≡ b.source) → IsSound (aborted (marked s m) b.target)
   fault_ends b begun part =
       let e = mark.Aborted b.target in
-      fallen s ok s.indices (longer ++ entry.Mark e ∷ []) (s.book.spare - 1 - 1) None (Some (record { target = b.target; place = length longer })) (both_fell s ok r up b)
-      (sym (modes_after-push (opening_of s).modes longer (entry.Mark e) ∙ ap (λ (ms : List Mode). set ms b.target Err) (modes_after-push (opening_of s).modes s.book.entries (entry.Mark m))))
+      fallen s ok s.indices (longer ++ entry.Mark e ∷ []) (s.book.spare - 1 - 1) None
+      (Some (record { target = b.target; place = length longer })) (both_fell s ok r up b)
+      (sym (modes_after-push (opening_of s).modes longer (entry.Mark e)
+      ∙ ap (λ (ms : List Mode). set ms b.target Err)
+      (modes_after-push (opening_of s).modes s.book.entries (entry.Mark m))))
       (sym (replay-push (opening_of s).state longer (entry.Mark e) ∙ replay-push (opening_of s).state s.book.entries (entry.Mark m))) refl
       (whole_both s ok r up b begun) (fewer_both s ok r up b begun)
-      (queued_mark (length s.indices) longer e s.maint s.commands (queued_mark (length s.indices) s.book.entries m s.maint s.commands ok.maint.queued))
+      (queued_mark (length s.indices) longer e s.maint s.commands
+      (queued_mark (length s.indices) s.book.entries m s.maint s.commands ok.maint.queued))
       (rebuild_both s ok r up b begun) (adds_both s ok r up b (length longer) begun)
       (λ none. subst AreBehindFalls (sym (append_assoc s.book.entries (entry.Mark m ∷ []) (entry.Mark e ∷ [])))
       (behind_falls_fall s.book.entries stream r count b.target b.source (ok.fell none) (open_there s ok r up b begun) part))
@@ -160,7 +177,8 @@ module _ (s : State) (stream r count : ℕ) (ok : IsSound s) (up : mode_of (mode
 
 -- ---- a replica is told to fail, and had not
 
-module _ (s : State) (stream r : ℕ) (ok : IsSound s) (within : stream < length s.indices) (no_command : HasNoCommand stream s.commands) (up : mode_of (modes_in s) r ≢ Err) where
+module _ (s : State) (stream r : ℕ) (ok : IsSound s) (within : stream < length s.indices)
+    (no_command : HasNoCommand stream s.commands) (up : mode_of (modes_in s) r ≢ Err) where
   abbrev mf : Mark
   mf = mark.Failed r
 
@@ -182,51 +200,68 @@ module _ (s : State) (stream r : ℕ) (ok : IsSound s) (within : stream < length
   queued_one : AreQueued (length s.indices) told_longer s.maint s.commands
   queued_one = queued_mark (length s.indices) s.book.entries mf s.maint s.commands ok.maint.queued
 
-  fail_alone : IsApart s.rebuild r → IsSoundOn (due s.whole (told_of s).volume) (forms s.whole s.nodes) (after (marked (with_place s) mf)) → IsSound (after (marked (with_place s) mf))
+  fail_alone : IsApart s.rebuild r → IsSoundOn (due s.whole (told_of s).volume) (forms s.whole s.nodes)
+      (after (marked (with_place s) mf)) → IsSound (after (marked (with_place s) mf))
   fail_alone apart on =
       fallen s ok counted (told_longer ++ entry.Answer a ∷ []) (s.book.spare + 1 - 1 - 1) s.rebuild s.ended (one_fell s ok r up)
-      (sym (modes_after-push (opening_of s).modes told_longer (entry.Answer a) ∙ modes_after-push (opening_of s).modes s.book.entries (entry.Mark mf)))
-      (sym (replay-push (opening_of s).state told_longer (entry.Answer a) ∙ replay-push (opening_of s).state s.book.entries (entry.Mark mf)))
+      (sym (modes_after-push (opening_of s).modes told_longer (entry.Answer a)
+      ∙ modes_after-push (opening_of s).modes s.book.entries (entry.Mark mf)))
+      (sym (replay-push (opening_of s).state told_longer (entry.Answer a)
+      ∙ replay-push (opening_of s).state s.book.entries (entry.Mark mf)))
       (sym (length-set s.indices stream (index_at s.indices stream + 1)))
-      (whole_one s ok r up) (fewer_one s ok r up) (queued_answer (length s.indices) told_longer a s.maint s.commands queued_one no_command) (rebuild_one s ok r up apart) ok.adds
+      (whole_one s ok r up) (fewer_one s ok r up)
+      (queued_answer (length s.indices) told_longer a s.maint s.commands queued_one no_command)
+      (rebuild_one s ok r up apart) ok.adds
       (λ none. behind_falls_answer told_longer a (behind_falls_failed s.book.entries r (ok.fell none))) on
 
-  fail_ends : (b : Rebuilding) → s.rebuild ≡ Some b → (r ≡ b.target) ⊎ (r ≡ b.source) → IsSoundOn (due s.whole (told_of s).volume) (forms s.whole s.nodes) (after (aborted (marked (with_place s) mf) b.target))
+  fail_ends : (b : Rebuilding) → s.rebuild ≡ Some b → (r ≡ b.target) ⊎ (r ≡ b.source)
+      → IsSoundOn (due s.whole (told_of s).volume) (forms s.whole s.nodes)
+      (after (aborted (marked (with_place s) mf) b.target))
       → IsSound (after (aborted (marked (with_place s) mf) b.target))
   fail_ends b begun part on =
       let e = mark.Aborted b.target in
       let over = told_longer ++ entry.Mark e ∷ [] in
-      fallen s ok counted (over ++ entry.Answer a ∷ []) (s.book.spare + 1 - 1 - 1 - 1) None (Some (record { target = b.target; place = length told_longer })) (both_fell s ok r up b)
+      fallen s ok counted (over ++ entry.Answer a ∷ []) (s.book.spare + 1 - 1 - 1 - 1) None
+      (Some (record { target = b.target; place = length told_longer })) (both_fell s ok r up b)
       (sym (modes_after-push (opening_of s).modes over (entry.Answer a) ∙ modes_after-push (opening_of s).modes told_longer (entry.Mark e)
       ∙ ap (λ (ms : List Mode). set ms b.target Err) (modes_after-push (opening_of s).modes s.book.entries (entry.Mark mf))))
-      (sym (replay-push (opening_of s).state over (entry.Answer a) ∙ replay-push (opening_of s).state told_longer (entry.Mark e) ∙ replay-push (opening_of s).state s.book.entries (entry.Mark mf)))
+      (sym (replay-push (opening_of s).state over (entry.Answer a)
+      ∙ replay-push (opening_of s).state told_longer (entry.Mark e)
+      ∙ replay-push (opening_of s).state s.book.entries (entry.Mark mf)))
       (sym (length-set s.indices stream (index_at s.indices stream + 1)))
       (whole_both s ok r up b begun) (fewer_both s ok r up b begun)
-      (queued_answer (length s.indices) over a s.maint s.commands (queued_mark (length s.indices) told_longer e s.maint s.commands queued_one) no_command)
+      (queued_answer (length s.indices) over a s.maint s.commands
+      (queued_mark (length s.indices) told_longer e s.maint s.commands queued_one) no_command)
       (rebuild_both s ok r up b begun) (adds_both s ok r up b (length told_longer) begun)
       (λ none. behind_falls_answer over a (subst AreBehindFalls (sym (append_assoc s.book.entries (entry.Mark mf ∷ []) (entry.Mark e ∷ [])))
       (behind_falls_fail s.book.entries r b.target b.source (ok.fell none) (open_there s ok r up b begun) part)))
       on
 
-  pub fails_kept : IsSoundOn (due s.whole (told_of s).volume) (forms s.whole s.nodes) (after (failed (with_place s) r)) → IsSound (after (failed (with_place s) r))
+  pub fails_kept : IsSoundOn (due s.whole (told_of s).volume) (forms s.whole s.nodes) (after (failed (with_place s) r))
+      → IsSound (after (failed (with_place s) r))
   fails_kept on = ⊎_elim
       (λ (x : GoesOn (marked (with_place s) mf) r (failed (with_place s) r)). subst (λ (y : State). IsSound (after y)) (sym x.state)
       (fail_alone x.apart (subst (λ (y : State). IsSoundOn (due s.whole (told_of s).volume) (forms s.whole s.nodes) (after y)) x.state on)))
       (λ (x : Aborts (marked (with_place s) mf) r (failed (with_place s) r)). subst (λ (y : State). IsSound (after y)) (sym x.state)
-      (fail_ends x.b x.begun x.part (subst (λ (y : State). IsSoundOn (due s.whole (told_of s).volume) (forms s.whole s.nodes) (after y)) x.state on)))
+      (fail_ends x.b x.begun x.part
+      (subst (λ (y : State). IsSoundOn (due s.whole (told_of s).volume) (forms s.whole s.nodes) (after y)) x.state on)))
       (behind (marked (with_place s) mf) r)
 
 -- ---- a call that is answered at once
 
-pub now_sound : (s : State) (stream : ℕ) (c : Call) → IsSound s → stream < length s.indices → IsIdle stream s.calls → HasNoCommand stream s.commands → IsNow c
-    → IsSound (answered (after_fail (with_place s) (failed_by c)) stream (length s.book.entries) c (plain_step (modes_in s) (told_of s) c).1)
-now_sound s stream c ok within idle none now = by c now (now_on (due s.whole (told_of s).volume) (forms s.whole s.nodes) s stream c ok.on within idle now)
+pub now_sound : (s : State) (stream : ℕ) (c : Call) → IsSound s → stream < length s.indices → IsIdle stream s.calls
+    → HasNoCommand stream s.commands → IsNow c
+    → IsSound (answered (after_fail (with_place s) (failed_by c)) stream (length s.book.entries) c
+    (plain_step (modes_in s) (told_of s) c).1)
+now_sound s stream c ok within idle none now =
+    by c now (now_on (due s.whole (told_of s).volume) (forms s.whole s.nodes) s stream c ok.on within idle now)
   where
     Now : Call → State
     Now c = answered (after_fail (with_place s) (failed_by c)) stream (length s.book.entries) c (plain_step (modes_in s) (told_of s) c).1
 
     quiet : (c : Call) → ((b : Bool) → cond b (told_of s) (after_call (told_of s) c) ≡ told_of s)
-        → IsSoundOn (due s.whole (told_of s).volume) (forms s.whole s.nodes) (answered (with_place s) stream (length s.book.entries) c (plain_step (modes_in s) (told_of s) c).1)
+        → IsSoundOn (due s.whole (told_of s).volume) (forms s.whole s.nodes)
+        (answered (with_place s) stream (length s.book.entries) c (plain_step (modes_in s) (told_of s) c).1)
         → IsSound (answered (with_place s) stream (length s.book.entries) c (plain_step (modes_in s) (told_of s) c).1)
     quiet c same on =
         let r = (plain_step (modes_in s) (told_of s) c).1 in
@@ -239,7 +274,9 @@ now_sound s stream c ok within idle none now = by c now (now_on (due s.whole (to
     wo≢err e = cc
 
     by_mode : (r : ℕ) (m : Mode) → mode_of (modes_in s) r ≡ m
-        → IsSoundOn (due s.whole (told_of s).volume) (forms s.whole s.nodes) (answered (failed_in m (with_place s) r) stream (length s.book.entries) (call.Command (command.Fail r)) reply.Done)
+        → IsSoundOn (due s.whole (told_of s).volume) (forms s.whole s.nodes)
+        (answered (failed_in m (with_place s) r) stream (length s.book.entries) (call.Command (command.Fail r))
+        reply.Done)
         → IsSound (answered (failed_in m (with_place s) r) stream (length s.book.entries) (call.Command (command.Fail r)) reply.Done)
     by_mode r Err e on = quiet (call.Command (command.Fail r)) (λ b. same b) on
       where

@@ -1,5 +1,6 @@
 -- How far rebuilds are by a World's fields, who has a part in the one that is open, and the command that has it.
-use Rattle.std.proofs.Common.{◌≡◌, ◌≢◌, ◌⊎◌, ℕ, Bool, true, false, cond, eqb, ◌||◌, List, [], ◌∷◌, ◌++◌, length, refl, sym, ap, subst, ◌∙◌, inl, inr, ⊎_elim}
+use Rattle.std.proofs.Common.{◌≡◌, ◌≢◌, ◌⊎◌, ℕ, Bool, true, false, cond, eqb, ◌||◌, List, [], ◌∷◌, ◌++◌, length, refl}
+use Rattle.std.proofs.Common.{sym, ap, subst, ◌∙◌, inl, inr, ⊎_elim}
 use Rattle.std.specs.Prelude.{Option, None, Some}
 use Rattle.std.proofs.lemmas.Bool.{eq-eqb, eqb-true}
 use Rattle.volume_model.specs.declared.entry.Entry.{Entry}
@@ -45,7 +46,8 @@ module _ (es : List Entry) (b : Rebuilding) (g : Option EndedRebuild) (far : (q 
   only_of q s e = sym (it_is b g q s (sym (far q) ∙ e)).0
 
 -- a replica without a part in it is in no open rebuild
-pub not_in : (o : Option Rebuilding) (g : Option EndedRebuild) (q s r : ℕ) → how_far o g q ≡ rebuild.Open s → IsApart o r → (r ≡ q) ⊎ (r ≡ s) → ⊥
+pub not_in : (o : Option Rebuilding) (g : Option EndedRebuild) (q s r : ℕ) → how_far o g q ≡ rebuild.Open s → IsApart o r
+    → (r ≡ q) ⊎ (r ≡ s) → ⊥
 not_in None g q s r e apart who = none_open g q s e
 not_in (Some b) g q s r e apart who =
     let is = it_is b g q s e in
@@ -55,22 +57,27 @@ not_in (Some b) g q s r e apart who =
 
 -- the end of the open one
 pub far_aborted : (es : List Entry) (b : Rebuilding) (g : Option EndedRebuild) → ((q : ℕ) → rebuild_of q es ≡ how_far (Some b) g q)
-    → (q : ℕ) → rebuild_of q (es ++ entry.Mark (mark.Aborted b.target) ∷ []) ≡ how_far None (Some (record { target = b.target; place = length es })) q
+    → (q : ℕ) → rebuild_of q (es ++ entry.Mark (mark.Aborted b.target) ∷ []) ≡ how_far None
+    (Some (record { target = b.target; place = length es })) q
 far_aborted es b g far q =
-    rebuild_of-push q es (entry.Mark (mark.Aborted b.target)) ∙ ap (λ x. cond (eqb b.target q) (rebuild.Aborted (length es)) x) (far q) ∙ one (eqb b.target q)
+    rebuild_of-push q es (entry.Mark (mark.Aborted b.target))
+    ∙ ap (λ x. cond (eqb b.target q) (rebuild.Aborted (length es)) x) (far q) ∙ one (eqb b.target q)
   where
-    one : (t : Bool) → cond t (rebuild.Aborted (length es)) (cond t (rebuild.Open b.source) rebuild.Unasked) ≡ cond t (rebuild.Aborted (length es)) rebuild.Unasked
+    one : (t : Bool) → cond t (rebuild.Aborted (length es)) (cond t (rebuild.Open b.source) rebuild.Unasked) ≡ cond t
+        (rebuild.Aborted (length es)) rebuild.Unasked
     one true = refl
     one false = refl
 
 -- ---- who has a part in it
 
-part_or_not : (b : Rebuilding) (r : ℕ) (t u : Bool) → eqb r b.target ≡ t → eqb r b.source ≡ u → ((t || u) ≡ true) → (r ≡ b.target) ⊎ (r ≡ b.source)
+part_or_not : (b : Rebuilding) (r : ℕ) (t u : Bool) → eqb r b.target ≡ t → eqb r b.source ≡ u → ((t || u) ≡ true)
+    → (r ≡ b.target) ⊎ (r ≡ b.source)
 part_or_not b r true u e f is = inl (eqb-true r b.target e)
 part_or_not b r false true e f is = inr (eqb-true r b.source f)
 part_or_not b r false false e f is = absurd cc
 
-no_part : (b : Rebuilding) (r : ℕ) (t u : Bool) → eqb r b.target ≡ t → eqb r b.source ≡ u → ((t || u) ≡ false) → (r ≢ b.target) × (r ≢ b.source)
+no_part : (b : Rebuilding) (r : ℕ) (t u : Bool) → eqb r b.target ≡ t → eqb r b.source ≡ u → ((t || u) ≡ false)
+    → (r ≢ b.target) × (r ≢ b.source)
 no_part b r true u e f is = absurd cc
 no_part b r false true e f is = absurd cc
 no_part b r false false e f is = (λ g. apart (sym e ∙ eq-eqb r b.target g), λ g. apart (sym f ∙ eq-eqb r b.source g))

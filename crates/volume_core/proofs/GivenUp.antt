@@ -1,5 +1,6 @@
 -- A rebuild is given up: the invariant is kept, and other streams see no more of it than its mark.
-use Rattle.std.proofs.Common.{◌≡◌, ℕ, ◌<◌, true, false, List, [], ◌∷◌, ◌++◌, length, set, length-set, get_or-set_same, get_or-set_other, refl, sym, ap, subst, ◌∙◌, arith}
+use Rattle.std.proofs.Common.{◌≡◌, ℕ, ◌<◌, true, false, List, [], ◌∷◌, ◌++◌, length, set, length-set, get_or-set_same}
+use Rattle.std.proofs.Common.{get_or-set_other, refl, sym, ap, subst, ◌∙◌, arith}
 use Rattle.std.specs.Prelude.{Option, None, Some, IfSome}
 use Rattle.std.specs.List.{count_by}
 use Rattle.std.proofs.lemmas.Bool.{false≢true}
@@ -72,38 +73,52 @@ module _ (s : State) (stream : ℕ) (b : Rebuilding) (ok : IsSound s) (within : 
 
   ordered_next : IsOrdered (opening_of s) longer s.indices None (Some its_end)
   ordered_next =
-      let was : IsOrdered (opening_of s) s.book.entries s.indices (Some b) s.ended = subst (λ (x : Option Rebuilding). IsOrdered (opening_of s) s.book.entries s.indices x s.ended) begun ok.on.told.ordered in
-      mark_ordered (opening_of s) s.book.entries s.indices (Some b) None s.ended (Some its_end) its was tt (rise-aborted s.book.entries b.target ok.on.told.ordered.rise) (far_aborted s.book.entries b s.ended far)
+      let was : IsOrdered (opening_of s) s.book.entries s.indices (Some b) s.ended =
+      subst (λ (x : Option Rebuilding). IsOrdered (opening_of s) s.book.entries s.indices x s.ended) begun
+      ok.on.told.ordered in
+      mark_ordered (opening_of s) s.book.entries s.indices (Some b) None s.ended (Some its_end) its was tt
+      (rise-aborted s.book.entries b.target ok.on.told.ordered.rise) (far_aborted s.book.entries b s.ended far)
 
   on_next : (v : Volume) (ns : List Node) → IsSoundOn v ns s → IsSoundOn v ns next
   on_next v ns on = record {
     opened = on.opened;
-    told = record { legal = legal_abort (opening_of s) s.book.entries b.target b.source on.told.legal (begun_of s.book.entries b s.ended far); ordered = ordered_next };
+    told = record {
+      legal = legal_abort (opening_of s) s.book.entries b.target b.source on.told.legal
+          (begun_of s.book.entries b s.ended far);
+      ordered = ordered_next;
+    };
     clients = same_clients v s.size (length s.indices) (length s.indices) longer fewer (modes_in next) s.tickets s.calls ns refl modes
-        (seen_clients v s.size (length s.indices) s.book.entries longer fewer s.tickets s.calls ns (seen_mark s.book.entries s.calls on.clients.seen its)
+        (seen_clients v s.size (length s.indices) s.book.entries longer fewer s.tickets s.calls ns
+        (seen_mark s.book.entries s.calls on.clients.seen its)
         (failed_again v s.size (length s.indices) b.target s.book.entries (modes_in s) s.tickets s.calls ns on.clients));
     spare = omega (arith, on.spare, ap owed_end begun, fewer_up (modes_in s) b.target, ap (count_by is_up) modes);
   }
 
   pub given_up_kept : IsSound next
   given_up_kept = record {
-    on = on_same s.whole (told_of s) (told_of next) s.nodes next told (on_next (due s.whole (told_of s).volume) (forms s.whole s.nodes) ok.on);
-    whole = same_whole (told_of s) (told_of next) fewer (modes_in next) s.tickets s.calls s.nodes s.whole told modes (whole_failed (told_of s) (modes_in s) s.tickets s.calls s.nodes s.whole b.target ok.whole target_in);
-    maint = same_maint (told_of s).volume.snapshots (told_of next).volume.snapshots (length s.indices) (length s.indices) longer fewer (modes_in next) s.tickets s.calls s.nodes s.maint s.commands
+    on = on_same s.whole (told_of s) (told_of next) s.nodes next told
+        (on_next (due s.whole (told_of s).volume) (forms s.whole s.nodes) ok.on);
+    whole = same_whole (told_of s) (told_of next) fewer (modes_in next) s.tickets s.calls s.nodes s.whole told modes
+        (whole_failed (told_of s) (modes_in s) s.tickets s.calls s.nodes s.whole b.target ok.whole target_in);
+    maint = same_maint (told_of s).volume.snapshots (told_of next).volume.snapshots (length s.indices) (length s.indices)
+        longer fewer (modes_in next) s.tickets s.calls s.nodes s.maint s.commands
         (ap (λ (p : PlainState). p.volume.snapshots) told) refl modes
         (record {
           queued = queued_mark (length s.indices) s.book.entries its s.maint s.commands ok.maint.queued;
-          fits = λ i l. fits_still (told_of s).volume.snapshots (modes_in s) fewer s.nodes s.nodes s.maint s.commands (ticket_at s.tickets i) (open_at s.calls i)
+          fits = λ i l. fits_still (told_of s).volume.snapshots (modes_in s) fewer s.nodes s.nodes s.maint s.commands
+              (ticket_at s.tickets i) (open_at s.calls i)
               (λ q e. rw_before (modes_in s) b.target q target_in e) (λ q. refl) (ok.maint.fits i l);
         });
     disk = ap (λ (p : PlainState). length p.volume.disk) (sym told) ∙ ok.disk;
-    rebuild = subst (λ (x : List Mode). IsRebuilding s.size x s.tickets s.calls s.whole s.nodes None) modes (rebuild_given_up s.size (modes_in s) s.tickets s.calls s.whole s.nodes b is_open);
+    rebuild = subst (λ (x : List Mode). IsRebuilding s.size x s.tickets s.calls s.whole s.nodes None) modes
+        (rebuild_given_up s.size (modes_in s) s.tickets s.calls s.whole s.nodes b is_open);
     adds = record {
       of_begun = tt;
       of_ended = subst (λ (x : Option Rebuilding). IfSome x (λ y. HasAdd s.maint s.commands y.target)) begun ok.adds.of_begun;
       one = tt;
     };
-    fell = λ none. absurd (false≢true (sym (none stream) ∙ get_or-set_same s.gave_up stream true false (omega (arith, within, ok.streams))));
+    fell = λ none. absurd (false≢true (sym (none stream)
+        ∙ get_or-set_same s.gave_up stream true false (omega (arith, within, ok.streams))));
     streams = length-set s.gave_up stream true ∙ ok.streams;
   }
 

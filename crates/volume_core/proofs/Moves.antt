@@ -1,5 +1,6 @@
 -- What each step leaves to other streams, and what its own sees.
-use Rattle.std.proofs.Common.{◌≡◌, ℕ, ◌+◌, ◌<◌, ⊎_elim, true, false, List, [], ◌∷◌, length, length-set, map, set, subst, sym, refl, ap, ◌∙◌, arith, append-nil}
+use Rattle.std.proofs.Common.{◌≡◌, ℕ, ◌+◌, ◌<◌, ⊎_elim, true, false, List, [], ◌∷◌, length, length-set, map, set}
+use Rattle.std.proofs.Common.{subst, sym, refl, ap, ◌∙◌, arith, append-nil}
 use lib.Seq.{set-get_or}
 use Rattle.vol_units.specs.declared.range.BlockRange.{BlockRange}
 use Rattle.volume_model.specs.declared.call.Call.{Call}
@@ -17,18 +18,30 @@ use Rattle.volume_core.specs.State.{State, modes_in, index_at, gave_up_at}
 use Rattle.volume_core.specs.Steps.{with_place, ended, without_call, started, answer_entry}
 use Rattle.volume_core.specs.Sound.{IsSound}
 use Rattle.volume_core.specs.Answers.{IsRoomier, IsBehind, Completes, BeginsBy}
-use Rattle.volume_core.specs.Streams.{running, turning, Open, open_of, opens, IsOpen, MayGo, Stays, Begun, IsAnsweredTo, IsTakenBack, ForOwner, origin_of}
-use Rattle.volume_core.proofs.CallLemmas.{calls-set_other, calls-set_own, calls-push_other, calls-push_own, calls-remove_other, calls-remove_own, calls-one, calls-place, calls-idle}
+use Rattle.volume_core.specs.Streams.{running, turning, Open, open_of, opens, IsOpen, MayGo, Stays, Begun}
+use Rattle.volume_core.specs.Streams.{IsAnsweredTo, IsTakenBack, ForOwner, origin_of}
+use Rattle.volume_core.proofs.CallLemmas.{calls-set_other, calls-set_own, calls-push_other, calls-push_own}
+use Rattle.volume_core.proofs.CallLemmas.{calls-remove_other, calls-remove_own, calls-one, calls-place, calls-idle}
 
 -- ---- nothing but places
 
 pub may_same : (n : ℕ) (s : State) → IsSound s → MayGo n s s
-may_same n s ok = record { sound = ok; origin = refl; added = ([], sym (append-nil s.book.entries), tt); others = λ m h. refl; turns = λ m h. refl; gave_up = λ m h. refl }
+may_same n s ok = record {
+  sound = ok;
+  origin = refl;
+  added = ([], sym (append-nil s.book.entries), tt);
+  others =
+      λ m h. refl;
+  turns = λ m h. refl;
+  gave_up = λ m h. refl;
+}
 
 pub may_roomier : (n : ℕ) (s s2 : State) → IsSound s2 → IsRoomier s s2 → MayGo n s s2
 may_roomier n s s2 ok r = record {
   sound = ok;
-  origin = ap origin_of r.state ∙ ap (λ k. record { first = s.first; opening = s.book.opening; size = s.size; streams = length s.indices; replicas = k }) r.keeps.count;
+  origin = ap origin_of r.state
+      ∙ ap (λ k. record { first = s.first; opening = s.book.opening; size = s.size; streams = length s.indices; replicas = k })
+      r.keeps.count;
   added = ([], ap (λ (x : State). x.book.entries) r.state ∙ sym (append-nil s.book.entries), tt);
   others = λ m h. ap (λ (x : State). running x m) r.state;
   turns = λ m h. ap (λ (x : State). turning x m) r.state;
@@ -41,7 +54,8 @@ stays_same n s = record { entries = refl; same = refl }
 -- ---- the call of a ticket is the stream's
 
 -- what is open of a stream with one call
-one_running : (n : ℕ) (xs : List (Ticket × OpenCall)) (o : Open) → map open_of xs ≡ o ∷ [] → (x : Ticket × OpenCall) × (xs ≡ x ∷ []) × (open_of x ≡ o)
+one_running : (n : ℕ) (xs : List (Ticket × OpenCall)) (o : Open) → map open_of xs ≡ o ∷ [] → (x : Ticket × OpenCall)
+    × (xs ≡ x ∷ []) × (open_of x ≡ o)
 one_running n [] o e = absurd cc
 one_running n (x ∷ []) o e = (x, refl, cc)
 one_running n (x ∷ y ∷ xs) o e = absurd cc
@@ -60,7 +74,8 @@ own_at n t c s i ok open' stands =
     let x = one.0 in
     let at = calls-place n s.tickets s.calls x one.1 in
     let there = calls-one n s.tickets s.calls at.0 x one.1 at.1 at.2 at.3 in
-    let number : (ticket_at s.tickets at.0).number ≡ t = ap (λ (p : Ticket × OpenCall). p.0.number) there ∙ ap (λ (o : Open). o.number) one.2 in
+    let number : (ticket_at s.tickets at.0).number ≡ t = ap (λ (p : Ticket × OpenCall). p.0.number) there
+    ∙ ap (λ (o : Open). o.number) one.2 in
     let here : at.0 ≡ i = stands.only at.0 at.1 number in
     let is : (ticket_at s.tickets i, open_at s.calls i) ≡ x = subst (λ k. (ticket_at s.tickets k, open_at s.calls k) ≡ x) here there in
     record {
@@ -78,11 +93,15 @@ module _ (n : ℕ) (c : Call) (s : State) (i : ℕ) (ok : IsSound s) (h : i < le
   call_in = omega (arith, h, ok.on.clients.paired)
 
   -- with its ticket, on these replicas, with places for so many entries
-  pub may_set : (s2 : State) (t : Ticket) (y : OpenCall) (nodes : List Node) (spare : ℕ) → y.stream ≡ (open_at s.calls i).stream → length nodes ≡ length s.nodes
-      → s2 ≡ record s { nodes = nodes; tickets = set s.tickets i t; calls = set s.calls i y; book = record s.book { spare = spare } } → IsSound s2 → MayGo n s s2
+  pub may_set : (s2 : State) (t : Ticket) (y : OpenCall) (nodes : List Node) (spare : ℕ)
+      → y.stream ≡ (open_at s.calls i).stream → length nodes ≡ length s.nodes
+      → s2 ≡ record s { nodes = nodes; tickets = set s.tickets i t; calls = set s.calls i y; book = record s.book { spare = spare } }
+      → IsSound s2 → MayGo n s s2
   may_set s2 t y nodes spare same many is ok2 = record {
     sound = ok2;
-    origin = ap origin_of is ∙ ap (λ k. record { first = s.first; opening = s.book.opening; size = s.size; streams = length s.indices; replicas = k }) many;
+    origin = ap origin_of is
+        ∙ ap (λ k. record { first = s.first; opening = s.book.opening; size = s.size; streams = length s.indices; replicas = k })
+        many;
     added = ([], ap (λ (x : State). x.book.entries) is ∙ sym (append-nil s.book.entries), tt);
     others = λ m other. ap (λ (x : State). running x m) is
         ∙ calls-set_other m s.tickets s.calls i t y (λ e. other (sym e ∙ own.stream)) (λ e. other (sym e ∙ same ∙ own.stream));
@@ -92,9 +111,11 @@ module _ (n : ℕ) (c : Call) (s : State) (i : ℕ) (ok : IsSound s) (h : i < le
 
   -- what the stream then has open
   pub opens_set : (s2 : State) (t : Ticket) (y : OpenCall) (nodes : List Node) (spare : ℕ) → y.stream ≡ (open_at s.calls i).stream
-      → s2 ≡ record s { nodes = nodes; tickets = set s.tickets i t; calls = set s.calls i y; book = record s.book { spare = spare } } → opens s2 n ≡ open_of (t, y) ∷ []
+      → s2 ≡ record s { nodes = nodes; tickets = set s.tickets i t; calls = set s.calls i y; book = record s.book { spare = spare } }
+      → opens s2 n ≡ open_of (t, y) ∷ []
   opens_set s2 t y nodes spare same is =
-      ap (λ (x : State). opens x n) is ∙ ap (map open_of) (calls-set_own n s.tickets s.calls i t y own.x own.runs h call_in own.stream (same ∙ own.stream))
+      ap (λ (x : State). opens x n) is ∙ ap (map open_of)
+      (calls-set_own n s.tickets s.calls i t y own.x own.runs h call_in own.stream (same ∙ own.stream))
 
   -- what it had
   pub opens_had : opens s n ≡ open_of (ticket_at s.tickets i, open_at s.calls i) ∷ []
@@ -105,18 +126,28 @@ module _ (n : ℕ) (c : Call) (s : State) (i : ℕ) (ok : IsSound s) (h : i < le
 
   -- where the ticket stays
   with_ticket : (y : OpenCall) (nodes : List Node) → record s { nodes = nodes; calls = set s.calls i y }
-      ≡ record s { nodes = nodes; tickets = set s.tickets i (ticket_at s.tickets i); calls = set s.calls i y; book = record s.book { spare = s.book.spare } }
-  with_ticket y nodes = ap (λ ts. record s { nodes = nodes; tickets = ts; calls = set s.calls i y; book = record s.book { spare = s.book.spare } }) (sym same_ticket)
+      ≡ record s {
+        nodes = nodes;
+        tickets = set s.tickets i (ticket_at s.tickets i);
+        calls = set s.calls i y;
+        book =
+            record s.book { spare = s.book.spare };
+      }
+  with_ticket y nodes =
+      ap (λ ts. record s { nodes = nodes; tickets = ts; calls = set s.calls i y; book = record s.book { spare = s.book.spare } })
+      (sym same_ticket)
 
   pub may_step : (s2 : State) (y : OpenCall) (nodes : List Node) → y.stream ≡ (open_at s.calls i).stream → length nodes ≡ length s.nodes
       → s2 ≡ record s { nodes = nodes; calls = set s.calls i y } → IsSound s2 → MayGo n s s2
   may_step s2 y nodes same many is ok2 = may_set s2 (ticket_at s.tickets i) y nodes s.book.spare same many (is ∙ with_ticket y nodes) ok2
 
-  pub stays_step : (s2 : State) (y : OpenCall) (nodes : List Node) → y.stream ≡ (open_at s.calls i).stream → open_of (ticket_at s.tickets i, y) ≡ open_of (ticket_at s.tickets i, open_at s.calls i)
+  pub stays_step : (s2 : State) (y : OpenCall) (nodes : List Node) → y.stream ≡ (open_at s.calls i).stream
+      → open_of (ticket_at s.tickets i, y) ≡ open_of (ticket_at s.tickets i, open_at s.calls i)
       → s2 ≡ record s { nodes = nodes; calls = set s.calls i y } → Stays n s s2
   stays_step s2 y nodes same alike is = record {
     entries = ap (λ (x : State). x.book.entries) is;
-    same = opens_set s2 (ticket_at s.tickets i) y nodes s.book.spare same (is ∙ with_ticket y nodes) ∙ ap (λ o. o ∷ []) alike ∙ sym opens_had;
+    same = opens_set s2 (ticket_at s.tickets i) y nodes s.book.spare same (is ∙ with_ticket y nodes)
+        ∙ ap (λ o. o ∷ []) alike ∙ sym opens_had;
   }
 
   -- ---- it is gone
@@ -126,7 +157,8 @@ module _ (n : ℕ) (c : Call) (s : State) (i : ℕ) (ok : IsSound s) (h : i < le
     sound = ok2;
     origin = ap origin_of is;
     added = ([], ap (λ (x : State). x.book.entries) is ∙ sym (append-nil s.book.entries), tt);
-    others = λ m other. ap (λ (x : State). running x m) is ∙ calls-remove_other m s.tickets s.calls i ok.on.clients.paired (λ e. other (sym e ∙ own.stream));
+    others = λ m other. ap (λ (x : State). running x m) is
+        ∙ calls-remove_other m s.tickets s.calls i ok.on.clients.paired (λ e. other (sym e ∙ own.stream));
     turns = λ m other. ap (λ (x : State). turning x m) is;
     gave_up = λ m other. ap (λ (x : State). gave_up_at x.gave_up m) is;
   }
@@ -139,21 +171,37 @@ module _ (n : ℕ) (c : Call) (s : State) (i : ℕ) (ok : IsSound s) (h : i < le
 
   -- ---- it ends, with places for so many entries
 
-  pub may_ended : (s2 : State) (spare : ℕ) (r : Reply) → s2 ≡ ended (record s { book = record s.book { spare = spare } }) i r → IsSound s2 → MayGo n s s2
+  pub may_ended : (s2 : State) (spare : ℕ) (r : Reply)
+      → s2 ≡ ended (record s { book = record s.book { spare = spare } }) i r → IsSound s2 → MayGo n s s2
   may_ended s2 spare r is ok2 = record {
     sound = ok2;
     origin = ap origin_of is
-        ∙ ap (λ k. record { first = s.first; opening = s.book.opening; size = s.size; streams = k; replicas = length s.nodes }) (length-set s.indices (open_at s.calls i).stream (index_at s.indices (open_at s.calls i).stream + 1));
-    added = (answer_entry (without_call s i) (open_at s.calls i).stream (open_at s.calls i).saw (call_asked (ticket_at s.tickets i).kind (open_at s.calls i)) r ∷ [], ap (λ (x : State). x.book.entries) is, (own.stream, tt));
-    others = λ m other. ap (λ (x : State). running x m) is ∙ calls-remove_other m s.tickets s.calls i ok.on.clients.paired (λ e. other (sym e ∙ own.stream));
+        ∙ ap (λ k. record { first = s.first; opening = s.book.opening; size = s.size; streams = k; replicas = length s.nodes })
+        (length-set s.indices (open_at s.calls i).stream (index_at s.indices (open_at s.calls i).stream + 1));
+    added = (
+      answer_entry (without_call s i) (open_at s.calls i).stream (open_at s.calls i).saw
+          (call_asked (ticket_at s.tickets i).kind (open_at s.calls i)) r ∷ [],
+      ap (λ (x : State). x.book.entries) is,
+      (own.stream, tt),
+    );
+    others = λ m other. ap (λ (x : State). running x m) is
+        ∙ calls-remove_other m s.tickets s.calls i ok.on.clients.paired (λ e. other (sym e ∙ own.stream));
     turns = λ m other. ap (λ (x : State). turning x m) is;
     gave_up = λ m other. ap (λ (x : State). gave_up_at x.gave_up m) is;
   }
 
-  pub answered_ended : (s2 : State) (spare : ℕ) (r : Reply) → s2 ≡ ended (record s { book = record s.book { spare = spare } }) i r → IsAnsweredTo n c s s2
+  pub answered_ended : (s2 : State) (spare : ℕ) (r : Reply)
+      → s2 ≡ ended (record s { book = record s.book { spare = spare } }) i r → IsAnsweredTo n c s s2
   answered_ended s2 spare r is = record {
     marks = [];
-    answer = record { call = call_asked (ticket_at s.tickets i).kind (open_at s.calls i); reply = r; index = index_at s.indices (open_at s.calls i).stream; saw = (open_at s.calls i).saw; stream = (open_at s.calls i).stream };
+    answer = record {
+      call = call_asked (ticket_at s.tickets i).kind (open_at s.calls i);
+      reply = r;
+      index =
+          index_at s.indices (open_at s.calls i).stream;
+      saw = (open_at s.calls i).saw;
+      stream = (open_at s.calls i).stream;
+    };
     call = own.asked;
     by = own.stream;
     entries = ap (λ (x : State). x.book.entries) is;
@@ -166,11 +214,13 @@ as_open number range c whole = record { number = number; range = range; call = c
 -- ---- the steps of a started call, for the stream that has it open
 
 module _ (s s2 : State) (t i : ℕ) (ok : IsSound s) (ok2 : IsSound s2) (stands : StandsAt s.tickets t i) where
-  pub step_may : (y : OpenCall) (nodes : List Node) → y.stream ≡ (open_at s.calls i).stream → length nodes ≡ length s.nodes → s2 ≡ record s { nodes = nodes; calls = set s.calls i y }
+  pub step_may : (y : OpenCall) (nodes : List Node) → y.stream ≡ (open_at s.calls i).stream → length nodes ≡ length s.nodes
+      → s2 ≡ record s { nodes = nodes; calls = set s.calls i y }
       → ForOwner t s (λ n c. MayGo n s s2)
   step_may y nodes same many is = λ n c o. may_step n c s i ok stands.within (own_at n t c s i ok o stands) s2 y nodes same many is ok2
 
-  pub step_stays : (y : OpenCall) (nodes : List Node) → y.stream ≡ (open_at s.calls i).stream → open_of (ticket_at s.tickets i, y) ≡ open_of (ticket_at s.tickets i, open_at s.calls i)
+  pub step_stays : (y : OpenCall) (nodes : List Node) → y.stream ≡ (open_at s.calls i).stream
+      → open_of (ticket_at s.tickets i, y) ≡ open_of (ticket_at s.tickets i, open_at s.calls i)
       → s2 ≡ record s { nodes = nodes; calls = set s.calls i y } → ForOwner t s (λ n c. Stays n s s2)
   step_stays y nodes same alike is = λ n c o. stays_step n c s i ok stands.within (own_at n t c s i ok o stands) s2 y nodes same alike is
 
@@ -183,18 +233,23 @@ module _ (s s2 : State) (t i : ℕ) (ok : IsSound s) (ok2 : IsSound s2) (stands 
     idle = idle_without n c s i ok stands.within (own_at n t c s i ok o stands) s2 is;
   }
 
-  pub ended_may : (spare : ℕ) (r : Reply) → s2 ≡ ended (record s { book = record s.book { spare = spare } }) i r → ForOwner t s (λ n c. MayGo n s s2)
+  pub ended_may : (spare : ℕ) (r : Reply) → s2 ≡ ended (record s { book = record s.book { spare = spare } }) i r
+      → ForOwner t s (λ n c. MayGo n s s2)
   ended_may spare r is = λ n c o. may_ended n c s i ok stands.within (own_at n t c s i ok o stands) s2 spare r is ok2
 
-  pub ended_sees : (spare : ℕ) (r : Reply) → s2 ≡ ended (record s { book = record s.book { spare = spare } }) i r → ForOwner t s (λ n c. IsAnsweredTo n c s s2)
+  pub ended_sees : (spare : ℕ) (r : Reply) → s2 ≡ ended (record s { book = record s.book { spare = spare } }) i r
+      → ForOwner t s (λ n c. IsAnsweredTo n c s s2)
   ended_sees spare r is = λ n c o. answered_ended n c s i ok stands.within (own_at n t c s i ok o stands) s2 spare r is
 
   -- and of one that starts
-  pub started_may : (nodes : List Node) (front back buffer : List ℕ) → length nodes ≡ length s.nodes → s2 ≡ started (with_place s) i nodes front back buffer → ForOwner t s (λ n c. MayGo n s s2)
-  started_may nodes front back buffer many is = λ n c o. may_set n c s i ok stands.within (own_at n t c s i ok o stands) s2 (record (ticket_at s.tickets i) { started = true })
+  pub started_may : (nodes : List Node) (front back buffer : List ℕ) → length nodes ≡ length s.nodes
+      → s2 ≡ started (with_place s) i nodes front back buffer → ForOwner t s (λ n c. MayGo n s s2)
+  started_may nodes front back buffer many is = λ n c o. may_set n c s i ok stands.within (own_at n t c s i ok o stands) s2
+      (record (ticket_at s.tickets i) { started = true })
       (begun (open_at s.calls i) (modes_in s) front back buffer) nodes (s.book.spare + 1) refl many is ok2
 
-  pub started_sees : (nodes : List Node) (front back buffer : List ℕ) → s2 ≡ started (with_place s) i nodes front back buffer → ForOwner t s (λ n c. Begun n t c s s2)
+  pub started_sees : (nodes : List Node) (front back buffer : List ℕ)
+      → s2 ≡ started (with_place s) i nodes front back buffer → ForOwner t s (λ n c. Begun n t c s s2)
   started_sees nodes front back buffer is = λ n c o. let own = own_at n t c s i ok o stands in
       let y = begun (open_at s.calls i) (modes_in s) front back buffer in
       record {
@@ -202,8 +257,11 @@ module _ (s s2 : State) (t i : ℕ) (ok : IsSound s) (ok2 : IsSound s2) (stands 
         is_open = record {
           range = (ticket_at s.tickets i).range;
           whole = whole_of y;
-          is = opens_set n c s i ok stands.within own s2 (record (ticket_at s.tickets i) { started = true }) y nodes (s.book.spare + 1) refl is
-              ∙ one_open (ticket_at s.tickets i).number t (call_asked (ticket_at s.tickets i).kind y) c (ticket_at s.tickets i).range (whole_of y) stands.is (asked_same (ticket_at s.tickets i).kind ∙ own.asked);
+          is =
+              let ticket_here = ticket_at s.tickets i in
+              opens_set n c s i ok stands.within own s2 (record ticket_here { started = true }) y nodes (s.book.spare + 1) refl is
+              ∙ one_open ticket_here.number t (call_asked ticket_here.kind y) c ticket_here.range (whole_of y) stands.is
+              (asked_same ticket_here.kind ∙ own.asked);
         };
       }
     where
@@ -223,7 +281,8 @@ behind_may n t c s s2 b ok ok2 = record {
   origin = ap origin_of b.state;
   added = ([], ap (λ (x : State). x.book.entries) b.state ∙ sym (append-nil s.book.entries), tt);
   others = λ m other. ap (λ (x : State). running x m) b.state
-      ∙ calls-push_other m s.tickets s.calls (record { number = t; range = b.range; kind = b.kind; started = false }) b.new ok.on.clients.paired (λ e. other (sym e ∙ b.by));
+      ∙ calls-push_other m s.tickets s.calls (record { number = t; range = b.range; kind = b.kind; started = false }) b.new
+      ok.on.clients.paired (λ e. other (sym e ∙ b.by));
   turns = λ m other. ap (λ (x : State). turning x m) b.state;
   gave_up = λ m other. ap (λ (x : State). gave_up_at x.gave_up m) b.state;
 }
@@ -235,7 +294,9 @@ behind_sees n t c s s2 b idle ok = record {
     range = b.range;
     whole = whole_of b.new;
     is = ap (λ (x : State). opens x n) b.state
-        ∙ ap (map open_of) (calls-push_own n s.tickets s.calls (record { number = t; range = b.range; kind = b.kind; started = false }) b.new ok.on.clients.paired b.by (calls-idle n s.tickets s.calls idle))
+        ∙ ap (map open_of) (calls-push_own n s.tickets s.calls
+        (record { number = t; range = b.range; kind = b.kind; started = false }) b.new ok.on.clients.paired b.by
+        (calls-idle n s.tickets s.calls idle))
         ∙ ap (λ x. as_open t b.range x (whole_of b.new) ∷ []) b.is;
   };
 }
@@ -256,12 +317,14 @@ complete_sees s s2 t done ok ok2 = ⊎_elim
 
 -- ---- the start of a call
 
-pub begins_may : (s s2 : State) (t i source : ℕ) → IsSound s → IsSound s2 → StandsAt s.tickets t i → (k : Kind) → BeginsBy k (with_place s) i source s2 → ForOwner t s (λ n c. MayGo n s s2)
+pub begins_may : (s s2 : State) (t i source : ℕ) → IsSound s → IsSound s2 → StandsAt s.tickets t i → (k : Kind)
+    → BeginsBy k (with_place s) i source s2 → ForOwner t s (λ n c. MayGo n s s2)
 begins_may s s2 t i source ok ok2 stands kind.Read b = started_may s s2 t i ok ok2 stands s.nodes [] [] b.buffer refl b.state
 begins_may s s2 t i source ok ok2 stands kind.Write b = started_may s s2 t i ok ok2 stands b.nodes b.front b.back [] b.keeps.count b.state
 begins_may s s2 t i source ok ok2 stands kind.Whole b = absurd b
 
-pub begins_sees : (s s2 : State) (t i source : ℕ) → IsSound s → IsSound s2 → StandsAt s.tickets t i → (k : Kind) → BeginsBy k (with_place s) i source s2 → ForOwner t s (λ n c. Begun n t c s s2)
+pub begins_sees : (s s2 : State) (t i source : ℕ) → IsSound s → IsSound s2 → StandsAt s.tickets t i → (k : Kind)
+    → BeginsBy k (with_place s) i source s2 → ForOwner t s (λ n c. Begun n t c s s2)
 begins_sees s s2 t i source ok ok2 stands kind.Read b = started_sees s s2 t i ok ok2 stands s.nodes [] [] b.buffer b.state
 begins_sees s s2 t i source ok ok2 stands kind.Write b = started_sees s s2 t i ok ok2 stands b.nodes b.front b.back [] b.state
 begins_sees s s2 t i source ok ok2 stands kind.Whole b = absurd b

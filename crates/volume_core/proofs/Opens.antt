@@ -1,5 +1,6 @@
 -- A World that has just been opened meets the invariant, and blank replicas may be opened.
-use Rattle.std.proofs.Common.{◌≡◌, ◌≢◌, ℕ, zero, ◌<◌, ◌≤◌, false, List, [], length, replicate, get_or, refl, sym, ap, subst, ◌∙◌, ⊎_elim, arith}
+use Rattle.std.proofs.Common.{◌≡◌, ◌≢◌, ℕ, zero, ◌<◌, ◌≤◌, false, List, [], length, replicate, get_or, refl, sym, ap}
+use Rattle.std.proofs.Common.{subst, ◌∙◌, ⊎_elim, arith}
 use Rattle.std.proofs.lemmas.List.{length-replicate, get_or-replicate, get_or_past}
 use Rattle.std.proofs.lemmas.Bool.{cases_lt}
 use Rattle.std.proofs.lemmas.List.Sums.{count_by-le-length}
@@ -26,7 +27,8 @@ read_where_up Err e w = absurd (e refl)
 none_answered : (streams stream : ℕ) → stream < length (replicate streams zero) → get_or (replicate streams zero) stream zero ≡ zero
 none_answered streams stream l = get_or-replicate streams stream zero zero (subst (λ n. stream < n) (length-replicate streams zero) l)
 
-pub opened_sound : (size streams : ℕ) (opening : Opening) (nodes : List Node) (s : State) → MayOpen size opening nodes → IsOpenedOn size opening nodes streams s → IsSound s
+pub opened_sound : (size streams : ℕ) (opening : Opening) (nodes : List Node) (s : State) → MayOpen size opening nodes
+    → IsOpenedOn size opening nodes streams s → IsSound s
 opened_sound size streams opening nodes s may is =
     let source = is.source in
     let read = is.first.read in
@@ -61,7 +63,12 @@ opened_sound size streams opening nodes s may is =
           };
           writes = λ i l. absurd (omega arith);
           reads = λ i l. absurd (omega arith);
-          seen = record { alone = λ i k below within. absurd (omega arith); past = λ i l. absurd (omega arith); saw = λ i l. absurd (omega arith) };
+          seen = record {
+            alone = λ i k below within. absurd (omega arith);
+            past = λ i l. absurd (omega arith);
+            saw =
+                λ i l. absurd (omega arith);
+          };
         };
         spare = omega (arith, count_by-le-length is_up opening.modes, may.as_many);
       };
@@ -103,7 +110,8 @@ blank_begins size modes = record {
 
 pub blank_may_open : (size n : ℕ) → 0 < n → MayOpen size (blank_opening n) (replicate n (blank size))
 blank_may_open size n some =
-    let within = λ (r : ℕ) (e : mode_of (replicate n Rw) r ≡ Rw). subst (λ m. r < m) (length-replicate n Rw) (up_in (replicate n Rw) r (rw_up (mode_of (replicate n Rw) r) e)) in
+    let within = λ (r : ℕ) (e : mode_of (replicate n Rw) r ≡ Rw). subst (λ m. r < m) (length-replicate n Rw)
+    (up_in (replicate n Rw) r (rw_up (mode_of (replicate n Rw) r) e)) in
     let one = λ (r : ℕ) (l : r < n). get_or-replicate n r (blank size) (blank 0) l in
     record {
       as_many = length-replicate n Rw ∙ sym (length-replicate n (blank size));

@@ -13,7 +13,8 @@ use Rattle.open_rebuild.specs.Claim.{IsRebuilding}
 use Rattle.open_rebuild.proofs.UnderWay.{each_rebuild, moved, HasLayers}
 
 -- the replicas get places
-pub roomed : (size : ℕ) (modes : List Mode) (ts : List Ticket) (cs : List OpenCall) (ns ms : List Node) (rebuild : Option Rebuilding) → KeepsNodes ns ms
+pub roomed : (size : ℕ) (modes : List Mode) (ts : List Ticket) (cs : List OpenCall) (ns ms : List Node)
+    (rebuild : Option Rebuilding) → KeepsNodes ns ms
     → IsRebuilding size modes ts cs None ns rebuild → IsRebuilding size modes ts cs None ms rebuild
 roomed size modes ts cs ns ms rebuild keeps =
     each_rebuild size modes ts ts cs cs None None ns ms rebuild
@@ -25,7 +26,12 @@ roomed size modes ts cs ns ms rebuild keeps =
     })
   where
     same_layers : (q : ℕ) → HasLayers (node_at ns q) (node_at ms q)
-    same_layers q = record { layers = ap (λ (n : Node). n.layers) (keeps.same q); on = ap (λ (n : Node). n.on) (keeps.same q); number = ap (λ (n : Node). n.number) (keeps.same q) }
+    same_layers q = record {
+      layers = ap (λ (n : Node). n.layers) (keeps.same q);
+      on =
+          ap (λ (n : Node). n.on) (keeps.same q);
+      number = ap (λ (n : Node). n.number) (keeps.same q);
+    }
 
     same_head : (q block : ℕ) → head_block (node_at ms q) block ≡ head_block (node_at ns q) block
     same_head q block = ap (λ (n : Node). head_block n block) (keeps.same q)

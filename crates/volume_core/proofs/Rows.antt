@@ -48,7 +48,8 @@ pub roomier_sound : (s s2 : State) → IsCalm s → IsRoomier s s2 → IsCalm s2
 roomier_sound s s2 ok is = subst IsCalm (sym is.state) (record {
   opened = ok.opened;
   told = record { legal = ok.told.legal; ordered = ok.told.ordered };
-  clients = roomed_clients (told_of s).volume s.size (length s.indices) s.book.entries (modes_in s) s.tickets s.calls s.nodes is.nodes ok.clients is.keeps;
+  clients = roomed_clients (told_of s).volume s.size (length s.indices) s.book.entries (modes_in s) s.tickets s.calls
+      s.nodes is.nodes ok.clients is.keeps;
   spare = omega (arith, ok.spare, is.more);
 })
 
@@ -65,46 +66,64 @@ same_err (Failed x) s s2 e = subst (IsRoomier s) (sym e) (same_room s)
 
 -- ---- a replica has its step, and acknowledges it
 
-pub acked_sound : (s : State) (i r : ℕ) → IsCalm s → i < length s.tickets → IsTaken (part_at (open_at s.calls i).parts r) → IsCalm (acked s i r)
+pub acked_sound : (s : State) (i r : ℕ) → IsCalm s → i < length s.tickets → IsTaken (part_at (open_at s.calls i).parts r)
+    → IsCalm (acked s i r)
 acked_sound s i r ok h mine = record {
   opened = ok.opened;
   told = ok.told;
-  clients = acked_clients (told_of s).volume s.size (length s.indices) s.book.entries (modes_in s) s.tickets s.calls s.nodes i r ok.clients h mine;
+  clients = acked_clients (told_of s).volume s.size (length s.indices) s.book.entries (modes_in s) s.tickets s.calls s.nodes
+      i r ok.clients h mine;
   spare = ok.spare;
 }
 
-pub wrote_sound : (s : State) (i r : ℕ) → IsCalm s → i < length s.tickets → IsWriting (ticket_at s.tickets i) → mode_of (modes_in s) r ≢ Err → IsCalm (wrote s i r)
+pub wrote_sound : (s : State) (i r : ℕ) → IsCalm s → i < length s.tickets → IsWriting (ticket_at s.tickets i)
+    → mode_of (modes_in s) r ≢ Err → IsCalm (wrote s i r)
 wrote_sound s i r ok h w up = record {
   opened = ok.opened;
   told = ok.told;
-  clients = wrote_clients (told_of s).volume s.size (length s.indices) s.book.entries (modes_in s) s.tickets s.calls s.nodes i r ok.clients h w up;
+  clients = wrote_clients (told_of s).volume s.size (length s.indices) s.book.entries (modes_in s) s.tickets s.calls s.nodes
+      i r ok.clients h w up;
   spare = ok.spare;
 }
 
-pub has_read_sound : (s : State) (i r : ℕ) → IsCalm s → i < length s.tickets → IsReading (ticket_at s.tickets i) → mode_of (modes_in s) r ≡ Rw → IsCalm (has_read s i r)
+pub has_read_sound : (s : State) (i r : ℕ) → IsCalm s → i < length s.tickets → IsReading (ticket_at s.tickets i)
+    → mode_of (modes_in s) r ≡ Rw → IsCalm (has_read s i r)
 has_read_sound s i r ok h w read = record {
   opened = ok.opened;
   told = ok.told;
-  clients = read_clients (told_of s).volume s.size (length s.indices) s.book.entries (modes_in s) s.tickets s.calls s.nodes i r ok.clients h w read;
+  clients = read_clients (told_of s).volume s.size (length s.indices) s.book.entries (modes_in s) s.tickets s.calls s.nodes
+      i r ok.clients h w read;
   spare = ok.spare;
 }
 
 -- ---- a call is enrolled, starts, is withdrawn
 
-pub enrolled_sound : (v : Volume) (ns : List Node) (s : State) (t : Ticket) (c : OpenCall) → IsSoundOn v ns s → t.started ≡ false → IsFresh s.tickets t.number → Fits s.size (length s.indices) (length ns) t c
-    → IsIdle c.stream s.calls → behind_last c.stream s.book.entries ≤ c.saw → c.saw ≤ length s.book.entries → IsSoundOn v ns (enrolled s t c)
+pub enrolled_sound : (v : Volume) (ns : List Node) (s : State) (t : Ticket) (c : OpenCall) → IsSoundOn v ns s
+    → t.started ≡ false → IsFresh s.tickets t.number → Fits s.size (length s.indices) (length ns) t c
+    → IsIdle c.stream s.calls → behind_last c.stream s.book.entries ≤ c.saw → c.saw ≤ length s.book.entries
+    → IsSoundOn v ns (enrolled s t c)
 enrolled_sound v ns s t c ok new fresh fit idle past saw = record {
   opened = ok.opened;
   told = ok.told;
-  clients = enrolled_clients v s.size (length s.indices) s.book.entries (modes_in s) s.tickets s.calls ns t c ok.clients new fresh fit idle past saw;
+  clients = enrolled_clients v s.size (length s.indices) s.book.entries (modes_in s) s.tickets s.calls ns t c ok.clients new
+      fresh fit idle past saw;
   spare = omega (arith, ok.spare, sum_by-append (λ (x : Ticket). cond x.started 1 0) s.tickets (t ∷ []), counts_not t.started new);
 }
 
-started_room : (tickets : List Ticket) (i : ℕ) → i < length tickets → (ticket_at tickets i).started ≡ false → count_by (λ t. t.started) (with_started tickets i) ≡ count_by (λ t. t.started) tickets + 1
-started_room tickets i h waits = omega (arith, sum_by-set (λ (x : Ticket). cond x.started 1 0) tickets i (record (ticket_at tickets i) { started = true }) no_ticket h, counts_not (ticket_at tickets i).started waits)
+started_room : (tickets : List Ticket) (i : ℕ) → i < length tickets → (ticket_at tickets i).started ≡ false
+    → count_by (λ t. t.started) (with_started tickets i) ≡ count_by (λ t. t.started) tickets + 1
+started_room tickets i h waits =
+    omega (
+      arith,
+      sum_by-set (λ (x : Ticket). cond x.started 1 0) tickets i
+          (record (ticket_at tickets i) { started = true }) no_ticket h,
+      counts_not (ticket_at tickets i).started waits,
+    )
 
-begun_sound : (s s2 : State) (i : ℕ) → IsCalm s → i < length s.tickets → (ticket_at s.tickets i).started ≡ false → (nodes : List Node) (front back buffer : List ℕ)
-    → AreClients (told_of s).volume s.size (length s.indices) s.book.entries (modes_in s) (with_started s.tickets i) (set s.calls i (begun (open_at s.calls i) (modes_in s) front back buffer)) nodes
+begun_sound : (s s2 : State) (i : ℕ) → IsCalm s → i < length s.tickets → (ticket_at s.tickets i).started ≡ false
+    → (nodes : List Node) (front back buffer : List ℕ)
+    → AreClients (told_of s).volume s.size (length s.indices) s.book.entries (modes_in s) (with_started s.tickets i)
+    (set s.calls i (begun (open_at s.calls i) (modes_in s) front back buffer)) nodes
     → s2 ≡ started (with_place s) i nodes front back buffer → IsCalm s2
 begun_sound s s2 i ok h waits nodes front back buffer clients is = subst IsCalm (sym is) (record {
   opened = ok.opened;
@@ -113,27 +132,33 @@ begun_sound s s2 i ok h waits nodes front back buffer clients is = subst IsCalm 
   spare = omega (arith, ok.spare, started_room s.tickets i h waits);
 })
 
-pub begins_sound : (s s2 : State) (i source : ℕ) → IsCalm s → i < length s.tickets → (ticket_at s.tickets i).started ≡ false → IsClear s.tickets i → mode_of (modes_in s) source ≡ Rw
+pub begins_sound : (s s2 : State) (i source : ℕ) → IsCalm s → i < length s.tickets → (ticket_at s.tickets i).started ≡ false
+    → IsClear s.tickets i → mode_of (modes_in s) source ≡ Rw
     → (k : Kind) → (ticket_at s.tickets i).kind ≡ k → BeginsBy k (with_place s) i source s2 → IsCalm s2
 begins_sound s s2 i source ok h waits clear read kind.Read is b =
     let v = (told_of s).volume in
     begun_sound s s2 i ok h waits s.nodes [] [] b.buffer
-    (begun_clients v s.size (length s.indices) s.book.entries (modes_in s) s.tickets s.calls s.nodes i [] [] b.buffer ok.clients h waits clear source s.nodes ok.clients read
-    (λ _. b.count) (λ w. absurd (write_no_read (ticket_at s.tickets i).kind w is)) (λ w. absurd (write_no_read (ticket_at s.tickets i).kind w is)))
+    (begun_clients v s.size (length s.indices) s.book.entries (modes_in s) s.tickets s.calls s.nodes i [] [] b.buffer
+    ok.clients h waits clear source s.nodes ok.clients read
+    (λ _. b.count) (λ w. absurd (write_no_read (ticket_at s.tickets i).kind w is))
+    (λ w. absurd (write_no_read (ticket_at s.tickets i).kind w is)))
     b.state
 begins_sound s s2 i source ok h waits clear read kind.Write is b =
     let v = (told_of s).volume in
     begun_sound s s2 i ok h waits b.nodes b.front b.back []
     (begun_clients v s.size (length s.indices) s.book.entries (modes_in s) s.tickets s.calls b.nodes i b.front b.back []
-    (roomed_clients v s.size (length s.indices) s.book.entries (modes_in s) s.tickets s.calls s.nodes b.nodes ok.clients b.keeps) h waits clear source s.nodes ok.clients read
+    (roomed_clients v s.size (length s.indices) s.book.entries (modes_in s) s.tickets s.calls s.nodes b.nodes ok.clients b.keeps) h
+    waits clear source s.nodes ok.clients read
     (λ w. absurd (write_no_read (ticket_at s.tickets i).kind is w)) (λ _. b.edges) (λ _. b.room))
     b.state
 begins_sound s s2 i source ok h waits clear read kind.Whole is b = absurd b
 
-pub withdrawn_sound : (v : Volume) (ns : List Node) (s : State) (i : ℕ) → IsSoundOn v ns s → i < length s.tickets → (ticket_at s.tickets i).started ≡ false → IsSoundOn v ns (without_call s i)
+pub withdrawn_sound : (v : Volume) (ns : List Node) (s : State) (i : ℕ) → IsSoundOn v ns s → i < length s.tickets
+    → (ticket_at s.tickets i).started ≡ false → IsSoundOn v ns (without_call s i)
 withdrawn_sound v ns s i ok h waits = record {
   opened = ok.opened;
   told = ok.told;
-  clients = left_clients v s.size (length s.indices) s.book.entries (modes_in s) s.tickets s.calls ns i ok.clients h (λ r e w. not_both (ticket_at s.tickets i).started waits w.started);
+  clients = left_clients v s.size (length s.indices) s.book.entries (modes_in s) s.tickets s.calls ns i ok.clients h
+      (λ r e w. not_both (ticket_at s.tickets i).started waits w.started);
   spare = omega (arith, ok.spare, sum_by-remove (λ (x : Ticket). cond x.started 1 0) s.tickets i no_ticket h);
 }

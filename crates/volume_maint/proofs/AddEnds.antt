@@ -41,16 +41,22 @@ no_more : (t : Bool) (place : ℕ) → cond t rebuild.Unasked (cond t (rebuild.A
 no_more true place = refl
 no_more false place = refl
 
-cleared_none : (maint : List Ticket) (commands : List MaintCall) (g : Option EndedRebuild) (a : Answer) → a.call ≡ call.Command (command_at commands 0).command → AreAdds maint commands None g
+cleared_none : (maint : List Ticket) (commands : List MaintCall) (g : Option EndedRebuild) (a : Answer)
+    → a.call ≡ call.Command (command_at commands 0).command → AreAdds maint commands None g
     → (q : ℕ) → rebuild_after_add q (how_far None g q) (added_by a.call) ≡ rebuild.Unasked
 cleared_none maint commands None a is adds q = still_unasked q (added_by a.call)
 cleared_none maint commands (Some e) a is adds q =
-    ap (rebuild_after_add q (how_far None (Some e) q)) (ap added_by is ∙ ap (λ (c : Command). added_by (call.Command c)) adds.of_ended.turn.command) ∙ no_more (eqb e.target q) e.place
+    ap (rebuild_after_add q (how_far None (Some e) q))
+    (ap added_by is ∙ ap (λ (c : Command). added_by (call.Command c)) adds.of_ended.turn.command)
+    ∙ no_more (eqb e.target q) e.place
 
-pub cleared : (es : List Entry) (maint : List Ticket) (commands : List MaintCall) (b : Option Rebuilding) (g : Option EndedRebuild) (a : Answer) → b ≡ None → a.call ≡ call.Command (command_at commands 0).command
-    → AreAdds maint commands b g → ((q : ℕ) → rebuild_of q es ≡ how_far b g q) → (q : ℕ) → rebuild_of q (es ++ entry.Answer a ∷ []) ≡ rebuild.Unasked
+pub cleared : (es : List Entry) (maint : List Ticket) (commands : List MaintCall) (b : Option Rebuilding)
+    (g : Option EndedRebuild) (a : Answer) → b ≡ None → a.call ≡ call.Command (command_at commands 0).command
+    → AreAdds maint commands b g → ((q : ℕ) → rebuild_of q es ≡ how_far b g q) → (q : ℕ)
+    → rebuild_of q (es ++ entry.Answer a ∷ []) ≡ rebuild.Unasked
 cleared es maint commands b g a none is adds far q =
-    rebuild_of-push q es (entry.Answer a) ∙ ap (λ (x : Rebuild). rebuild_after_add q x (added_by a.call)) (far q ∙ ap (λ (x : Option Rebuilding). how_far x g q) none)
+    rebuild_of-push q es (entry.Answer a) ∙ ap (λ (x : Rebuild). rebuild_after_add q x (added_by a.call))
+    (far q ∙ ap (λ (x : Option Rebuilding). how_far x g q) none)
     ∙ cleared_none maint commands g a is (subst (λ (x : Option Rebuilding). AreAdds maint commands x g) none adds) q
 
 -- ---- none was begun
@@ -60,7 +66,8 @@ IsNoAdd (command.Add r) = ⊥
 IsNoAdd c = Unit {0}
 
 -- of the command that has the turn
-pub unbegun : (s : State) → AreAdds s.maint s.commands s.rebuild s.ended → (c : Command) → (command_at s.commands 0).command ≡ c → HasNoRebuild s c → (s.rebuild ≡ None) × (s.ended ≡ None)
+pub unbegun : (s : State) → AreAdds s.maint s.commands s.rebuild s.ended → (c : Command)
+    → (command_at s.commands 0).command ≡ c → HasNoRebuild s c → (s.rebuild ≡ None) × (s.ended ≡ None)
 unbegun s adds (command.Add r) is has = has
 unbegun s adds c is has = no_rebuild s.maint s.commands s.rebuild s.ended adds (λ r e. subst IsNoAdd (sym is ∙ e) tt)
 
@@ -76,9 +83,11 @@ none_beside (Some b) g one e is = absurd (none_some (sym one ∙ is))
 
 -- a purge is done
 pub done_ends : (s : State) (stream saw index : ℕ) (c : Command) → MayEnd s c reply.Done
-    → IsEnded (added_by (call.Command c)) s.book.entries (told_of s) (modes_in s) (record { call = call.Command c; reply = reply.Done; index = index; saw = saw; stream = stream })
+    → IsEnded (added_by (call.Command c)) s.book.entries (told_of s) (modes_in s)
+    (record { call = call.Command c; reply = reply.Done; index = index; saw = saw; stream = stream })
 done_ends s stream saw index c may =
-    subst (λ (x : Option ℕ). IsEnded x s.book.entries (told_of s) (modes_in s) (record { call = call.Command c; reply = reply.Done; index = index; saw = saw; stream = stream }))
+    subst (λ (x : Option ℕ). IsEnded x s.book.entries (told_of s) (modes_in s)
+    (record { call = call.Command c; reply = reply.Done; index = index; saw = saw; stream = stream }))
     (sym (ap (λ (d : Command). added_by (call.Command d)) may.0)) (done_right s stream saw index c may.0 may.1 may.2)
 
 module _ (s : State) (ok : IsSound s) (stream saw index : ℕ) where
@@ -98,12 +107,15 @@ module _ (s : State) (ok : IsSound s) (stream saw index : ℕ) where
   refused_ends (command.Fail r) why wants may = absurd wants
   refused_ends (command.Add r) why wants may =
       let unasked : rebuild_of r s.book.entries ≡ rebuild.Unasked =
-      ok.on.told.ordered.rebuild r ∙ ap (λ (x : Option Rebuilding). how_far x s.ended r) may.1.0 ∙ ap (λ (x : Option EndedRebuild). how_far None x r) may.1.1 in
+      ok.on.told.ordered.rebuild r ∙ ap (λ (x : Option Rebuilding). how_far x s.ended r) may.1.0
+      ∙ ap (λ (x : Option EndedRebuild). how_far None x r) may.1.1 in
       subst (λ (x : Rebuild). EndsAdd x s.book.entries (told_of s) (modes_in s) (refused_so (command.Add r) why) r) (sym unasked)
       (refused_right s stream saw index (command.Add r) why tt may.0, refl)
 
 -- the rebuild of an add was aborted
-pub aborted_far : (s : State) → IsSound s → (r place : ℕ) → s.rebuild ≡ None → s.ended ≡ Some (record { target = r; place = place }) → rebuild_of r s.book.entries ≡ rebuild.Aborted place
+pub aborted_far : (s : State) → IsSound s → (r place : ℕ) → s.rebuild ≡ None
+    → s.ended ≡ Some (record { target = r; place = place }) → rebuild_of r s.book.entries ≡ rebuild.Aborted place
 aborted_far s ok r place none was =
-    ok.on.told.ordered.rebuild r ∙ ap (λ (x : Option Rebuilding). how_far x s.ended r) none ∙ ap (λ (x : Option EndedRebuild). how_far None x r) was
+    ok.on.told.ordered.rebuild r ∙ ap (λ (x : Option Rebuilding). how_far x s.ended r) none
+    ∙ ap (λ (x : Option EndedRebuild). how_far None x r) was
     ∙ ap (λ (t : Bool). cond t (rebuild.Aborted place) rebuild.Unasked) (eq-eqb r r refl)

@@ -29,15 +29,18 @@ use Rattle.volume_core.specs.Sound.{HasAdd, AreAdds}
 
 -- ---- who has the turn has it still
 
-module _ (maint maint2 : List Ticket) (commands commands2 : List MaintCall) (still : (r : ℕ) → HasAdd maint commands r → HasAdd maint2 commands2 r) where
+module _ (maint maint2 : List Ticket) (commands commands2 : List MaintCall)
+    (still : (r : ℕ) → HasAdd maint commands r → HasAdd maint2 commands2 r) where
   pub adds_still : (b : Option Rebuilding) (g : Option EndedRebuild) → AreAdds maint commands b g → AreAdds maint2 commands2 b g
   adds_still None None adds = record { of_begun = tt; of_ended = tt; one = tt }
   adds_still (Some b) None adds = record { of_begun = still b.target adds.of_begun; of_ended = tt; one = adds.one }
   adds_still None (Some g) adds = record { of_begun = tt; of_ended = still g.target adds.of_ended; one = tt }
-  adds_still (Some b) (Some g) adds = record { of_begun = still b.target adds.of_begun; of_ended = still g.target adds.of_ended; one = adds.one }
+  adds_still (Some b) (Some g) adds =
+      record { of_begun = still b.target adds.of_begun; of_ended = still g.target adds.of_ended; one = adds.one }
 
 -- as a command is enrolled
-pub add_pushed : (maint : List Ticket) (commands : List MaintCall) (t : Ticket) (c : MaintCall) → length commands ≡ length maint → (r : ℕ) → HasAdd maint commands r → HasAdd (maint ++ t ∷ []) (commands ++ c ∷ []) r
+pub add_pushed : (maint : List Ticket) (commands : List MaintCall) (t : Ticket) (c : MaintCall)
+    → length commands ≡ length maint → (r : ℕ) → HasAdd maint commands r → HasAdd (maint ++ t ∷ []) (commands ++ c ∷ []) r
 add_pushed maint commands t c paired r add =
     let has = add.turn in
     let first = get_or_append_left commands (c ∷ []) no_command 0 has.some in
@@ -45,18 +48,22 @@ add_pushed maint commands t c paired r add =
       stream = add.stream;
       turn = record {
         some = omega (arith, has.some, length_push commands c);
-        started = ap (λ (x : Ticket). x.started) (get_or_append_left maint (t ∷ []) no_ticket 0 (omega (arith, has.some, paired))) ∙ has.started;
+        started = ap (λ (x : Ticket). x.started) (get_or_append_left maint (t ∷ []) no_ticket 0 (omega (arith, has.some, paired)))
+            ∙ has.started;
         own = ap (λ (x : MaintCall). x.stream) first ∙ has.own;
         command = ap (λ (x : MaintCall). x.command) first ∙ has.command;
       };
     }
 
 -- as the first has the turn
-pub add_started : (maint : List Ticket) (commands : List MaintCall) → (ticket_at (with_started maint 0) 0).started ≡ true → (r : ℕ) → HasAdd maint commands r → HasAdd (with_started maint 0) commands r
-add_started maint commands on r add = let has = add.turn in record { stream = add.stream; turn = record { some = has.some; started = on; own = has.own; command = has.command } }
+pub add_started : (maint : List Ticket) (commands : List MaintCall) → (ticket_at (with_started maint 0) 0).started ≡ true
+    → (r : ℕ) → HasAdd maint commands r → HasAdd (with_started maint 0) commands r
+add_started maint commands on r add = let has = add.turn in
+    record { stream = add.stream; turn = record { some = has.some; started = on; own = has.own; command = has.command } }
 
 -- as one is taken back that waits
-pub add_left : (maint : List Ticket) (commands : List MaintCall) (k : ℕ) → length commands ≡ length maint → k < length maint → (ticket_at maint k).started ≡ false
+pub add_left : (maint : List Ticket) (commands : List MaintCall) (k : ℕ) → length commands ≡ length maint → k < length maint
+    → (ticket_at maint k).started ≡ false
     → (r : ℕ) → HasAdd maint commands r → HasAdd (remove maint k) (remove commands k) r
 add_left maint commands k paired h waits r add =
     let has = add.turn in
@@ -80,14 +87,16 @@ add_left maint commands k paired h waits r add =
 -- ---- no rebuild is open
 
 -- nor was one aborted, where the command that has the turn is no add
-pub no_rebuild : (maint : List Ticket) (commands : List MaintCall) (b : Option Rebuilding) (g : Option EndedRebuild) → AreAdds maint commands b g → ((r : ℕ) → (command_at commands 0).command ≢ command.Add r)
+pub no_rebuild : (maint : List Ticket) (commands : List MaintCall) (b : Option Rebuilding) (g : Option EndedRebuild)
+    → AreAdds maint commands b g → ((r : ℕ) → (command_at commands 0).command ≢ command.Add r)
     → (b ≡ None) × (g ≡ None)
 no_rebuild maint commands None None adds other = (refl, refl)
 no_rebuild maint commands (Some b) g adds other = absurd (other b.target adds.of_begun.turn.command)
 no_rebuild maint commands None (Some g) adds other = absurd (other g.target adds.of_ended.turn.command)
 
 -- and then whichever commands there are
-pub none_adds : (maint : List Ticket) (commands : List MaintCall) (b : Option Rebuilding) (g : Option EndedRebuild) → (b ≡ None) × (g ≡ None) → AreAdds maint commands b g
+pub none_adds : (maint : List Ticket) (commands : List MaintCall) (b : Option Rebuilding) (g : Option EndedRebuild)
+    → (b ≡ None) × (g ≡ None) → AreAdds maint commands b g
 none_adds maint commands b g none =
     subst (λ (x : Option EndedRebuild). AreAdds maint commands b x) (sym none.1)
     (subst (λ (x : Option Rebuilding). AreAdds maint commands x None) (sym none.0) (record { of_begun = tt; of_ended = tt; one = tt }))
@@ -100,7 +109,8 @@ other_command (whole.Revert name) c r other e f = cc
 other_command (whole.Purge p) c r other e f = cc
 other_command (whole.Barrier q) c r other e f = absurd other
 
-pub turn_no_add : (maint : List Ticket) (commands : List MaintCall) (stream : ℕ) (op : WholeOp) → IsPlain op → HasTurn maint commands stream (command_of op) → (r : ℕ) → (command_at commands 0).command ≢ command.Add r
+pub turn_no_add : (maint : List Ticket) (commands : List MaintCall) (stream : ℕ) (op : WholeOp) → IsPlain op
+    → HasTurn maint commands stream (command_of op) → (r : ℕ) → (command_at commands 0).command ≢ command.Add r
 turn_no_add maint commands stream op other has r = other_command op (command_at commands 0).command r other has.command
 
 pub purge_no_add : (c : Command) → c ≡ command.Purge → (r : ℕ) → c ≢ command.Add r
@@ -116,6 +126,7 @@ pub settled : (modes : List Mode) (b : Option Rebuilding) → b ≡ None → Are
 settled modes b none roles = subst (AreRoles modes) none roles
 
 -- and calls and replicas are free
-pub free_claim : (size : ℕ) (modes : List Mode) (ts us : List Ticket) (cs ds : List OpenCall) (w x : Option Whole) (ns ms : List Node) (b : Option Rebuilding) → b ≡ None
+pub free_claim : (size : ℕ) (modes : List Mode) (ts us : List Ticket) (cs ds : List OpenCall) (w x : Option Whole)
+    (ns ms : List Node) (b : Option Rebuilding) → b ≡ None
     → IsRebuilding size modes ts cs w ns b → IsRebuilding size modes us ds x ms b
 free_claim size modes ts us cs ds w x ns ms b none k = record { roles = k.roles; claim = subst (IsClaim size us ds x ms) (sym none) tt }

@@ -1,5 +1,6 @@
 -- The barrier of an add starts: a rebuild begins by its mark, and the invariant is kept.
-use Rattle.std.proofs.Common.{◌≡◌, ℕ, ◌+◌, ◌<◌, ◌≤◌, ◌^◌, false, cond, eqb, List, [], ◌∷◌, ◌++◌, length, set, refl, sym, ap, subst, ◌∙◌, arith}
+use Rattle.std.proofs.Common.{◌≡◌, ℕ, ◌+◌, ◌<◌, ◌≤◌, ◌^◌, false, cond, eqb, List, [], ◌∷◌, ◌++◌, length, set, refl}
+use Rattle.std.proofs.Common.{sym, ap, subst, ◌∙◌, arith}
 use Rattle.std.specs.Prelude.{Option, None, Some}
 use Rattle.std.specs.List.{count_by}
 use Rattle.std.proofs.lemmas.Bool.{ltb-true}
@@ -63,13 +64,18 @@ free_add Err v e = (refl, ltb-true (layer_count v.snapshots) 250 (has_room _ e))
 begun_far : (es : List Entry) (b : Rebuilding) (g : Option EndedRebuild) (name : List ℕ) → ((q : ℕ) → rebuild_of q es ≡ rebuild.Unasked)
     → (q : ℕ) → rebuild_of q (es ++ entry.Mark (mark.Added b.target b.source name) ∷ []) ≡ how_far (Some b) g q
 begun_far es b g name unasked q =
-    rebuild_of-push q es (entry.Mark (mark.Added b.target b.source name)) ∙ ap (λ (x : Rebuild). cond (eqb b.target q) (rebuild.Open b.source) x) (unasked q)
+    rebuild_of-push q es (entry.Mark (mark.Added b.target b.source name))
+    ∙ ap (λ (x : Rebuild). cond (eqb b.target q) (rebuild.Open b.source) x) (unasked q)
 
 one_up : (ms : List Mode) (r : ℕ) → r < length ms → count_by is_up (set ms r Wo) ≤ count_by is_up ms + 1
 one_up ms r l = omega (arith, sum_by-set (λ (m : Mode). cond (is_up m) 1 0) ms r Wo Err l)
 
-module _ (s : State) (i : ℕ) (b : Rebuilding) (spares : List (Option Tables)) (ok : IsSound s) (h : i < length s.tickets) (is : (ticket_at s.tickets i).kind ≡ kind.Whole) (waits : (ticket_at s.tickets i).started ≡ false) (clear : IsClear s.tickets i)
-    (asks : (open_at s.calls i).op ≡ Some (whole.Barrier b.target)) (begin : MayBeginOf s b.target) (free : refused_in s (command.Add b.target) ≡ None) (few : length s.book.entries < 2 ^ 63) (source : IsSource (modes_in s) b.source) where
+module _ (s : State) (i : ℕ) (b : Rebuilding) (spares : List (Option Tables)) (ok : IsSound s) (h : i < length s.tickets)
+    (is : (ticket_at s.tickets i).kind ≡ kind.Whole) (waits : (ticket_at s.tickets i).started ≡ false)
+    (clear : IsClear s.tickets i)
+    (asks : (open_at s.calls i).op ≡ Some (whole.Barrier b.target)) (begin : MayBeginOf s b.target)
+    (free : refused_in s (command.Add b.target) ≡ None) (few : length s.book.entries < 2 ^ 63)
+    (source : IsSource (modes_in s) b.source) where
   abbrev p : PlainState
   p = told_of s
 
@@ -98,7 +104,8 @@ module _ (s : State) (i : ℕ) (b : Rebuilding) (spares : List (Option Tables)) 
   in_modes = omega (arith, begin.there, clients.agree.as_many)
 
   fails : (mode_of (modes_in s) b.target ≡ Err) × (layer_count p.volume.snapshots < 250)
-  fails = free_add (mode_of (modes_in s) b.target) p.volume (nothing (add_refusal (mode_of (modes_in s) b.target) p.volume) (source_of (modes_in s)) free).0
+  fails = free_add (mode_of (modes_in s) b.target) p.volume
+      (nothing (add_refusal (mode_of (modes_in s) b.target) p.volume) (source_of (modes_in s)) free).0
 
   -- ---- the name
 
@@ -123,7 +130,8 @@ module _ (s : State) (i : ℕ) (b : Rebuilding) (spares : List (Option Tables)) 
   -- ---- the journal
 
   unasked : (q : ℕ) → rebuild_of q s.book.entries ≡ rebuild.Unasked
-  unasked q = ok.on.told.ordered.rebuild q ∙ ap (λ (x : Option Rebuilding). how_far x s.ended q) begin.closed ∙ ap (λ (x : Option EndedRebuild). how_far None x q) begin.first
+  unasked q = ok.on.told.ordered.rebuild q ∙ ap (λ (x : Option Rebuilding). how_far x s.ended q) begin.closed
+      ∙ ap (λ (x : Option EndedRebuild). how_far None x q) begin.first
 
   may : MayBegin (modes_in s) p s.book.entries b.target b.source name
   may = record {
@@ -139,7 +147,8 @@ module _ (s : State) (i : ℕ) (b : Rebuilding) (spares : List (Option Tables)) 
   told : IsTold (opening_of s) longer s.indices (Some b) s.ended
   told = record {
     legal = legal_added (opening_of s) s.book.entries b.target b.source name ok.on.told.legal may;
-    ordered = mark_ordered (opening_of s) s.book.entries s.indices s.rebuild (Some b) s.ended s.ended m ok.on.told.ordered (own, omega (arith, number))
+    ordered = mark_ordered (opening_of s) s.book.entries s.indices s.rebuild (Some b) s.ended s.ended m ok.on.told.ordered
+        (own, omega (arith, number))
         (rise-added s.book.entries b.target b.source name ok.on.told.ordered.rise) (begun_far s.book.entries b s.ended name unasked);
   }
 
@@ -161,13 +170,21 @@ module _ (s : State) (i : ℕ) (b : Rebuilding) (spares : List (Option Tables)) 
     one = begin.first;
   }
 
-  begun_clients : AreClients (told_of next).volume s.size (length s.indices) longer (modes_in next) (with_started s.tickets i) s.calls (formed (whole.Barrier b.target) (barrier_of s i b spares).parts (barrier_nodes s b))
+  begun_clients : AreClients (told_of next).volume s.size (length s.indices) longer (modes_in next)
+      (with_started s.tickets i) s.calls
+      (formed (whole.Barrier b.target) (barrier_of s i b spares).parts (barrier_nodes s b))
   begun_clients =
-      subst (λ (x : List Mode). AreClients (told_of next).volume s.size (length s.indices) longer x (with_started s.tickets i) s.calls (formed (whole.Barrier b.target) (barrier_of s i b spares).parts (barrier_nodes s b))) (sym modes)
-      (subst (λ (x : Volume). AreClients x s.size (length s.indices) longer (barrier_modes s b.target) (with_started s.tickets i) s.calls (formed (whole.Barrier b.target) (barrier_of s i b spares).parts (barrier_nodes s b))) (sym volume)
-      (barriers.barrier_begun p.volume s.size (length s.indices) s.book.entries m (modes_in s) s.tickets s.calls s.nodes i b.target b.source clients h is waits clear in_modes source.read))
+      subst (λ (x : List Mode). AreClients (told_of next).volume s.size (length s.indices) longer x
+      (with_started s.tickets i) s.calls (formed (whole.Barrier b.target) (barrier_of s i b spares).parts (barrier_nodes s b)))
+      (sym modes)
+      (subst (λ (x : Volume). AreClients x s.size (length s.indices) longer (barrier_modes s b.target)
+      (with_started s.tickets i) s.calls (formed (whole.Barrier b.target) (barrier_of s i b spares).parts (barrier_nodes s b)))
+      (sym volume)
+      (barriers.barrier_begun p.volume s.size (length s.indices) s.book.entries m (modes_in s) s.tickets s.calls s.nodes i
+      b.target b.source clients h is waits clear in_modes source.read))
 
-  pub barrier_sound : IsNew s.size node name b → AreSpared (whole.Barrier b.target) (barrier_modes s b.target) (barrier_nodes s b) spares → IsSound next
+  pub barrier_sound : IsNew s.size node name b → AreSpared (whole.Barrier b.target) (barrier_modes s b.target)
+      (barrier_nodes s b) spares → IsSound next
   barrier_sound new spared =
       let w = barrier_of s i b spares in
       let calmly = rebuild_of_none s ok (none s i ok h is waits clear) in
@@ -176,17 +193,29 @@ module _ (s : State) (i : ℕ) (b : Rebuilding) (spares : List (Option Tables)) 
           opened = ok.on.opened;
           told = told;
           clients = begun_clients;
-          spare = omega (arith, ok.on.spare, started_room s i ok h is waits clear, one_up (modes_in s) b.target in_modes, ap (count_by is_up) modes);
+          spare = omega (
+            arith,
+            ok.on.spare,
+            started_room s i ok h is waits clear,
+            one_up (modes_in s) b.target in_modes,
+            ap (count_by is_up) modes,
+          );
         };
-        whole = subst (λ (x : List Mode). Rattle.whole_calls.specs.Whole.IsStarted (told_of next) x (with_started s.tickets i) s.calls (barrier_nodes s b) w) (sym modes)
-            (barriers.barrier_is p.volume s.size (length s.indices) s.book.entries m (modes_in s) s.tickets s.calls s.nodes i b.target b.source clients h is waits clear in_modes source.read
+        whole = subst (λ (x : List Mode). Rattle.whole_calls.specs.Whole.IsStarted (told_of next) x
+            (with_started s.tickets i) s.calls (barrier_nodes s b) w) (sym modes)
+            (barriers.barrier_is p.volume s.size (length s.indices) s.book.entries m (modes_in s) s.tickets s.calls s.nodes
+            i b.target b.source clients h is waits clear in_modes source.read
             (told_of next) w volume can refl refl refl spared asks);
-        maint = subst (λ (x : List Mode). AreMaint (told_of next).volume.snapshots (length s.indices) longer x (with_started s.tickets i) s.calls (barrier_nodes s b) s.maint s.commands) (sym modes)
-            (barriers.barrier_maint p.volume s.size (length s.indices) s.book.entries m (modes_in s) s.tickets s.calls s.nodes i b.target b.source clients h is waits clear in_modes source.read
+        maint = subst (λ (x : List Mode). AreMaint (told_of next).volume.snapshots (length s.indices) longer x
+            (with_started s.tickets i) s.calls (barrier_nodes s b) s.maint s.commands) (sym modes)
+            (barriers.barrier_maint p.volume s.size (length s.indices) s.book.entries m (modes_in s) s.tickets s.calls
+            s.nodes i b.target b.source clients h is waits clear in_modes source.read
             p.volume.snapshots (told_of next).volume.snapshots s.maint s.commands asks ok.maint);
         disk = ap (λ (v : Volume). length v.disk) volume ∙ ok.disk;
-        rebuild = subst (λ (x : List Mode). IsRebuilding s.size x (with_started s.tickets i) s.calls (Some w) (barrier_nodes s b) (Some b)) (sym modes)
-            (rebuild_begun s.size (modes_in s) s.tickets s.calls s.nodes w i name b clients.order h is waits clear clients.agree.as_many fails.0 source.read in_modes new
+        rebuild = subst (λ (x : List Mode). IsRebuilding s.size x (with_started s.tickets i) s.calls (Some w)
+            (barrier_nodes s b) (Some b)) (sym modes)
+            (rebuild_begun s.size (modes_in s) s.tickets s.calls s.nodes w i name b clients.order h is waits clear
+            clients.agree.as_many fails.0 source.read in_modes new
             (barrier_snaps b.target node.number) refl
             (subst (λ (x : Option Rebuilding). IsRebuilding s.size (modes_in s) s.tickets s.calls None s.nodes x) begin.closed calmly));
         adds = adds;
@@ -195,30 +224,41 @@ module _ (s : State) (i : ℕ) (b : Rebuilding) (spares : List (Option Tables)) 
       }
 
 -- as its step tells it
-pub begins_barrier_sound : (s s2 : State) (i r : ℕ) → IsSound s → i < length s.tickets → (ticket_at s.tickets i).kind ≡ kind.Whole → (ticket_at s.tickets i).started ≡ false → IsClear s.tickets i
-    → (open_at s.calls i).op ≡ Some (whole.Barrier r) → MayBeginOf s r → refused_in s (command.Add r) ≡ None → length s.book.entries < 2 ^ 63 → BeginsBarrier s i r s2 → IsSound s2
+pub begins_barrier_sound : (s s2 : State) (i r : ℕ) → IsSound s → i < length s.tickets
+    → (ticket_at s.tickets i).kind ≡ kind.Whole → (ticket_at s.tickets i).started ≡ false → IsClear s.tickets i
+    → (open_at s.calls i).op ≡ Some (whole.Barrier r) → MayBeginOf s r → refused_in s (command.Add r) ≡ None
+    → length s.book.entries < 2 ^ 63 → BeginsBarrier s i r s2 → IsSound s2
 begins_barrier_sound s s2 i r ok h is waits clear asks begin free few y =
     subst IsSound (sym y.state)
-    (barrier_sound s i y.b y.spares ok h is waits clear (subst (λ q. (open_at s.calls i).op ≡ Some (whole.Barrier q)) (sym y.target) asks) (subst (MayBeginOf s) (sym y.target) begin)
+    (barrier_sound s i y.b y.spares ok h is waits clear
+    (subst (λ q. (open_at s.calls i).op ≡ Some (whole.Barrier q)) (sym y.target) asks)
+    (subst (MayBeginOf s) (sym y.target) begin)
     (subst (λ q. refused_in s (command.Add q) ≡ None) (sym y.target) free) few y.source y.new
     (subst (λ q. AreSpared (whole.Barrier q) (barrier_modes s q) (barrier_nodes s y.b) y.spares) (sym y.target) y.spared))
 
 -- ---- whatever it is that starts
 
-pub starts_sound : (s s2 : State) (t i r : ℕ) (op : WholeOp) → IsSound s → IsWaiting s t i op → MayBeginOp s op → refused_in s (command_of op) ≡ None → length s.book.entries < 2 ^ 63 → IsLongSource s r → BeginsWhole s i op s2 → IsSound s2
+pub starts_sound : (s s2 : State) (t i r : ℕ) (op : WholeOp) → IsSound s → IsWaiting s t i op → MayBeginOp s op
+    → refused_in s (command_of op) ≡ None → length s.book.entries < 2 ^ 63 → IsLongSource s r → BeginsWhole s i op s2
+    → IsSound s2
 starts_sound s s2 t i r op ok at begin free few source y = by op at.asks begin free y
   where
     within : i < length s.tickets
     within = at.awaits.stands.within
 
-    other : (op : WholeOp) → IsPlain op → (open_at s.calls i).op ≡ Some op → refused_in s (command_of op) ≡ None → BeginsWith s i op s2 → IsSound s2
+    other : (op : WholeOp) → IsPlain op → (open_at s.calls i).op ≡ Some op → refused_in s (command_of op) ≡ None
+        → BeginsWith s i op s2 → IsSound s2
     other op plain asks free y =
         subst IsSound (sym y.2)
-        (begun_sound s i ok within at.awaits.kind at.awaits.waits at.clear op y.0 plain asks (asked_op s i op ok within at.awaits.kind asks) (still_op s i op ok within at.awaits.kind at.awaits.waits asks) free r source y.1)
+        (begun_sound s i ok within at.awaits.kind at.awaits.waits at.clear op y.0 plain asks
+        (asked_op s i op ok within at.awaits.kind asks) (still_op s i op ok within at.awaits.kind at.awaits.waits asks)
+        free r source y.1)
 
-    by : (op : WholeOp) → (open_at s.calls i).op ≡ Some op → MayBeginOp s op → refused_in s (command_of op) ≡ None → BeginsWhole s i op s2 → IsSound s2
+    by : (op : WholeOp) → (open_at s.calls i).op ≡ Some op → MayBeginOp s op → refused_in s (command_of op) ≡ None
+        → BeginsWhole s i op s2 → IsSound s2
     by (whole.Snapshot name) asks begin free y = other (whole.Snapshot name) tt asks free y
     by (whole.Remove name) asks begin free y = other (whole.Remove name) tt asks free y
     by (whole.Revert name) asks begin free y = other (whole.Revert name) tt asks free y
     by (whole.Purge f) asks begin free y = other (whole.Purge f) tt asks free y
-    by (whole.Barrier q) asks begin free y = begins_barrier_sound s s2 i q ok within at.awaits.kind at.awaits.waits at.clear asks begin free few y
+    by (whole.Barrier q) asks begin free y = begins_barrier_sound s s2 i q ok within at.awaits.kind at.awaits.waits at.clear
+        asks begin free few y

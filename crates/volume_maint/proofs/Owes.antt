@@ -30,7 +30,9 @@ use Rattle.volume_core.specs.Steps.{without_call, answer_entry}
 use Rattle.volume_core.specs.Sound.{IsSound}
 use Rattle.volume_core.specs.Streams.{calls_in, running, turning, MayGo, origin_of}
 use Rattle.volume_core.proofs.CallLemmas.{calls-push_other, calls-set_other, calls-remove_other}
-use Rattle.volume_maint.specs.Steps.{whole_ticket, whole_enrolled, whole_begun, whole_parted, whole_acked, without_whole, whole_ended, whole_marked, turn_over, barrier_name, barrier_begun, barrier_ended, folded_on}
+use Rattle.volume_maint.specs.Steps.{whole_ticket, whole_enrolled, whole_begun, whole_parted, whole_acked}
+use Rattle.volume_maint.specs.Steps.{without_whole, whole_ended, whole_marked, turn_over, barrier_name, barrier_begun}
+use Rattle.volume_maint.specs.Steps.{barrier_ended, folded_on}
 use Rattle.volume_maint.specs.Places.{ForCaller, IsWholeOn}
 use Rattle.volume_maint.specs.Answers.{whole_done, whole_lost, BeginsWhole, EndsWhole}
 use Rattle.volume_maint.proofs.TurnStreams.{commands-remove_other}
@@ -45,10 +47,13 @@ for_caller s t i fact at is = λ j stands. subst (λ n. fact (open_at s.calls n)
 -- ---- on the replicas: they are no stream's, and as many
 
 module _ (n : ℕ) (s s2 : State) (ok2 : IsSound s2) where
-  nodes_go : (nodes : List Node) (o : Option Whole) → length nodes ≡ length s.nodes → s2 ≡ record s { nodes = nodes; whole = o } → MayGo n s s2
+  nodes_go : (nodes : List Node) (o : Option Whole) → length nodes ≡ length s.nodes
+      → s2 ≡ record s { nodes = nodes; whole = o } → MayGo n s s2
   nodes_go nodes o many is = record {
     sound = ok2;
-    origin = ap origin_of is ∙ ap (λ k. record { first = s.first; opening = s.book.opening; size = s.size; streams = length s.indices; replicas = k }) many;
+    origin = ap origin_of is
+        ∙ ap (λ k. record { first = s.first; opening = s.book.opening; size = s.size; streams = length s.indices; replicas = k })
+        many;
     added = ([], ap (λ (x : State). x.book.entries) is ∙ sym (append-nil s.book.entries), tt);
     others = λ m other. ap (λ (x : State). running x m) is;
     turns = λ m other. ap (λ (x : State). turning x m) is;
@@ -62,7 +67,8 @@ module _ (n : ℕ) (s s2 : State) (ok2 : IsSound s2) where
   acked_goes w r is = nodes_go s.nodes (Some (part_acked w r)) refl is
 
   pub folded_goes : (r : ℕ) (p c : List ℕ) (page : ℕ) → s2 ≡ folded_on s r p c page → MayGo n s s2
-  folded_goes r p c page is = nodes_go (folded_on s r p c page).nodes s.whole (length-set s.nodes r (page_folded (node_at s.nodes r) p c page)) is
+  folded_goes r p c page is = nodes_go (folded_on s r p c page).nodes s.whole
+      (length-set s.nodes r (page_folded (node_at s.nodes r) p c page)) is
 
 -- ---- on the calls
 
@@ -72,7 +78,9 @@ module _ (s s2 : State) (ok : IsSound s) (ok2 : IsSound s2) where
     sound = ok2;
     origin = ap origin_of is;
     added = ([], ap (λ (x : State). x.book.entries) is ∙ sym (append-nil s.book.entries), tt);
-    others = λ m other. ap (λ (x : State). running x m) is ∙ calls-push_other m s.tickets s.calls (whole_ticket number) (whole_call stream saw op) ok.on.clients.paired (λ e. other (sym e));
+    others = λ m other. ap (λ (x : State). running x m) is
+        ∙ calls-push_other m s.tickets s.calls (whole_ticket number) (whole_call stream saw op) ok.on.clients.paired
+        (λ e. other (sym e));
     turns = λ m other. ap (λ (x : State). turning x m) is;
     gave_up = λ m other. ap (λ (x : State). gave_up_at x.gave_up m) is;
   }
@@ -85,7 +93,8 @@ module _ (s s2 : State) (ok : IsSound s) (ok2 : IsSound s2) where
     start_others : (m : ℕ) → m ≢ (open_at s.calls i).stream → calls_in m (with_started s.tickets i) s.calls ≡ running s m
     start_others m other =
         ap (calls_in m (with_started s.tickets i)) (sym (set-get_or s.calls i no_call))
-        ∙ calls-set_other m s.tickets s.calls i (record (ticket_at s.tickets i) { started = true }) (open_at s.calls i) (λ e. other (sym e)) (λ e. other (sym e))
+        ∙ calls-set_other m s.tickets s.calls i (record (ticket_at s.tickets i) { started = true }) (open_at s.calls i)
+        (λ e. other (sym e)) (λ e. other (sym e))
 
     pub begun_goes : (op : WholeOp) (spares : List (Option Tables)) → s2 ≡ whole_begun s i op spares → MayGo (open_at s.calls i).stream s s2
     begun_goes op spares is = record {
@@ -98,11 +107,13 @@ module _ (s s2 : State) (ok : IsSound s) (ok2 : IsSound s2) where
     }
 
     -- a barrier's mark is no stream's
-    pub barrier_goes : (b : Rebuilding) (spares : List (Option Tables)) → s2 ≡ barrier_begun s i b spares → MayGo (open_at s.calls i).stream s s2
+    pub barrier_goes : (b : Rebuilding) (spares : List (Option Tables)) → s2 ≡ barrier_begun s i b spares
+        → MayGo (open_at s.calls i).stream s s2
     barrier_goes b spares is = record {
       sound = ok2;
       origin = ap origin_of is
-          ∙ ap (λ k. record { first = s.first; opening = s.book.opening; size = s.size; streams = length s.indices; replicas = k }) (length-set s.nodes b.target (emptied (node_at s.nodes b.source)));
+          ∙ ap (λ k. record { first = s.first; opening = s.book.opening; size = s.size; streams = length s.indices; replicas = k })
+          (length-set s.nodes b.target (emptied (node_at s.nodes b.source)));
       added = (entry.Mark (mark.Added b.target b.source (barrier_name s b.source)) ∷ [], ap (λ (x : State). x.book.entries) is, (tt, tt));
       others = λ m other. ap (λ (x : State). running x m) is ∙ start_others m other;
       turns = λ m other. ap (λ (x : State). turning x m) is;
@@ -117,7 +128,8 @@ module _ (s s2 : State) (ok : IsSound s) (ok2 : IsSound s2) where
     starts_goes (whole.Barrier r) y = barrier_goes y.b y.spares y.state
 
     -- a call is taken back, or goes with nothing to mark; beside it the rebuild may be
-    pub gone_goes : (o : Option Whole) (b : Option Rebuilding) → s2 ≡ record (without_call s i) { whole = o; rebuild = b } → MayGo (open_at s.calls i).stream s s2
+    pub gone_goes : (o : Option Whole) (b : Option Rebuilding) → s2 ≡ record (without_call s i) { whole = o; rebuild = b }
+        → MayGo (open_at s.calls i).stream s s2
     gone_goes o b is = record {
       sound = ok2;
       origin = ap origin_of is;
@@ -162,19 +174,24 @@ over_gave_up (whole.Purge f) s = refl
 over_gave_up (whole.Barrier r) s = refl
 
 -- and the commands of the streams that did not ask it
-over_turning : (op : WholeOp) (s : State) (n m : ℕ) → length s.commands ≡ length s.maint → IsAskedBy s.maint s.commands n op → m ≢ n → turning (turn_over op s) m ≡ turning s m
+over_turning : (op : WholeOp) (s : State) (n m : ℕ) → length s.commands ≡ length s.maint → IsAskedBy s.maint s.commands n op
+    → m ≢ n → turning (turn_over op s) m ≡ turning s m
 over_turning (whole.Snapshot name) s n m paired asked other = refl
-over_turning (whole.Remove name) s n m paired asked other = commands-remove_other m s.maint s.commands 0 paired (λ e. other (sym e ∙ asked.own))
-over_turning (whole.Revert name) s n m paired asked other = commands-remove_other m s.maint s.commands 0 paired (λ e. other (sym e ∙ asked.own))
+over_turning (whole.Remove name) s n m paired asked other =
+    commands-remove_other m s.maint s.commands 0 paired (λ e. other (sym e ∙ asked.own))
+over_turning (whole.Revert name) s n m paired asked other =
+    commands-remove_other m s.maint s.commands 0 paired (λ e. other (sym e ∙ asked.own))
 over_turning (whole.Purge f) s n m paired asked other = commands-remove_other m s.maint s.commands 0 paired (λ e. other (sym e ∙ asked.own))
-over_turning (whole.Barrier r) s n m paired asked other = commands-remove_other m s.maint s.commands 0 paired (λ e. other (sym e ∙ asked.own))
+over_turning (whole.Barrier r) s n m paired asked other =
+    commands-remove_other m s.maint s.commands 0 paired (λ e. other (sym e ∙ asked.own))
 
 abbrev with_spare : State → ℕ → State
 with_spare s spare = record s { book = record s.book { spare = spare } }
 
 module _ (s s2 : State) (ok : IsSound s) (ok2 : IsSound s2) (i : ℕ) where
   -- it ends with the answer of its command, with places for so many entries
-  pub ended_goes : (spare : ℕ) (op : WholeOp) (r : Reply) → IsAskedBy s.maint s.commands (open_at s.calls i).stream op → s2 ≡ whole_ended (with_spare s spare) i op r → MayGo (open_at s.calls i).stream s s2
+  pub ended_goes : (spare : ℕ) (op : WholeOp) (r : Reply) → IsAskedBy s.maint s.commands (open_at s.calls i).stream op
+      → s2 ≡ whole_ended (with_spare s spare) i op r → MayGo (open_at s.calls i).stream s s2
   ended_goes spare op r asked is =
       let c = open_at s.calls i in
       let less : State = without_whole (with_spare s spare) i in
@@ -183,7 +200,8 @@ module _ (s s2 : State) (ok : IsSound s) (ok2 : IsSound s2) (i : ℕ) where
       record {
         sound = ok2;
         origin = ap origin_of is
-            ∙ ap (λ k. record { first = x.first; opening = x.book.opening; size = x.size; streams = k; replicas = length x.nodes }) (length-set x.indices c.stream (index_at x.indices c.stream + 1))
+            ∙ ap (λ k. record { first = x.first; opening = x.book.opening; size = x.size; streams = k; replicas = length x.nodes })
+            (length-set x.indices c.stream (index_at x.indices c.stream + 1))
             ∙ over_origin op less;
         added = (a ∷ [], ap (λ (y : State). y.book.entries) is ∙ ap (λ (b : Book). b.entries ++ a ∷ []) (over_book op less), (refl, tt));
         others = λ m other. ap (λ (y : State). running y m) is ∙ over_running op less m ∙ without_others s s2 ok ok2 i m other;
@@ -192,7 +210,8 @@ module _ (s s2 : State) (ok : IsSound s) (ok2 : IsSound s2) (i : ℕ) where
       }
 
   -- as a replica is read
-  done_goes : (op : WholeOp) → IsAskedBy s.maint s.commands (open_at s.calls i).stream op → s2 ≡ whole_done s i op → MayGo (open_at s.calls i).stream s s2
+  done_goes : (op : WholeOp) → IsAskedBy s.maint s.commands (open_at s.calls i).stream op → s2 ≡ whole_done s i op
+      → MayGo (open_at s.calls i).stream s s2
   done_goes (whole.Snapshot name) asked is = ended_goes s.book.spare (whole.Snapshot name) reply.Done asked is
   done_goes (whole.Remove name) asked is = ended_goes s.book.spare (whole.Remove name) reply.Done asked is
   done_goes (whole.Revert name) asked is = ended_goes s.book.spare (whole.Revert name) reply.Done asked is
@@ -200,7 +219,8 @@ module _ (s s2 : State) (ok : IsSound s) (ok2 : IsSound s2) (i : ℕ) where
   done_goes (whole.Barrier r) asked is = gone_goes s s2 ok ok2 i None (barrier_ended s i).rebuild is
 
   -- or none is
-  lost_goes : (op : WholeOp) → IsAskedBy s.maint s.commands (open_at s.calls i).stream op → s2 ≡ whole_lost s i op → MayGo (open_at s.calls i).stream s s2
+  lost_goes : (op : WholeOp) → IsAskedBy s.maint s.commands (open_at s.calls i).stream op → s2 ≡ whole_lost s i op
+      → MayGo (open_at s.calls i).stream s s2
   lost_goes (whole.Snapshot name) asked is = ended_goes s.book.spare (whole.Snapshot name) (reply.Refused NoReplica) asked is
   lost_goes (whole.Remove name) asked is = ended_goes s.book.spare (whole.Remove name) (reply.Refused NoReplica) asked is
   lost_goes (whole.Revert name) asked is = ended_goes s.book.spare (whole.Revert name) (reply.Refused NoReplica) asked is
@@ -208,10 +228,12 @@ module _ (s s2 : State) (ok : IsSound s) (ok2 : IsSound s2) (i : ℕ) where
   lost_goes (whole.Barrier r) asked is = gone_goes s s2 ok ok2 i None (barrier_ended s i).rebuild is
 
 -- the started operation is asked by the stream of its call
-started_asked : (s : State) (t i : ℕ) (w : Whole) → IsSound s → IsWholeOn s t w i → IsAskedBy s.maint s.commands (open_at s.calls i).stream w.op
+started_asked : (s : State) (t i : ℕ) (w : Whole) → IsSound s → IsWholeOn s t w i
+    → IsAskedBy s.maint s.commands (open_at s.calls i).stream w.op
 started_asked s t i w ok at =
     let its = is_started s w ok at.is in
-    subst (λ (k : ℕ). IsAskedBy s.maint s.commands (open_at s.calls k).stream w.op) (sym (place_is s w ok at.is t i at)) (asked_op s its.place w.op ok its.stands.within its.kind its.op)
+    subst (λ (k : ℕ). IsAskedBy s.maint s.commands (open_at s.calls k).stream w.op) (sym (place_is s w ok at.is t i at))
+    (asked_op s its.place w.op ok its.stands.within its.kind its.op)
 
 pub ends_goes : (s s2 : State) (t : ℕ) → IsSound s → IsSound s2 → EndsWhole s t s2 → ForCaller s t (λ n. MayGo n s s2)
 ends_goes s s2 t ok ok2 ends = for_caller s t ends.i (λ n. MayGo n s s2) ends.at.stands (by (source_of (modes_in s)) refl)

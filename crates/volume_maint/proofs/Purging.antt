@@ -1,5 +1,6 @@
 -- What goes next in a purge, what can go, and the folding of a page.
-use Rattle.std.proofs.Common.{◌≡◌, ◌≢◌, ℕ, ◌<◌, ⊎_elim, inl, inr, Bool, true, false, cond, List, [], ◌∷◌, length, refl, sym, ap, subst, ◌∙◌, arith}
+use Rattle.std.proofs.Common.{◌≡◌, ◌≢◌, ℕ, ◌<◌, ⊎_elim, inl, inr, Bool, true, false, cond, List, [], ◌∷◌, length}
+use Rattle.std.proofs.Common.{refl, sym, ap, subst, ◌∙◌, arith}
 use Rattle.std.specs.Prelude.{◌⊎◌, Option, None, Some}
 use Rattle.std.proofs.lemmas.Bool.{false≢true}
 use Rattle.std.proofs.lemmas.Slice.Eq.{bytes_eq-Decides}
@@ -46,14 +47,16 @@ abbrev pub IsInto : List ℕ → FoldOrDrop → Type 0
 IsInto name (part.Fold p c) = c ≡ name
 IsInto name (part.Drop p) = ⊥
 
-pub unsnapped_can : (s : Snapshots) (name : List ℕ) (f : FoldOrDrop) → CanBeDone (with_snapshot s name).tree (Some name) f → (IsInto name f → ⊥) → CanBeDone s.tree s.on f
+pub unsnapped_can : (s : Snapshots) (name : List ℕ) (f : FoldOrDrop) → CanBeDone (with_snapshot s name).tree (Some name) f
+    → (IsInto name f → ⊥) → CanBeDone s.tree s.on f
 unsnapped_can s name f can off = by f can off
   where
     new : Snapshot
     new = record { name = name; parent = s.on; marked = false }
 
     marked : (p : List ℕ) → IsMarked (new ∷ s.tree) p → IsMarked s.tree p
-    marked p a = ⊎_elim (λ h. absurd (false≢true h.1)) (λ b. b) (any_cases (λ (x : Snapshot). (x.name ≡ p) × (x.marked ≡ true)) new s.tree a)
+    marked p a = ⊎_elim (λ h. absurd (false≢true h.1)) (λ b. b)
+        (any_cases (λ (x : Snapshot). (x.name ≡ p) × (x.marked ≡ true)) new s.tree a)
 
     same_name : (on : Option (List ℕ)) (p : List ℕ) → is_named on p ≡ false → on ≢ Some p
     same_name None p e f = absurd cc
@@ -72,7 +75,8 @@ unsnapped_can s name f can off = by f can off
     by (part.Fold p c) can off = go (is_named s.on p) refl
       where
         go : (b : Bool) → is_named s.on p ≡ b → CanFold s.tree s.on p c
-        go true e = absurd (off (first name c _ [] (sym (ap (λ x. cond x (name ∷ children_of s.tree p) (children_of s.tree p)) e) ∙ can.child)))
+        go true e = absurd (off
+            (first name c _ [] (sym (ap (λ x. cond x (name ∷ children_of s.tree p) (children_of s.tree p)) e) ∙ can.child)))
         go false e = record {
           marked = marked p can.marked;
           child = sym (ap (λ x. cond x (name ∷ children_of s.tree p) (children_of s.tree p)) e) ∙ can.child;
@@ -102,7 +106,8 @@ module _ (s : State) (r : ℕ) (ok : IsSound s) (purging : IsPurging s) (read : 
   idle = subst (λ n. IsIdle n s.calls) (sym purging.own) purging.idle
 
   beside : IsBeside s.whole
-  beside = idle_beside (told_of s) (snapshots_told s) (modes_in s) (modes_in s) s.nodes s.nodes s.maint s.commands s.tickets s.calls s.whole ok.on.clients.paired idle ok.maint.fits ok.whole
+  beside = idle_beside (told_of s) (snapshots_told s) (modes_in s) (modes_in s) s.nodes s.nodes s.maint s.commands s.tickets
+      s.calls s.whole ok.on.clients.paired idle ok.maint.fits ok.whole
 
   -- one more snapshot is started, which the replica has taken
   record HasMore : Type 0 where
@@ -116,7 +121,8 @@ module _ (s : State) (r : ℕ) (ok : IsSound s) (purging : IsPurging s) (read : 
   tree_cases : (snapshots_of (node_at s.nodes r) ≡ snapshots_told s) ⊎ HasMore
   tree_cases = go s.whole refl ok.whole beside ok.on.clients
     where
-      by_op : (w : Whole) → s.whole ≡ Some w → (op : WholeOp) → w.op ≡ op → IsSnapshot op → MayBeDone op (told_of s) → snapshots_of (node_at s.nodes r) ≡ (due_of op (told_of s).volume).snapshots → HasMore
+      by_op : (w : Whole) → s.whole ≡ Some w → (op : WholeOp) → w.op ≡ op → IsSnapshot op → MayBeDone op (told_of s)
+          → snapshots_of (node_at s.nodes r) ≡ (due_of op (told_of s).volume).snapshots → HasMore
       by_op w e (whole.Snapshot name) f s may same = record { w = w; is = e; name = name; op = f; unused = may.1; tree = same }
       by_op w e (whole.Remove name) f s may same = absurd s
       by_op w e (whole.Revert name) f s may same = absurd s
@@ -124,15 +130,23 @@ module _ (s : State) (r : ℕ) (ok : IsSound s) (purging : IsPurging s) (read : 
       by_op w e (whole.Barrier q) f s may same = absurd s
 
       by_part : (w : Whole) → s.whole ≡ Some w → (st : IsStarted (told_of s) (modes_in s) s.tickets s.calls s.nodes w) → IsSnapshot w.op
-          → AreClients (due_of w.op (told_of s).volume) s.size (length s.indices) s.book.entries (modes_in s) s.tickets s.calls (formed w.op w.parts s.nodes)
+          → AreClients (due_of w.op (told_of s).volume) s.size (length s.indices) s.book.entries (modes_in s) s.tickets
+          s.calls (formed w.op w.parts s.nodes)
           → (x : Part) → part_at w.parts r ≡ x → (snapshots_of (node_at s.nodes r) ≡ snapshots_told s) ⊎ HasMore
       by_part w e st b c Apart x = absurd (st.owes r up x)
       by_part w e st b c Owed x = inl (snapshot_stands w.op (snapshots_told s) (node_at s.nodes r) b (st.takes r up x).still)
-      by_part w e st b c Taken x = inr (by_op w e w.op refl b st.may (ap snapshots_of (sym (formed_at w.op w.parts s.nodes r st.parts ∙ ap (λ y. form_part w.op y (node_at s.nodes r)) x)) ∙ c.agree.tree r up))
-      by_part w e st b c Acked x = inr (by_op w e w.op refl b st.may (ap snapshots_of (sym (formed_at w.op w.parts s.nodes r st.parts ∙ ap (λ y. form_part w.op y (node_at s.nodes r)) x)) ∙ c.agree.tree r up))
+      by_part w e st b c Taken x =
+          inr (by_op w e w.op refl b st.may
+          (ap snapshots_of (sym (formed_at w.op w.parts s.nodes r st.parts ∙ ap (λ y. form_part w.op y (node_at s.nodes r)) x))
+          ∙ c.agree.tree r up))
+      by_part w e st b c Acked x =
+          inr (by_op w e w.op refl b st.may
+          (ap snapshots_of (sym (formed_at w.op w.parts s.nodes r st.parts ∙ ap (λ y. form_part w.op y (node_at s.nodes r)) x))
+          ∙ c.agree.tree r up))
 
       go : (w : Option Whole) → s.whole ≡ w → IsWhole (told_of s) (modes_in s) s.tickets s.calls s.nodes w → IsBeside w
-          → AreClients (due w (told_of s).volume) s.size (length s.indices) s.book.entries (modes_in s) s.tickets s.calls (forms w s.nodes) → (snapshots_of (node_at s.nodes r) ≡ snapshots_told s) ⊎ HasMore
+          → AreClients (due w (told_of s).volume) s.size (length s.indices) s.book.entries (modes_in s) s.tickets s.calls
+          (forms w s.nodes) → (snapshots_of (node_at s.nodes r) ≡ snapshots_told s) ⊎ HasMore
       go None e is b c = inl (c.agree.tree r up)
       go (Some w) e is b c = by_part w e is b c (part_at w.parts r) refl
 
@@ -140,10 +154,13 @@ module _ (s : State) (r : ℕ) (ok : IsSound s) (purging : IsPurging s) (read : 
   same_can a b f e can = subst (λ (x : Snapshots). CanBeDone x.tree x.on f) e can
 
   -- what can be done of the replica's snapshots, but for the fold into a new one, can be of the volume
-  pub can_told : (f : FoldOrDrop) → CanBeDone (tree_of (node_at s.nodes r)) (node_at s.nodes r).on f → (IsOntoNew s f → ⊥) → CanBeDone (snapshots_told s).tree (snapshots_told s).on f
+  pub can_told : (f : FoldOrDrop) → CanBeDone (tree_of (node_at s.nodes r)) (node_at s.nodes r).on f → (IsOntoNew s f → ⊥)
+      → CanBeDone (snapshots_told s).tree (snapshots_told s).on f
   can_told f can off = ⊎_elim
       (λ e. same_can (snapshots_of (node_at s.nodes r)) (snapshots_told s) f e can)
-      (λ h. unsnapped_can (snapshots_told s) h.name f (same_can (snapshots_of (node_at s.nodes r)) (with_snapshot (snapshots_told s) h.name) f h.tree can) (λ i. off (onto h f i)))
+      (λ h. unsnapped_can (snapshots_told s) h.name f
+      (same_can (snapshots_of (node_at s.nodes r)) (with_snapshot (snapshots_told s) h.name) f h.tree can)
+      (λ i. off (onto h f i)))
       tree_cases
     where
       onto : (h : HasMore) (f : FoldOrDrop) → IsInto h.name f → IsOntoNew s f
@@ -151,10 +168,12 @@ module _ (s : State) (r : ℕ) (ok : IsSound s) (purging : IsPurging s) (read : 
       onto h (part.Drop p) e = absurd e
 
   -- and what can be done of the volume can be of the replica
-  pub told_can : (f : FoldOrDrop) → CanBeDone (snapshots_told s).tree (snapshots_told s).on f → CanBeDone (tree_of (node_at s.nodes r)) (node_at s.nodes r).on f
+  pub told_can : (f : FoldOrDrop) → CanBeDone (snapshots_told s).tree (snapshots_told s).on f
+      → CanBeDone (tree_of (node_at s.nodes r)) (node_at s.nodes r).on f
   told_can f can = ⊎_elim
       (λ e. same_can (snapshots_told s) (snapshots_of (node_at s.nodes r)) f (sym e) can)
-      (λ h. same_can (with_snapshot (snapshots_told s) h.name) (snapshots_of (node_at s.nodes r)) f (sym h.tree) (snapped_can (told_of s) h.name f (told_named s ok) h.unused can))
+      (λ h. same_can (with_snapshot (snapshots_told s) h.name) (snapshots_of (node_at s.nodes r)) f (sym h.tree)
+      (snapped_can (told_of s) h.name f (told_named s ok) h.unused can))
       tree_cases
 
   -- the replica has the volume's size
@@ -172,31 +191,37 @@ module _ (s : State) (r : ℕ) (ok : IsSound s) (purging : IsPurging s) (read : 
       same_disk (whole.Barrier q) x n b = absurd b
 
       go : (w : Option Whole) → IsWhole (told_of s) (modes_in s) s.tickets s.calls s.nodes w → IsBeside w
-          → AreClients (due w (told_of s).volume) s.size (length s.indices) s.book.entries (modes_in s) s.tickets s.calls (forms w s.nodes) → length (node_at s.nodes r).disk ≡ s.size
+          → AreClients (due w (told_of s).volume) s.size (length s.indices) s.book.entries (modes_in s) s.tickets s.calls
+          (forms w s.nodes) → length (node_at s.nodes r).disk ≡ s.size
       go None is b c = c.agree.sizes r up
-      go (Some w) is b c = sym (same_disk w.op (part_at w.parts r) (node_at s.nodes r) b) ∙ ap (λ (n : Node). length n.disk) (sym (formed_at w.op w.parts s.nodes r is.parts)) ∙ c.agree.sizes r up
+      go (Some w) is b c = sym (same_disk w.op (part_at w.parts r) (node_at s.nodes r) b)
+          ∙ ap (λ (n : Node). length n.disk) (sym (formed_at w.op w.parts s.nodes r is.parts)) ∙ c.agree.sizes r up
 
   pub node_in : r < length s.nodes
   node_in = omega (arith, up_in (modes_in s) r up, ok.on.clients.agree.as_many, length-forms s.whole s.nodes)
 
   -- a page is folded
-  pub folded_sound : (p c : List ℕ) (page : ℕ) → (command_at s.commands 0).command ≡ command.Purge → CanFold (snapshots_told s).tree (snapshots_told s).on p c → IsSound (folded_on s r p c page)
+  pub folded_sound : (p c : List ℕ) (page : ℕ) → (command_at s.commands 0).command ≡ command.Purge
+      → CanFold (snapshots_told s).tree (snapshots_told s).on p c → IsSound (folded_on s r p c page)
   folded_sound p c page purges can =
       let within : r < length s.nodes = omega (arith, up_in (modes_in s) r up, ok.on.clients.agree.as_many, length-forms s.whole s.nodes) in
       record {
         on = record {
           opened = ok.on.opened;
           told = ok.on.told;
-          clients = folded_clients (told_of s) s.size (length s.indices) s.book.entries (modes_in s) s.tickets s.calls s.nodes s.whole r p c (told_named s ok) can ok.whole beside ok.on.clients page read;
+          clients = folded_clients (told_of s) s.size (length s.indices) s.book.entries (modes_in s) s.tickets s.calls
+              s.nodes s.whole r p c (told_named s ok) can ok.whole beside ok.on.clients page read;
           spare = ok.on.spare;
         };
         whole = folded_whole (told_of s) (modes_in s) s.tickets s.calls s.nodes s.whole r p c page within beside ok.whole;
         maint = record {
           queued = ok.maint.queued;
-          fits = idle_maint (snapshots_told s) (snapshots_told s) (modes_in s) (modes_in s) s.nodes (folded_on s r p c page).nodes s.maint s.commands s.tickets s.calls ok.on.clients.paired idle ok.maint.fits;
+          fits = idle_maint (snapshots_told s) (snapshots_told s) (modes_in s) (modes_in s) s.nodes
+              (folded_on s r p c page).nodes s.maint s.commands s.tickets s.calls ok.on.clients.paired idle ok.maint.fits;
         };
         disk = ok.disk;
-        rebuild = free_claim s.size (modes_in s) s.tickets s.tickets s.calls s.calls s.whole s.whole s.nodes (folded_on s r p c page).nodes s.rebuild
+        rebuild = free_claim s.size (modes_in s) s.tickets s.tickets s.calls s.calls s.whole s.whole s.nodes
+            (folded_on s r p c page).nodes s.rebuild
             (no_rebuild s.maint s.commands s.rebuild s.ended ok.adds (purge_no_add (command_at s.commands 0).command purges)).0 ok.rebuild;
         adds = ok.adds;
         fell = ok.fell;
@@ -204,7 +229,8 @@ module _ (s : State) (r : ℕ) (ok : IsSound s) (purging : IsPurging s) (read : 
       }
 
 -- a layer can go in one way
-pub one_way : (tree : List Snapshot) (on : Option (List ℕ)) (f g : FoldOrDrop) → CanBeDone tree on f → CanBeDone tree on g → gone f ≡ gone g → f ≡ g
+pub one_way : (tree : List Snapshot) (on : Option (List ℕ)) (f g : FoldOrDrop) → CanBeDone tree on f → CanBeDone tree on g
+    → gone f ≡ gone g → f ≡ g
 one_way tree on (part.Fold p c) (part.Fold q d) a b e = two p q c d e (one c d (sym a.child ∙ ap (children_of tree) e ∙ b.child))
   where
     two : (p q c d : List ℕ) → p ≡ q → c ≡ d → part.Fold p c ≡ part.Fold q d
@@ -232,7 +258,8 @@ one_child tree on p c d a b = same (part.Fold p c ≡ part.Fold p d) (one_way tr
 -- what a started snapshot makes is no child in the volume
 pub not_onto_new : (s : State) (f : FoldOrDrop) → IsSound s → CanBeDone (snapshots_told s).tree (snapshots_told s).on f → IsOntoNew s f → ⊥
 not_onto_new s (part.Drop p) ok can onto = onto
-not_onto_new s (part.Fold p c) ok can onto = go onto.0 onto.1 onto.2 (subst (IsWhole (told_of s) (modes_in s) s.tickets s.calls s.nodes) onto.1 ok.whole)
+not_onto_new s (part.Fold p c) ok can onto =
+    go onto.0 onto.1 onto.2 (subst (IsWhole (told_of s) (modes_in s) s.tickets s.calls s.nodes) onto.1 ok.whole)
   where
     go : (w : Whole) → s.whole ≡ Some w → w.op ≡ whole.Snapshot c → IsStarted (told_of s) (modes_in s) s.tickets s.calls s.nodes w → ⊥
     go w e f st =

@@ -48,10 +48,12 @@ told_live s name ok = (told_names s ok).live name
 -- ---- what stands against a command in the volume
 
 pub room_left : (v : Volume) (layers : ℕ) → layers ≡ layer_count v.snapshots → layers < most_layers → None ≡ room_refusal v
-room_left v layers is few = ap (λ b. cond b None (Some ChainFull)) (sym (lt-ltb (layer_count v.snapshots) most_layers (omega (arith, is, few))))
+room_left v layers is few = ap (λ b. cond b None (Some ChainFull))
+    (sym (lt-ltb (layer_count v.snapshots) most_layers (omega (arith, is, few))))
 
 pub room_gone : (v : Volume) (layers : ℕ) → layers ≡ layer_count v.snapshots → most_layers ≤ layers → Some ChainFull ≡ room_refusal v
-room_gone v layers is many = ap (λ b. cond b None (Some ChainFull)) (sym (le-ltb (layer_count v.snapshots) most_layers (omega (arith, is, many))))
+room_gone v layers is many = ap (λ b. cond b None (Some ChainFull))
+    (sym (le-ltb (layer_count v.snapshots) most_layers (omega (arith, is, many))))
 
 pub live_there : (v : Volume) (name : List ℕ) → is_live v.snapshots.tree name ≡ true → None ≡ live_refusal v name
 live_there v name e = ap (λ b. cond b None (Some NoSuchSnapshot)) (sym e)
@@ -59,17 +61,21 @@ live_there v name e = ap (λ b. cond b None (Some NoSuchSnapshot)) (sym e)
 pub live_gone : (v : Volume) (name : List ℕ) → is_live v.snapshots.tree name ≡ false → Some NoSuchSnapshot ≡ live_refusal v name
 live_gone v name e = ap (λ b. cond b None (Some NoSuchSnapshot)) (sym e)
 
-pub name_used : (s : State) (name : List ℕ) → is_used (told_of s).used name ≡ true → Some NameUsed ≡ refusal_of (modes_in s) (told_of s) (call.Command (command.Snapshot name))
+pub name_used : (s : State) (name : List ℕ) → is_used (told_of s).used name ≡ true
+    → Some NameUsed ≡ refusal_of (modes_in s) (told_of s) (call.Command (command.Snapshot name))
 name_used s name e = ap (λ b. option_or (cond b (Some NameUsed) None) (room_refusal (told_of s).volume)) (sym e)
 
-pub name_unused : (s : State) (name : List ℕ) (x : Option Refusal) → is_used (told_of s).used name ≡ false → x ≡ room_refusal (told_of s).volume
+pub name_unused : (s : State) (name : List ℕ) (x : Option Refusal) → is_used (told_of s).used name ≡ false
+    → x ≡ room_refusal (told_of s).volume
     → x ≡ refusal_of (modes_in s) (told_of s) (call.Command (command.Snapshot name))
 name_unused s name x e is = is ∙ ap (λ b. option_or (cond b (Some NameUsed) None) (room_refusal (told_of s).volume)) (sym e)
 
 -- ---- and then that there is no replica
 
 -- a command asks for one
-pub asks_source : (s : State) (c : Command) → IsWholeCommand c → refused_in s c ≡ option_or (refusal_of (modes_in s) (told_of s) (call.Command c)) (want_of_replica true (source_of (modes_in s)))
+pub asks_source : (s : State) (c : Command) → IsWholeCommand c
+    → refused_in s c ≡ option_or (refusal_of (modes_in s) (told_of s) (call.Command c))
+    (want_of_replica true (source_of (modes_in s)))
 asks_source s (command.Snapshot name) asks = refl
 asks_source s (command.Remove name) asks = refl
 asks_source s (command.Revert name) asks = refl
@@ -80,19 +86,23 @@ asks_source s (command.Add r) asks = refl
 
 -- ---- nothing stands against it
 
-nothing : (x : Option Refusal) (source : Option ℕ) → option_or x (want_of_replica true source) ≡ None → (x ≡ None) × ((r : ℕ) × (source ≡ Some r))
+nothing : (x : Option Refusal) (source : Option ℕ) → option_or x (want_of_replica true source) ≡ None
+    → (x ≡ None) × ((r : ℕ) × (source ≡ Some r))
 nothing (Some why) source e = absurd cc
 nothing None None e = absurd cc
 nothing None (Some r) e = (refl, (r, refl))
 
 -- where nothing refuses it, a replica is read
 pub free_source : (s : State) (c : Command) → IsWholeCommand c → refused_in s c ≡ None → (r : ℕ) × (source_of (modes_in s) ≡ Some r)
-free_source s c asks e = (nothing (refusal_of (modes_in s) (told_of s) (call.Command c)) (source_of (modes_in s)) (sym (asks_source s c asks) ∙ e)).1
+free_source s c asks e =
+    (nothing (refusal_of (modes_in s) (told_of s) (call.Command c)) (source_of (modes_in s))
+    (sym (asks_source s c asks) ∙ e)).1
 
 -- ---- how it may be answered
 
 abbrev pub answer_by : State → ℕ → ℕ → ℕ → Command → Reply → Type 0
-answer_by s stream saw index c r = IsAnswered (told_of s) (modes_in s) (record { call = call.Command c; reply = r; index = index; saw = saw; stream = stream })
+answer_by s stream saw index c r = IsAnswered (told_of s) (modes_in s)
+    (record { call = call.Command c; reply = r; index = index; saw = saw; stream = stream })
 
 no_fail : (c : Command) (r : ℕ) → IsWholeCommand c → call.Command c ≡ call.Command (command.Fail r) → ⊥
 no_fail c r asks e = subst IsWholeCommand (alike e) asks
@@ -101,21 +111,26 @@ no_fail c r asks e = subst IsWholeCommand (alike e) asks
     alike e = cc
 
 -- as nothing or that stands against it
-right_by : (s : State) (stream saw index : ℕ) (c : Command) (r : Reply) → IsWholeCommand c → reply_for (refused_in s c) (spot_of s) (call.Command c) ≡ r
+right_by : (s : State) (stream saw index : ℕ) (c : Command) (r : Reply) → IsWholeCommand c
+    → reply_for (refused_in s c) (spot_of s) (call.Command c) ≡ r
     → (is_refusal r ≡ false → IsPurged (snapshots_told s).tree (snapshots_told s).on) → answer_by s stream saw index c r
 right_by s stream saw index c r asks is purged =
     subst (λ x. answer_by s stream saw index c x) is
-    (answered_there (spot_of s) (call.Command c) stream saw index (λ q e. absurd (no_fail c q asks e)) (λ e done. purged (ap is_refusal (sym is) ∙ done)))
+    (answered_there (spot_of s) (call.Command c) stream saw index (λ q e. absurd (no_fail c q asks e))
+    (λ e done. purged (ap is_refusal (sym is) ∙ done)))
 
 -- it is refused
-pub refused_right : (s : State) (stream saw index : ℕ) (c : Command) (why : Refusal) → IsWholeCommand c → refused_in s c ≡ Some why → answer_by s stream saw index c (reply.Refused why)
+pub refused_right : (s : State) (stream saw index : ℕ) (c : Command) (why : Refusal) → IsWholeCommand c
+    → refused_in s c ≡ Some why → answer_by s stream saw index c (reply.Refused why)
 refused_right s stream saw index c why asks refused =
     right_by s stream saw index c (reply.Refused why) asks (ap (λ w. reply_for w (spot_of s) (call.Command c)) refused) (λ done. absurd cc)
 
 -- a purge is done where nothing can go
-pub done_right : (s : State) (stream saw index : ℕ) (c : Command) → c ≡ command.Purge → refused_in s c ≡ None → next_of (snapshots_told s) ≡ None → answer_by s stream saw index c reply.Done
+pub done_right : (s : State) (stream saw index : ℕ) (c : Command) → c ≡ command.Purge → refused_in s c ≡ None
+    → next_of (snapshots_told s) ≡ None → answer_by s stream saw index c reply.Done
 done_right s stream saw index c purge free none =
-    right_by s stream saw index c reply.Done (subst IsWholeCommand (sym purge) tt) (ap (λ w. reply_for w (spot_of s) (call.Command c)) free ∙ as_done purge)
+    right_by s stream saw index c reply.Done (subst IsWholeCommand (sym purge) tt)
+    (ap (λ w. reply_for w (spot_of s) (call.Command c)) free ∙ as_done purge)
     (λ _. next_left (snapshots_told s).tree (snapshots_told s).on none)
   where
     as_done : c ≡ command.Purge → reply_for None (spot_of s) (call.Command c) ≡ reply.Done

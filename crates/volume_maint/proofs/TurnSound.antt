@@ -1,5 +1,6 @@
 -- A command is enrolled for the maintenance turn, has it, is taken back, ends or is abandoned: each step keeps the invariant.
-use Rattle.std.proofs.Common.{◌≡◌, ℕ, ◌+◌, ◌<◌, true, List, [], ◌∷◌, ◌++◌, length, length-set, get_or-set_same, refl, sym, ap, subst, ◌∙◌, arith}
+use Rattle.std.proofs.Common.{◌≡◌, ℕ, ◌+◌, ◌<◌, true, List, [], ◌∷◌, ◌++◌, length, length-set, get_or-set_same, refl}
+use Rattle.std.proofs.Common.{sym, ap, subst, ◌∙◌, arith}
 use Rattle.std.specs.Prelude.{Option, None, Some, IfSome}
 use Rattle.std.specs.List.{remove, count_by}
 use Rattle.std.proofs.lemmas.List.{length_push}
@@ -45,7 +46,8 @@ use Rattle.volume_core.proofs.Ends.{its_answer, same_clients}
 use Rattle.volume_core.proofs.GivenUp.{given_up_kept}
 use Rattle.volume_core.proofs.Keep.{same_whole, same_maint, on_same}
 use Rattle.volume_core.proofs.Told.{answer_ordered_to}
-use Rattle.volume_maint.specs.Steps.{whole_ticket, maint_enrolled, turn_begun, turn_ended, without_command, gives_up, ends_aborted, gives_back, abandoned_with, turn_abandoned}
+use Rattle.volume_maint.specs.Steps.{whole_ticket, maint_enrolled, turn_begun, turn_ended, without_command, gives_up}
+use Rattle.volume_maint.specs.Steps.{ends_aborted, gives_back, abandoned_with, turn_abandoned}
 use Rattle.volume_maint.specs.Places.{AwaitsTurn, IsFreeTurn}
 use Rattle.volume_maint.specs.Answers.{MayEnd}
 use Rattle.volume_maint.proofs.Adds.{adds_still, add_pushed, add_started, add_left, no_rebuild, none_adds, purge_no_add}
@@ -53,7 +55,8 @@ use Rattle.volume_maint.proofs.AddEnds.{cleared, unbegun, none_beside, aborted_f
 
 -- ---- a command is enrolled
 
-pub enrolled_kept : (s : State) (number : ℕ) (c : MaintCall) → IsSound s → c.stream < length s.indices → IsIdle c.stream s.calls → HasNoCommand c.stream s.commands → IsMaint c.command
+pub enrolled_kept : (s : State) (number : ℕ) (c : MaintCall) → IsSound s → c.stream < length s.indices
+    → IsIdle c.stream s.calls → HasNoCommand c.stream s.commands → IsMaint c.command
     → c.saw ≡ length s.book.entries → IsFresh s.maint number → IsSound (maint_enrolled s number c)
 enrolled_kept s number c ok within idle none wants saw fresh = record {
   on = record {
@@ -63,11 +66,13 @@ enrolled_kept s number c ok within idle none wants saw fresh = record {
     spare = omega (arith, ok.on.spare, length_push s.commands c);
   };
   whole = ok.whole;
-  maint = turns.turn_enrolled (told_of s).volume.snapshots (length s.indices) s.book.entries (modes_in s) s.tickets s.calls s.nodes s.maint s.commands (whole_ticket number) c
+  maint = turns.turn_enrolled (told_of s).volume.snapshots (length s.indices) s.book.entries (modes_in s) s.tickets s.calls
+      s.nodes s.maint s.commands (whole_ticket number) c
       ok.on.clients.paired refl refl fresh wants within saw none idle ok.maint;
   disk = ok.disk;
   rebuild = ok.rebuild;
-  adds = adds_still s.maint (s.maint ++ whole_ticket number ∷ []) s.commands (s.commands ++ c ∷ []) (add_pushed s.maint s.commands (whole_ticket number) c ok.maint.queued.paired) s.rebuild s.ended ok.adds;
+  adds = adds_still s.maint (s.maint ++ whole_ticket number ∷ []) s.commands (s.commands ++ c ∷ [])
+      (add_pushed s.maint s.commands (whole_ticket number) c ok.maint.queued.paired) s.rebuild s.ended ok.adds;
   fell = ok.fell;
   streams = ok.streams;
 }
@@ -78,11 +83,14 @@ pub begun_kept : (s : State) → IsSound s → 0 < length s.maint → IsSound (t
 begun_kept s ok some = record {
   on = record { opened = ok.on.opened; told = ok.on.told; clients = ok.on.clients; spare = ok.on.spare };
   whole = ok.whole;
-  maint = turns.turn_started (told_of s).volume.snapshots (length s.indices) s.book.entries (modes_in s) s.tickets s.calls s.nodes s.maint s.commands some ok.maint;
+  maint = turns.turn_started (told_of s).volume.snapshots (length s.indices) s.book.entries (modes_in s) s.tickets s.calls
+      s.nodes s.maint s.commands some ok.maint;
   disk = ok.disk;
   rebuild = ok.rebuild;
   adds = adds_still s.maint (with_started s.maint 0) s.commands s.commands
-      (add_started s.maint s.commands (ap (λ (x : Ticket). x.started) (get_or-set_same s.maint 0 (record (ticket_at s.maint 0) { started = true }) no_ticket some))) s.rebuild s.ended ok.adds;
+      (add_started s.maint s.commands
+      (ap (λ (x : Ticket). x.started) (get_or-set_same s.maint 0 (record (ticket_at s.maint 0) { started = true }) no_ticket some)))
+      s.rebuild s.ended ok.adds;
   fell = ok.fell;
   streams = ok.streams;
 }
@@ -92,11 +100,19 @@ begun_kept s ok some = record {
 command_in : (s : State) (k : ℕ) → IsSound s → k < length s.maint → k < length s.commands
 command_in s k ok h = omega (arith, h, ok.maint.queued.paired)
 
-on_less : (v : Volume) (ns : List Node) (s : State) (k : ℕ) → IsSoundOn v ns s → k < length s.commands → IsSoundOn v ns (without_command s k)
-on_less v ns s k ok h = record { opened = ok.opened; told = ok.told; clients = ok.clients; spare = omega (arith, ok.spare, length-remove s.commands k h) }
+on_less : (v : Volume) (ns : List Node) (s : State) (k : ℕ) → IsSoundOn v ns s → k < length s.commands
+    → IsSoundOn v ns (without_command s k)
+on_less v ns s k ok h = record {
+  opened = ok.opened;
+  told = ok.told;
+  clients = ok.clients;
+  spare =
+      omega (arith, ok.spare, length-remove s.commands k h);
+}
 
 less_kept : (s : State) (k : ℕ) → IsSound s → k < length s.maint
-    → AreMaint (told_of s).volume.snapshots (length s.indices) s.book.entries (modes_in s) s.tickets s.calls s.nodes (remove s.maint k) (remove s.commands k)
+    → AreMaint (told_of s).volume.snapshots (length s.indices) s.book.entries (modes_in s) s.tickets s.calls s.nodes
+    (remove s.maint k) (remove s.commands k)
     → AreAdds (remove s.maint k) (remove s.commands k) s.rebuild s.ended → IsSound (without_command s k)
 less_kept s k ok h maint adds = record {
   on = on_less (due s.whole (told_of s).volume) (forms s.whole s.nodes) s k ok.on (command_in s k ok h);
@@ -113,8 +129,10 @@ less_kept s k ok h maint adds = record {
 pub withdrawn_kept : (s : State) (t k : ℕ) → IsSound s → AwaitsTurn s t k → IsSound (without_command s k)
 withdrawn_kept s t k ok at =
     less_kept s k ok at.stands.within
-    (turns.turn_withdrawn (told_of s).volume.snapshots (length s.indices) s.book.entries (modes_in s) s.tickets s.calls s.nodes s.maint s.commands k at.stands.within at.waits ok.maint)
-    (adds_still s.maint (remove s.maint k) s.commands (remove s.commands k) (add_left s.maint s.commands k ok.maint.queued.paired at.stands.within at.waits) s.rebuild s.ended ok.adds)
+    (turns.turn_withdrawn (told_of s).volume.snapshots (length s.indices) s.book.entries (modes_in s) s.tickets s.calls
+    s.nodes s.maint s.commands k at.stands.within at.waits ok.maint)
+    (adds_still s.maint (remove s.maint k) s.commands (remove s.commands k)
+    (add_left s.maint s.commands k ok.maint.queued.paired at.stands.within at.waits) s.rebuild s.ended ok.adds)
 
 -- ---- it ends with its answer
 
@@ -151,16 +169,20 @@ module _ (s : State) (t : ℕ) (r : Reply) (ok : IsSound s) (at : IsFreeTurn s t
 
   ordered_next : s.rebuild ≡ None → IsOrdered (opening_of s) longer next.indices s.rebuild None
   ordered_next none =
-      answer_ordered_to (opening_of s) s.book.entries s.indices s.rebuild s.rebuild s.ended None answer ok.on.told.ordered (maint_own (told_of s) answer its.command (ok.maint.queued.want 0 here) refl)
-      (λ q. cleared s.book.entries s.maint s.commands s.rebuild s.ended answer none refl ok.adds ok.on.told.ordered.rebuild q ∙ ap (λ (x : Option Rebuilding). how_far x None q) (sym none))
+      answer_ordered_to (opening_of s) s.book.entries s.indices s.rebuild s.rebuild s.ended None answer ok.on.told.ordered
+      (maint_own (told_of s) answer its.command (ok.maint.queued.want 0 here) refl)
+      (λ q. cleared s.book.entries s.maint s.commands s.rebuild s.ended answer none refl ok.adds ok.on.told.ordered.rebuild
+      q ∙ ap (λ (x : Option Rebuilding). how_far x None q) (sym none))
       (ok.maint.queued.within 0 here) refl (ok.maint.queued.past 0 here) (ok.maint.queued.saw 0 here)
 
   on_next : (v : Volume) (ns : List Node) → s.rebuild ≡ None → IsLegal (opening_of s) longer → IsSoundOn v ns s → IsSoundOn v ns next
   on_next v ns none legal on = record {
     opened = on.opened;
     told = record { legal = legal; ordered = ordered_next none };
-    clients = same_clients v s.size (length s.indices) (length next.indices) longer (modes_in s) (modes_in next) s.tickets s.calls ns counted modes
-        (seen_clients v s.size (length s.indices) s.book.entries longer (modes_in s) s.tickets s.calls ns (seen_answer s.book.entries s.calls on.clients.seen answer at.idle) on.clients);
+    clients = same_clients v s.size (length s.indices) (length next.indices) longer (modes_in s) (modes_in next) s.tickets
+        s.calls ns counted modes
+        (seen_clients v s.size (length s.indices) s.book.entries longer (modes_in s) s.tickets s.calls ns
+        (seen_answer s.book.entries s.calls on.clients.seen answer at.idle) on.clients);
     spare = omega (arith, on.spare, length-remove s.commands 0 here, ap (count_by is_up) modes);
   }
 
@@ -169,11 +191,14 @@ module _ (s : State) (t : ℕ) (r : Reply) (ok : IsSound s) (at : IsFreeTurn s t
   ended_with none legal same =
       let told : told_of s ≡ told_of next = sym (replay-push (opening_of s).state s.book.entries (entry.Answer answer) ∙ same) in
       record {
-        on = on_same s.whole (told_of s) (told_of next) s.nodes next told (on_next (due s.whole (told_of s).volume) (forms s.whole s.nodes) none legal ok.on);
+        on = on_same s.whole (told_of s) (told_of next) s.nodes next told
+            (on_next (due s.whole (told_of s).volume) (forms s.whole s.nodes) none legal ok.on);
         whole = same_whole (told_of s) (told_of next) (modes_in s) (modes_in next) s.tickets s.calls s.nodes s.whole told modes ok.whole;
-        maint = same_maint (told_of s).volume.snapshots (told_of next).volume.snapshots (length s.indices) (length next.indices) longer (modes_in s) (modes_in next) s.tickets s.calls s.nodes next.maint next.commands
+        maint = same_maint (told_of s).volume.snapshots (told_of next).volume.snapshots (length s.indices)
+            (length next.indices) longer (modes_in s) (modes_in next) s.tickets s.calls s.nodes next.maint next.commands
             (ap (λ (p : PlainState). p.volume.snapshots) told) counted modes
-            (command_answered (told_of s).volume.snapshots (length s.indices) s.book.entries (modes_in s) s.tickets s.calls s.nodes s.maint s.commands ok.maint answer ok.on.clients.paired at.stands.within at.idle refl);
+            (command_answered (told_of s).volume.snapshots (length s.indices) s.book.entries (modes_in s) s.tickets s.calls
+            s.nodes s.maint s.commands ok.maint answer ok.on.clients.paired at.stands.within at.idle refl);
         disk = ap (λ (p : PlainState). length p.volume.disk) (sym told) ∙ ok.disk;
         rebuild = subst (λ (x : List Mode). IsRebuilding s.size x s.tickets s.calls s.whole s.nodes s.rebuild) modes ok.rebuild;
         adds = none_adds next.maint next.commands s.rebuild None (none, refl);
@@ -189,24 +214,29 @@ module _ (s : State) (t : ℕ) (ok : IsSound s) (at : IsFreeTurn s t) where
   first_in : 0 < length s.commands
   first_in = command_in s 0 ok at.stands.within
 
-  legal_with : (r : Reply) → IsEnded (added_by (call.Command first.command)) s.book.entries (told_of s) (modes_in s) (its_answer s first.stream first.saw (call.Command first.command) r)
+  legal_with : (r : Reply) → IsEnded (added_by (call.Command first.command)) s.book.entries (told_of s) (modes_in s)
+      (its_answer s first.stream first.saw (call.Command first.command) r)
       → IsLegal (opening_of s) (s.book.entries ++ entry.Answer (its_answer s first.stream first.saw (call.Command first.command) r) ∷ [])
-  legal_with r ends = IsLegal-push (opening_of s) s.book.entries (entry.Answer (its_answer s first.stream first.saw (call.Command first.command) r)) ok.on.told.legal ends
+  legal_with r ends = IsLegal-push (opening_of s) s.book.entries
+      (entry.Answer (its_answer s first.stream first.saw (call.Command first.command) r)) ok.on.told.legal ends
 
   pub ended_kept : (r : Reply) → MayEnd s first.command r → IsSound (turn_ended s r)
   ended_kept reply.Done may =
       ended_with s t reply.Done ok at (no_rebuild s.maint s.commands s.rebuild s.ended ok.adds (purge_no_add first.command may.0)).0
-      (legal_with reply.Done (done_ends s first.stream first.saw (index_at s.indices first.stream) first.command may)) (same first.command may.0)
+      (legal_with reply.Done (done_ends s first.stream first.saw (index_at s.indices first.stream) first.command may))
+      (same first.command may.0)
     where
       same : (c : Command) → c ≡ command.Purge → after_call (told_of s) (call.Command c) ≡ told_of s
       same c e = ap (λ x. after_call (told_of s) (call.Command x)) e
   ended_kept (reply.Refused why) may =
       ended_with s t (reply.Refused why) ok at (unbegun s ok.adds first.command refl may.1).0
-      (legal_with (reply.Refused why) (refused_ends s ok first.stream first.saw (index_at s.indices first.stream) first.command why (ok.maint.queued.want 0 first_in) may)) refl
+      (legal_with (reply.Refused why) (refused_ends s ok first.stream first.saw (index_at s.indices first.stream)
+      first.command why (ok.maint.queued.want 0 first_in) may)) refl
   ended_kept (reply.Aborted place) may =
       let none = none_beside s.rebuild s.ended ok.adds.one (record { target = may.0; place = place }) may.2 in
       ended_with s t (reply.Aborted place) ok at none
-      (legal_aborted (opening_of s) s.book.entries may.0 place (its_answer s first.stream first.saw (call.Command first.command) (reply.Aborted place)) ok.on.told.legal
+      (legal_aborted (opening_of s) s.book.entries may.0 place
+      (its_answer s first.stream first.saw (call.Command first.command) (reply.Aborted place)) ok.on.told.legal
       (aborted_far s ok may.0 place none may.2) (ap call.Command may.1) refl)
       refl
   ended_kept (reply.Read bytes) may = absurd may
@@ -218,13 +248,15 @@ module _ (s : State) (t : ℕ) (ok : IsSound s) (at : IsFreeTurn s t) where
 given_back_kept : (s : State) (t : ℕ) → IsSound s → IsFreeTurn s t → s.rebuild ≡ None → s.ended ≡ None → IsSound (gives_back s)
 given_back_kept s t ok at none gone =
     less_kept s 0 ok at.stands.within
-    (turns.turn_ended (told_of s).volume.snapshots (length s.indices) s.book.entries (modes_in s) s.tickets s.calls s.nodes s.maint s.commands ok.on.clients.paired at.stands.within at.idle ok.maint)
+    (turns.turn_ended (told_of s).volume.snapshots (length s.indices) s.book.entries (modes_in s) s.tickets s.calls s.nodes
+    s.maint s.commands ok.on.clients.paired at.stands.within at.idle ok.maint)
     (none_adds (remove s.maint 0) (remove s.commands 0) s.rebuild s.ended (none, gone))
 
 -- where a rebuild was aborted
 aborted_kept : (s : State) (t : ℕ) (e : EndedRebuild) → IsSound s → IsFreeTurn s t → s.ended ≡ Some e → IsSound (ends_aborted s e.place)
 aborted_kept s t e ok at was =
-    let add : HasAdd s.maint s.commands e.target = subst (λ (x : Option EndedRebuild). IfSome x (λ y. HasAdd s.maint s.commands y.target)) was ok.adds.of_ended in
+    let add : HasAdd s.maint s.commands e.target =
+    subst (λ (x : Option EndedRebuild). IfSome x (λ y. HasAdd s.maint s.commands y.target)) was ok.adds.of_ended in
     ended_kept s t ok at (reply.Aborted e.place) (e.target, add.turn.command, was)
 
 -- where one is open
@@ -235,7 +267,8 @@ open_kept : (s : State) (t : ℕ) (b : Rebuilding) → IsSound s → IsFreeTurn 
 open_kept s t b ok at begun =
     let stream = (command_at s.commands 0).stream in
     let mid = given_up_kept s stream b ok (ok.maint.queued.within 0 (command_in s 0 ok at.stands.within)) begun in
-    aborted_kept (given_up s stream b.target) t (record { target = b.target; place = length s.book.entries }) mid (given_turn s t stream b.target at) refl
+    aborted_kept (given_up s stream b.target) t (record { target = b.target; place = length s.book.entries }) mid
+    (given_turn s t stream b.target at) refl
 
 pub abandoned_kept : (s : State) (t : ℕ) → IsSound s → IsFreeTurn s t → IsSound (turn_abandoned s)
 abandoned_kept s t ok at = by s.rebuild s.ended refl refl

@@ -1,5 +1,6 @@
 -- What the other streams see of the steps of the maintenance turn.
-use Rattle.std.proofs.Common.{◌≡◌, ◌≢◌, ℕ, zero, suc, ◌+◌, ◌<◌, Bool, true, cond, eqb, List, [], ◌∷◌, ◌++◌, length, length-set, set, sym, refl, ap, subst, ◌∙◌, arith, ne_eqb, append-nil, append_assoc}
+use Rattle.std.proofs.Common.{◌≡◌, ◌≢◌, ℕ, zero, suc, ◌+◌, ◌<◌, Bool, true, cond, eqb, List, [], ◌∷◌, ◌++◌, length}
+use Rattle.std.proofs.Common.{length-set, set, sym, refl, ap, subst, ◌∙◌, arith, ne_eqb, append-nil, append_assoc}
 use Rattle.std.specs.List.{remove}
 use Rattle.std.specs.Prelude.{Option, None, Some}
 use Rattle.volume_model.specs.declared.call.Call.TheVariants as call
@@ -26,7 +27,8 @@ use Rattle.volume_maint.specs.Places.{ForAsker}
 abbrev Pairs : Type 0
 Pairs = List (Ticket × MaintCall)
 
-without_head : (n : ℕ) (t : Ticket) (c : MaintCall) (ts : List Ticket) (cs : List MaintCall) → c.stream ≢ n → commands_in n (t ∷ ts) (c ∷ cs) ≡ commands_in n ts cs
+without_head : (n : ℕ) (t : Ticket) (c : MaintCall) (ts : List Ticket) (cs : List MaintCall) → c.stream ≢ n
+    → commands_in n (t ∷ ts) (c ∷ cs) ≡ commands_in n ts cs
 without_head n t c ts cs e = ap (λ (b : Bool). cond b ((t, c) ∷ commands_in n ts cs) (commands_in n ts cs)) (ne_eqb c.stream n e)
 
 no_commands : (n : ℕ) (ts : List Ticket) → commands_in n ts [] ≡ []
@@ -34,27 +36,33 @@ no_commands n [] = refl
 no_commands n (t ∷ ts) = refl
 
 -- one of another stream is enrolled
-commands-push_other : (n : ℕ) (ts : List Ticket) (cs : List MaintCall) (t : Ticket) (c : MaintCall) → length cs ≡ length ts → c.stream ≢ n → commands_in n (ts ++ t ∷ []) (cs ++ c ∷ []) ≡ commands_in n ts cs
+commands-push_other : (n : ℕ) (ts : List Ticket) (cs : List MaintCall) (t : Ticket) (c : MaintCall) → length cs ≡ length ts
+    → c.stream ≢ n → commands_in n (ts ++ t ∷ []) (cs ++ c ∷ []) ≡ commands_in n ts cs
 commands-push_other n [] [] t c e b = without_head n t c [] [] b
 commands-push_other n [] (d ∷ cs) t c e b = absurd (omega arith)
 commands-push_other n (u ∷ ts) [] t c e b = absurd (omega arith)
-commands-push_other n (u ∷ ts) (d ∷ cs) t c e b = ap (λ (ps : Pairs). cond (eqb d.stream n) ((u, d) ∷ ps) ps) (commands-push_other n ts cs t c (omega arith) b)
+commands-push_other n (u ∷ ts) (d ∷ cs) t c e b =
+    ap (λ (ps : Pairs). cond (eqb d.stream n) ((u, d) ∷ ps) ps) (commands-push_other n ts cs t c (omega arith) b)
 
 -- it starts
-commands-start_other : (n : ℕ) (ts : List Ticket) (cs : List MaintCall) (k : ℕ) (t : Ticket) → (command_at cs k).stream ≢ n → commands_in n (set ts k t) cs ≡ commands_in n ts cs
+commands-start_other : (n : ℕ) (ts : List Ticket) (cs : List MaintCall) (k : ℕ) (t : Ticket) → (command_at cs k).stream ≢ n
+    → commands_in n (set ts k t) cs ≡ commands_in n ts cs
 commands-start_other n [] cs k t b = refl
 commands-start_other n (u ∷ ts) [] k t b = no_commands n (set (u ∷ ts) k t)
 commands-start_other n (u ∷ ts) (d ∷ cs) zero t b = without_head n t d ts cs b ∙ sym (without_head n u d ts cs b)
-commands-start_other n (u ∷ ts) (d ∷ cs) (suc k) t b = ap (λ (ps : Pairs). cond (eqb d.stream n) ((u, d) ∷ ps) ps) (commands-start_other n ts cs k t b)
+commands-start_other n (u ∷ ts) (d ∷ cs) (suc k) t b =
+    ap (λ (ps : Pairs). cond (eqb d.stream n) ((u, d) ∷ ps) ps) (commands-start_other n ts cs k t b)
 
 -- it is gone
-pub commands-remove_other : (n : ℕ) (ts : List Ticket) (cs : List MaintCall) (k : ℕ) → length cs ≡ length ts → (command_at cs k).stream ≢ n → commands_in n (remove ts k) (remove cs k) ≡ commands_in n ts cs
+pub commands-remove_other : (n : ℕ) (ts : List Ticket) (cs : List MaintCall) (k : ℕ) → length cs ≡ length ts
+    → (command_at cs k).stream ≢ n → commands_in n (remove ts k) (remove cs k) ≡ commands_in n ts cs
 commands-remove_other n [] [] zero e b = refl
 commands-remove_other n [] [] (suc k) e b = refl
 commands-remove_other n [] (d ∷ cs) k e b = absurd (omega arith)
 commands-remove_other n (u ∷ ts) [] k e b = absurd (omega arith)
 commands-remove_other n (u ∷ ts) (d ∷ cs) zero e b = sym (without_head n u d ts cs b)
-commands-remove_other n (u ∷ ts) (d ∷ cs) (suc k) e b = ap (λ (ps : Pairs). cond (eqb d.stream n) ((u, d) ∷ ps) ps) (commands-remove_other n ts cs k (omega arith) b)
+commands-remove_other n (u ∷ ts) (d ∷ cs) (suc k) e b =
+    ap (λ (ps : Pairs). cond (eqb d.stream n) ((u, d) ∷ ps) ps) (commands-remove_other n ts cs k (omega arith) b)
 
 -- ---- the steps
 
@@ -65,7 +73,8 @@ module _ (s s2 : State) (ok : IsSound s) (ok2 : IsSound s2) where
     origin = ap origin_of is;
     added = ([], ap (λ (x : State). x.book.entries) is ∙ sym (append-nil s.book.entries), tt);
     others = λ n other. ap (λ (x : State). running x n) is;
-    turns = λ n other. ap (λ (x : State). turning x n) is ∙ commands-push_other n s.maint s.commands (whole_ticket number) c ok.maint.queued.paired (λ e. other (sym e));
+    turns = λ n other. ap (λ (x : State). turning x n) is
+        ∙ commands-push_other n s.maint s.commands (whole_ticket number) c ok.maint.queued.paired (λ e. other (sym e));
     gave_up = λ n other. ap (λ (x : State). gave_up_at x.gave_up n) is;
   }
 
@@ -75,7 +84,9 @@ module _ (s s2 : State) (ok : IsSound s) (ok2 : IsSound s2) where
     origin = ap origin_of is;
     added = ([], ap (λ (x : State). x.book.entries) is ∙ sym (append-nil s.book.entries), tt);
     others = λ n other. ap (λ (x : State). running x n) is;
-    turns = λ n other. ap (λ (x : State). turning x n) is ∙ commands-start_other n s.maint s.commands 0 (record (ticket_at s.maint 0) { started = true }) (λ e. other (sym e));
+    turns = λ n other. ap (λ (x : State). turning x n) is
+        ∙ commands-start_other n s.maint s.commands 0 (record (ticket_at s.maint 0) { started = true })
+        (λ e. other (sym e));
     gave_up = λ n other. ap (λ (x : State). gave_up_at x.gave_up n) is;
   }
 
@@ -85,7 +96,8 @@ module _ (s s2 : State) (ok : IsSound s) (ok2 : IsSound s2) where
     origin = ap origin_of is;
     added = ([], ap (λ (x : State). x.book.entries) is ∙ sym (append-nil s.book.entries), tt);
     others = λ n other. ap (λ (x : State). running x n) is;
-    turns = λ n other. ap (λ (x : State). turning x n) is ∙ commands-remove_other n s.maint s.commands k ok.maint.queued.paired (λ e. other (sym e));
+    turns = λ n other. ap (λ (x : State). turning x n) is
+        ∙ commands-remove_other n s.maint s.commands k ok.maint.queued.paired (λ e. other (sym e));
     gave_up = λ n other. ap (λ (x : State). gave_up_at x.gave_up n) is;
   }
 
@@ -95,10 +107,16 @@ module _ (s s2 : State) (ok : IsSound s) (ok2 : IsSound s2) where
       record {
         sound = ok2;
         origin = ap origin_of is
-            ∙ ap (λ k. record { first = s.first; opening = s.book.opening; size = s.size; streams = k; replicas = length s.nodes }) (length-set s.indices c.stream (index_at s.indices c.stream + 1));
-        added = (answer_entry (without_command s 0) c.stream c.saw (call.Command c.command) r ∷ [], ap (λ (x : State). x.book.entries) is, (refl, tt));
+            ∙ ap (λ k. record { first = s.first; opening = s.book.opening; size = s.size; streams = k; replicas = length s.nodes })
+            (length-set s.indices c.stream (index_at s.indices c.stream + 1));
+        added = (
+          answer_entry (without_command s 0) c.stream c.saw (call.Command c.command) r ∷ [],
+          ap (λ (x : State). x.book.entries) is,
+          (refl, tt),
+        );
         others = λ n other. ap (λ (x : State). running x n) is;
-        turns = λ n other. ap (λ (x : State). turning x n) is ∙ commands-remove_other n s.maint s.commands 0 ok.maint.queued.paired (λ e. other (sym e));
+        turns = λ n other. ap (λ (x : State). turning x n) is
+            ∙ commands-remove_other n s.maint s.commands 0 ok.maint.queued.paired (λ e. other (sym e));
         gave_up = λ n other. ap (λ (x : State). gave_up_at x.gave_up n) is;
       }
 
@@ -124,7 +142,8 @@ goes_on n s s1 s2 a b = record {
 }
 
 -- the turn is abandoned
-pub abandoned_goes : (s s2 : State) → IsSound s → IsSound s2 → 0 < length s.commands → s2 ≡ turn_abandoned s → MayGo (command_at s.commands 0).stream s s2
+pub abandoned_goes : (s s2 : State) → IsSound s → IsSound s2 → 0 < length s.commands → s2 ≡ turn_abandoned s
+    → MayGo (command_at s.commands 0).stream s s2
 abandoned_goes s s2 ok ok2 some is = by s.rebuild s.ended refl is
   where
     stream : ℕ

@@ -1,5 +1,6 @@
 -- A call on the whole volume ends with the answer of its command.
-use Rattle.std.proofs.Common.{◌≡◌, ℕ, ◌+◌, ◌<◌, ◌≤◌, true, false, List, [], ◌∷◌, ◌++◌, length, set, length-set, refl, sym, ap, subst, ◌∙◌, arith}
+use Rattle.std.proofs.Common.{◌≡◌, ℕ, ◌+◌, ◌<◌, ◌≤◌, true, false, List, [], ◌∷◌, ◌++◌, length, set, length-set, refl}
+use Rattle.std.proofs.Common.{sym, ap, subst, ◌∙◌, arith}
 use Rattle.std.specs.Prelude.{None, Some}
 use Rattle.std.specs.List.{count_by, remove}
 use Rattle.std.proofs.lemmas.Bool.{lt-ltb}
@@ -88,7 +89,8 @@ IsPart (whole.Purge f) = Unit {0}
 IsPart (whole.Barrier r) = ⊥
 
 -- nothing stands against what may be done
-may_free : (op : WholeOp) (ms : List Mode) (p : PlainState) → IsPlain op → MayBeDone op p → refusal_of ms p (call.Command (command_of op)) ≡ None
+may_free : (op : WholeOp) (ms : List Mode) (p : PlainState) → IsPlain op → MayBeDone op p
+    → refusal_of ms p (call.Command (command_of op)) ≡ None
 may_free (whole.Snapshot name) ms p other may = rw may.1 (rw (lt-ltb (layer_count p.volume.snapshots) most_layers may.2) refl)
 may_free (whole.Remove name) ms p other may = rw may refl
 may_free (whole.Revert name) ms p other may = rw may.0 refl
@@ -112,7 +114,9 @@ no_purge (whole.Barrier r) not e = cc
 
 -- what it leaves
 pub after_done : (op : WholeOp) (p : PlainState) (index saw stream : ℕ) → (IsPart op → ⊥)
-    → (after_entry p (entry.Answer (record { call = call.Command (command_of op); reply = reply.Done; index = index; saw = saw; stream = stream }))).volume ≡ due_of op p.volume
+    → (after_entry p (entry.Answer
+    (record { call = call.Command (command_of op); reply = reply.Done; index = index; saw = saw; stream = stream }))).volume ≡ due_of
+    op p.volume
 after_done (whole.Snapshot name) p index saw stream not = refl
 after_done (whole.Remove name) p index saw stream not = refl
 after_done (whole.Revert name) p index saw stream not = refl
@@ -120,11 +124,13 @@ after_done (whole.Purge f) p index saw stream not = absurd (not tt)
 after_done (whole.Barrier r) p index saw stream not = refl
 
 -- it is done
-pub done_answered : (op : WholeOp) (ms : List Mode) (p : PlainState) (a : Answer) → IsPlain op → MayBeDone op p → HasSource ms → (IsPart op → ⊥)
+pub done_answered : (op : WholeOp) (ms : List Mode) (p : PlainState) (a : Answer) → IsPlain op → MayBeDone op p
+    → HasSource ms → (IsPart op → ⊥)
     → a.call ≡ call.Command (command_of op) → a.reply ≡ reply.Done → IsAnswered p ms a
 done_answered op ms p a other may source not asks is =
     Rattle.volume_core.proofs.Answered.plainly ms p a
-    (is ∙ done_reply op ms p ∙ ap (λ w. (step_unless w ms p (call.Command (command_of op))).1) (sym (may_free op ms p other may)) ∙ ap (λ x. (step_unless (refusal_of ms p x) ms p x).1) (sym asks))
+    (is ∙ done_reply op ms p ∙ ap (λ w. (step_unless w ms p (call.Command (command_of op))).1)
+    (sym (may_free op ms p other may)) ∙ ap (λ x. (step_unless (refusal_of ms p x) ms p x).1) (sym asks))
     (λ r e. absurd (no_fail op r (sym asks ∙ e)))
     (λ change done. source)
     (λ e done. no_purge op not (sym asks ∙ e))
@@ -133,8 +139,14 @@ done_answered op ms p a other may source not asks is =
 pub lost_answered : (op : WholeOp) (ms : List Mode) (p : PlainState) (a : Answer) → IsPlain op → MayBeDone op p → HasNoSource ms
     → a.call ≡ call.Command (command_of op) → a.reply ≡ reply.Refused NoReplica → IsAnswered p ms a
 lost_answered op ms p a other may none asks is = record {
-  reply = λ says. absurd (not_both (Rattle.volume_model.specs.History.says_no_replica a.reply) says (ap Rattle.volume_model.specs.History.says_no_replica is));
-  none = λ says. record { asks = ap asks_replica asks ∙ asks_one op; refused = ap (refusal_of ms p) asks ∙ may_free op ms p other may; none = none };
+  reply = λ says. absurd (not_both (Rattle.volume_model.specs.History.says_no_replica a.reply) says
+      (ap Rattle.volume_model.specs.History.says_no_replica is));
+  none = λ says. record {
+    asks = ap asks_replica asks ∙ asks_one op;
+    refused = ap (refusal_of ms p) asks
+        ∙ may_free op ms p other may;
+    none = none;
+  };
   fails = λ r e. absurd (no_fail op r (sym asks ∙ e));
   source = λ change done. absurd (not_both (is_refusal a.reply) done (ap is_refusal is));
   purged = λ e done. absurd (not_both (is_refusal a.reply) done (ap is_refusal is));
@@ -142,11 +154,14 @@ lost_answered op ms p a other may none asks is = record {
 
 -- it is refused
 pub refused_answered : (s : State) (op : WholeOp) (stream saw index : ℕ) (why : Refusal) → refused_in s (command_of op) ≡ Some why
-    → IsAnswered (told_of s) (modes_in s) (record { call = call.Command (command_of op); reply = reply.Refused why; index = index; saw = saw; stream = stream })
+    → IsAnswered (told_of s) (modes_in s)
+    (record { call = call.Command (command_of op); reply = reply.Refused why; index = index; saw = saw; stream = stream })
 refused_answered s op stream saw index why refused =
-    subst (λ (x : Reply). IsAnswered (told_of s) (modes_in s) (record { call = call.Command (command_of op); reply = x; index = index; saw = saw; stream = stream }))
+    subst (λ (x : Reply). IsAnswered (told_of s) (modes_in s)
+    (record { call = call.Command (command_of op); reply = x; index = index; saw = saw; stream = stream }))
     (is)
-    (answered_there (spot_of s) (call.Command (command_of op)) stream saw index (λ q e. absurd (no_fail op q e)) (λ e done. absurd (not_both _ done (ap is_refusal is))))
+    (answered_there (spot_of s) (call.Command (command_of op)) stream saw index (λ q e. absurd (no_fail op q e))
+    (λ e done. absurd (not_both _ done (ap is_refusal is))))
   where
     is : reply_for (refused_in s (command_of op)) (spot_of s) (call.Command (command_of op)) ≡ reply.Refused why
     is = ap (λ w. reply_for w (spot_of s) (call.Command (command_of op))) refused
@@ -182,21 +197,27 @@ ends_other s (whole.Barrier r) y other = absurd other
 -- The operation at i can end with that reply and leave that volume: no call on the whole volume is started once it went,
 -- the replicas are the volume, what waits fits it, and there is a place for the answer.
 pub record CanEnd (s : State) (i : ℕ) (op : WholeOp) (v : Volume) (r : Reply) : Type 0 where
-  pub none : (j : ℕ) → j < length (remove s.tickets i) → (ticket_at (remove s.tickets i) j).kind ≡ kind.Whole → (ticket_at (remove s.tickets i) j).started ≡ false
+  pub none : (j : ℕ) → j < length (remove s.tickets i) → (ticket_at (remove s.tickets i) j).kind ≡ kind.Whole
+      → (ticket_at (remove s.tickets i) j).started ≡ false
   pub clients : AreClients v s.size (length s.indices) s.book.entries (modes_in s) (remove s.tickets i) (remove s.calls i) s.nodes
-  pub left : (j : ℕ) → j < length (remove s.tickets i) → FitsMaint v.snapshots (modes_in s) s.nodes s.maint s.commands (ticket_at (remove s.tickets i) j) (open_at (remove s.calls i) j)
-  pub room : count_by (λ t. t.started) (remove s.tickets i) + length s.commands + count_by is_up (modes_in s) + owed_end s.rebuild + 1 ≤ s.book.spare
+  pub left : (j : ℕ) → j < length (remove s.tickets i)
+      → FitsMaint v.snapshots (modes_in s) s.nodes s.maint s.commands (ticket_at (remove s.tickets i) j)
+      (open_at (remove s.calls i) j)
+  pub room : count_by (λ t. t.started) (remove s.tickets i) + length s.commands + count_by is_up (modes_in s) + owed_end
+      s.rebuild + 1 ≤ s.book.spare
   pub rebuild : IsRebuilding s.size (modes_in s) (remove s.tickets i) (remove s.calls i) None s.nodes s.rebuild
   pub may : IsAnswered (told_of s) (modes_in s) (answer_at s i op r)
   pub after : (after_entry (told_of s) (entry.Answer (answer_at s i op r))).volume ≡ v
   pub so : EndsSo s op r
 
-module _ (s : State) (ok : IsSound s) (i : ℕ) (op : WholeOp) (h : i < length s.tickets) (is : (ticket_at s.tickets i).kind ≡ kind.Whole) (asks : (open_at s.calls i).op ≡ Some op) where
+module _ (s : State) (ok : IsSound s) (i : ℕ) (op : WholeOp) (h : i < length s.tickets)
+    (is : (ticket_at s.tickets i).kind ≡ kind.Whole) (asks : (open_at s.calls i).op ≡ Some op) where
   call_in : i < length s.calls
   call_in = omega (arith, h, ok.on.clients.paired)
 
   pub asked_by : IsAskedBy s.maint s.commands (open_at s.calls i).stream op
-  asked_by = asked_there (told_of s).volume.snapshots (modes_in s) s.nodes s.maint s.commands (ticket_at s.tickets i) (open_at s.calls i) op is asks (ok.maint.fits i h)
+  asked_by = asked_there (told_of s).volume.snapshots (modes_in s) s.nodes s.maint s.commands (ticket_at s.tickets i)
+      (open_at s.calls i) op is asks (ok.maint.fits i h)
 
   pub stream_in : (open_at s.calls i).stream < length s.indices
   stream_in = (ok.on.clients.fits i h).stream
@@ -206,7 +227,9 @@ module _ (s : State) (ok : IsSound s) (i : ℕ) (op : WholeOp) (h : i < length s
     its = answer_at s i op r
 
     abbrev end_with : List Ticket → List MaintCall → State
-    end_with maint commands = answered (record s { tickets = remove s.tickets i; calls = remove s.calls i; whole = None; maint = maint; commands = commands }) (open_at s.calls i).stream (open_at s.calls i).saw (call.Command (command_of op)) r
+    end_with maint commands =
+        answered (record s { tickets = remove s.tickets i; calls = remove s.calls i; whole = None; maint = maint; commands = commands })
+        (open_at s.calls i).stream (open_at s.calls i).saw (call.Command (command_of op)) r
 
     -- the journal with its answer
     abbrev longer : List Entry
@@ -221,68 +244,92 @@ module _ (s : State) (ok : IsSound s) (i : ℕ) (op : WholeOp) (h : i < length s
     -- of what is no add
     told_other : IsPlain op → IsOwn (told_of s) (entry.Answer its) → IsToldSo
     told_other other is_own =
-        answer_told (opening_of s) s.book.entries s.indices s.rebuild s.ended its ok.on.told is_own (no_add op other) can.may stream_in refl (ok.on.clients.seen.past i call_in) (ok.on.clients.seen.saw i call_in)
+        answer_told (opening_of s) s.book.entries s.indices s.rebuild s.ended its ok.on.told is_own (no_add op other)
+        can.may stream_in refl (ok.on.clients.seen.past i call_in) (ok.on.clients.seen.saw i call_in)
 
     -- with these commands left
-    with_left : (maint : List Ticket) (commands : List MaintCall) → length commands ≤ length s.commands → IsToldSo → AreAdds maint commands s.rebuild s.ended
-        → AreMaint v.snapshots (length s.indices) (s.book.entries ++ entry.Answer its ∷ []) (modes_in s) (remove s.tickets i) (remove s.calls i) s.nodes maint commands
+    with_left : (maint : List Ticket) (commands : List MaintCall) → length commands ≤ length s.commands → IsToldSo
+        → AreAdds maint commands s.rebuild s.ended
+        → AreMaint v.snapshots (length s.indices) (s.book.entries ++ entry.Answer its ∷ []) (modes_in s)
+        (remove s.tickets i) (remove s.calls i) s.nodes maint commands
         → IsSound (end_with maint commands)
     with_left maint commands fewer told_so adds queue =
+        let open_here = open_at s.calls i in
+        let length_set_here = length-set s.indices open_here.stream (index_at s.indices open_here.stream + 1) in
         let s2 : State = end_with maint commands in
         let modes : modes_in s ≡ modes_in s2 = sym (modes_after-push (opening_of s).modes s.book.entries (entry.Answer its)) in
-        let told : v ≡ (told_of s2).volume = sym can.after ∙ ap (λ (p : PlainState). p.volume) (sym (replay-push (opening_of s).state s.book.entries (entry.Answer its))) in
+        let told : v ≡ (told_of s2).volume = sym can.after
+        ∙ ap (λ (p : PlainState). p.volume) (sym (replay-push (opening_of s).state s.book.entries (entry.Answer its))) in
         let on : IsSoundOn v s.nodes s2 = record {
           opened = ok.on.opened;
           told = told_so;
-          clients = same_clients v s.size (length s.indices) (length fewer_indices) longer (modes_in s) (modes_in s2) (remove s.tickets i) (remove s.calls i) s.nodes
-              (sym (length-set s.indices (open_at s.calls i).stream (index_at s.indices (open_at s.calls i).stream + 1))) modes
+          clients = same_clients v s.size (length s.indices) (length fewer_indices) longer (modes_in s) (modes_in s2)
+              (remove s.tickets i) (remove s.calls i) s.nodes
+              (sym length_set_here) modes
               (seen_clients v s.size (length s.indices) s.book.entries longer (modes_in s) (remove s.tickets i) (remove s.calls i) s.nodes
-              (seen_answer s.book.entries (remove s.calls i) can.clients.seen its (idle_once_gone s.book.entries s.calls ok.on.clients.seen i call_in)) can.clients);
+              (seen_answer s.book.entries (remove s.calls i) can.clients.seen its
+              (idle_once_gone s.book.entries s.calls ok.on.clients.seen i call_in)) can.clients);
           spare = omega (arith, can.room, fewer, ap (count_by is_up) modes);
         } in
         of_calm s2 refl (subst (λ (x : Volume). IsSoundOn x s.nodes s2) told on) can.none
-        (subst (λ (x : Snapshots). AreMaint x (length s2.indices) s2.book.entries (modes_in s2) s2.tickets s2.calls s2.nodes s2.maint s2.commands) (ap (λ (x : Volume). x.snapshots) told)
-        (subst (λ (x : List Mode). AreMaint v.snapshots (length s2.indices) s2.book.entries x s2.tickets s2.calls s2.nodes s2.maint s2.commands) modes
-        (subst (λ (x : ℕ). AreMaint v.snapshots x s2.book.entries (modes_in s) s2.tickets s2.calls s2.nodes s2.maint s2.commands) (sym (length-set s.indices (open_at s.calls i).stream (index_at s.indices (open_at s.calls i).stream + 1))) queue)))
-        (subst (λ (x : List Mode). IsRebuilding s.size x (remove s.tickets i) (remove s.calls i) None s.nodes s.rebuild) modes can.rebuild) adds (λ n. behind_falls_answer s.book.entries its (ok.fell n))
-        (ok.streams ∙ sym (length-set s.indices (open_at s.calls i).stream (index_at s.indices (open_at s.calls i).stream + 1)))
+        (subst (λ (x : Snapshots). AreMaint x (length s2.indices) s2.book.entries (modes_in s2) s2.tickets s2.calls s2.nodes
+        s2.maint s2.commands) (ap (λ (x : Volume). x.snapshots) told)
+        (subst (λ (x : List Mode). AreMaint v.snapshots (length s2.indices) s2.book.entries x s2.tickets s2.calls s2.nodes
+        s2.maint s2.commands) modes
+        (subst (λ (x : ℕ). AreMaint v.snapshots x s2.book.entries (modes_in s) s2.tickets s2.calls s2.nodes s2.maint s2.commands)
+        (sym length_set_here) queue)))
+        (subst (λ (x : List Mode). IsRebuilding s.size x (remove s.tickets i) (remove s.calls i) None s.nodes s.rebuild)
+        modes can.rebuild) adds (λ n. behind_falls_answer s.book.entries its (ok.fell n))
+        (ok.streams ∙ sym length_set_here)
 
     -- an operation of the command that has the turn, which ends with it
     turn_ends : IsOfTurn op → (s.rebuild ≡ None) × (s.ended ≡ None) → IsToldSo → IsSound (end_with (remove s.maint 0) (remove s.commands 0))
     turn_ends of none told_so =
         with_left (remove s.maint 0) (remove s.commands 0) (fewer_left s.commands) told_so
         (none_adds (remove s.maint 0) (remove s.commands 0) s.rebuild s.ended none)
-        (turn_answered (told_of s).volume.snapshots v.snapshots (length s.indices) s.book.entries (modes_in s) s.tickets s.calls s.nodes s.maint s.commands i op ok.on.clients.seen ok.on.clients.paired h is asks ok.maint can.left its of refl)
+        (turn_answered (told_of s).volume.snapshots v.snapshots (length s.indices) s.book.entries (modes_in s) s.tickets
+        s.calls s.nodes s.maint s.commands i op ok.on.clients.seen ok.on.clients.paired h is asks ok.maint can.left its of
+        refl)
 
     -- which is no add
-    other_ends : IsOfTurn op → IsPlain op → IsOwn (told_of s) (entry.Answer its) → IsSound (end_with (remove s.maint 0) (remove s.commands 0))
+    other_ends : IsOfTurn op → IsPlain op → IsOwn (told_of s) (entry.Answer its)
+        → IsSound (end_with (remove s.maint 0) (remove s.commands 0))
     other_ends of other is_own =
         turn_ends of
-        (no_rebuild s.maint s.commands s.rebuild s.ended ok.adds (turn_no_add s.maint s.commands (open_at s.calls i).stream op other (turn_of s.maint s.commands (open_at s.calls i).stream op of asked_by)))
+        (no_rebuild s.maint s.commands s.rebuild s.ended ok.adds
+        (turn_no_add s.maint s.commands (open_at s.calls i).stream op other
+        (turn_of s.maint s.commands (open_at s.calls i).stream op of asked_by)))
         (told_other other is_own)
 
     -- a snapshot
     snapshot_ends : (name : List ℕ) → op ≡ whole.Snapshot name → IsToldSo → IsSound (end_with s.maint s.commands)
     snapshot_ends name e told_so =
         with_left s.maint s.commands (omega arith) told_so ok.adds
-        (snapshot_answered (told_of s).volume.snapshots v.snapshots (length s.indices) s.book.entries (modes_in s) s.tickets s.calls s.nodes s.maint s.commands i op ok.on.clients.seen ok.on.clients.paired h is asks ok.maint can.left name its e refl)
+        (snapshot_answered (told_of s).volume.snapshots v.snapshots (length s.indices) s.book.entries (modes_in s) s.tickets
+        s.calls s.nodes s.maint s.commands i op ok.on.clients.seen ok.on.clients.paired h is asks ok.maint can.left name
+        its e refl)
 
 -- with the answer of its command
-pub ends_kept : (s : State) (i : ℕ) (op : WholeOp) (v : Volume) (r : Reply) → IsSound s → i < length s.tickets → (ticket_at s.tickets i).kind ≡ kind.Whole → (open_at s.calls i).op ≡ Some op → CanEnd s i op v r → IsSound (whole_ended s i op r)
+pub ends_kept : (s : State) (i : ℕ) (op : WholeOp) (v : Volume) (r : Reply) → IsSound s → i < length s.tickets
+    → (ticket_at s.tickets i).kind ≡ kind.Whole → (open_at s.calls i).op ≡ Some op → CanEnd s i op v r
+    → IsSound (whole_ended s i op r)
 ends_kept s i (whole.Snapshot name) v r ok h is asks can =
     snapshot_ends s ok i (whole.Snapshot name) h is asks v r can name refl
-    (told_other s ok i (whole.Snapshot name) h is asks v r can tt (λ n e. own n (same n e) (asked_by s ok i (whole.Snapshot name) h is asks).0))
+    (told_other s ok i (whole.Snapshot name) h is asks v r can tt
+    (λ n e. own n (same n e) (asked_by s ok i (whole.Snapshot name) h is asks).0))
   where
     same : (n : List ℕ) → call.Command (command.Snapshot name) ≡ call.Command (command.Snapshot n) → name ≡ n
     same n e = cc
 
     own : (n : List ℕ) → name ≡ n → begins_sys name ≡ false → begins_sys n ≡ false
     own n e user = subst (λ (x : List ℕ). begins_sys x ≡ false) e user
-ends_kept s i (whole.Remove name) v r ok h is asks can = other_ends s ok i (whole.Remove name) h is asks v r can tt tt (λ n e. absurd (other n e))
+ends_kept s i (whole.Remove name) v r ok h is asks can =
+    other_ends s ok i (whole.Remove name) h is asks v r can tt tt (λ n e. absurd (other n e))
   where
     other : (n : List ℕ) → call.Command (command.Remove name) ≡ call.Command (command.Snapshot n) → ⊥
     other n e = cc
-ends_kept s i (whole.Revert name) v r ok h is asks can = other_ends s ok i (whole.Revert name) h is asks v r can tt tt (λ n e. absurd (other n e))
+ends_kept s i (whole.Revert name) v r ok h is asks can =
+    other_ends s ok i (whole.Revert name) h is asks v r can tt tt (λ n e. absurd (other n e))
   where
     other : (n : List ℕ) → call.Command (command.Revert name) ≡ call.Command (command.Snapshot n) → ⊥
     other n e = cc
@@ -295,4 +342,5 @@ ends_kept s i (whole.Barrier q) v r ok h is asks can =
     let seen = ok.on.clients.seen in
     let within : i < length s.calls = omega (arith, h, ok.on.clients.paired) in
     turn_ends s ok i (whole.Barrier q) h is asks v r can tt (can.so.1, can.so.2)
-    (refused_add_told (opening_of s) s.book.entries s.indices s.rebuild s.ended its q ok.on.told refl can.so.1 can.so.2 can.may can.so.0 (stream_in s ok i (whole.Barrier q) h is asks) refl (seen.past i within) (seen.saw i within))
+    (refused_add_told (opening_of s) s.book.entries s.indices s.rebuild s.ended its q ok.on.told refl can.so.1 can.so.2
+    can.may can.so.0 (stream_in s ok i (whole.Barrier q) h is asks) refl (seen.past i within) (seen.saw i within))

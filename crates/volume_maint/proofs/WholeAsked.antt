@@ -34,8 +34,10 @@ over_book (whole.Barrier r) s = refl
 abbrev pub HasNonePending : State → Whole → Type 0
 HasNonePending s w = (r : ℕ) → r < length (modes_in s) → is_pending_at (mode_of (modes_in s) r) (part_at w.parts r) ≡ false
 
-module _ (s s2 : State) (t i : ℕ) (ok : IsSound s) (at : (w : Whole) × IsWholeOn s t w i) (pending : IfSome s.whole (λ w. HasNonePending s w))
-    (done : IfSome s.whole (λ w. HasSource (modes_in s) → s2 ≡ whole_done s i w.op)) (lost : IfSome s.whole (λ w. HasNoSource (modes_in s) → s2 ≡ whole_lost s i w.op)) where
+module _ (s s2 : State) (t i : ℕ) (ok : IsSound s) (at : (w : Whole) × IsWholeOn s t w i)
+    (pending : IfSome s.whole (λ w. HasNonePending s w))
+    (done : IfSome s.whole (λ w. HasSource (modes_in s) → s2 ≡ whole_done s i w.op))
+    (lost : IfSome s.whole (λ w. HasNoSource (modes_in s) → s2 ≡ whole_lost s i w.op)) where
   all_done : AreDone s at.0
   all_done = λ r l. if_whole s.whole at.0 (λ w. HasNonePending s w) at.1.is pending r
       (omega (arith, l, (on_due s at.0 ok at.1.is).clients.agree.as_many, length-formed at.0.op at.0.parts s.nodes))
@@ -53,7 +55,8 @@ module _ (s s2 : State) (t i : ℕ) (ok : IsSound s) (at : (w : Whole) × IsWhol
   ends_sound = by (source_of (modes_in s)) refl
     where
       by : (x : Option ℕ) → source_of (modes_in s) ≡ x → IsSound s2
-      by (Some q) e = let source = has_source (modes_in s) q e in subst IsSound (sym (is_done source)) (done_kept s at.0 ok at.1.is t i at.1 all_done source)
+      by (Some q) e = let source = has_source (modes_in s) q e in
+          subst IsSound (sym (is_done source)) (done_kept s at.0 ok at.1.is t i at.1 all_done source)
       by None e = let none = no_source (modes_in s) e in subst IsSound (sym (is_lost none)) (lost_kept s at.0 ok at.1.is t i at.1 none)
 
 -- where one is read, there is a first

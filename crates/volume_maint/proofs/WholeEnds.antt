@@ -51,7 +51,8 @@ use Rattle.volume_maint.specs.Answers.{refused_in, MayBegin, whole_done, whole_l
 use Rattle.volume_maint.proofs.Adds.{none_read, settled, free_claim}
 use Rattle.volume_maint.proofs.Barriers.{past_told, past_owed, past_adds, past_rebuilding}
 use Rattle.volume_maint.proofs.WholeSound.{told_named, is_started, on_due, its_rebuild, place_is}
-use Rattle.volume_maint.proofs.WholeAnswers.{IsPart, EndsSo, answer_at, after_done, done_answered, lost_answered, refused_answered, ends_other, ends_kept}
+use Rattle.volume_maint.proofs.WholeAnswers.{IsPart, EndsSo, answer_at, after_done, done_answered, lost_answered}
+use Rattle.volume_maint.proofs.WholeAnswers.{refused_answered, ends_other, ends_kept}
 
 -- ---- one that is refused as it asks to start
 
@@ -66,19 +67,27 @@ refused_so s (whole.Revert name) why may = tt
 refused_so s (whole.Purge f) why may = tt
 refused_so s (whole.Barrier r) why may = (refl, may.closed, may.first)
 
-pub refused_whole : (s : State) (i : ℕ) (op : WholeOp) (why : Refusal) → IsSound s → i < length s.tickets → (ticket_at s.tickets i).kind ≡ kind.Whole → (ticket_at s.tickets i).started ≡ false → IsClear s.tickets i
-    → (open_at s.calls i).op ≡ Some op → MayBegin s op → refused_in s (command_of op) ≡ Some why → IsSound (whole_ended (with_place s) i op (reply.Refused why))
+pub refused_whole : (s : State) (i : ℕ) (op : WholeOp) (why : Refusal) → IsSound s → i < length s.tickets
+    → (ticket_at s.tickets i).kind ≡ kind.Whole → (ticket_at s.tickets i).started ≡ false → IsClear s.tickets i
+    → (open_at s.calls i).op ≡ Some op → MayBegin s op → refused_in s (command_of op) ≡ Some why
+    → IsSound (whole_ended (with_place s) i op (reply.Refused why))
 refused_whole s i op why ok h is waits clear asks begins refused =
     let none = calm_by s i ok h clear (λ w. waits) in
     let calm = calm_of s ok none in
     ends_kept (with_place s) i op (told_of s).volume (reply.Refused why) (place_kept s ok) h is asks
     (record {
-      none = λ j l. whole_left (told_of s) (modes_in s) s.tickets s.calls s.nodes None i (subst (λ (x : Option Whole). IsWhole (told_of s) (modes_in s) s.tickets s.calls s.nodes x) none ok.whole) ok.on.clients.paired h (λ w. waits) j l;
-      clients = left_clients (told_of s).volume s.size (length s.indices) s.book.entries (modes_in s) s.tickets s.calls s.nodes i calm.clients h (λ r e t. no_write (sym is ∙ t.writes));
-      left = lost_maint (told_of s).volume.snapshots (modes_in s) s.tickets s.calls s.nodes i s.maint s.commands ok.on.clients.paired h ok.maint.fits;
+      none = λ j l. whole_left (told_of s) (modes_in s) s.tickets s.calls s.nodes None i
+          (subst (λ (x : Option Whole). IsWhole (told_of s) (modes_in s) s.tickets s.calls s.nodes x) none ok.whole)
+          ok.on.clients.paired h (λ w. waits) j l;
+      clients = left_clients (told_of s).volume s.size (length s.indices) s.book.entries (modes_in s) s.tickets s.calls
+          s.nodes i calm.clients h (λ r e t. no_write (sym is ∙ t.writes));
+      left = lost_maint (told_of s).volume.snapshots (modes_in s) s.tickets s.calls s.nodes i s.maint s.commands
+          ok.on.clients.paired h ok.maint.fits;
       room = omega (arith, ok.on.spare, sum_by-remove (λ (t : Ticket). cond t.started 1 0) s.tickets i no_ticket h);
-      rebuild = call_gone s.size (modes_in s) s.tickets s.calls None s.nodes s.rebuild i ok.on.clients.paired h (λ t. no_write (sym is ∙ t.writes)) (rebuild_of_none s ok none);
-      may = refused_answered s op (open_at s.calls i).stream (open_at s.calls i).saw (index_at s.indices (open_at s.calls i).stream) why refused;
+      rebuild = call_gone s.size (modes_in s) s.tickets s.calls None s.nodes s.rebuild i ok.on.clients.paired h
+          (λ t. no_write (sym is ∙ t.writes)) (rebuild_of_none s ok none);
+      may = refused_answered s op (open_at s.calls i).stream (open_at s.calls i).saw
+          (index_at s.indices (open_at s.calls i).stream) why refused;
       after = refl;
       so = refused_so s op why begins;
     })
@@ -95,37 +104,58 @@ module _ (s : State) (w : Whole) (ok : IsSound s) (has : s.whole ≡ Some w) whe
   abbrev at : ℕ
   at = its_start.place
 
-  here : AreClients (due_of w.op p.volume) s.size (length s.indices) s.book.entries (modes_in s) s.tickets s.calls (formed w.op w.parts s.nodes)
+  here : AreClients (due_of w.op p.volume) s.size (length s.indices) s.book.entries (modes_in s) s.tickets s.calls
+      (formed w.op w.parts s.nodes)
   here = (on_due s w ok has).clients
 
-  gone_none : (j : ℕ) → j < length (remove s.tickets at) → (ticket_at (remove s.tickets at) j).kind ≡ kind.Whole → (ticket_at (remove s.tickets at) j).started ≡ false
+  gone_none : (j : ℕ) → j < length (remove s.tickets at) → (ticket_at (remove s.tickets at) j).kind ≡ kind.Whole
+      → (ticket_at (remove s.tickets at) j).started ≡ false
   gone_none j l k = ended_still p s.size (length s.indices) s.book.entries (modes_in s) s.tickets s.calls s.nodes w its_start here j l
 
-  gone_room : count_by (λ t. t.started) (remove s.tickets at) + length s.commands + count_by is_up (modes_in s) + owed_end s.rebuild + 1 ≤ s.book.spare
-  gone_room = omega (arith, ok.on.spare, sum_by-remove (λ (t : Ticket). cond t.started 1 0) s.tickets at no_ticket its_start.stands.within, counts (ticket_at s.tickets at).started its_start.started)
+  gone_room : count_by (λ t. t.started) (remove s.tickets at) + length s.commands + count_by is_up (modes_in s) + owed_end
+      s.rebuild + 1 ≤ s.book.spare
+  gone_room = omega (
+    arith,
+    ok.on.spare,
+    sum_by-remove (λ (t : Ticket). cond t.started 1 0) s.tickets at no_ticket
+        its_start.stands.within,
+    counts (ticket_at s.tickets at).started its_start.started,
+  )
 
-  gone_lost : HasNoSource (modes_in s) → AreClients p.volume s.size (length s.indices) s.book.entries (modes_in s) (remove s.tickets at) (remove s.calls at) s.nodes
-  gone_lost none = lost_clients p s.size (length s.indices) s.book.entries (modes_in s) s.tickets s.calls s.nodes w its_start here (settled (modes_in s) s.rebuild (none_read (modes_in s) s.rebuild ok.rebuild.roles none) ok.rebuild.roles) none
+  gone_lost : HasNoSource (modes_in s) → AreClients p.volume s.size (length s.indices) s.book.entries (modes_in s)
+      (remove s.tickets at) (remove s.calls at) s.nodes
+  gone_lost none = lost_clients p s.size (length s.indices) s.book.entries (modes_in s) s.tickets s.calls s.nodes w
+      its_start here (settled (modes_in s) s.rebuild (none_read (modes_in s) s.rebuild ok.rebuild.roles none) ok.rebuild.roles)
+      none
 
-  gone_done : AreDone s w → AreClients (due_of w.op p.volume) s.size (length s.indices) s.book.entries (modes_in s) (remove s.tickets at) (remove s.calls at) s.nodes
+  gone_done : AreDone s w → AreClients (due_of w.op p.volume) s.size (length s.indices) s.book.entries (modes_in s)
+      (remove s.tickets at) (remove s.calls at) s.nodes
   gone_done done = done_clients p s.size (length s.indices) s.book.entries (modes_in s) s.tickets s.calls s.nodes w its_start here done
 
   -- a rebuild goes on where the call is done, and none was open where no replica is read
   rebuild_done : AreDone s w → IsRebuilding s.size (modes_in s) (remove s.tickets at) (remove s.calls at) None s.nodes s.rebuild
   rebuild_done done =
-      rebuilds.whole_ended s.size (modes_in s) s.tickets s.calls s.nodes w at ok.on.clients.order its_start.stands.within its_start.kind its_start.started (gone_done done).agree.as_many its_start.owes done s.rebuild
+      rebuilds.whole_ended s.size (modes_in s) s.tickets s.calls s.nodes w at ok.on.clients.order its_start.stands.within
+      its_start.kind its_start.started (gone_done done).agree.as_many its_start.owes done s.rebuild
       (its_rebuild s w ok has)
 
-  rebuild_lost : HasNoSource (modes_in s) → IsRebuilding s.size (modes_in s) (remove s.tickets at) (remove s.calls at) None s.nodes s.rebuild
+  rebuild_lost : HasNoSource (modes_in s) → IsRebuilding s.size (modes_in s) (remove s.tickets at) (remove s.calls at) None
+      s.nodes s.rebuild
   rebuild_lost none =
       free_claim s.size (modes_in s) s.tickets (remove s.tickets at) s.calls (remove s.calls at) s.whole None s.nodes s.nodes s.rebuild
       (none_read (modes_in s) s.rebuild ok.rebuild.roles none) ok.rebuild
 
-  left_lost : (j : ℕ) → j < length (remove s.tickets at) → FitsMaint p.volume.snapshots (modes_in s) s.nodes s.maint s.commands (ticket_at (remove s.tickets at) j) (open_at (remove s.calls at) j)
-  left_lost = lost_maint p.volume.snapshots (modes_in s) s.tickets s.calls s.nodes at s.maint s.commands ok.on.clients.paired its_start.stands.within ok.maint.fits
+  left_lost : (j : ℕ) → j < length (remove s.tickets at)
+      → FitsMaint p.volume.snapshots (modes_in s) s.nodes s.maint s.commands (ticket_at (remove s.tickets at) j)
+      (open_at (remove s.calls at) j)
+  left_lost = lost_maint p.volume.snapshots (modes_in s) s.tickets s.calls s.nodes at s.maint s.commands
+      ok.on.clients.paired its_start.stands.within ok.maint.fits
 
-  left_done : (j : ℕ) → j < length (remove s.tickets at) → FitsMaint (due_of w.op p.volume).snapshots (modes_in s) s.nodes s.maint s.commands (ticket_at (remove s.tickets at) j) (open_at (remove s.calls at) j)
-  left_done = due_maint s.book.entries p (modes_in s) s.tickets s.calls s.nodes w s.maint s.commands (told_named s ok) ok.on.clients.seen ok.on.clients.paired its_start ok.maint.fits
+  left_done : (j : ℕ) → j < length (remove s.tickets at)
+      → FitsMaint (due_of w.op p.volume).snapshots (modes_in s) s.nodes s.maint s.commands
+      (ticket_at (remove s.tickets at) j) (open_at (remove s.calls at) j)
+  left_done = due_maint s.book.entries p (modes_in s) s.tickets s.calls s.nodes w s.maint s.commands (told_named s ok)
+      ok.on.clients.seen ok.on.clients.paired its_start ok.maint.fits
 
   -- done, with its answer
   done_ends : AreDone s w → HasSource (modes_in s) → IsPlain w.op → (IsPart w.op → ⊥) → IsSound (whole_ended s at w.op reply.Done)
@@ -160,6 +190,7 @@ module _ (s : State) (w : Whole) (ok : IsSound s) (has : s.whole ≡ Some w) whe
   -- a part of a purge, with its mark
   mark_ends : (f : FoldOrDrop) → w.op ≡ whole.Purge f → AreDone s w → HasSource (modes_in s) → IsSound (whole_marked s at f)
   mark_ends f part done source =
+      let length_here = length s.indices in
       let o = opening_of s in
       let es = s.book.entries in
       let e = entry.Mark (mark.Purged f) in
@@ -168,27 +199,40 @@ module _ (s : State) (w : Whole) (ok : IsSound s) (has : s.whole ≡ Some w) whe
       let modes : modes_in s ≡ modes_in s2 = sym (modes_after-push o.modes es e) in
       let v = purged p.volume f in
       let told : v ≡ (told_of s2).volume = ap (λ (x : PlainState). x.volume) (sym (replay-push o.state es e)) in
-      let clients : AreClients v s.size (length s.indices) es (modes_in s) s2.tickets s2.calls s.nodes =
-      subst (λ (x : WholeOp). AreClients (due_of x p.volume) s.size (length s.indices) es (modes_in s) s2.tickets s2.calls s.nodes) part (gone_done done) in
-      let left : (j : ℕ) → j < length (remove s.tickets at) → FitsMaint v.snapshots (modes_in s) s.nodes s.maint s.commands (ticket_at (remove s.tickets at) j) (open_at (remove s.calls at) j) =
-      subst (λ (x : WholeOp). (j : ℕ) → j < length (remove s.tickets at) → FitsMaint (due_of x p.volume).snapshots (modes_in s) s.nodes s.maint s.commands (ticket_at (remove s.tickets at) j) (open_at (remove s.calls at) j)) part left_done in
+      let clients : AreClients v s.size length_here es (modes_in s) s2.tickets s2.calls s.nodes =
+      subst (λ (x : WholeOp). AreClients (due_of x p.volume) s.size length_here es (modes_in s) s2.tickets s2.calls s.nodes)
+      part (gone_done done) in
+      let left : (j : ℕ) → j < length (remove s.tickets at)
+      → FitsMaint v.snapshots (modes_in s) s.nodes s.maint s.commands (ticket_at (remove s.tickets at) j)
+      (open_at (remove s.calls at) j) =
+      subst (λ (x : WholeOp). (j : ℕ) → j < length (remove s.tickets at)
+      → FitsMaint (due_of x p.volume).snapshots (modes_in s) s.nodes s.maint s.commands
+      (ticket_at (remove s.tickets at) j) (open_at (remove s.calls at) j)) part left_done in
       let may : MayBeDone (whole.Purge f) p = subst (λ (x : WholeOp). MayBeDone x p) part its_start.may in
       let on : IsSoundOn v s.nodes s2 = record {
         opened = ok.on.opened;
         told = record {
           legal = IsLegal-push o es e ok.on.told.legal (may, source);
-          ordered = mark_ordered o es s.indices s.rebuild s.rebuild s.ended s.ended (mark.Purged f) ok.on.told.ordered tt (rise-purged es f ok.on.told.ordered.rise)
+          ordered = mark_ordered o es s.indices s.rebuild s.rebuild s.ended s.ended (mark.Purged f) ok.on.told.ordered tt
+              (rise-purged es f ok.on.told.ordered.rise)
               (λ q. rebuild_of-purged q es f ∙ ok.on.told.ordered.rebuild q);
         };
-        clients = same_clients v s.size (length s.indices) (length s.indices) longer (modes_in s) (modes_after o.modes longer) s2.tickets s2.calls s.nodes refl modes
-            (seen_clients v s.size (length s.indices) es longer (modes_in s) s2.tickets s2.calls s.nodes (seen_mark es s2.calls clients.seen (mark.Purged f)) clients);
+        clients = same_clients v s.size length_here length_here longer (modes_in s) (modes_after o.modes longer) s2.tickets
+            s2.calls s.nodes refl modes
+            (seen_clients v s.size length_here es longer (modes_in s) s2.tickets s2.calls s.nodes
+            (seen_mark es s2.calls clients.seen (mark.Purged f)) clients);
         spare = omega (arith, gone_room, ap (count_by is_up) modes);
       } in
       of_calm s2 refl (subst (λ (x : Volume). IsSoundOn x s.nodes s2) told on) gone_none
-      (subst (λ (x : Snapshots). AreMaint x (length s2.indices) s2.book.entries (modes_in s2) s2.tickets s2.calls s2.nodes s2.maint s2.commands) (ap (λ (x : Volume). x.snapshots) told)
-      (subst (λ (x : List Mode). AreMaint v.snapshots (length s2.indices) s2.book.entries x s2.tickets s2.calls s2.nodes s2.maint s2.commands) modes
-      (marked_maint p.volume.snapshots v.snapshots (length s.indices) es (modes_in s) s.tickets s.calls s.nodes s.maint s.commands at w.op ok.on.clients.seen ok.on.clients.paired its_start.stands.within its_start.kind its_start.op ok.maint left (mark.Purged f))))
-      (subst (λ (x : List Mode). IsRebuilding s.size x s2.tickets s2.calls None s2.nodes s2.rebuild) modes (rebuild_done done)) ok.adds (λ n. behind_falls_purged es f (ok.fell n)) ok.streams
+      (subst (λ (x : Snapshots). AreMaint x (length s2.indices) s2.book.entries (modes_in s2) s2.tickets s2.calls s2.nodes
+      s2.maint s2.commands) (ap (λ (x : Volume). x.snapshots) told)
+      (subst (λ (x : List Mode). AreMaint v.snapshots (length s2.indices) s2.book.entries x s2.tickets s2.calls s2.nodes
+      s2.maint s2.commands) modes
+      (marked_maint p.volume.snapshots v.snapshots length_here es (modes_in s) s.tickets s.calls s.nodes s.maint s.commands
+      at w.op ok.on.clients.seen ok.on.clients.paired its_start.stands.within its_start.kind its_start.op ok.maint left
+      (mark.Purged f))))
+      (subst (λ (x : List Mode). IsRebuilding s.size x s2.tickets s2.calls None s2.nodes s2.rebuild) modes (rebuild_done done)) ok.adds
+      (λ n. behind_falls_purged es f (ok.fell n)) ok.streams
 
   -- or without one
   gone_ends : HasNoSource (modes_in s) → IsSound (without_whole s at)
@@ -196,46 +240,68 @@ module _ (s : State) (w : Whole) (ok : IsSound s) (has : s.whole ≡ Some w) whe
       of_calm (without_whole s at) refl
       (record { opened = ok.on.opened; told = ok.on.told; clients = gone_lost none; spare = omega (arith, gone_room) })
       gone_none
-      (unmarked_maint p.volume.snapshots p.volume.snapshots (length s.indices) s.book.entries (modes_in s) s.tickets s.calls s.nodes s.maint s.commands at w.op ok.on.clients.seen ok.on.clients.paired its_start.stands.within its_start.kind its_start.op ok.maint left_lost)
+      (unmarked_maint p.volume.snapshots p.volume.snapshots (length s.indices) s.book.entries (modes_in s) s.tickets s.calls
+      s.nodes s.maint s.commands at w.op ok.on.clients.seen ok.on.clients.paired its_start.stands.within its_start.kind
+      its_start.op ok.maint left_lost)
       (rebuild_lost none) ok.adds ok.fell ok.streams
 
   -- a barrier, behind which its rebuild goes on, if it is open
   barrier_ends : AreClients p.volume s.size (length s.indices) s.book.entries (modes_in s) (remove s.tickets at) (remove s.calls at) s.nodes
-      → ((j : ℕ) → j < length (remove s.tickets at) → FitsMaint p.volume.snapshots (modes_in s) s.nodes s.maint s.commands (ticket_at (remove s.tickets at) j) (open_at (remove s.calls at) j))
+      → ((j : ℕ) → j < length (remove s.tickets at)
+      → FitsMaint p.volume.snapshots (modes_in s) s.nodes s.maint s.commands (ticket_at (remove s.tickets at) j)
+      (open_at (remove s.calls at) j))
       → IsRebuilding s.size (modes_in s) (remove s.tickets at) (remove s.calls at) None s.nodes s.rebuild → IsSound (barrier_ended s at)
   barrier_ends clients left rebuild =
       of_calm (barrier_ended s at) refl
-      (record { opened = ok.on.opened; told = past_told (opening_of s) s.book.entries s.indices s.rebuild s.ended ok.on.told; clients = clients; spare = omega (arith, gone_room, past_owed s.rebuild) })
+      (record {
+        opened = ok.on.opened;
+        told = past_told (opening_of s) s.book.entries s.indices s.rebuild s.ended
+            ok.on.told;
+        clients = clients;
+        spare = omega (arith, gone_room, past_owed s.rebuild);
+      })
       gone_none
-      (unmarked_maint p.volume.snapshots p.volume.snapshots (length s.indices) s.book.entries (modes_in s) s.tickets s.calls s.nodes s.maint s.commands at w.op ok.on.clients.seen ok.on.clients.paired its_start.stands.within its_start.kind its_start.op ok.maint left)
+      (unmarked_maint p.volume.snapshots p.volume.snapshots (length s.indices) s.book.entries (modes_in s) s.tickets s.calls
+      s.nodes s.maint s.commands at w.op ok.on.clients.seen ok.on.clients.paired its_start.stands.within its_start.kind
+      its_start.op ok.maint left)
       (past_rebuilding s.size (modes_in s) (remove s.tickets at) (remove s.calls at) s.nodes s.rebuild rebuild)
       (past_adds s.maint s.commands s.rebuild s.ended ok.adds) ok.fell ok.streams
 
   barrier_done : (r : ℕ) → w.op ≡ whole.Barrier r → AreDone s w → IsSound (barrier_ended s at)
   barrier_done r e done =
       barrier_ends
-      (subst (λ (x : WholeOp). AreClients (due_of x p.volume) s.size (length s.indices) s.book.entries (modes_in s) (remove s.tickets at) (remove s.calls at) s.nodes) e (gone_done done))
-      (subst (λ (x : WholeOp). (j : ℕ) → j < length (remove s.tickets at) → FitsMaint (due_of x p.volume).snapshots (modes_in s) s.nodes s.maint s.commands (ticket_at (remove s.tickets at) j) (open_at (remove s.calls at) j)) e left_done)
+      (subst (λ (x : WholeOp). AreClients (due_of x p.volume) s.size (length s.indices) s.book.entries (modes_in s)
+      (remove s.tickets at) (remove s.calls at) s.nodes) e (gone_done done))
+      (subst (λ (x : WholeOp). (j : ℕ) → j < length (remove s.tickets at)
+      → FitsMaint (due_of x p.volume).snapshots (modes_in s) s.nodes s.maint s.commands
+      (ticket_at (remove s.tickets at) j) (open_at (remove s.calls at) j)) e left_done)
       (rebuild_done done)
 
   done_by : (op : WholeOp) → w.op ≡ op → AreDone s w → HasSource (modes_in s) → IsSound (whole_done s at op)
-  done_by (whole.Snapshot name) e done source = subst (λ (x : WholeOp). IsSound (whole_ended s at x reply.Done)) e (done_ends done source (subst IsPlain (sym e) tt) (λ k. subst IsPart e k))
-  done_by (whole.Remove name) e done source = subst (λ (x : WholeOp). IsSound (whole_ended s at x reply.Done)) e (done_ends done source (subst IsPlain (sym e) tt) (λ k. subst IsPart e k))
-  done_by (whole.Revert name) e done source = subst (λ (x : WholeOp). IsSound (whole_ended s at x reply.Done)) e (done_ends done source (subst IsPlain (sym e) tt) (λ k. subst IsPart e k))
+  done_by (whole.Snapshot name) e done source = subst (λ (x : WholeOp). IsSound (whole_ended s at x reply.Done)) e
+      (done_ends done source (subst IsPlain (sym e) tt) (λ k. subst IsPart e k))
+  done_by (whole.Remove name) e done source = subst (λ (x : WholeOp). IsSound (whole_ended s at x reply.Done)) e
+      (done_ends done source (subst IsPlain (sym e) tt) (λ k. subst IsPart e k))
+  done_by (whole.Revert name) e done source = subst (λ (x : WholeOp). IsSound (whole_ended s at x reply.Done)) e
+      (done_ends done source (subst IsPlain (sym e) tt) (λ k. subst IsPart e k))
   done_by (whole.Purge f) e done source = mark_ends f e done source
   done_by (whole.Barrier r) e done source = barrier_done r e done
 
   lost_by : (op : WholeOp) → w.op ≡ op → HasNoSource (modes_in s) → IsSound (whole_lost s at op)
-  lost_by (whole.Snapshot name) e none = subst (λ (x : WholeOp). IsSound (whole_ended s at x (reply.Refused NoReplica))) e (lost_ends none (subst IsPlain (sym e) tt))
-  lost_by (whole.Remove name) e none = subst (λ (x : WholeOp). IsSound (whole_ended s at x (reply.Refused NoReplica))) e (lost_ends none (subst IsPlain (sym e) tt))
-  lost_by (whole.Revert name) e none = subst (λ (x : WholeOp). IsSound (whole_ended s at x (reply.Refused NoReplica))) e (lost_ends none (subst IsPlain (sym e) tt))
+  lost_by (whole.Snapshot name) e none = subst (λ (x : WholeOp). IsSound (whole_ended s at x (reply.Refused NoReplica))) e
+      (lost_ends none (subst IsPlain (sym e) tt))
+  lost_by (whole.Remove name) e none = subst (λ (x : WholeOp). IsSound (whole_ended s at x (reply.Refused NoReplica))) e
+      (lost_ends none (subst IsPlain (sym e) tt))
+  lost_by (whole.Revert name) e none = subst (λ (x : WholeOp). IsSound (whole_ended s at x (reply.Refused NoReplica))) e
+      (lost_ends none (subst IsPlain (sym e) tt))
   lost_by (whole.Purge f) e none = gone_ends none
   lost_by (whole.Barrier r) e none = barrier_ends (gone_lost none) left_lost (rebuild_lost none)
 
   -- it ends where a replica is read
   pub done_kept : (t i : ℕ) → IsWholeOn s t w i → AreDone s w → HasSource (modes_in s) → IsSound (whole_done s i w.op)
   unfolding its_start
-  done_kept t i on done source = subst (λ (x : ℕ). IsSound (whole_done s x w.op)) (sym (place_is s w ok has t i on)) (done_by w.op refl done source)
+  done_kept t i on done source = subst (λ (x : ℕ). IsSound (whole_done s x w.op)) (sym (place_is s w ok has t i on))
+      (done_by w.op refl done source)
 
   -- and where none is
   pub lost_kept : (t i : ℕ) → IsWholeOn s t w i → HasNoSource (modes_in s) → IsSound (whole_lost s i w.op)

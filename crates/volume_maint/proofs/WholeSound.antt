@@ -59,7 +59,8 @@ module _ (s : State) (w : Whole) (ok : IsSound s) (is : s.whole ≡ Some w) wher
   module _ (r : ℕ) (owed : part_at w.parts r ≡ Owed) where
     pub part_fits : length s.book.entries < 2 ^ 63 → mode_of (modes_in s) r ≢ Err → IsFit w.op (node_at s.nodes r)
     part_fits few up =
-        fits w.op (told_of s) (node_at s.nodes r) (spare_at w.spares r) (told_named s ok) (is_started.takes r up owed) is_started.may (number_fits s ok few)
+        fits w.op (told_of s) (node_at s.nodes r) (spare_at w.spares r) (told_named s ok) (is_started.takes r up owed)
+        is_started.may (number_fits s ok few)
 
     pub part_there : r < length s.nodes
     part_there = omega (arith, owed_in w.parts r owed, is_started.parts)
@@ -69,13 +70,15 @@ module _ (s : State) (w : Whole) (ok : IsSound s) (is : s.whole ≡ Some w) wher
       on = record {
         opened = on_due.opened;
         told = on_due.told;
-        clients = parted_clients (told_of s) (modes_in s) s.tickets s.calls s.nodes w r is_started (due_of w.op (told_of s).volume) s.size (length s.indices) s.book.entries owed on_due.clients;
+        clients = parted_clients (told_of s) (modes_in s) s.tickets s.calls s.nodes w r is_started
+            (due_of w.op (told_of s).volume) s.size (length s.indices) s.book.entries owed on_due.clients;
         spare = on_due.spare;
       };
       whole = part_taken (told_of s) (modes_in s) s.tickets s.calls s.nodes w r is_started owed;
       maint = record {
         queued = ok.maint.queued;
-        fits = part_maint s.book.entries (told_of s) (modes_in s) s.tickets s.calls s.nodes w r s.maint s.commands (told_named s ok) on_due.clients.seen on_due.clients.paired is_started owed ok.maint.fits;
+        fits = part_maint s.book.entries (told_of s) (modes_in s) s.tickets s.calls s.nodes w r s.maint s.commands
+            (told_named s ok) on_due.clients.seen on_due.clients.paired is_started owed ok.maint.fits;
       };
       disk = ok.disk;
       rebuild = rebuilds.whole_parted s.size (modes_in s) s.tickets s.calls s.nodes s.rebuild w r owed part_there its_rebuild;
@@ -91,7 +94,8 @@ module _ (s : State) (w : Whole) (ok : IsSound s) (is : s.whole ≡ Some w) wher
     on = record {
       opened = on_due.opened;
       told = on_due.told;
-      clients = told_clients (told_of s) (modes_in s) s.tickets s.calls s.nodes w r is_started (due_of w.op (told_of s).volume) s.size (length s.indices) s.book.entries taken on_due.clients;
+      clients = told_clients (told_of s) (modes_in s) s.tickets s.calls s.nodes w r is_started
+          (due_of w.op (told_of s).volume) s.size (length s.indices) s.book.entries taken on_due.clients;
       spare = on_due.spare;
     };
     whole = part_told (told_of s) (modes_in s) s.tickets s.calls s.nodes w r is_started taken;
@@ -117,10 +121,12 @@ OwesPart s t r = (w : Whole) × (i : ℕ) × IsWholeOn s t w i × (part_at w.par
 
 module _ (s : State) (t r : ℕ) (ok : IsSound s) (owes : OwesPart s t r) where
   pub owes_fits : length s.book.entries < 2 ^ 63 → mode_of (modes_in s) r ≢ Err → IfSome s.whole (λ w. IsFit w.op (node_at s.nodes r))
-  owes_fits few up = whole_if s.whole owes.0 (λ w. IsFit w.op (node_at s.nodes r)) owes.2.is (part_fits s owes.0 ok owes.2.is r owes.3 few up)
+  owes_fits few up = whole_if s.whole owes.0 (λ w. IsFit w.op (node_at s.nodes r)) owes.2.is
+      (part_fits s owes.0 ok owes.2.is r owes.3 few up)
 
   pub owes_kept : (s2 : State) → IfSome s.whole (λ w. s2 ≡ whole_parted s w r) → IsSound s2
-  owes_kept s2 all = subst IsSound (sym (if_whole s.whole owes.0 (λ w. s2 ≡ whole_parted s w r) owes.2.is all)) (part_kept s owes.0 ok owes.2.is r owes.3)
+  owes_kept s2 all = subst IsSound (sym (if_whole s.whole owes.0 (λ w. s2 ≡ whole_parted s w r) owes.2.is all))
+      (part_kept s owes.0 ok owes.2.is r owes.3)
 
 -- and acknowledges its part
 pub acks_kept : (s s2 : State) (t r : ℕ) → IsSound s → AcksPart s t r s2 → IsSound s2

@@ -41,7 +41,9 @@ use Rattle.volume_maint.specs.declared.answers.AdmitWhole.{AdmitWhole}
 use Rattle.volume_maint.specs.declared.answers.AdmitWhole.TheVariants as admit
 use Rattle.volume_maint.specs.declared.answers.NextPart.{NextPart}
 use Rattle.volume_maint.specs.declared.answers.NextPart.TheVariants as next
-use Rattle.volume_maint.specs.Steps.{turn_begun, turn_ended, whole_enrolled, whole_begun, whole_parted, whole_acked, whole_ended, whole_marked, without_whole, barrier_name, barrier_modes, barrier_nodes, barrier_begun, barrier_ended, folded_on}
+use Rattle.volume_maint.specs.Steps.{turn_begun, turn_ended, whole_enrolled, whole_begun, whole_parted, whole_acked}
+use Rattle.volume_maint.specs.Steps.{whole_ended, whole_marked, without_whole, barrier_name, barrier_modes}
+use Rattle.volume_maint.specs.Steps.{barrier_nodes, barrier_begun, barrier_ended, folded_on}
 use Rattle.volume_maint.specs.Places.{AwaitsTurn, IsFreeTurn, IsTurnOf, AwaitsWhole, IsWholeOn}
 
 -- where the World stands

@@ -27,16 +27,19 @@ behind_falls_push es e behind stands = BehindFalls-append [] es (e ∷ []) behin
 pub behind_falls_answer : (es : List Entry) (a : Answer) → AreBehindFalls es → AreBehindFalls (es ++ entry.Answer a ∷ [])
 behind_falls_answer es a behind = behind_falls_push es (entry.Answer a) behind tt
 
-pub behind_falls_purged : (es : List Entry) (part : FoldOrDrop) → AreBehindFalls es → AreBehindFalls (es ++ entry.Mark (mark.Purged part) ∷ [])
+pub behind_falls_purged : (es : List Entry) (part : FoldOrDrop) → AreBehindFalls es
+    → AreBehindFalls (es ++ entry.Mark (mark.Purged part) ∷ [])
 behind_falls_purged es part behind = behind_falls_push es (entry.Mark (mark.Purged part)) behind tt
 
-pub behind_falls_fault : (es : List Entry) (w r count : ℕ) → AreBehindFalls es → AreBehindFalls (es ++ entry.Mark (mark.Fault w r count) ∷ [])
+pub behind_falls_fault : (es : List Entry) (w r count : ℕ) → AreBehindFalls es
+    → AreBehindFalls (es ++ entry.Mark (mark.Fault w r count) ∷ [])
 behind_falls_fault es w r count behind = behind_falls_push es (entry.Mark (mark.Fault w r count)) behind tt
 
 pub behind_falls_failed : (es : List Entry) (r : ℕ) → AreBehindFalls es → AreBehindFalls (es ++ entry.Mark (mark.Failed r) ∷ [])
 behind_falls_failed es r behind = behind_falls_push es (entry.Mark (mark.Failed r)) behind tt
 
-pub behind_falls_added : (es : List Entry) (r source : ℕ) (name : List ℕ) → AreBehindFalls es → AreBehindFalls (es ++ entry.Mark (mark.Added r source name) ∷ [])
+pub behind_falls_added : (es : List Entry) (r source : ℕ) (name : List ℕ) → AreBehindFalls es
+    → AreBehindFalls (es ++ entry.Mark (mark.Added r source name) ∷ [])
 behind_falls_added es r source name behind = behind_falls_push es (entry.Mark (mark.Added r source name)) behind tt
 
 pub behind_falls_promoted : (es : List Entry) (r : ℕ) → AreBehindFalls es → AreBehindFalls (es ++ entry.Mark (mark.Promoted r) ∷ [])
@@ -65,16 +68,20 @@ behind_failed es r q source begun which = record {
 }
 
 -- a fault with the end of the rebuild
-pub behind_falls_fall : (es : List Entry) (w r count q source : ℕ) → AreBehindFalls es → rebuild_of q es ≡ rebuild.Open source → (r ≡ q) ⊎ (r ≡ source)
+pub behind_falls_fall : (es : List Entry) (w r count q source : ℕ) → AreBehindFalls es
+    → rebuild_of q es ≡ rebuild.Open source → (r ≡ q) ⊎ (r ≡ source)
     → AreBehindFalls (es ++ entry.Mark (mark.Fault w r count) ∷ entry.Mark (mark.Aborted q) ∷ [])
 behind_falls_fall es w r count q source behind begun which =
-    BehindFalls-append [] es (entry.Mark (mark.Fault w r count) ∷ entry.Mark (mark.Aborted q) ∷ []) behind (tt, (behind_fault es w r count q source begun which, tt))
+    BehindFalls-append [] es (entry.Mark (mark.Fault w r count) ∷ entry.Mark (mark.Aborted q) ∷ []) behind
+    (tt, (behind_fault es w r count q source begun which, tt))
 
 -- a replica that was told to fail, with the end of the rebuild
-pub behind_falls_fail : (es : List Entry) (r q source : ℕ) → AreBehindFalls es → rebuild_of q es ≡ rebuild.Open source → (r ≡ q) ⊎ (r ≡ source)
+pub behind_falls_fail : (es : List Entry) (r q source : ℕ) → AreBehindFalls es → rebuild_of q es ≡ rebuild.Open source
+    → (r ≡ q) ⊎ (r ≡ source)
     → AreBehindFalls (es ++ entry.Mark (mark.Failed r) ∷ entry.Mark (mark.Aborted q) ∷ [])
 behind_falls_fail es r q source behind begun which =
-    BehindFalls-append [] es (entry.Mark (mark.Failed r) ∷ entry.Mark (mark.Aborted q) ∷ []) behind (tt, (behind_failed es r q source begun which, tt))
+    BehindFalls-append [] es (entry.Mark (mark.Failed r) ∷ entry.Mark (mark.Aborted q) ∷ []) behind
+    (tt, (behind_failed es r q source begun which, tt))
 
 -- ---- entries without an aborted mark
 

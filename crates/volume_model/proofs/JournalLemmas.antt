@@ -18,7 +18,8 @@ pub unasked≢open : (s : ℕ) → rebuild.Unasked ≢ rebuild.Open s
 unasked≢open s e = cc
 
 -- once its add was answered, a rebuild is open no more
-pub answered≢open : (b : Bool) (s : ℕ) → cond b rebuild.Unasked (cond b rebuild.Promoted (cond b (rebuild.Open 0) rebuild.Unasked)) ≢ rebuild.Open s
+pub answered≢open : (b : Bool) (s : ℕ) → cond b rebuild.Unasked
+    (cond b rebuild.Promoted (cond b (rebuild.Open 0) rebuild.Unasked)) ≢ rebuild.Open s
 answered≢open true s e = cc
 answered≢open false s e = cc
 
@@ -41,7 +42,8 @@ same_source : (s t : ℕ) → rebuild.Open s ≡ rebuild.Open t → s ≡ t
 same_source s t e = cc
 
 -- right behind a mark in which neither the source nor the target falls, nothing is behind its fall
-pub not_behind : (front : List Entry) (m : Mark) (r s : ℕ) → rebuild_of r (front ++ entry.Mark m ∷ []) ≡ rebuild.Open s → (Fells m r → ⊥) → (Fells m s → ⊥)
+pub not_behind : (front : List Entry) (m : Mark) (r s : ℕ) → rebuild_of r (front ++ entry.Mark m ∷ []) ≡ rebuild.Open s
+    → (Fells m r → ⊥) → (Fells m s → ⊥)
     → IsBehindFall (front ++ entry.Mark m ∷ []) r → ⊥
 not_behind front m r s begun target source behind =
     let same = same_mark m behind.fell (same_last front behind.last.0 (entry.Mark m) (entry.Mark behind.fell) behind.last.1) in

@@ -36,12 +36,14 @@ next_longer r (entry.Mark m ∷ xs) ys h = (h.0, now_longer r xs ys h.1)
 fall_longer : (modes : List Mode) (before xs ys : List Entry) (r : ℕ) → MayFall modes before xs r → MayFall modes before (xs ++ ys) r
 fall_longer modes before xs ys r f = record { up = f.up; ends = λ q s is who. begins_longer xs ys (mark.Aborted q) (f.ends q s is who) }
 
-could_longer : (before xs ys : List Entry) (state : PlainState) (modes : List Mode) (m : Mark) → CouldBe before xs state modes m → CouldBe before (xs ++ ys) state modes m
+could_longer : (before xs ys : List Entry) (state : PlainState) (modes : List Mode) (m : Mark)
+    → CouldBe before xs state modes m → CouldBe before (xs ++ ys) state modes m
 could_longer before xs ys state modes (mark.Purged part) could = could
 could_longer before xs ys state modes (mark.Fault stream r count) could = fall_longer modes before xs ys r could
 could_longer before xs ys state modes (mark.Failed r) could = (fall_longer modes before xs ys r could.0, next_longer r xs ys could.1)
 could_longer before xs ys state modes (mark.Added r source name) could = could
-could_longer before xs ys state modes (mark.Promoted r) could = record { source = could.source; begun = could.begun; ends = add_longer xs ys r could.ends }
+could_longer before xs ys state modes (mark.Promoted r) could =
+    record { source = could.source; begun = could.begun; ends = add_longer xs ys r could.ends }
 could_longer before xs ys state modes (mark.Aborted r) could = could
 
 -- entries that are legal behind entries that are
@@ -51,11 +53,13 @@ pub LegalAfter-append :
 LegalAfter-append opening before [] ys h k = subst (λ l. LegalAfter opening l ys) (append-nil before) k
 LegalAfter-append opening before (entry.Answer a ∷ xs) ys h k = (
   h.0,
-  LegalAfter-append opening (before ++ entry.Answer a ∷ []) xs ys h.1 (subst (λ l. LegalAfter opening l ys) (sym (append_assoc before (entry.Answer a ∷ []) xs)) k),
+  LegalAfter-append opening (before ++ entry.Answer a ∷ []) xs ys h.1
+      (subst (λ l. LegalAfter opening l ys) (sym (append_assoc before (entry.Answer a ∷ []) xs)) k),
 )
 LegalAfter-append opening before (entry.Mark m ∷ xs) ys h k = (
   could_longer before xs ys (replay opening.state before) (modes_after opening.modes before) m h.0,
-  LegalAfter-append opening (before ++ entry.Mark m ∷ []) xs ys h.1 (subst (λ l. LegalAfter opening l ys) (sym (append_assoc before (entry.Mark m ∷ []) xs)) k),
+  LegalAfter-append opening (before ++ entry.Mark m ∷ []) xs ys h.1
+      (subst (λ l. LegalAfter opening l ys) (sym (append_assoc before (entry.Mark m ∷ []) xs)) k),
 )
 
 -- ---- the answers of each stream
@@ -72,7 +76,8 @@ answers_from-append stream place (entry.Answer a ∷ xs) ys =
     ap (λ l. cond (eqb a.stream stream) ((place, a) ∷ l) l) (
     answers_from-append stream (suc place) xs ys
     ∙ ap (λ n. answers_from stream (suc place) xs ++ answers_from stream n ys) (further place (length xs)))
-    ∙ choice (eqb a.stream stream) (place, a) (answers_from stream (suc place) xs) (answers_from stream (place + length (entry.Answer a ∷ xs)) ys)
+    ∙ choice (eqb a.stream stream) (place, a) (answers_from stream (suc place) xs)
+    (answers_from stream (place + length (entry.Answer a ∷ xs)) ys)
   where
     choice : (b : Bool) (p : ℕ × Answer) (l m : List (ℕ × Answer)) → cond b (p ∷ (l ++ m)) (l ++ m) ≡ cond b (p ∷ l) l ++ m
     choice true p l m = refl

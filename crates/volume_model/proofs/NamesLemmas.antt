@@ -1,5 +1,6 @@
 -- What a legal journal tells of the snapshots is what its replay has.
-use Rattle.std.proofs.Common.{◌≡◌, ℕ, suc, ◌+◌, ◌-◌, ◌⊎◌, inl, inr, Bool, true, false, cond, not, ◌||◌, List, [], ◌∷◌, ◌++◌, length, map, refl, sym, ap, subst, ◌∙◌, arith}
+use Rattle.std.proofs.Common.{◌≡◌, ℕ, suc, ◌+◌, ◌-◌, ◌⊎◌, inl, inr, Bool, true, false, cond, not, ◌||◌, List, [], ◌∷◌}
+use Rattle.std.proofs.Common.{◌++◌, length, map, refl, sym, ap, subst, ◌∙◌, arith}
 use Rattle.std.specs.Prelude.{Option, Some, None}
 use Rattle.std.specs.Str.{bytes_eq}
 use Rattle.std.specs.Option.{option_or}
@@ -28,7 +29,9 @@ use Rattle.volume_model.specs.PlainStep.{volume_refusal, after_call, step_unless
 use Rattle.volume_model.specs.Replay.{is_refusal, after_entry, replay}
 use Rattle.volume_model.specs.Modes.{modes_after}
 use Rattle.volume_model.specs.History.{Spot, says_no_replica, IsAnswered, IsEnded, CouldBe, MayStand, LegalAfter, IsLegal}
-use Rattle.volume_model.specs.Names.{is_used_in, is_live_in, with_name, name_marked, names_in, names_after_call, names_after_entry, names_after, layers_after_call, layers_after_entry, layers_after, has_name, NamesOnce, TellOf, AreNamed}
+use Rattle.volume_model.specs.Names.{is_used_in, is_live_in, with_name, name_marked, names_in, names_after_call}
+use Rattle.volume_model.specs.Names.{names_after_entry, names_after, layers_after_call, layers_after_entry}
+use Rattle.volume_model.specs.Names.{layers_after, has_name, NamesOnce, TellOf, AreNamed}
 use Rattle.volume_model.proofs.StepLemmas.{replay-push, says_refusal}
 use Rattle.volume_model.proofs.PurgeLemmas.{any_cases, length-with_part}
 
@@ -49,7 +52,8 @@ never true = refl
 never false = refl
 
 -- a name that is marked can be used no longer, and the others as before
-is_live_in-marked : (name q : List ℕ) (names : List UsedName) → is_live_in (map (name_marked name) names) q ≡ cond (bytes_eq name q) false (is_live_in names q)
+is_live_in-marked : (name q : List ℕ) (names : List UsedName)
+    → is_live_in (map (name_marked name) names) q ≡ cond (bytes_eq name q) false (is_live_in names q)
 is_live_in-marked name q [] = never (bytes_eq name q)
 is_live_in-marked name q (n ∷ ns) =
     one (bytes_eq name n.name) n _
@@ -62,7 +66,8 @@ is_live_in-marked name q (n ∷ ns) =
     one true n rest = refl
     one false n rest = refl
 
-pub is_live-marked : (name q : List ℕ) (tree : List Snapshot) → is_live (map (marked_if name) tree) q ≡ cond (bytes_eq name q) false (is_live tree q)
+pub is_live-marked : (name q : List ℕ) (tree : List Snapshot)
+    → is_live (map (marked_if name) tree) q ≡ cond (bytes_eq name q) false (is_live tree q)
 is_live-marked name q [] = never (bytes_eq name q)
 is_live-marked name q (s ∷ ss) =
     one (bytes_eq name s.name) s _
@@ -164,11 +169,13 @@ is_live-dropped p q (s ∷ ss) once marked = elim (cases_Bool (bytes_eq p s.name
         is_marked : s.marked ≡ true
         is_marked = elim (marked_cases p s ss marked) [
           | inl here ↦ here.1
-          | inr there ↦ absurd (true≢false (sym (marked_has_name p ss there) ∙ ap (has_name ss) ((bytes_eq-Decides p s.name).0 same) ∙ once.0))
+          | inr there ↦ absurd (true≢false (sym (marked_has_name p ss there)
+              ∙ ap (has_name ss) ((bytes_eq-Decides p s.name).0 same) ∙ once.0))
         ]
 
     -- the first stays
-    later : bytes_eq p s.name ≡ false → (IsMarked ss p → is_live (dropped p ss) q ≡ is_live ss q) → is_live (dropped p (s ∷ ss)) q ≡ is_live (s ∷ ss) q
+    later : bytes_eq p s.name ≡ false → (IsMarked ss p → is_live (dropped p ss) q ≡ is_live ss q)
+        → is_live (dropped p (s ∷ ss)) q ≡ is_live (s ∷ ss) q
     later other more =
         ap (λ l. is_live l q) (cond-false (bytes_eq p s.name) ss (s ∷ dropped p ss) other)
         ∙ ap (cond (bytes_eq q s.name) (not s.marked)) (more among)
@@ -189,7 +196,8 @@ mark-given true s parent = refl
 mark-given false s parent = refl
 
 -- so the same names are there
-has_name-given : (c : List ℕ) (parent : Option (List ℕ)) (q : List ℕ) (tree : List Snapshot) → has_name (given c parent tree) q ≡ has_name tree q
+has_name-given : (c : List ℕ) (parent : Option (List ℕ)) (q : List ℕ) (tree : List Snapshot)
+    → has_name (given c parent tree) q ≡ has_name tree q
 has_name-given c parent q [] = refl
 has_name-given c parent q (s ∷ ss) =
     ap (λ n. bytes_eq q n || has_name (given c parent ss) q) (name-given (bytes_eq c s.name) s parent)
@@ -204,10 +212,12 @@ once-given c parent (s ∷ ss) once = (
 )
 
 -- and the same can be used
-is_live-given : (c : List ℕ) (parent : Option (List ℕ)) (q : List ℕ) (tree : List Snapshot) → is_live (given c parent tree) q ≡ is_live tree q
+is_live-given : (c : List ℕ) (parent : Option (List ℕ)) (q : List ℕ) (tree : List Snapshot)
+    → is_live (given c parent tree) q ≡ is_live tree q
 is_live-given c parent q [] = refl
 is_live-given c parent q (s ∷ ss) =
-    ap (λ n. cond (bytes_eq q n) (not (cond (bytes_eq c s.name) (record s { parent = parent }) s).marked) (is_live (given c parent ss) q)) (name-given (bytes_eq c s.name) s parent)
+    ap (λ n. cond (bytes_eq q n) (not (cond (bytes_eq c s.name) (record s { parent = parent }) s).marked)
+    (is_live (given c parent ss) q)) (name-given (bytes_eq c s.name) s parent)
     ∙ ap (λ m. cond (bytes_eq q s.name) (not m) (is_live (given c parent ss) q)) (mark-given (bytes_eq c s.name) s parent)
     ∙ ap (cond (bytes_eq q s.name) (not s.marked)) (is_live-given c parent q ss)
 
@@ -224,7 +234,8 @@ once-part s (part.Fold p c) once = once-given c (parent_in p s.tree) (dropped p 
 once-part s (part.Drop p) once = once-dropped p s.tree once
 
 -- the same names can be used
-pub is_live-part : (s : Snapshots) (p : FoldOrDrop) (q : List ℕ) → NamesOnce s.tree → CanBeDone s.tree s.on p → is_live (with_part s p).tree q ≡ is_live s.tree q
+pub is_live-part : (s : Snapshots) (p : FoldOrDrop) (q : List ℕ) → NamesOnce s.tree → CanBeDone s.tree s.on p
+    → is_live (with_part s p).tree q ≡ is_live s.tree q
 is_live-part s (part.Fold p c) q once can =
     is_live-given c (parent_in p s.tree) q (dropped p s.tree) ∙ is_live-dropped p q s.tree once can.marked
 is_live-part s (part.Drop p) q once can = is_live-dropped p q s.tree once can.marked
@@ -242,10 +253,12 @@ MarkStands state (mark.Aborted r) = Unit {0}
 
 -- and of an answer: a snapshot takes such a name, too
 abbrev pub StandsAt : PlainState → Entry → Type 0
-StandsAt state (entry.Answer a) = (name : List ℕ) → a.call ≡ call.Command (command.Snapshot name) → is_refusal a.reply ≡ false → is_used state.used name ≡ false
+StandsAt state (entry.Answer a) = (name : List ℕ) → a.call ≡ call.Command (command.Snapshot name)
+    → is_refusal a.reply ≡ false → is_used state.used name ≡ false
 StandsAt state (entry.Mark m) = MarkStands state m
 
-pub mark_stands : (before after : List Entry) (state : PlainState) (modes : List Mode) (m : Mark) → CouldBe before after state modes m → MarkStands state m
+pub mark_stands : (before after : List Entry) (state : PlainState) (modes : List Mode) (m : Mark)
+    → CouldBe before after state modes m → MarkStands state m
 mark_stands before after state modes (mark.Purged part) may = may.0
 mark_stands before after state modes (mark.Fault stream r count) may = tt
 mark_stands before after state modes (mark.Failed r) may = tt
@@ -256,27 +269,37 @@ mark_stands before after state modes (mark.Aborted r) may = tt
 -- a name that was taken by a snapshot just now was not used before
 taken_is_new : (modes : List Mode) (state : PlainState) (name : List ℕ)
     → is_refusal (plain_step modes state (call.Command (command.Snapshot name))).1 ≡ false → is_used state.used name ≡ false
-taken_is_new modes state name done = one (is_used state.used name) (volume_refusal modes state.volume (call.Command (command.Snapshot name))) done
+taken_is_new modes state name done = one (is_used state.used name)
+    (volume_refusal modes state.volume (call.Command (command.Snapshot name))) done
   where
     one : (used : Bool) (more : Option Refusal)
-        → is_refusal (step_unless (option_or (cond used (Some NameUsed) None) more) modes state (call.Command (command.Snapshot name))).1 ≡ false → used ≡ false
+        → is_refusal (step_unless (option_or (cond used (Some NameUsed) None) more) modes state
+        (call.Command (command.Snapshot name))).1 ≡ false → used ≡ false
     one true more done = done
     one false more done = refl
 
-pub answer_stands : (before : List Entry) (state : PlainState) (modes : List Mode) (a : Answer) → IsEnded (added_by a.call) before state modes a → StandsAt state (entry.Answer a)
-answer_stands before state modes a ended = λ name is done. plainly name is done (subst (λ c. IsEnded (added_by c) before state modes a) is ended)
+pub answer_stands : (before : List Entry) (state : PlainState) (modes : List Mode) (a : Answer)
+    → IsEnded (added_by a.call) before state modes a → StandsAt state (entry.Answer a)
+answer_stands before state modes a ended = λ name is done. plainly name is done
+    (subst (λ c. IsEnded (added_by c) before state modes a) is ended)
   where
-    plainly : (name : List ℕ) → a.call ≡ call.Command (command.Snapshot name) → is_refusal a.reply ≡ false → IsAnswered state modes a → is_used state.used name ≡ false
+    plainly : (name : List ℕ) → a.call ≡ call.Command (command.Snapshot name) → is_refusal a.reply ≡ false
+        → IsAnswered state modes a → is_used state.used name ≡ false
     plainly name is done answered = elim (cases_Bool (says_no_replica a.reply)) [
       | inl says ↦ absurd (true≢false (sym (says_refusal a.reply says) ∙ done))
-      | inr other ↦ taken_is_new modes state name (sym (ap is_refusal (answered.reply other ∙ ap (λ c. (plain_step modes state c).1) is)) ∙ done)
+      | inr other ↦ taken_is_new modes state name
+          (sym (ap is_refusal (answered.reply other ∙ ap (λ c. (plain_step modes state c).1) is)) ∙ done)
     ]
 
 -- so does each that may stand behind a journal that leaves them
 pub stands : (opening : Spot) (before : List Entry) (state : PlainState) (e : Entry) (after : List Entry)
     → replay opening.state before ≡ state → MayStand opening before e after → StandsAt state e
-stands opening before state (entry.Answer a) after at may = subst (λ s. StandsAt s (entry.Answer a)) at (answer_stands before (replay opening.state before) (modes_after opening.modes before) a may)
-stands opening before state (entry.Mark m) after at may = subst (λ s. MarkStands s m) at (mark_stands before after (replay opening.state before) (modes_after opening.modes before) m may)
+stands opening before state (entry.Answer a) after at may =
+    subst (λ s. StandsAt s (entry.Answer a)) at
+    (answer_stands before (replay opening.state before) (modes_after opening.modes before) a may)
+stands opening before state (entry.Mark m) after at may =
+    subst (λ s. MarkStands s m) at
+    (mark_stands before after (replay opening.state before) (modes_after opening.modes before) m may)
 
 -- and the state behind it is that of the journal with it
 pub next : (opening : Spot) (before : List Entry) (state : PlainState) (e : Entry)
@@ -293,13 +316,19 @@ with_used-keeps used name q is = one (is_used used name)
     one true = is
     one false = or_right (bytes_eq q name) (is_used used q) is
 
-with_used-has : (used : List (List ℕ)) (name q : List ℕ) → is_used used name ≡ false → bytes_eq q name ≡ true → is_used (with_used used name) q ≡ true
-with_used-has used name q new this = ap (λ l. is_used l q) (cond-false (is_used used name) used (name ∷ used) new) ∙ or_left (bytes_eq q name) (is_used used q) this
+with_used-has : (used : List (List ℕ)) (name q : List ℕ) → is_used used name ≡ false → bytes_eq q name ≡ true
+    → is_used (with_used used name) q ≡ true
+with_used-has used name q new this = ap (λ l. is_used l q) (cond-false (is_used used name) used (name ∷ used) new)
+    ∙ or_left (bytes_eq q name) (is_used used q) this
 
 -- a snapshot of a name that was not used
 named_taken : (name : List ℕ) (state : PlainState) → is_used state.used name ≡ false → AreNamed state → AreNamed (taken state name)
 named_taken name state new named = record {
-  once = (elim (cases_Bool (has_name state.volume.snapshots.tree name)) [ inl there ↦ absurd (true≢false (sym (named.taken name there) ∙ new)) | inr none ↦ none ], named.once);
+  once = (
+    elim (cases_Bool (has_name state.volume.snapshots.tree name))
+        [ inl there ↦ absurd (true≢false (sym (named.taken name there) ∙ new)) | inr none ↦ none ],
+    named.once,
+  );
   taken = λ q there. elim (or_cases (bytes_eq q name) (has_name state.volume.snapshots.tree q) there) [
     | inl this ↦ with_used-has state.used name q new this
     | inr old ↦ with_used-keeps state.used name q (named.taken q old)
@@ -324,7 +353,8 @@ named_part state p named = record {
 }
 
 -- a call that was done
-named_called : (state : PlainState) (c : Call) → ((name : List ℕ) → c ≡ call.Command (command.Snapshot name) → is_used state.used name ≡ false)
+named_called : (state : PlainState) (c : Call)
+    → ((name : List ℕ) → c ≡ call.Command (command.Snapshot name) → is_used state.used name ≡ false)
     → AreNamed state → AreNamed (after_call state c)
 named_called state (call.Read offset n) new named = named
 named_called state (call.Write offset bytes) new named = record { once = named.once; taken = named.taken }
@@ -339,7 +369,8 @@ named_called state (call.Command (command.Fail r)) new named = named
 named_called state (call.Command (command.Add r)) new named = named
 
 -- a call that was answered so
-pub named_unless : (refused : Bool) (state : PlainState) (c : Call) → ((name : List ℕ) → c ≡ call.Command (command.Snapshot name) → refused ≡ false → is_used state.used name ≡ false)
+pub named_unless : (refused : Bool) (state : PlainState) (c : Call)
+    → ((name : List ℕ) → c ≡ call.Command (command.Snapshot name) → refused ≡ false → is_used state.used name ≡ false)
     → AreNamed state → AreNamed (cond refused state (after_call state c))
 named_unless true state c new named = named
 named_unless false state c new named = named_called state c (λ name is. new name is refl) named
@@ -377,7 +408,8 @@ is_used-names_in (n ∷ ns) q = ap (λ b. bytes_eq q n.name || b) (is_used-names
 -- a mark leaves them
 names_in-marked : (name : List ℕ) (names : List UsedName) → names_in (map (name_marked name) names) ≡ names_in names
 names_in-marked name [] = refl
-names_in-marked name (n ∷ ns) = ap (λ x. x ∷ names_in (map (name_marked name) ns)) (one (bytes_eq name n.name)) ∙ ap (λ l. n.name ∷ l) (names_in-marked name ns)
+names_in-marked name (n ∷ ns) = ap (λ x. x ∷ names_in (map (name_marked name) ns)) (one (bytes_eq name n.name))
+    ∙ ap (λ l. n.name ∷ l) (names_in-marked name ns)
   where
     one : (same : Bool) → (cond same (record n { marked = true }) n).name ≡ n.name
     one true = refl
@@ -386,34 +418,41 @@ names_in-marked name (n ∷ ns) = ap (λ x. x ∷ names_in (map (name_marked nam
 pub names_in-with_name : (names : List UsedName) (name : List ℕ) → names_in (with_name names name) ≡ with_used (names_in names) name
 names_in-with_name names name = one (is_used_in names name) (is_used (names_in names) name) (is_used-names_in names name)
   where
-    one : (a b : Bool) → a ≡ b → names_in (cond a names (record { name = name; marked = false } ∷ names)) ≡ cond b (names_in names) (name ∷ names_in names)
+    one : (a b : Bool) → a ≡ b → names_in (cond a names (record { name = name; marked = false } ∷ names)) ≡ cond b
+        (names_in names) (name ∷ names_in names)
     one true b e = ap (λ t. cond t (names_in names) (name ∷ names_in names)) e
     one false b e = ap (λ t. cond t (names_in names) (name ∷ names_in names)) e
 
-tell_taken : (name : List ℕ) (names : List UsedName) (state : PlainState) → is_used state.used name ≡ false → TellOf names state → TellOf (with_name names name) (taken state name)
+tell_taken : (name : List ℕ) (names : List UsedName) (state : PlainState) → is_used state.used name ≡ false
+    → TellOf names state → TellOf (with_name names name) (taken state name)
 tell_taken name names state new tell = record {
   used = names_in-with_name names name ∙ ap (λ l. with_used l name) tell.used;
-  live = λ q. ap (λ l. is_live_in l q) (cond-false (is_used_in names name) names (record { name = name; marked = false } ∷ names) fresh) ∙ ap (cond (bytes_eq q name) true) (tell.live q);
+  live = λ q. ap (λ l. is_live_in l q) (cond-false (is_used_in names name) names (record { name = name; marked = false } ∷ names) fresh)
+      ∙ ap (cond (bytes_eq q name) true) (tell.live q);
 }
   where
     fresh : is_used_in names name ≡ false
     fresh = is_used-names_in names name ∙ ap (λ l. is_used l name) tell.used ∙ new
 
-tell_marked : (name : List ℕ) (names : List UsedName) (state : PlainState) → TellOf names state → TellOf (map (name_marked name) names) (after_call state (call.Command (command.Remove name)))
+tell_marked : (name : List ℕ) (names : List UsedName) (state : PlainState) → TellOf names state
+    → TellOf (map (name_marked name) names) (after_call state (call.Command (command.Remove name)))
 tell_marked name names state tell = record {
   used = names_in-marked name names ∙ tell.used;
-  live = λ q. is_live_in-marked name q names ∙ ap (cond (bytes_eq name q) false) (tell.live q) ∙ sym (is_live-marked name q state.volume.snapshots.tree);
+  live = λ q. is_live_in-marked name q names ∙ ap (cond (bytes_eq name q) false) (tell.live q)
+      ∙ sym (is_live-marked name q state.volume.snapshots.tree);
 }
 
 -- a part of a purge: what goes can be used no longer, and its name stays
-tell_part : (names : List UsedName) (state : PlainState) (p : FoldOrDrop) → CanBeDone state.volume.snapshots.tree state.volume.snapshots.on p → AreNamed state
+tell_part : (names : List UsedName) (state : PlainState) (p : FoldOrDrop)
+    → CanBeDone state.volume.snapshots.tree state.volume.snapshots.on p → AreNamed state
     → TellOf names state → TellOf names (after_mark state (mark.Purged p))
 tell_part names state p can named tell = record {
   used = tell.used;
   live = λ q. tell.live q ∙ sym (is_live-part state.volume.snapshots p q named.once can);
 }
 
-tell_called : (names : List UsedName) (state : PlainState) (c : Call) → ((name : List ℕ) → c ≡ call.Command (command.Snapshot name) → is_used state.used name ≡ false)
+tell_called : (names : List UsedName) (state : PlainState) (c : Call)
+    → ((name : List ℕ) → c ≡ call.Command (command.Snapshot name) → is_used state.used name ≡ false)
     → TellOf names state → TellOf (names_after_call names c) (after_call state c)
 tell_called names state (call.Read offset n) new tell = tell
 tell_called names state (call.Write offset bytes) new tell = record { used = tell.used; live = tell.live }
@@ -465,7 +504,8 @@ names_tell opening names journal legal named tell = tell_behind opening [] openi
 layers_part : (s : Snapshots) (p : FoldOrDrop) → CanBeDone s.tree s.on p → layer_count s - 1 ≡ layer_count (with_part s p)
 layers_part s p can = omega (arith, length-with_part s p can)
 
-layers_called : (state : PlainState) (c : Call) → layers_after_call (layer_count state.volume.snapshots) c ≡ layer_count (after_call state c).volume.snapshots
+layers_called : (state : PlainState) (c : Call) → layers_after_call (layer_count state.volume.snapshots) c ≡ layer_count
+    (after_call state c).volume.snapshots
 layers_called state (call.Read offset n) = refl
 layers_called state (call.Write offset bytes) = refl
 layers_called state call.Ping = refl
@@ -479,7 +519,9 @@ layers_called state (call.Command (command.Fail r)) = refl
 layers_called state (call.Command (command.Add r)) = refl
 
 layers_unless : (refused : Bool) (state : PlainState) (c : Call)
-    → cond refused (layer_count state.volume.snapshots) (layers_after_call (layer_count state.volume.snapshots) c) ≡ layer_count (cond refused state (after_call state c)).volume.snapshots
+    → cond refused (layer_count state.volume.snapshots)
+    (layers_after_call (layer_count state.volume.snapshots) c) ≡ layer_count
+    (cond refused state (after_call state c)).volume.snapshots
 layers_unless true state c = refl
 layers_unless false state c = layers_called state c
 

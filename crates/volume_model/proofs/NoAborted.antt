@@ -13,7 +13,8 @@ use Rattle.volume_model.specs.PlainState.{PlainState}
 use Rattle.volume_model.specs.Purge.{parts_of}
 use Rattle.volume_model.specs.Modes.{mode_of, source_of}
 use Rattle.volume_model.specs.History.{Spot}
-use Rattle.volume_model.specs.OneWorker.{fail_marks, add_marks, refused_at, marks_unless, answer_for, entries_at, after_done, behind, served_from, after_calls, served_streams}
+use Rattle.volume_model.specs.OneWorker.{fail_marks, add_marks, refused_at, marks_unless, answer_for, entries_at}
+use Rattle.volume_model.specs.OneWorker.{after_done, behind, served_from, after_calls, served_streams}
 use Rattle.volume_model.proofs.FallLemmas.{HasNoAborted, no_aborted-append}
 
 none_of : (parts : List FoldOrDrop) → HasNoAborted (marks_of parts)
@@ -44,7 +45,8 @@ none_before spot None (call.Command (command.Fail r)) = none_failed r (mode_of s
 none_before spot None (call.Command (command.Add r)) = none_added spot.state r (source_of spot.modes)
 
 none_at : (spot : Spot) (stream place index : ℕ) (c : Call) → HasNoAborted (entries_at spot stream place index c)
-none_at spot stream place index c = no_aborted-append (marks_unless (refused_at spot c) spot c) (answer_for (refused_at spot c) spot stream place index c ∷ []) (none_before spot (refused_at spot c) c) (tt, tt)
+none_at spot stream place index c = no_aborted-append (marks_unless (refused_at spot c) spot c)
+    (answer_for (refused_at spot c) spot stream place index c ∷ []) (none_before spot (refused_at spot c) c) (tt, tt)
 
 none_from : (spot : Spot) (stream place index : ℕ) (cs : List Call) → HasNoAborted (served_from spot stream place index cs)
 none_from spot stream place index [] = tt

@@ -1,5 +1,6 @@
 -- The journal of streams that one worker answers, one stream after another, is a legal history.
-use Rattle.std.proofs.Common.{◌≡◌, ◌≢◌, ℕ, zero, suc, ◌+◌, ◌<◌, ◌≤◌, ◌^◌, eqb, Bool, true, false, cond, List, [], ◌∷◌, ◌++◌, length, map, refl, sym, ap, subst, ◌∙◌, arith, set}
+use Rattle.std.proofs.Common.{◌≡◌, ◌≢◌, ℕ, zero, suc, ◌+◌, ◌<◌, ◌≤◌, ◌^◌, eqb, Bool, true, false, cond, List, [], ◌∷◌}
+use Rattle.std.proofs.Common.{◌++◌, length, map, refl, sym, ap, subst, ◌∙◌, arith, set}
 use Rattle.std.specs.Prelude.{Option, None, Some}
 use Rattle.std.specs.Option.{option_or}
 use Rattle.std.proofs.lemmas.Bool.{eq-eqb, ne_eqb, true≢false}
@@ -31,7 +32,10 @@ use Rattle.volume_model.specs.Faults.{fault_counts, RisesTo}
 use Rattle.volume_model.specs.Names.{AreOwnFree}
 use Rattle.volume_model.specs.Rebuilds.{added_by, rebuild_after_add, rebuild_from, rebuild_of, MayBegin}
 use Rattle.volume_model.specs.History.{Spot, IsAnswered, IsEnded, EndsAdd, LegalAfter, answers_from, InOrderFrom, IsHistory}
-use Rattle.volume_model.specs.OneWorker.{behind_entries, fail_marks, add_marks, after_streams, want_of_replica, refused_at, call_marks, marks_unless, reply_for, answer_for, entries_for, entries_at, after_done, behind, served_from, after_calls, served_streams, served, IsProper, AreProper, AllProper, call_count, stream_of}
+use Rattle.volume_model.specs.OneWorker.{behind_entries, fail_marks, add_marks, after_streams, want_of_replica}
+use Rattle.volume_model.specs.OneWorker.{refused_at, call_marks, marks_unless, reply_for, answer_for, entries_for}
+use Rattle.volume_model.specs.OneWorker.{entries_at, after_done, behind, served_from, after_calls, served_streams}
+use Rattle.volume_model.specs.OneWorker.{served, IsProper, AreProper, AllProper, call_count, stream_of}
 use Rattle.volume_model.proofs.PurgeLemmas.{next_can, purged_after, after_parts}
 use Rattle.volume_model.proofs.StepLemmas.{replay-push, replay-append, modes_after-append}
 use Rattle.volume_model.proofs.FaultLemmas.{fault_counts-append}
@@ -73,27 +77,34 @@ length-modes_after modes (entry.Mark (mark.Promoted r) ∷ es) = length-modes_af
 length-modes_after modes (entry.Mark (mark.Aborted r) ∷ es) = length-modes_after (set modes r Err) es ∙ length-set modes r Err
 
 -- behind them
-here_behind : (opening : Spot) (before : List Entry) (spot : Spot) (es : List Entry) → Here opening before spot → Goes opening before spot es → Here opening (before ++ es) (behind_entries spot es)
+here_behind : (opening : Spot) (before : List Entry) (spot : Spot) (es : List Entry) → Here opening before spot
+    → Goes opening before spot es → Here opening (before ++ es) (behind_entries spot es)
 here_behind opening before spot es here goes = record {
   state = replay-append opening.state before es ∙ ap (λ s. replay s es) here.state;
   modes = modes_after-append opening.modes before es ∙ ap (λ ms. modes_after ms es) here.modes;
-  idle = λ q. rebuild_from-append q 0 rebuild.Unasked before es ∙ ap (λ b. rebuild_from q (0 + length before) b es) (here.idle q) ∙ goes.idle q (0 + length before);
+  idle = λ q. rebuild_from-append q 0 rebuild.Unasked before es
+      ∙ ap (λ b. rebuild_from q (0 + length before) b es) (here.idle q) ∙ goes.idle q (0 + length before);
   free = goes.free;
   many = length-modes_after spot.modes es ∙ here.many;
 }
 
 -- ---- the entries of one call
 
-module _ (opening : Spot) (before : List Entry) (spot : Spot) (here : Here opening before spot) (fits : spot.state.volume.snapshots.number < 2 ^ 64) (stream place index : ℕ) where
+module _ (opening : Spot) (before : List Entry) (spot : Spot) (here : Here opening before spot)
+    (fits : spot.state.volume.snapshots.number < 2 ^ 64) (stream place index : ℕ) where
   -- what holds where the worker stands holds behind the journal
-  pub as_answered : (a : Answer) → IsAnswered spot.state spot.modes a → IsAnswered (replay opening.state before) (modes_after opening.modes before) a
-  as_answered a answered = subst (λ s. IsAnswered s (modes_after opening.modes before) a) (sym here.state) (subst (λ ms. IsAnswered spot.state ms a) (sym here.modes) answered)
+  pub as_answered : (a : Answer) → IsAnswered spot.state spot.modes a
+      → IsAnswered (replay opening.state before) (modes_after opening.modes before) a
+  as_answered a answered = subst (λ s. IsAnswered s (modes_after opening.modes before) a) (sym here.state)
+      (subst (λ ms. IsAnswered spot.state ms a) (sym here.modes) answered)
 
   -- a call that makes no marks
   quiet : (c : Call) → ((name : List ℕ) → c ≡ call.Command (command.Snapshot name) → begins_sys name ≡ false) → added_by c ≡ None
       → ((r : ℕ) → c ≡ call.Command (command.Fail r) → mode_of spot.modes r ≡ Err)
-      → (c ≡ call.Command command.Purge → is_refusal (reply_for (refused_at spot c) spot c) ≡ false → IsPurged spot.state.volume.snapshots.tree spot.state.volume.snapshots.on)
-      → (marks : List Entry) → marks ≡ [] → Goes opening before spot (marks ++ answer_for (refused_at spot c) spot stream place index c ∷ [])
+      → (c ≡ call.Command command.Purge → is_refusal (reply_for (refused_at spot c) spot c) ≡ false
+      → IsPurged spot.state.volume.snapshots.tree spot.state.volume.snapshots.on)
+      → (marks : List Entry) → marks ≡ [] → Goes opening before spot
+      (marks ++ answer_for (refused_at spot c) spot stream place index c ∷ [])
   quiet c user none fails purged marks empty =
       let a = answer_by spot c (refused_at spot c) stream place index in
       subst (λ l. Goes opening before spot (l ++ entry.Answer a ∷ [])) (sym empty) (record {
@@ -142,20 +153,23 @@ marks_tell_none stream replica (f ∷ fs) = marks_tell_none stream replica fs
 
 -- each part of a purge could be done
 parts_legal :
-    (most : ℕ) (opening : Spot) (before : List Entry) (state : PlainState) (modes : List Mode) → HasSource modes → modes_after opening.modes before ≡ modes → replay opening.state before ≡ state
+    (most : ℕ) (opening : Spot) (before : List Entry) (state : PlainState) (modes : List Mode) → HasSource modes
+    → modes_after opening.modes before ≡ modes → replay opening.state before ≡ state
     → LegalAfter opening before (marks_of (parts_within most state.volume.snapshots))
 parts_legal zero opening before state modes source same at = tt
 parts_legal (suc most) opening before state modes source same at =
     go (λ b s d h. parts_legal most opening b s modes source d h) (next_of state.volume.snapshots) refl
   where
-    go : ((b : List Entry) (s : PlainState) → modes_after opening.modes b ≡ modes → replay opening.state b ≡ s → LegalAfter opening b (marks_of (parts_within most s.volume.snapshots)))
+    go : ((b : List Entry) (s : PlainState) → modes_after opening.modes b ≡ modes → replay opening.state b ≡ s
+        → LegalAfter opening b (marks_of (parts_within most s.volume.snapshots)))
         → (n : Option FoldOrDrop) → next_of state.volume.snapshots ≡ n
         → LegalAfter opening before (marks_of (parts_behind (parts_within most) state.volume.snapshots n))
     go rest None is = tt
     go rest (Some f) is =
         let e = entry.Mark (mark.Purged f) in (
           (
-            subst (λ (s : PlainState). CanBeDone s.volume.snapshots.tree s.volume.snapshots.on f) (sym at) (next_can state.volume.snapshots.tree state.volume.snapshots.on f is).can,
+            subst (λ (s : PlainState). CanBeDone s.volume.snapshots.tree s.volume.snapshots.on f) (sym at)
+                (next_can state.volume.snapshots.tree state.volume.snapshots.on f is).can,
             subst HasSource (sym same) source,
           ),
           rest (before ++ e ∷ []) (after_mark state (mark.Purged f)) (modes_after-push opening.modes before e ∙ same)
@@ -166,41 +180,54 @@ parts_legal (suc most) opening before state modes source same at =
 parts_free : (state : PlainState) (parts : List FoldOrDrop) → AreOwnFree state → AreOwnFree (with_parts state parts)
 parts_free state parts free number low most = free number (omega (arith, low, parts_keep_number state.volume.snapshots parts)) most
 
-purge_goes : (opening : Spot) (before : List Entry) (spot : Spot) (stream place index s : ℕ) → Here opening before spot → source_of spot.modes ≡ Some s
+purge_goes : (opening : Spot) (before : List Entry) (spot : Spot) (stream place index s : ℕ) → Here opening before spot
+    → source_of spot.modes ≡ Some s
     → Goes opening before spot (entries_for None spot stream place index (call.Command command.Purge))
 purge_goes opening before spot stream place index s here source =
     let parts = parts_of spot.state.volume.snapshots in
     let marks = marks_of parts in
     let a = answer_by spot (call.Command command.Purge) None stream place index in
     let e = entry.Answer a in
-    let behind_marks : replay spot.state (marks ++ e ∷ []) ≡ with_parts spot.state parts = replay-append spot.state marks (e ∷ []) ∙ replay-marks spot.state parts in
+    let behind_marks : replay spot.state (marks ++ e ∷ []) ≡ with_parts spot.state parts =
+    replay-append spot.state marks (e ∷ []) ∙ replay-marks spot.state parts in
     let found : replay opening.state (before ++ marks) ≡ with_parts spot.state parts =
     replay-append opening.state before marks ∙ ap (λ s. replay s marks) here.state ∙ replay-marks spot.state parts in
-    let same : modes_after opening.modes (before ++ marks) ≡ spot.modes = modes_after-append opening.modes before marks ∙ ap (λ ms. modes_after ms marks) here.modes ∙ marks_keep_modes spot.modes parts in
+    let same : modes_after opening.modes (before ++ marks) ≡ spot.modes = modes_after-append opening.modes before marks
+    ∙ ap (λ ms. modes_after ms marks) here.modes ∙ marks_keep_modes spot.modes parts in
     record {
-      legal = LegalAfter-append opening before marks (e ∷ []) (parts_legal (length spot.state.volume.snapshots.tree) opening before spot.state spot.modes (has_source spot.modes s source) here.modes here.state) (
-        record {
-          reply = λ says. refl;
-          none = λ says. absurd cc;
-          fails = λ r is. absurd cc;
-          source = λ change done. subst HasSource (sym same) (has_source spot.modes s source);
-          purged = λ is done. subst (λ (s : PlainState). IsPurged s.volume.snapshots.tree s.volume.snapshots.on) (sym found) (purged_after spot.state.volume.snapshots);
-        },
-        tt,
-      );
+      legal = LegalAfter-append opening before marks (e ∷ [])
+          (parts_legal (length spot.state.volume.snapshots.tree) opening before spot.state spot.modes
+          (has_source spot.modes s source) here.modes here.state) (
+            record {
+              reply = λ says. refl;
+              none = λ says. absurd cc;
+              fails = λ r is. absurd cc;
+              source = λ change done. subst HasSource (sym same) (has_source spot.modes s source);
+              purged = λ is done. subst (λ (s : PlainState). IsPurged s.volume.snapshots.tree s.volume.snapshots.on) (sym found)
+                  (purged_after spot.state.volume.snapshots);
+            },
+            tt,
+          );
       free = subst AreOwnFree (sym behind_marks) (parts_free spot.state parts here.free);
       idle = λ q p. rebuild_from-append q p rebuild.Unasked marks (e ∷ []) ∙ marks_keep_rebuild q p rebuild.Unasked parts;
-      raise = omega (arith, ap (λ (s : PlainState). s.volume.snapshots.number) behind_marks, parts_keep_number spot.state.volume.snapshots parts);
-      faults = λ stream replica. fault_counts-append stream replica marks (e ∷ []) ∙ ap (λ l. l ++ []) (marks_tell_none stream replica parts);
+      raise = omega (
+        arith,
+        ap (λ (s : PlainState). s.volume.snapshots.number) behind_marks,
+        parts_keep_number spot.state.volume.snapshots parts,
+      );
+      faults = λ stream replica. fault_counts-append stream replica marks (e ∷ [])
+          ∙ ap (λ l. l ++ []) (marks_tell_none stream replica parts);
     }
 
 -- ---- a replica that is told to fail
 
-fail_goes : (opening : Spot) (before : List Entry) (spot : Spot) (stream place index r : ℕ) → Here opening before spot → mode_of spot.modes r ≢ Err
+fail_goes : (opening : Spot) (before : List Entry) (spot : Spot) (stream place index r : ℕ) → Here opening before spot
+    → mode_of spot.modes r ≢ Err
     → Goes opening before spot (entry.Mark (mark.Failed r) ∷ answer_for None spot stream place index (call.Command (command.Fail r)) ∷ [])
 fail_goes opening before spot stream place index r here up =
     let m = entry.Mark (mark.Failed r) in
-    let now : modes_after opening.modes (before ++ m ∷ []) ≡ set spot.modes r Err = modes_after-push opening.modes before m ∙ ap (λ ms. set ms r Err) here.modes in
+    let now : modes_after opening.modes (before ++ m ∷ []) ≡ set spot.modes r Err = modes_after-push opening.modes before m
+    ∙ ap (λ ms. set ms r Err) here.modes in
     record {
       legal = (
         (
@@ -214,7 +241,8 @@ fail_goes opening before spot stream place index r here up =
           record {
             reply = λ says. refl;
             none = λ says. absurd cc;
-            fails = λ q is. subst (λ ms. mode_of ms q ≡ Err) (sym now) (subst (λ n. mode_of (set spot.modes r Err) n ≡ Err) (same_replica r q is) (failed_is spot.modes r));
+            fails = λ q is. subst (λ ms. mode_of ms q ≡ Err) (sym now)
+                (subst (λ n. mode_of (set spot.modes r Err) n ≡ Err) (same_replica r q is) (failed_is spot.modes r));
             source = λ change done. absurd cc;
             purged = λ is done. absurd cc;
           },
@@ -251,7 +279,8 @@ clear_add Err volume e = (refl, e)
 clear_room : (volume : Volume) → room_refusal volume ≡ None → layer_count volume.snapshots < most_layers
 clear_room volume e = grind (arith, nat_tests, e)
 
-added_and_answered : (b : Bool) (s : ℕ) → cond b rebuild.Unasked (cond b rebuild.Promoted (cond b (rebuild.Open s) rebuild.Unasked)) ≡ rebuild.Unasked
+added_and_answered : (b : Bool) (s : ℕ)
+    → cond b rebuild.Unasked (cond b rebuild.Promoted (cond b (rebuild.Open s) rebuild.Unasked)) ≡ rebuild.Unasked
 added_and_answered true s = refl
 added_and_answered false s = refl
 
@@ -261,7 +290,8 @@ same_test r a b = ap (λ t. cond t a b) (eq-eqb r r refl)
 unasked≢open : (t : ℕ) → rebuild.Unasked ≢ rebuild.Open t
 unasked≢open t e = cc
 
-add_goes : (opening : Spot) (before : List Entry) (spot : Spot) (stream place index r : ℕ) → Here opening before spot → spot.state.volume.snapshots.number < 2 ^ 64 → r < length opening.modes
+add_goes : (opening : Spot) (before : List Entry) (spot : Spot) (stream place index r : ℕ) → Here opening before spot
+    → spot.state.volume.snapshots.number < 2 ^ 64 → r < length opening.modes
     → refused_at spot (call.Command (command.Add r)) ≡ None
     → Goes opening before spot (entries_for None spot stream place index (call.Command (command.Add r)))
 add_goes opening before spot stream place index r here fits there clear =
@@ -276,8 +306,10 @@ add_goes opening before spot stream place index r here fits there clear =
     a : Answer
     a = answer_by spot (call.Command (command.Add r)) None stream place index
 
-    rebuilt : (s : ℕ) → rebuild_of r ((before ++ entry.Mark (mark.Added r s name) ∷ []) ++ entry.Mark (mark.Promoted r) ∷ []) ≡ rebuild.Promoted
-    rebuilt s = rebuild_of-push r (before ++ entry.Mark (mark.Added r s name) ∷ []) (entry.Mark (mark.Promoted r)) ∙ same_test r rebuild.Promoted (rebuild_of r (before ++ entry.Mark (mark.Added r s name) ∷ []))
+    rebuilt : (s : ℕ) → rebuild_of r ((before ++ entry.Mark (mark.Added r s name) ∷ []) ++ entry.Mark (mark.Promoted r)
+        ∷ []) ≡ rebuild.Promoted
+    rebuilt s = rebuild_of-push r (before ++ entry.Mark (mark.Added r s name) ∷ []) (entry.Mark (mark.Promoted r))
+        ∙ same_test r rebuild.Promoted (rebuild_of r (before ++ entry.Mark (mark.Added r s name) ∷ []))
 
     one : mode_of spot.modes r ≡ Err → layer_count spot.state.volume.snapshots < most_layers → (s : ℕ) → source_of spot.modes ≡ Some s
         → Goes opening before spot (entries_for None spot stream place index (call.Command (command.Add r)))
@@ -294,9 +326,17 @@ add_goes opening before spot stream place index r here fits there clear =
               alone = λ q t e. unasked≢open t (sym (here.idle q) ∙ e);
             })),
         (
-          record { source = s; begun = rebuild_of-push r before (entry.Mark (mark.Added r s name)) ∙ same_test r (rebuild.Open s) (rebuild_of r before); ends = refl },
+          record {
+            source = s;
+            begun = rebuild_of-push r before (entry.Mark (mark.Added r s name))
+                ∙ same_test r (rebuild.Open s) (rebuild_of r before);
+            ends = refl;
+          },
           (
-            subst (λ b. EndsAdd b ((before ++ entry.Mark (mark.Added r s name) ∷ []) ++ entry.Mark (mark.Promoted r) ∷ []) (replay opening.state ((before ++ entry.Mark (mark.Added r s name) ∷ []) ++ entry.Mark (mark.Promoted r) ∷ [])) (modes_after opening.modes ((before ++ entry.Mark (mark.Added r s name) ∷ []) ++ entry.Mark (mark.Promoted r) ∷ [])) a r) (sym (rebuilt s))
+            subst (λ b. EndsAdd b ((before ++ entry.Mark (mark.Added r s name) ∷ []) ++ entry.Mark (mark.Promoted r) ∷ [])
+                (replay opening.state ((before ++ entry.Mark (mark.Added r s name) ∷ []) ++ entry.Mark (mark.Promoted r) ∷ []))
+                (modes_after opening.modes ((before ++ entry.Mark (mark.Added r s name) ∷ []) ++ entry.Mark (mark.Promoted r) ∷ [])) a r)
+                (sym (rebuilt s))
                 (refl, (before ++ entry.Mark (mark.Added r s name) ∷ [], refl)),
             tt,
           ),
@@ -310,25 +350,36 @@ add_goes opening before spot stream place index r here fits there clear =
 
 -- ---- the entries of one call
 
-module _ (opening : Spot) (before : List Entry) (spot : Spot) (here : Here opening before spot) (fits : spot.state.volume.snapshots.number < 2 ^ 64) (stream place index : ℕ) where
+module _ (opening : Spot) (before : List Entry) (spot : Spot) (here : Here opening before spot)
+    (fits : spot.state.volume.snapshots.number < 2 ^ 64) (stream place index : ℕ) where
   -- a call that makes no marks at all
   plain : (c : Call) → ((name : List ℕ) → c ≡ call.Command (command.Snapshot name) → begins_sys name ≡ false) → added_by c ≡ None
       → ((r : ℕ) → c ≡ call.Command (command.Fail r) → ⊥) → (c ≡ call.Command command.Purge → ⊥) → call_marks spot c ≡ []
       → Goes opening before spot (entries_at spot stream place index c)
-  plain c user none fails purged empty = quiet opening before spot here fits stream place index c user none (λ r is. absurd (fails r is)) (λ is done. absurd (purged is))
+  plain c user none fails purged empty = quiet opening before spot here fits stream place index c user none
+      (λ r is. absurd (fails r is)) (λ is done. absurd (purged is))
       (marks_unless (refused_at spot c) spot c) (no_marks opening before spot here fits stream place index (refused_at spot c) c empty)
 
-  purge_entries : (source : Option ℕ) → source_of spot.modes ≡ source → Goes opening before spot (entries_for (option_or None (want_of_replica true source)) spot stream place index (call.Command command.Purge))
+  purge_entries : (source : Option ℕ) → source_of spot.modes ≡ source
+      → Goes opening before spot (entries_for (option_or None (want_of_replica true source)) spot stream place index
+      (call.Command command.Purge))
   purge_entries (Some s) is = purge_goes opening before spot stream place index s here is
-  purge_entries None is = subst (λ x. Goes opening before spot (entries_for (option_or None (want_of_replica true x)) spot stream place index (call.Command command.Purge))) is
+  purge_entries None is =
+      subst (λ x. Goes opening before spot
+      (entries_for (option_or None (want_of_replica true x)) spot stream place index (call.Command command.Purge))) is
       (quiet opening before spot here fits stream place index (call.Command command.Purge) (λ name e. absurd cc) refl (λ r e. absurd cc)
-      (λ e done. absurd (not_done (source_of spot.modes) is done)) (marks_unless (refused_at spot (call.Command command.Purge)) spot (call.Command command.Purge)) (ap (λ x. marks_unless (option_or None (want_of_replica true x)) spot (call.Command command.Purge)) is))
+      (λ e done. absurd (not_done (source_of spot.modes) is done))
+      (marks_unless (refused_at spot (call.Command command.Purge)) spot (call.Command command.Purge))
+      (ap (λ x. marks_unless (option_or None (want_of_replica true x)) spot (call.Command command.Purge)) is))
     where
-      not_done : (x : Option ℕ) → x ≡ None → is_refusal (reply_for (option_or None (want_of_replica true x)) spot (call.Command command.Purge)) ≡ false → ⊥
+      not_done : (x : Option ℕ) → x ≡ None
+          → is_refusal (reply_for (option_or None (want_of_replica true x)) spot (call.Command command.Purge)) ≡ false → ⊥
       not_done None e done = true≢false done
       not_done (Some s) e done = absurd cc
 
-  fail_entries : (r : ℕ) (m : Mode) → mode_of spot.modes r ≡ m → Goes opening before spot (fail_marks r m ++ answer_for None spot stream place index (call.Command (command.Fail r)) ∷ [])
+  fail_entries : (r : ℕ) (m : Mode) → mode_of spot.modes r ≡ m
+      → Goes opening before spot (fail_marks r m ++ answer_for None spot stream place index (call.Command (command.Fail r))
+      ∷ [])
   fail_entries r Rw is = fail_goes opening before spot stream place index r here (λ e. absurd (rw_not (sym is ∙ e)))
     where
       rw_not : Rw ≢ Err
@@ -337,7 +388,9 @@ module _ (opening : Spot) (before : List Entry) (spot : Spot) (here : Here openi
     where
       wo_not : Wo ≢ Err
       wo_not e = cc
-  fail_entries r Err is = quiet opening before spot here fits stream place index (call.Command (command.Fail r)) (λ name e. absurd cc) refl (λ q e. subst (λ n. mode_of spot.modes n ≡ Err) (same_replica r q e) is) (λ e done. absurd cc) [] refl
+  fail_entries r Err is = quiet opening before spot here fits stream place index (call.Command (command.Fail r))
+      (λ name e. absurd cc) refl (λ q e. subst (λ n. mode_of spot.modes n ≡ Err) (same_replica r q e) is)
+      (λ e done. absurd cc) [] refl
     where
       same_replica : (r q : ℕ) → call.Command (command.Fail r) ≡ call.Command (command.Fail q) → r ≡ q
       same_replica r q e = cc
@@ -349,10 +402,15 @@ module _ (opening : Spot) (before : List Entry) (spot : Spot) (here : Here openi
       let c = call.Command (command.Add r) in
       let a = answer_by spot c (refused_at spot c) stream place index in
       let refusal : is_refusal a.reply ≡ true = ap (λ x. is_refusal (reply_for x spot c)) is in
-      subst (λ x. Goes opening before spot (entries_for x spot stream place index c)) is (subst (λ l. Goes opening before spot (l ++ entry.Answer a ∷ [])) (sym (ap (λ x. marks_unless x spot c) is)) (record {
+      subst (λ x. Goes opening before spot (entries_for x spot stream place index c)) is
+      (subst (λ l. Goes opening before spot (l ++ entry.Answer a ∷ [])) (sym (ap (λ x. marks_unless x spot c) is))
+      (record {
         legal = (
-          subst (λ b. EndsAdd b before (replay opening.state before) (modes_after opening.modes before) a r) (sym (here.idle r))
-              (as_answered opening before spot here fits stream place index a (answered_there spot c stream place index (λ q e. absurd cc) (λ e done. absurd cc)), refusal),
+          subst (λ b. EndsAdd b before (replay opening.state before) (modes_after opening.modes before) a r) (sym (here.idle r)) (
+            as_answered opening before spot here fits stream place index a
+                (answered_there spot c stream place index (λ q e. absurd cc) (λ e done. absurd cc)),
+            refusal,
+          ),
           tt,
         );
         free = own_entry spot.state (entry.Answer a) (λ name e. absurd cc) here.free;
@@ -367,24 +425,31 @@ module _ (opening : Spot) (before : List Entry) (spot : Spot) (here : Here openi
 
   pub call_goes : (c : Call) → IsProper (length opening.modes) c → Goes opening before spot (entries_at spot stream place index c)
   call_goes (call.Read offset n) proper = plain (call.Read offset n) (λ name e. absurd cc) refl (λ r e. absurd cc) (λ e. absurd cc) refl
-  call_goes (call.Write offset bytes) proper = plain (call.Write offset bytes) (λ name e. absurd cc) refl (λ r e. absurd cc) (λ e. absurd cc) refl
+  call_goes (call.Write offset bytes) proper = plain (call.Write offset bytes) (λ name e. absurd cc) refl (λ r e. absurd cc)
+      (λ e. absurd cc) refl
   call_goes call.Ping proper = plain call.Ping (λ name e. absurd cc) refl (λ r e. absurd cc) (λ e. absurd cc) refl
   call_goes (call.Other kind) proper = plain (call.Other kind) (λ name e. absurd cc) refl (λ r e. absurd cc) (λ e. absurd cc) refl
-  call_goes (call.Command (command.Snapshot name)) proper = plain (call.Command (command.Snapshot name)) (λ n e. subst (λ x. begins_sys x ≡ false) (same_name name n e) proper) refl (λ r e. absurd cc) (λ e. absurd cc) refl
+  call_goes (call.Command (command.Snapshot name)) proper =
+      plain (call.Command (command.Snapshot name)) (λ n e. subst (λ x. begins_sys x ≡ false) (same_name name n e) proper)
+      refl (λ r e. absurd cc) (λ e. absurd cc) refl
     where
       same_name : (x y : List ℕ) → call.Command (command.Snapshot x) ≡ call.Command (command.Snapshot y) → x ≡ y
       same_name x y e = cc
-  call_goes (call.Command (command.Remove name)) proper = plain (call.Command (command.Remove name)) (λ n e. absurd cc) refl (λ r e. absurd cc) (λ e. absurd cc) refl
-  call_goes (call.Command (command.Revert name)) proper = plain (call.Command (command.Revert name)) (λ n e. absurd cc) refl (λ r e. absurd cc) (λ e. absurd cc) refl
+  call_goes (call.Command (command.Remove name)) proper =
+      plain (call.Command (command.Remove name)) (λ n e. absurd cc) refl (λ r e. absurd cc) (λ e. absurd cc) refl
+  call_goes (call.Command (command.Revert name)) proper =
+      plain (call.Command (command.Revert name)) (λ n e. absurd cc) refl (λ r e. absurd cc) (λ e. absurd cc) refl
   call_goes (call.Command command.Purge) proper = purge_entries (source_of spot.modes) refl
-  call_goes (call.Command command.Status) proper = plain (call.Command command.Status) (λ n e. absurd cc) refl (λ r e. absurd cc) (λ e. absurd cc) refl
+  call_goes (call.Command command.Status) proper = plain (call.Command command.Status) (λ n e. absurd cc) refl
+      (λ r e. absurd cc) (λ e. absurd cc) refl
   call_goes (call.Command (command.Fail r)) proper = fail_entries r (mode_of spot.modes r) refl
   call_goes (call.Command (command.Add r)) proper = add_entries r proper (refused_at spot (call.Command (command.Add r))) refl
 
 -- ---- one call after another
 
 -- of which stream a call is, and at which place, is nothing to what it leaves
-pub same_after : (spot : Spot) (stream place index : ℕ) (c : Call) → behind_entries spot (entries_at spot stream place index c) ≡ after_done spot c
+pub same_after : (spot : Spot) (stream place index : ℕ) (c : Call)
+    → behind_entries spot (entries_at spot stream place index c) ≡ after_done spot c
 same_after spot stream place index c =
     let marks = marks_unless (refused_at spot c) spot c in
     let a = answer_for (refused_at spot c) spot stream place index c in
@@ -406,7 +471,14 @@ record Ran (opening : Spot) (before : List Entry) (spot : Spot) (es : List Entry
   faults : (stream replica : ℕ) → fault_counts stream replica es ≡ []
 
 ran_none : (opening : Spot) (before : List Entry) (spot : Spot) → Here opening before spot → Ran opening before spot [] spot 0
-ran_none opening before spot here = record { legal = tt; here = subst (λ l. Here opening l spot) (sym (append-nil before)) here; raise = omega arith; faults = λ s r. refl }
+ran_none opening before spot here =
+    record {
+      legal = tt;
+      here = subst (λ l. Here opening l spot) (sym (append-nil before)) here;
+      raise =
+          omega arith;
+      faults = λ s r. refl;
+    }
 
 ran_more : (opening : Spot) (before : List Entry) (spot : Spot) (xs ys : List Entry) (next last : Spot) (m n total : ℕ) → m + n ≡ total
     → Ran opening before spot xs next m → Ran opening (before ++ xs) next ys last n → Ran opening before spot (xs ++ ys) last total
@@ -420,35 +492,46 @@ ran_more opening before spot xs ys next last m n total sum a b = record {
     nil_nil : {xs ys : List ℕ} → xs ≡ [] → ys ≡ [] → xs ++ ys ≡ []
     nil_nil e f = cc
 
-ran_call : (opening : Spot) (before : List Entry) (spot : Spot) (stream place index : ℕ) (c : Call) → Here opening before spot → spot.state.volume.snapshots.number < 2 ^ 64
+ran_call : (opening : Spot) (before : List Entry) (spot : Spot) (stream place index : ℕ) (c : Call)
+    → Here opening before spot → spot.state.volume.snapshots.number < 2 ^ 64
     → IsProper (length opening.modes) c → Ran opening before spot (entries_at spot stream place index c) (after_done spot c) 1
 ran_call opening before spot stream place index c here fits proper =
     let goes = call_goes opening before spot here fits stream place index c proper in
     let same = same_after spot stream place index c in
     record {
       legal = goes.legal;
-      here = subst (Here opening (before ++ entries_at spot stream place index c)) same (here_behind opening before spot (entries_at spot stream place index c) here goes);
+      here = subst (Here opening (before ++ entries_at spot stream place index c)) same
+          (here_behind opening before spot (entries_at spot stream place index c) here goes);
       raise = subst (λ (s : Spot). s.state.volume.snapshots.number ≤ spot.state.volume.snapshots.number + 1) same goes.raise;
       faults = goes.faults;
     }
 
-ran_calls : (opening : Spot) (before : List Entry) (spot : Spot) (stream place index : ℕ) (cs : List Call) → Here opening before spot → spot.state.volume.snapshots.number + length cs ≤ 2 ^ 64
-    → AreProper (length opening.modes) cs → Ran opening before spot (served_from spot stream place index cs) (after_calls spot cs) (length cs)
+ran_calls : (opening : Spot) (before : List Entry) (spot : Spot) (stream place index : ℕ) (cs : List Call)
+    → Here opening before spot → spot.state.volume.snapshots.number + length cs ≤ 2 ^ 64
+    → AreProper (length opening.modes) cs → Ran opening before spot (served_from spot stream place index cs)
+    (after_calls spot cs) (length cs)
 ran_calls opening before spot stream place index [] here fits proper = ran_none opening before spot here
 ran_calls opening before spot stream place index (c ∷ cs) here fits proper =
     let first = entries_at spot stream place index c in
     let one = ran_call opening before spot stream place index c here (omega (arith, fits)) proper.0 in
-    let rest = ran_calls opening (before ++ first) (after_done spot c) stream (behind place first) (suc index) cs one.here (omega (arith, fits, one.raise)) proper.1 in
-    ran_more opening before spot first (served_from (after_done spot c) stream (behind place first) (suc index) cs) (after_done spot c) (after_calls (after_done spot c) cs) 1 (length cs) (length (c ∷ cs)) (omega arith) one rest
+    let rest = ran_calls opening (before ++ first) (after_done spot c) stream (behind place first) (suc index) cs one.here
+    (omega (arith, fits, one.raise)) proper.1 in
+    ran_more opening before spot first (served_from (after_done spot c) stream (behind place first) (suc index) cs)
+    (after_done spot c) (after_calls (after_done spot c) cs) 1 (length cs) (length (c ∷ cs)) (omega arith) one rest
 
-ran_streams : (opening : Spot) (before : List Entry) (spot : Spot) (stream place : ℕ) (css : List (List Call)) → Here opening before spot → spot.state.volume.snapshots.number + call_count css ≤ 2 ^ 64
-    → AllProper (length opening.modes) css → Ran opening before spot (served_streams spot stream place css) (after_streams spot css) (call_count css)
+ran_streams : (opening : Spot) (before : List Entry) (spot : Spot) (stream place : ℕ) (css : List (List Call))
+    → Here opening before spot → spot.state.volume.snapshots.number + call_count css ≤ 2 ^ 64
+    → AllProper (length opening.modes) css → Ran opening before spot (served_streams spot stream place css)
+    (after_streams spot css) (call_count css)
 ran_streams opening before spot stream place [] here fits proper = ran_none opening before spot here
 ran_streams opening before spot stream place (cs ∷ css) here fits proper =
     let own = served_from spot stream place 0 cs in
     let one = ran_calls opening before spot stream place 0 cs here (omega (arith, fits)) proper.0 in
-    let rest = ran_streams opening (before ++ own) (after_calls spot cs) (suc stream) (behind place own) css one.here (omega (arith, fits, one.raise)) proper.1 in
-    ran_more opening before spot own (served_streams (after_calls spot cs) (suc stream) (behind place own) css) (after_calls spot cs) (after_streams (after_calls spot cs) css) (length cs) (call_count css) (call_count (cs ∷ css)) (omega arith) one rest
+    let rest = ran_streams opening (before ++ own) (after_calls spot cs) (suc stream) (behind place own) css one.here
+    (omega (arith, fits, one.raise)) proper.1 in
+    ran_more opening before spot own (served_streams (after_calls spot cs) (suc stream) (behind place own) css)
+    (after_calls spot cs) (after_streams (after_calls spot cs) css) (length cs) (call_count css) (call_count (cs ∷ css))
+    (omega arith) one rest
 
 -- ---- the answers of each stream
 
@@ -482,7 +565,10 @@ none_before spot None (call.Command (command.Add r)) stream place = added (sourc
 
 own_answer :
     (spot : Spot) (stream place index n : ℕ) (c : Call)
-    → answers_from stream n (answer_for (refused_at spot c) spot stream place index c ∷ []) ≡ (n, answer_by spot c (refused_at spot c) stream place index) ∷ []
+    → answers_from stream n (answer_for (refused_at spot c) spot stream place index c ∷ []) ≡ (
+      n,
+      answer_by spot c (refused_at spot c) stream place index,
+    ) ∷ []
 own_answer spot stream place index n c = rw (eq-eqb stream stream refl) refl
 
 other_answer :
@@ -500,7 +586,8 @@ own_entries spot stream place index n c es =
     let marks = marks_unless (refused_at spot c) spot c in
     let a = answer_for (refused_at spot c) spot stream place index c in
     let one : answers_from stream n (marks ++ a ∷ []) ≡ (n + length marks, answer_by spot c (refused_at spot c) stream place index) ∷ [] =
-    answers_from-append stream n marks (a ∷ []) ∙ ap (λ l. l ++ answers_from stream (n + length marks) (a ∷ [])) (none_before spot (refused_at spot c) c stream n)
+    answers_from-append stream n marks (a ∷ []) ∙ ap (λ l. l ++ answers_from stream (n + length marks) (a ∷ []))
+    (none_before spot (refused_at spot c) c stream n)
     ∙ own_answer spot stream place index (n + length marks) c in
     answers_from-append stream n (marks ++ a ∷ []) es ∙ ap (λ l. l ++ answers_from stream (behind n (marks ++ a ∷ [])) es) one
 
@@ -513,7 +600,8 @@ other_entries spot stream other place index n c es apart =
     let marks = marks_unless (refused_at spot c) spot c in
     let a = answer_for (refused_at spot c) spot stream place index c in
     let none : answers_from other n (marks ++ a ∷ []) ≡ [] =
-    answers_from-append other n marks (a ∷ []) ∙ ap (λ l. l ++ answers_from other (n + length marks) (a ∷ [])) (none_before spot (refused_at spot c) c other n)
+    answers_from-append other n marks (a ∷ []) ∙ ap (λ l. l ++ answers_from other (n + length marks) (a ∷ []))
+    (none_before spot (refused_at spot c) c other n)
     ∙ other_answer spot stream other place index (n + length marks) c apart in
     answers_from-append other n (marks ++ a ∷ []) es ∙ ap (λ l. l ++ answers_from other (behind n (marks ++ a ∷ [])) es) none
 
@@ -523,15 +611,17 @@ pub served_in_order :
     → InOrderFrom index least (answers_from stream place (served_from spot stream place index cs))
 served_in_order spot stream place index least [] low = tt
 served_in_order spot stream place index least (c ∷ cs) low =
+    let marks_unless_here = marks_unless (refused_at spot c) spot c in
     let next = after_done spot c in
     let first = entries_at spot stream place index c in
-    let last : behind place first ≡ suc (place + length (marks_unless (refused_at spot c) spot c)) =
-    omega (arith, length-append (marks_unless (refused_at spot c) spot c) (answer_for (refused_at spot c) spot stream place index c ∷ [])) in
-    subst (InOrderFrom index least) (sym (own_entries spot stream place index place c (served_from next stream (behind place first) (suc index) cs))) (
+    let last : behind place first ≡ suc (place + length marks_unless_here) =
+    omega (arith, length-append marks_unless_here (answer_for (refused_at spot c) spot stream place index c ∷ [])) in
+    subst (InOrderFrom index least)
+    (sym (own_entries spot stream place index place c (served_from next stream (behind place first) (suc index) cs))) (
       refl,
       low,
       omega arith,
-      served_in_order next stream (behind place first) (suc index) (suc (place + length (marks_unless (refused_at spot c) spot c))) cs (omega (arith, last)),
+      served_in_order next stream (behind place first) (suc index) (suc (place + length marks_unless_here)) cs (omega (arith, last)),
     )
 
 -- and those calls are in it, each once
@@ -589,7 +679,8 @@ AnswersOf-behind :
 AnswersOf-behind stream stream' place place' calls front rest same at none found = record {
   spot = found.spot;
   place = found.place;
-  are = answers_from-append stream place front rest ∙ ap (λ l. l ++ answers_from stream (place + length front) rest) none ∙ moved stream stream' _ place' same at
+  are = answers_from-append stream place front rest ∙ ap (λ l. l ++ answers_from stream (place + length front) rest) none
+      ∙ moved stream stream' _ place' same at
       ∙ found.are ∙ ap (λ s. answers_from s found.place (served_from found.spot s found.place 0 calls)) (sym same);
 }
   where
@@ -607,7 +698,8 @@ its_answers spot stream zero place (cs ∷ css) =
       spot = spot;
       place = place;
       are = answers_from-append (stream + 0) place own rest
-          ∙ ap (λ l. answers_from (stream + 0) place own ++ l) (none_below (after_calls spot cs) (suc stream) (stream + 0) _ (behind place own) css (omega arith))
+          ∙ ap (λ l. answers_from (stream + 0) place own ++ l)
+          (none_below (after_calls spot cs) (suc stream) (stream + 0) _ (behind place own) css (omega arith))
           ∙ append-nil _ ∙ ap (λ s. answers_from (stream + 0) place (served_from spot s place 0 cs)) (omega arith);
     }
 its_answers spot stream (suc k) place (cs ∷ css) =
@@ -639,7 +731,8 @@ pub served_is_history :
     → AreOwnFree opening.state → opening.state.volume.snapshots.number + call_count streams ≤ 2 ^ 64
     → IsHistory opening counted (stream_of streams) (served opening streams)
 served_is_history opening counted streams proper free fits =
-    let ran = ran_streams opening [] opening 0 0 streams (record { state = refl; modes = refl; idle = λ q. refl; free = free; many = refl }) fits proper in
+    let ran = ran_streams opening [] opening 0 0 streams
+    (record { state = refl; modes = refl; idle = λ q. refl; free = free; many = refl }) fits proper in
     record {
       legal = ran.legal;
       fell = behind_falls_none [] (served opening streams) (none_aborted opening 0 0 streams);
@@ -649,7 +742,8 @@ served_is_history opening counted streams proper free fits =
     }
   where
     its : (stream : ℕ) → AnswersOf stream (stream_of streams stream) (answers_from stream 0 (served opening streams))
-    its stream = subst (λ s. AnswersOf s (stream_of streams stream) (answers_from s 0 (served opening streams))) (from_none stream) (its_answers opening 0 stream 0 streams)
+    its stream = subst (λ s. AnswersOf s (stream_of streams stream) (answers_from s 0 (served opening streams)))
+        (from_none stream) (its_answers opening 0 stream 0 streams)
       where
         from_none : (s : ℕ) → 0 + s ≡ s
         from_none s = omega arith

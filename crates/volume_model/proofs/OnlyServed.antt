@@ -1,5 +1,6 @@
 -- A legal history of one stream's calls with no mark is what answering them one after another gives.
-use Rattle.std.proofs.Common.{◌≡◌, ℕ, zero, suc, eqb, inl, inr, subst, Bool, true, false, cond, List, [], ◌∷◌, ◌++◌, map, refl, sym, ap, ◌∙◌, arith}
+use Rattle.std.proofs.Common.{◌≡◌, ℕ, zero, suc, eqb, inl, inr, subst, Bool, true, false, cond, List, [], ◌∷◌, ◌++◌}
+use Rattle.std.proofs.Common.{map, refl, sym, ap, ◌∙◌, arith}
 use Rattle.std.specs.Option.{option_or}
 use Rattle.std.proofs.lemmas.Bool.{eq-eqb, ne_eqb}
 use Rattle.std.proofs.lemmas.Bool.Decides.{eqb_tells}
@@ -22,7 +23,9 @@ use Rattle.volume_model.specs.Rebuilds.{added_by, rebuild_of, rebuild_after_add}
 use Rattle.volume_model.specs.declared.call.Refusal.{Refusal}
 use Rattle.std.specs.Prelude.{Option, None, Some}
 use Rattle.std.proofs.lemmas.Bool.{true≢false}
-use Rattle.volume_model.specs.OneWorker.{behind_entries, want_of_replica, refused_at, fail_marks, call_marks, marks_unless, marks_before, reply_for, answer_for, entries_at, after_done, behind, served_from, served, stream_of}
+use Rattle.volume_model.specs.OneWorker.{behind_entries, want_of_replica, refused_at, fail_marks, call_marks}
+use Rattle.volume_model.specs.OneWorker.{marks_unless, marks_before, reply_for, answer_for, entries_at, after_done}
+use Rattle.volume_model.specs.OneWorker.{behind, served_from, served, stream_of}
 use Rattle.volume_model.proofs.SpotLemmas.{no_source}
 use Rattle.volume_model.proofs.OneWorkerLemmas.{same_after}
 use Rattle.volume_model.proofs.PushLemmas.{modes_after-push}
@@ -40,21 +43,24 @@ source_some modes source = go (source_of modes) refl
     go (Some s) is = (s, is)
 
 -- where a replica is read and written, none is wanting
-none_wanting : (x : Option Refusal) (asks : Bool) (source : Option ℕ) (s : ℕ) → source ≡ Some s → option_or x (want_of_replica asks source) ≡ x
+none_wanting : (x : Option Refusal) (asks : Bool) (source : Option ℕ) (s : ℕ) → source ≡ Some s
+    → option_or x (want_of_replica asks source) ≡ x
 none_wanting (Some why) asks source s is = refl
 none_wanting None false source s is = refl
 none_wanting None true (Some r) s is = refl
 none_wanting None true None s is = absurd cc
 
 pub with_source : (spot : Spot) (c : Call) → HasSource spot.modes → refused_at spot c ≡ refusal_of spot.modes spot.state c
-with_source spot c source = let s = source_some spot.modes source in none_wanting (refusal_of spot.modes spot.state c) (asks_replica c) (source_of spot.modes) s.0 s.1
+with_source spot c source = let s = source_some spot.modes source in
+    none_wanting (refusal_of spot.modes spot.state c) (asks_replica c) (source_of spot.modes) s.0 s.1
 
 -- the answer is as the volume answers, and an add is refused
 pub record IsPlain (spot : Spot) (a : Answer) : Type 0 where
   pub answered : IsAnswered spot.state spot.modes a
   pub add : (r : ℕ) → a.call ≡ call.Command (command.Add r) → is_refusal a.reply ≡ true
 
-plainly : (spot : Spot) (before : List Entry) (a : Answer) → ((q : ℕ) → rebuild_of q before ≡ rebuild.Unasked) → IsEnded (added_by a.call) before spot.state spot.modes a → IsPlain spot a
+plainly : (spot : Spot) (before : List Entry) (a : Answer) → ((q : ℕ) → rebuild_of q before ≡ rebuild.Unasked)
+    → IsEnded (added_by a.call) before spot.state spot.modes a → IsPlain spot a
 plainly spot before a idle ended = go (added_by a.call) refl ended
   where
     go : (x : Option ℕ) → added_by a.call ≡ x → IsEnded x before spot.state spot.modes a → IsPlain spot a
@@ -62,10 +68,12 @@ plainly spot before a idle ended = go (added_by a.call) refl ended
       where
         no_add : (r : ℕ) → Some r ≡ None → ⊥
         no_add r e = cc
-    go (Some r) is e = let f = subst (λ b. EndsAdd b before spot.state spot.modes a r) (idle r) e in record { answered = f.0; add = λ q g. f.1 }
+    go (Some r) is e = let f = subst (λ b. EndsAdd b before spot.state spot.modes a r) (idle r) e in
+        record { answered = f.0; add = λ q g. f.1 }
 
 reply_is : (spot : Spot) (a : Answer) → HasSource spot.modes → IsPlain spot a → a.reply ≡ reply_for (refused_at spot a.call) spot a.call
-reply_is spot a source is = answered_plainly spot.state spot.modes a source is.answered ∙ ap (λ x. reply_for x spot a.call) (sym (with_source spot a.call source))
+reply_is spot a source is = answered_plainly spot.state spot.modes a source is.answered
+    ∙ ap (λ x. reply_for x spot a.call) (sym (with_source spot a.call source))
 
 -- what makes no mark
 no_marks : (spot : Spot) (a : Answer) → HasSource spot.modes → IsPlain spot a → marks_before spot a.call ≡ []
@@ -75,31 +83,42 @@ no_marks spot a source is = go a.call refl
     unless (Some why) c e = refl
     unless None c e = e
 
-    added : (r : ℕ) → a.call ≡ call.Command (command.Add r) → (why : Option Refusal) → refused_at spot a.call ≡ why → marks_unless why spot (call.Command (command.Add r)) ≡ []
+    added : (r : ℕ) → a.call ≡ call.Command (command.Add r) → (why : Option Refusal) → refused_at spot a.call ≡ why
+        → marks_unless why spot (call.Command (command.Add r)) ≡ []
     added r e (Some why) w = refl
-    added r e None w = absurd (true≢false (sym (is.add r e) ∙ ap is_refusal (reply_is spot a source is ∙ ap (λ x. reply_for x spot a.call) w ∙ ap (λ c. reply_for None spot c) e)))
+    added r e None w = absurd (true≢false (sym (is.add r e)
+        ∙ ap is_refusal (reply_is spot a source is ∙ ap (λ x. reply_for x spot a.call) w
+        ∙ ap (λ c. reply_for None spot c) e)))
 
     go : (c : Call) → a.call ≡ c → marks_before spot c ≡ []
     go (call.Read offset n) e = unless (refused_at spot (call.Read offset n)) (call.Read offset n) refl
     go (call.Write offset bytes) e = unless (refused_at spot (call.Write offset bytes)) (call.Write offset bytes) refl
     go call.Ping e = refl
     go (call.Other kind) e = refl
-    go (call.Command (command.Snapshot name)) e = unless (refused_at spot (call.Command (command.Snapshot name))) (call.Command (command.Snapshot name)) refl
-    go (call.Command (command.Remove name)) e = unless (refused_at spot (call.Command (command.Remove name))) (call.Command (command.Remove name)) refl
-    go (call.Command (command.Revert name)) e = unless (refused_at spot (call.Command (command.Revert name))) (call.Command (command.Revert name)) refl
+    go (call.Command (command.Snapshot name)) e = unless (refused_at spot (call.Command (command.Snapshot name)))
+        (call.Command (command.Snapshot name)) refl
+    go (call.Command (command.Remove name)) e = unless (refused_at spot (call.Command (command.Remove name)))
+        (call.Command (command.Remove name)) refl
+    go (call.Command (command.Revert name)) e = unless (refused_at spot (call.Command (command.Revert name)))
+        (call.Command (command.Revert name)) refl
     go (call.Command command.Purge) e =
-        let done : is_refusal a.reply ≡ false = ap is_refusal (answered_plainly spot.state spot.modes a source is.answered) ∙ ap (λ c. is_refusal (plain_step spot.modes spot.state c).1) e in
+        let done : is_refusal a.reply ≡ false = ap is_refusal (answered_plainly spot.state spot.modes a source is.answered)
+        ∙ ap (λ c. is_refusal (plain_step spot.modes spot.state c).1) e in
         unless (refused_at spot (call.Command command.Purge)) (call.Command command.Purge)
-        (ap marks_of (parts-none spot.state.volume.snapshots (next_is_none spot.state.volume.snapshots.tree spot.state.volume.snapshots.on (is.answered.purged e done))))
+        (ap marks_of (parts-none spot.state.volume.snapshots
+        (next_is_none spot.state.volume.snapshots.tree spot.state.volume.snapshots.on (is.answered.purged e done))))
     go (call.Command command.Status) e = refl
     go (call.Command (command.Fail r)) e = ap (fail_marks r) (is.answered.fails r e)
-    go (call.Command (command.Add r)) e = ap (λ x. marks_unless x spot (call.Command (command.Add r))) (sym (ap (refused_at spot) e)) ∙ added r e (refused_at spot a.call) refl
+    go (call.Command (command.Add r)) e = ap (λ x. marks_unless x spot (call.Command (command.Add r)))
+        (sym (ap (refused_at spot) e)) ∙ added r e (refused_at spot a.call) refl
 
 -- so its answer is its one entry
-one_entry : (spot : Spot) (k : ℕ) (c : Call) → marks_before spot c ≡ [] → entries_at spot 0 k k c ≡ answer_for (refused_at spot c) spot 0 k k c ∷ []
+one_entry : (spot : Spot) (k : ℕ) (c : Call) → marks_before spot c ≡ []
+    → entries_at spot 0 k k c ≡ answer_for (refused_at spot c) spot 0 k k c ∷ []
 one_entry spot k c none = ap (λ l. l ++ answer_for (refused_at spot c) spot 0 k k c ∷ []) none
 
-left_by : (spot : Spot) (k : ℕ) (c : Call) → marks_before spot c ≡ [] → behind_entries spot (answer_for (refused_at spot c) spot 0 k k c ∷ []) ≡ after_done spot c
+left_by : (spot : Spot) (k : ℕ) (c : Call) → marks_before spot c ≡ []
+    → behind_entries spot (answer_for (refused_at spot c) spot 0 k k c ∷ []) ≡ after_done spot c
 left_by spot k c none = ap (behind_entries spot) (sym (one_entry spot k c none)) ∙ same_after spot 0 k k c
 
 served_alone : (spot : Spot) (k : ℕ) (c : Call) (cs : List Call) → marks_before spot c ≡ []
@@ -124,7 +143,9 @@ record Follows (calls : List Call) (journal : List Entry) (k : ℕ) : Type 0 whe
 same_answer : (spot : Spot) (k : ℕ) (c : Call) (a : Answer) → a.stream ≡ 0 → a.index ≡ k → a.saw ≡ k → a.call ≡ c
     → a.reply ≡ reply_for (refused_at spot c) spot c
     → entry.Answer a ≡ answer_for (refused_at spot c) spot 0 k k c
-same_answer spot k c a own index saw call reply = ap entry.Answer (parts a.stream 0 a.index k a.saw k a.call c a.reply (reply_for (refused_at spot c) spot c) own index saw call reply)
+same_answer spot k c a own index saw call reply =
+    ap entry.Answer (parts a.stream 0 a.index k a.saw k a.call c a.reply (reply_for (refused_at spot c) spot c) own index
+    saw call reply)
   where
     parts : (s t i j m n : ℕ) (c d : Call) (r q : Reply) → s ≡ t → i ≡ j → m ≡ n → c ≡ d → r ≡ q
         → answer_of s i m c r ≡ answer_of t j n d q
@@ -137,11 +158,13 @@ record Quiet (opening : Spot) (before : List Entry) (spot : Spot) : Type 0 where
   idle : (q : ℕ) → rebuild_of q before ≡ rebuild.Unasked
   source : HasSource spot.modes
 
-quiet_push : (opening : Spot) (before : List Entry) (spot : Spot) (a : Answer) → Quiet opening before spot → Quiet opening (before ++ entry.Answer a ∷ []) (behind_entries spot (entry.Answer a ∷ []))
+quiet_push : (opening : Spot) (before : List Entry) (spot : Spot) (a : Answer) → Quiet opening before spot
+    → Quiet opening (before ++ entry.Answer a ∷ []) (behind_entries spot (entry.Answer a ∷ []))
 quiet_push opening before spot a q = record {
   state = replay-push opening.state before (entry.Answer a) ∙ ap (λ s. after_entry s (entry.Answer a)) q.state;
   modes = modes_after-push opening.modes before (entry.Answer a) ∙ q.modes;
-  idle = λ r. rebuild_of-push r before (entry.Answer a) ∙ ap (λ b. rebuild_after_add r b (added_by a.call)) (q.idle r) ∙ unasked r (added_by a.call);
+  idle = λ r. rebuild_of-push r before (entry.Answer a) ∙ ap (λ b. rebuild_after_add r b (added_by a.call)) (q.idle r)
+      ∙ unasked r (added_by a.call);
   source = q.source;
 }
   where
@@ -156,7 +179,8 @@ quiet_push opening before spot a q = record {
 -- the first entry, where the entries behind it are known
 first_entry : (opening : Spot) (before : List Entry) (spot : Spot) (k : ℕ) (cs : List Call) (a : Answer) (es : List Entry)
     → Quiet opening before spot → LegalAfter opening before (entry.Answer a ∷ es) → Follows cs (entry.Answer a ∷ es) k
-    → ((more : List Entry) (s : Spot) (rest : List Call) → Quiet opening more s → LegalAfter opening more es → Follows rest es (suc k) → es ≡ served_from s 0 (suc k) (suc k) rest)
+    → ((more : List Entry) (s : Spot) (rest : List Call) → Quiet opening more s → LegalAfter opening more es
+    → Follows rest es (suc k) → es ≡ served_from s 0 (suc k) (suc k) rest)
     → entry.Answer a ∷ es ≡ served_from spot 0 k k cs
 first_entry opening before spot k cs a es at legal follows later' =
     elim (eqb_tells a.stream 0) [ inl own ↦ mine own.0 own.1 | inr other ↦ absurd (not_mine a.stream other.1 refl) ]
@@ -170,7 +194,8 @@ first_entry opening before spot k cs a es at legal follows later' =
     not_mine : (s : ℕ) → (s ≡ 0 → ⊥) → a.stream ≡ s → ⊥
     not_mine zero other is = other refl
     not_mine (suc s) other is =
-        not_nil (k, a) _ (sym (cond_is (eqb a.stream (suc s)) true ((k, a) ∷ answers_from (suc s) (suc k) es) (answers_from (suc s) (suc k) es) (eq-eqb _ _ is)) ∙ follows.other s)
+        not_nil (k, a) _ (sym (cond_is (eqb a.stream (suc s)) true ((k, a) ∷ answers_from (suc s) (suc k) es)
+        (answers_from (suc s) (suc k) es) (eq-eqb _ _ is)) ∙ follows.other s)
 
     mine : eqb a.stream 0 ≡ true → a.stream ≡ 0 → entry.Answer a ∷ es ≡ served_from spot 0 k k cs
     mine test own =
@@ -180,17 +205,24 @@ first_entry opening before spot k cs a es at legal follows later' =
         let calls : a.call ∷ map (λ p. p.1.call) (answers_from 0 (suc k) es) ≡ cs = sym (ap (map (λ p. p.1.call)) answers) ∙ follows.own in
         go cs own order calls
       where
-        go : (cs : List Call) → a.stream ≡ 0 → InOrderFrom k k ((k, a) ∷ answers_from 0 (suc k) es) → a.call ∷ map (λ p. p.1.call) (answers_from 0 (suc k) es) ≡ cs
+        go : (cs : List Call) → a.stream ≡ 0 → InOrderFrom k k ((k, a) ∷ answers_from 0 (suc k) es)
+            → a.call ∷ map (λ p. p.1.call) (answers_from 0 (suc k) es) ≡ cs
             → entry.Answer a ∷ es ≡ served_from spot 0 k k cs
         go [] own order calls = absurd (not_nil _ _ calls)
         go (c ∷ rest) own order calls =
             let call : a.call ≡ c = heads calls in
-            let is = plainly spot before a at.idle (subst (λ s. IsEnded (added_by a.call) before s spot.modes a) at.state (subst (λ ms. IsEnded (added_by a.call) before (replay opening.state before) ms a) at.modes legal.0)) in
+            let is = plainly spot before a at.idle
+            (subst (λ s. IsEnded (added_by a.call) before s spot.modes a) at.state
+            (subst (λ ms. IsEnded (added_by a.call) before (replay opening.state before) ms a) at.modes legal.0)) in
             let none : marks_before spot c ≡ [] = ap (λ x. marks_before spot x) (sym call) ∙ no_marks spot a at.source is in
             let first : entry.Answer a ≡ answer_for (refused_at spot c) spot 0 k k c =
-            same_answer spot k c a own order.0 (omega (arith, order.1, order.2)) call (reply_is spot a at.source is ∙ ap (λ x. reply_for (refused_at spot x) spot x) call) in
-            let left : behind_entries spot (entry.Answer a ∷ []) ≡ after_done spot c = ap (λ e. behind_entries spot (e ∷ [])) first ∙ left_by spot k c none in
-            let later = later' (before ++ entry.Answer a ∷ []) (after_done spot c) rest (subst (Quiet opening (before ++ entry.Answer a ∷ [])) left (quiet_push opening before spot a at)) legal.1 (record {
+            same_answer spot k c a own order.0 (omega (arith, order.1, order.2)) call
+            (reply_is spot a at.source is ∙ ap (λ x. reply_for (refused_at spot x) spot x) call) in
+            let left : behind_entries spot (entry.Answer a ∷ []) ≡ after_done spot c =
+            ap (λ e. behind_entries spot (e ∷ [])) first ∙ left_by spot k c none in
+            let later = later' (before ++ entry.Answer a ∷ []) (after_done spot c) rest
+            (subst (Quiet opening (before ++ entry.Answer a ∷ [])) left (quiet_push opening before spot a at)) legal.1
+            (record {
               order = order.3;
               own = tails calls;
               other = λ stream. sym (skip stream) ∙ follows.other stream;
@@ -210,7 +242,8 @@ first_entry opening before spot k cs a es at legal follows later' =
             zero_not_suc stream e = omega arith
 
             skip : (stream : ℕ) → answers_from (suc stream) k (entry.Answer a ∷ es) ≡ answers_from (suc stream) (suc k) es
-            skip stream = cond_is (eqb a.stream (suc stream)) false ((k, a) ∷ answers_from (suc stream) (suc k) es) (answers_from (suc stream) (suc k) es)
+            skip stream = cond_is (eqb a.stream (suc stream)) false ((k, a) ∷ answers_from (suc stream) (suc k) es)
+                (answers_from (suc stream) (suc k) es)
                 (ne_eqb _ _ (λ e. zero_not_suc stream (sym own ∙ e)))
 
 -- the entries behind those before, which leave this state
@@ -234,8 +267,10 @@ nil_from_map (p ∷ ps) e = absurd (not_nil e)
 
 pub only_served : (opening : Spot) (counted : ℕ → ℕ → ℕ) (calls : List Call) (journal : List Entry) → HasSource opening.modes
     → IsHistory opening counted (stream_of (calls ∷ [])) journal → HasNoMark journal → journal ≡ served opening (calls ∷ [])
-only_served opening counted calls journal source history none = unique opening [] opening 0 calls journal (record { state = refl; modes = refl; idle = λ q. refl; source = source }) history.legal none (record {
-  order = history.order 0;
-  own = history.each_once 0;
-  other = λ stream. nil_from_map _ (history.each_once (suc stream));
-}) ∙ sym (append-nil (served_from opening 0 0 0 calls))
+only_served opening counted calls journal source history none =
+    unique opening [] opening 0 calls journal (record { state = refl; modes = refl; idle = λ q. refl; source = source })
+    history.legal none (record {
+      order = history.order 0;
+      own = history.each_once 0;
+      other = λ stream. nil_from_map _ (history.each_once (suc stream));
+    }) ∙ sym (append-nil (served_from opening 0 0 0 calls))

@@ -7,7 +7,8 @@ use Rattle.volume_model.specs.History.{Spot, MayStand, IsLegal}
 use Rattle.volume_model.proofs.StepLemmas.{modes_after-append}
 use Rattle.volume_model.proofs.LegalLemmas.{LegalAfter-append}
 
-pub modes_after-push : (modes : List Mode) (es : List Entry) (e : Entry) → modes_after modes (es ++ e ∷ []) ≡ modes_after_entry (modes_after modes es) e
+pub modes_after-push : (modes : List Mode) (es : List Entry) (e : Entry)
+    → modes_after modes (es ++ e ∷ []) ≡ modes_after_entry (modes_after modes es) e
 modes_after-push modes es e = modes_after-append modes es (e ∷ [])
 
 -- an entry more that may stand there with nothing behind it

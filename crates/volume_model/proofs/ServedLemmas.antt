@@ -6,7 +6,8 @@ use Rattle.volume_model.specs.declared.entry.Entry.{Entry}
 use Rattle.volume_model.specs.declared.mode.Mode.{Mode}
 use Rattle.volume_model.specs.PlainState.{PlainState}
 use Rattle.volume_model.specs.History.{Spot}
-use Rattle.volume_model.specs.OneWorker.{behind_entries, entries_at, after_done, behind, served_from, after_calls, after_streams, served_streams}
+use Rattle.volume_model.specs.OneWorker.{behind_entries, entries_at, after_done, behind, served_from, after_calls}
+use Rattle.volume_model.specs.OneWorker.{after_streams, served_streams}
 use Rattle.volume_model.proofs.StepLemmas.{replay-append, modes_after-append}
 use Rattle.volume_model.proofs.OneWorkerLemmas.{same_after}
 

@@ -47,7 +47,8 @@ on_some (Some t) s e = (t, refl, cc)
 
 source_first : (ms : List Mode) (s : ℕ) → source_of ms ≡ Some s → IsFirstSource ms s
 source_first [] s e = absurd cc
-source_first (Rw ∷ ms) s e = subst (IsFirstSource (Rw ∷ ms)) (zero_is s e) (record { there = omega arith; is = record { read = refl; first = λ q low. absurd (none q low) } })
+source_first (Rw ∷ ms) s e = subst (IsFirstSource (Rw ∷ ms)) (zero_is s e)
+    (record { there = omega arith; is = record { read = refl; first = λ q low. absurd (none q low) } })
   where
     none : (q : ℕ) → q < 0 → ⊥
     none q low = omega (arith, low)
@@ -102,21 +103,24 @@ module _ (spot : Spot) (c : Call) where
   answer_by why stream place index = record { call = c; reply = reply_for why spot c; index = index; saw = place; stream = stream }
 
   -- the answer is the volume's where a replica is not wanting
-  same_reply : (x : Option Refusal) (asks : Bool) (source : Option ℕ) → says_no_replica (reply_for (option_or x (want_of_replica asks source)) spot c) ≡ false
+  same_reply : (x : Option Refusal) (asks : Bool) (source : Option ℕ)
+      → says_no_replica (reply_for (option_or x (want_of_replica asks source)) spot c) ≡ false
       → reply_for (option_or x (want_of_replica asks source)) spot c ≡ reply_for x spot c
   same_reply (Some why) asks source e = refl
   same_reply None false source e = refl
   same_reply None true None e = absurd cc
   same_reply None true (Some r) e = refl
 
-  says_when : (x : Option Refusal) (asks : Bool) (source : Option ℕ) → says_in x ≡ false → says_no_replica (reply_for (option_or x (want_of_replica asks source)) spot c) ≡ true
+  says_when : (x : Option Refusal) (asks : Bool) (source : Option ℕ) → says_in x ≡ false
+      → says_no_replica (reply_for (option_or x (want_of_replica asks source)) spot c) ≡ true
       → (asks ≡ true) × (x ≡ None) × (source ≡ None)
   says_when (Some why) asks source clear e = absurd (true≢false (sym e ∙ clear))
   says_when None false source clear e = absurd (true≢false (sym e ∙ says-reply spot.modes spot.state.volume c))
   says_when None true None clear e = (refl, refl, refl)
   says_when None true (Some r) clear e = absurd (true≢false (sym e ∙ says-reply spot.modes spot.state.volume c))
 
-  done_when : (x : Option Refusal) (asks : Bool) (source : Option ℕ) → asks ≡ true → is_refusal (reply_for (option_or x (want_of_replica asks source)) spot c) ≡ false → (s : ℕ) × (source ≡ Some s)
+  done_when : (x : Option Refusal) (asks : Bool) (source : Option ℕ) → asks ≡ true
+      → is_refusal (reply_for (option_or x (want_of_replica asks source)) spot c) ≡ false → (s : ℕ) × (source ≡ Some s)
   done_when (Some why) asks source is e = absurd cc
   done_when None false source is e = absurd cc
   done_when None true None is e = absurd cc
@@ -124,13 +128,17 @@ module _ (spot : Spot) (c : Call) where
 
   -- so it is right where the worker stands
   pub answered_there : (stream place index : ℕ) → ((r : ℕ) → c ≡ call.Command (command.Fail r) → mode_of spot.modes r ≡ Err)
-      → (c ≡ call.Command command.Purge → is_refusal (reply_for (refused_at spot c) spot c) ≡ false → IsPurged spot.state.volume.snapshots.tree spot.state.volume.snapshots.on)
+      → (c ≡ call.Command command.Purge → is_refusal (reply_for (refused_at spot c) spot c) ≡ false
+      → IsPurged spot.state.volume.snapshots.tree spot.state.volume.snapshots.on)
       → IsAnswered spot.state spot.modes (answer_by (refused_at spot c) stream place index)
-  answered_there stream place index fails purged = record {
-    reply = λ says. same_reply (refusal_of spot.modes spot.state c) (asks_replica c) (source_of spot.modes) says;
-    none = λ says. let w = says_when (refusal_of spot.modes spot.state c) (asks_replica c) (source_of spot.modes) (says-refusal spot.modes spot.state c) says in
-        record { asks = w.0; refused = w.1; none = no_source spot.modes w.2 };
-    fails = fails;
-    source = λ change done. let w = done_when (refusal_of spot.modes spot.state c) (asks_replica c) (source_of spot.modes) (change_asks c change) done in has_source spot.modes w.0 w.1;
-    purged = purged;
-  }
+  answered_there stream place index fails purged =
+      let refusal_here = refusal_of spot.modes spot.state c in
+      record {
+        reply = λ says. same_reply refusal_here (asks_replica c) (source_of spot.modes) says;
+        none = λ says. let w = says_when refusal_here (asks_replica c) (source_of spot.modes) (says-refusal spot.modes spot.state c) says in
+            record { asks = w.0; refused = w.1; none = no_source spot.modes w.2 };
+        fails = fails;
+        source = λ change done. let w = done_when refusal_here (asks_replica c) (source_of spot.modes) (change_asks c change) done in
+            has_source spot.modes w.0 w.1;
+        purged = purged;
+      }

@@ -20,21 +20,26 @@ use Rattle.volume_model.specs.Disk.{is_good}
 use Rattle.volume_model.specs.Snapshots.{layer_count, is_live}
 use Rattle.volume_model.specs.History.{says_no_replica, IsAnswered}
 use Rattle.volume_model.specs.PlainState.{Volume, PlainState, is_used}
-use Rattle.volume_model.specs.PlainStep.{longest_call, most_layers, range_refusal, room_refusal, live_refusal, add_refusal, command_refusal, volume_refusal, name_refusal, refusal_of, after_call, reply_of, step_unless, plain_step}
+use Rattle.volume_model.specs.PlainStep.{longest_call, most_layers, range_refusal, room_refusal, live_refusal}
+use Rattle.volume_model.specs.PlainStep.{add_refusal, command_refusal, volume_refusal, name_refusal, refusal_of}
+use Rattle.volume_model.specs.PlainStep.{after_call, reply_of, step_unless, plain_step}
 use Rattle.volume_model.specs.Replay.{is_refusal, after_entry, replay}
 use Rattle.volume_model.specs.Modes.{mode_of, modes_after_entry, modes_after, HasSource, HasNoSource}
 
 -- the replay of two journals, one behind the other
-pub replay-append : (opening : PlainState) (before after : List Entry) → replay opening (before ++ after) ≡ replay (replay opening before) after
+pub replay-append : (opening : PlainState) (before after : List Entry)
+    → replay opening (before ++ after) ≡ replay (replay opening before) after
 replay-append opening [] after = refl
 replay-append opening (e ∷ es) after = replay-append (after_entry opening e) es after
 
 -- one entry more at the end
-pub replay-push : (opening : PlainState) (before : List Entry) (e : Entry) → replay opening (before ++ e ∷ []) ≡ after_entry (replay opening before) e
+pub replay-push : (opening : PlainState) (before : List Entry) (e : Entry)
+    → replay opening (before ++ e ∷ []) ≡ after_entry (replay opening before) e
 replay-push opening before e = replay-append opening before (e ∷ [])
 
 -- the modes after two journals, one behind the other
-pub modes_after-append : (modes : List Mode) (before after : List Entry) → modes_after modes (before ++ after) ≡ modes_after (modes_after modes before) after
+pub modes_after-append : (modes : List Mode) (before after : List Entry)
+    → modes_after modes (before ++ after) ≡ modes_after (modes_after modes before) after
 modes_after-append modes [] after = refl
 modes_after-append modes (e ∷ es) after = modes_after-append (modes_after_entry modes e) es after
 
@@ -76,7 +81,8 @@ says-command modes volume (command.Fail r) = refl
 says-command modes volume (command.Add r) = says-add (mode_of modes r) volume
 
 says-volume : (modes : List Mode) (volume : Volume) (c : Call) → says_in (volume_refusal modes volume c) ≡ false
-says-volume modes volume (call.Read offset n) = says-cond (nat_lt longest_call n) (Some TooLong) (range_refusal volume offset n) refl (says-range volume offset n)
+says-volume modes volume (call.Read offset n) =
+    says-cond (nat_lt longest_call n) (Some TooLong) (range_refusal volume offset n) refl (says-range volume offset n)
 says-volume modes volume (call.Write offset bytes) = says-range volume offset (length bytes)
 says-volume modes volume call.Ping = refl
 says-volume modes volume (call.Other kind) = refl
@@ -133,7 +139,8 @@ says_refusal (reply.Aborted place) e = refl
 pub has_no_source : (modes : List Mode) → HasSource modes → HasNoSource modes → ⊥
 has_no_source modes source none = none source.0 (get_or_default modes source.0 Err Rw source.1 ∙ source.2)
 
-pub answered_plainly : (state : PlainState) (modes : List Mode) (a : Answer) → HasSource modes → IsAnswered state modes a → a.reply ≡ (plain_step modes state a.call).1
+pub answered_plainly : (state : PlainState) (modes : List Mode) (a : Answer) → HasSource modes → IsAnswered state modes a
+    → a.reply ≡ (plain_step modes state a.call).1
 answered_plainly state modes a source answered = elim (cases_Bool (says_no_replica a.reply)) [
   | inl says ↦ absurd (has_no_source modes source (answered.none says).none)
   | inr other ↦ answered.reply other

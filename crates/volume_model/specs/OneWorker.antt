@@ -50,7 +50,8 @@ fail_marks r Err = []
 -- a replica is rebuilt from that one, and read
 abbrev pub add_marks : PlainState → ℕ → Option ℕ → List Entry
 add_marks state r None = []
-add_marks state r (Some source) = entry.Mark (mark.Added r source (sys_name state.volume.snapshots.number)) ∷ entry.Mark (mark.Promoted r) ∷ []
+add_marks state r (Some source) = entry.Mark (mark.Added r source (sys_name state.volume.snapshots.number))
+    ∷ entry.Mark (mark.Promoted r) ∷ []
 
 -- a purge takes out all that can go
 abbrev pub call_marks : Spot → Call → List Entry
@@ -76,7 +77,8 @@ abbrev pub reply_for : Option Refusal → Spot → Call → Reply
 reply_for why spot c = (step_unless why spot.modes spot.state c).1
 
 abbrev pub answer_for : Option Refusal → Spot → ℕ → ℕ → ℕ → Call → Entry
-answer_for why spot stream place index c = entry.Answer (record { call = c; reply = reply_for why spot c; index = index; saw = place; stream = stream })
+answer_for why spot stream place index c =
+    entry.Answer (record { call = c; reply = reply_for why spot c; index = index; saw = place; stream = stream })
 
 abbrev pub entries_for : Option Refusal → Spot → ℕ → ℕ → ℕ → Call → List Entry
 entries_for why spot stream place index c = marks_unless why spot c ++ answer_for why spot stream place index c ∷ []

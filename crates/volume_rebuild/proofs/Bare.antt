@@ -18,12 +18,14 @@ none_named : (ks : List Kept) (name : List ℕ) (block : ℕ) → has_own (own_n
 none_named [] name block e = refl
 none_named (k ∷ ks) name block e = by (bytes_eq name k.meta.name) e (none_named ks name block)
   where
-    by : (b : Bool) → has_own (cond b k.own (own_named ks name)) block ≡ false → (has_own (own_named ks name) block ≡ false → block_named ks name block ≡ None)
+    by : (b : Bool) → has_own (cond b k.own (own_named ks name)) block ≡ false
+        → (has_own (own_named ks name) block ≡ false → block_named ks name block ≡ None)
         → cond b (own_block k.disk k.own block) (block_named ks name block) ≡ None
     by true f rest = ap (λ t. cond t (Some (block_of k.disk block)) None) f
     by false f rest = rest f
 
-pub bare_page : (node : Node) (name : List ℕ) (page : ℕ) (table : Table) → HasNoBlockOf node name page → HasNoBlock table → IsPageOf node name page table
+pub bare_page : (node : Node) (name : List ℕ) (page : ℕ) (table : Table) → HasNoBlockOf node name page → HasNoBlock table
+    → IsPageOf node name page table
 bare_page node name page table bare none i h =
     let of : (page * 512 + i) / 512 ≡ page = omega (arith, h) in
     none i ∙ sym (none_named node.layers name (page * 512 + i) (bare (page * 512 + i) (is_in-same page (page * 512 + i) of)))
@@ -36,9 +38,12 @@ one_rebuild b c e = cc
 
 pub out_some : (s : State) (page : PageRef) (old new : Table) → CopiesOut s page true old new → IsOutOfSource s page new
 out_some s page old new out b is =
-    subst (λ (x : Rebuilding). IsPageOf (node_at s.nodes x.source) page.layer page.page new) (one_rebuild out.b b (sym out.is.begun ∙ is.begun)) out.out.1
+    subst (λ (x : Rebuilding). IsPageOf (node_at s.nodes x.source) page.layer page.page new)
+    (one_rebuild out.b b (sym out.is.begun ∙ is.begun)) out.out.1
 
-pub out_none : (s : State) (page : PageRef) (old new bare : Table) → CopiesOut s page false old new → HasNoBlock bare → IsOutOfSource s page bare
+pub out_none : (s : State) (page : PageRef) (old new bare : Table) → CopiesOut s page false old new → HasNoBlock bare
+    → IsOutOfSource s page bare
 out_none s page old new bare out none b is =
-    subst (λ (x : Rebuilding). IsPageOf (node_at s.nodes x.source) page.layer page.page bare) (one_rebuild out.b b (sym out.is.begun ∙ is.begun))
+    subst (λ (x : Rebuilding). IsPageOf (node_at s.nodes x.source) page.layer page.page bare)
+    (one_rebuild out.b b (sym out.is.begun ∙ is.begun))
     (bare_page (node_at s.nodes out.b.source) page.layer page.page bare out.out.0 none)

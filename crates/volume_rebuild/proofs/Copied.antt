@@ -18,7 +18,8 @@ use Rattle.volume_core.specs.Streams.{running, turning, MayGo, origin_of}
 use Rattle.volume_rebuild.specs.Places.{IsToCopy}
 use Rattle.volume_rebuild.specs.Steps.{copied_to}
 
-module _ (s : State) (b : Rebuilding) (page : PageRef) (after : Node) (table : Table) (ok : IsSound s) (is : IsToCopy s b page) (puts : PutsPage (node_at s.nodes b.target) after page.layer page.page table) where
+module _ (s : State) (b : Rebuilding) (page : PageRef) (after : Node) (table : Table) (ok : IsSound s)
+    (is : IsToCopy s b page) (puts : PutsPage (node_at s.nodes b.target) after page.layer page.page table) where
   abbrev next : State
   next = copied_to s b page after
 
@@ -43,15 +44,27 @@ module _ (s : State) (b : Rebuilding) (page : PageRef) (after : Node) (table : T
           opened = ok.on.opened;
           told = record {
             legal = ok.on.told.legal;
-            ordered = record { rise = ordered.rise; order = ordered.order; index = ordered.index; few = ordered.few; own = ordered.own; rebuild = ordered.rebuild };
+            ordered = record {
+              rise = ordered.rise;
+              order = ordered.order;
+              index = ordered.index;
+              few = ordered.few;
+              own =
+                  ordered.own;
+              rebuild = ordered.rebuild;
+            };
           };
-          clients = page_clients s.size (modes_in s) s.tickets s.calls s.whole s.nodes b after page.layer page.page table many may there puts begun (due s.whole (told_of s).volume) (length s.indices) s.book.entries ok.on.clients;
+          clients = page_clients s.size (modes_in s) s.tickets s.calls s.whole s.nodes b after page.layer page.page table
+              many may there puts begun (due s.whole (told_of s).volume) (length s.indices) s.book.entries ok.on.clients;
           spare = omega (arith, ok.on.spare, ap owed_end is.begun);
         };
-        whole = page_whole s.size (modes_in s) s.tickets s.calls s.whole s.nodes b after page.layer page.page table many may there puts begun (told_of s) ok.whole;
-        maint = page_maint s.size (modes_in s) s.tickets s.calls s.whole s.nodes b after page.layer page.page table many may there puts begun (told_of s).volume.snapshots (length s.indices) s.book.entries s.maint s.commands ok.maint;
+        whole = page_whole s.size (modes_in s) s.tickets s.calls s.whole s.nodes b after page.layer page.page table many may
+            there puts begun (told_of s) ok.whole;
+        maint = page_maint s.size (modes_in s) s.tickets s.calls s.whole s.nodes b after page.layer page.page table many may
+            there puts begun (told_of s).volume.snapshots (length s.indices) s.book.entries s.maint s.commands ok.maint;
         disk = ok.disk;
-        rebuild = page_kept s.size (modes_in s) s.tickets s.calls s.whole s.nodes b after page.layer page.page table many may there puts begun is.left.frozen.page out;
+        rebuild = page_kept s.size (modes_in s) s.tickets s.calls s.whole s.nodes b after page.layer page.page table many
+            may there puts begun is.left.frozen.page out;
         adds = record { of_begun = adds.of_begun; of_ended = adds.of_ended; one = adds.one };
         fell = ok.fell;
         streams = ok.streams;
@@ -59,11 +72,13 @@ module _ (s : State) (b : Rebuilding) (page : PageRef) (after : Node) (table : T
 
 -- ---- what other streams see
 
-pub copied_goes : (s s2 : State) (b : Rebuilding) (page : PageRef) (after : Node) (stream : ℕ) → IsSound s2 → s2 ≡ copied_to s b page after → MayGo stream s s2
+pub copied_goes : (s s2 : State) (b : Rebuilding) (page : PageRef) (after : Node) (stream : ℕ) → IsSound s2
+    → s2 ≡ copied_to s b page after → MayGo stream s s2
 copied_goes s s2 b page after stream ok2 is = record {
   sound = ok2;
   origin = ap origin_of is
-      ∙ ap (λ k. record { first = s.first; opening = s.book.opening; size = s.size; streams = length s.indices; replicas = k }) (length-set s.nodes b.target after);
+      ∙ ap (λ k. record { first = s.first; opening = s.book.opening; size = s.size; streams = length s.indices; replicas = k })
+      (length-set s.nodes b.target after);
   added = ([], ap (λ (x : State). x.book.entries) is ∙ sym (append-nil s.book.entries), tt);
   others = λ n other. ap (λ (x : State). running x n) is;
   turns = λ n other. ap (λ (x : State). turning x n) is;

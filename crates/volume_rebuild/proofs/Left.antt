@@ -25,7 +25,8 @@ use Rattle.volume_core.specs.State.{State, modes_in}
 use Rattle.volume_core.specs.Sound.{IsSound}
 
 -- a replica in due form is as long
-long_form : (op : WholeOp) (b : Rebuilding) (a : Part) (node : Node) → IsBesideThese b.frozen op → length (form_part op a node).disk ≡ length node.disk
+long_form : (op : WholeOp) (b : Rebuilding) (a : Part) (node : Node) → IsBesideThese b.frozen op
+    → length (form_part op a node).disk ≡ length node.disk
 long_form (whole.Snapshot name) b Apart node beside = refl
 long_form (whole.Snapshot name) b Owed node beside = refl
 long_form (whole.Snapshot name) b Taken node beside = refl
@@ -67,7 +68,8 @@ module _ (s : State) (b : Rebuilding) (ok : IsSound s) (is : s.rebuild ≡ Some 
       where
         same : (w : Option Whole) → IsBesideStarted b w → length (node_at (forms w s.nodes) r).disk ≡ length (node_at s.nodes r).disk
         same None still = refl
-        same (Some w) still = ap (λ (n : Node). length n.disk) (formed_in w.op w.parts s.nodes r (there r up)) ∙ long_form w.op b (part_at w.parts r) (node_at s.nodes r) still
+        same (Some w) still = ap (λ (n : Node). length n.disk) (formed_in w.op w.parts s.nodes r (there r up))
+            ∙ long_form w.op b (part_at w.parts r) (node_at s.nodes r) still
 
     inside : (r : ℕ) → mode_of (modes_in s) r ≢ Err → page.page * PAGE_BYTES < length (node_at s.nodes r).disk
     inside r up = omega (arith, frozen.page, way.pages, long r up)

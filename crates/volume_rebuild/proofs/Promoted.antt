@@ -1,5 +1,6 @@
 -- The target is promoted, and its command is answered: the invariant stays.
-use Rattle.std.proofs.Common.{◌≡◌, ◌≢◌, ℕ, ◌+◌, ◌<◌, cond, List, [], ◌∷◌, ◌++◌, length, set, length-set, refl, sym, ap, subst, ◌∙◌, arith, append_assoc}
+use Rattle.std.proofs.Common.{◌≡◌, ◌≢◌, ℕ, ◌+◌, ◌<◌, cond, List, [], ◌∷◌, ◌++◌, length, set, length-set, refl, sym}
+use Rattle.std.proofs.Common.{ap, subst, ◌∙◌, arith, append_assoc}
 use Rattle.std.specs.Prelude.{Option, None, Some}
 use Rattle.std.specs.List.{count_by}
 use Rattle.std.proofs.lemmas.List.Edits.{length-remove}
@@ -70,13 +71,15 @@ module _ (modes : List Mode) (r : ℕ) (written : mode_of modes r ≡ Wo) where
 
   -- as many have not failed as before
   pub up_before : (q : ℕ) → mode_of (set modes r Rw) q ≢ Err → mode_of modes q ≢ Err
-  up_before q = at_set (λ (m : Mode). m ≢ Err → mode_of modes q ≢ Err) modes r q Rw Err inside (λ same _. subst (λ n. mode_of modes n ≢ Err) (sym same) (up_wo (mode_of modes r) written)) (λ _ n. n)
+  up_before q = at_set (λ (m : Mode). m ≢ Err → mode_of modes q ≢ Err) modes r q Rw Err inside
+      (λ same _. subst (λ n. mode_of modes n ≢ Err) (sym same) (up_wo (mode_of modes r) written)) (λ _ n. n)
 
   pub as_many_up : count_by is_up (set modes r Rw) ≡ count_by is_up modes
   as_many_up = omega (arith, sum_by-set (λ m. cond (is_up m) 1 0) modes r Rw Err inside, ap (λ m. cond {A = ℕ} (is_up m) 1 0) written)
 
   -- what has started on the whole volume goes on
-  pub whole_promoted : (p : PlainState) (ts : List Ticket) (cs : List OpenCall) (ns : List Node) (w : Option Whole) → IsWhole p modes ts cs ns w → IsWhole p (set modes r Rw) ts cs ns w
+  pub whole_promoted : (p : PlainState) (ts : List Ticket) (cs : List OpenCall) (ns : List Node) (w : Option Whole)
+      → IsWhole p modes ts cs ns w → IsWhole p (set modes r Rw) ts cs ns w
   whole_promoted p ts cs ns None is = is
   whole_promoted p ts cs ns (Some w) is = record {
     place = is.place;
@@ -92,7 +95,8 @@ module _ (modes : List Mode) (r : ℕ) (written : mode_of modes r ≡ Wo) where
 
 -- ---- the invariant
 
-module _ (s : State) (t : ℕ) (b : Rebuilding) (n m : ℕ) (ok : IsSound s) (turn : IsFreeTurn s t) (past : IsPast s b) (all : IsAllListed b) (source : IsReplica (node_at s.nodes b.source) n)
+module _ (s : State) (t : ℕ) (b : Rebuilding) (n m : ℕ) (ok : IsSound s) (turn : IsFreeTurn s t) (past : IsPast s b)
+    (all : IsAllListed b) (source : IsReplica (node_at s.nodes b.source) n)
     (target : IsReplica (node_at s.nodes b.target) m) where
   abbrev its : MaintCall
   its = command_at s.commands 0
@@ -146,7 +150,8 @@ module _ (s : State) (t : ℕ) (b : Rebuilding) (n m : ℕ) (ok : IsSound s) (tu
   same_modes = sym (modes_after-push o.modes one (entry.Answer a) ∙ modes_after-push o.modes es e)
 
   told : told_of s ≡ told_of next
-  told = sym (replay-push o.state one (entry.Answer a) ∙ ap (λ p. after_call p c) (replay-push o.state es e) ∙ ap (λ x. after_call (told_of s) (call.Command x)) asks)
+  told = sym (replay-push o.state one (entry.Answer a) ∙ ap (λ p. after_call p c) (replay-push o.state es e)
+      ∙ ap (λ x. after_call (told_of s) (call.Command x)) asks)
 
   -- ---- the replicas
 
@@ -156,9 +161,11 @@ module _ (s : State) (t : ℕ) (b : Rebuilding) (n m : ℕ) (ok : IsSound s) (tu
   formed : (r k : ℕ) → mode_of (modes_in s) r ≢ Err → IsReplica (node_at s.nodes r) k → IsReplica (node_at ns r) k
   formed r k up is = go s.whole ok.whole (let x = begun.claim in x.beside past.ended)
     where
-      go : (w : Option Whole) → IsWhole (told_of s) (modes_in s) s.tickets s.calls s.nodes w → IsBesideStarted b w → IsReplica (node_at (forms w s.nodes) r) k
+      go : (w : Option Whole) → IsWhole (told_of s) (modes_in s) s.tickets s.calls s.nodes w → IsBesideStarted b w
+          → IsReplica (node_at (forms w s.nodes) r) k
       go None whole beside = is
-      go (Some w) whole beside = replica_form (told_of s) (modes_in s) s.tickets s.calls s.nodes w b.frozen r k (told_named s ok) whole many up beside is
+      go (Some w) whole beside = replica_form (told_of s) (modes_in s) s.tickets s.calls s.nodes w b.frozen r k
+          (told_named s ok) whole many up beside is
 
   up_source : mode_of (modes_in s) b.source ≢ Err
   up_source = up_rw (mode_of (modes_in s) b.source) begun.roles.source
@@ -173,13 +180,22 @@ module _ (s : State) (t : ℕ) (b : Rebuilding) (n m : ℕ) (ok : IsSound s) (tu
   target_form = formed b.target m up_target target
 
   same_count : m ≡ n
-  same_count = omega (arith, source_form.chained.head.size, target_form.chained.head.size, ok.on.clients.agree.sizes b.source up_source, ok.on.clients.agree.sizes b.target up_target)
+  same_count = omega (
+    arith,
+    source_form.chained.head.size,
+    target_form.chained.head.size,
+    ok.on.clients.agree.sizes b.source up_source,
+    ok.on.clients.agree.sizes b.target up_target,
+  )
 
   clients : AreClients v s.size (length next.indices) two (modes_in next) s.tickets s.calls ns
   clients =
-      let read = promoted_clients v s.size (length s.indices) es (modes_in s) s.tickets s.calls s.whole s.nodes b n ok.on.clients begun source_form (subst (IsReplica (node_at ns b.target)) same_count target_form) all in
-      same_clients v s.size (length s.indices) (length next.indices) two modes (modes_in next) s.tickets s.calls ns (sym (length-set s.indices its.stream (index_at s.indices its.stream + 1))) same_modes
-      (seen_clients v s.size (length s.indices) es two modes s.tickets s.calls ns (seen_answer one s.calls (seen_mark es s.calls ok.on.clients.seen (mark.Promoted b.target)) a turn.idle) read)
+      let read = promoted_clients v s.size (length s.indices) es (modes_in s) s.tickets s.calls s.whole s.nodes b n
+      ok.on.clients begun source_form (subst (IsReplica (node_at ns b.target)) same_count target_form) all in
+      same_clients v s.size (length s.indices) (length next.indices) two modes (modes_in next) s.tickets s.calls ns
+      (sym (length-set s.indices its.stream (index_at s.indices its.stream + 1))) same_modes
+      (seen_clients v s.size (length s.indices) es two modes s.tickets s.calls ns
+      (seen_answer one s.calls (seen_mark es s.calls ok.on.clients.seen (mark.Promoted b.target)) a turn.idle) read)
 
   -- ---- the journal
 
@@ -191,7 +207,8 @@ module _ (s : State) (t : ℕ) (b : Rebuilding) (n m : ℕ) (ok : IsSound s) (tu
 
   ordered : IsOrdered o two next.indices None next.ended
   ordered = subst (λ x. IsOrdered o two next.indices None x) (sym none)
-      (promoted_ordered o es s.indices b s.ended a was (ap call.Command asks) (ok.maint.queued.within 0 here) refl (ok.maint.queued.past 0 here) (ok.maint.queued.saw 0 here))
+      (promoted_ordered o es s.indices b s.ended a was (ap call.Command asks) (ok.maint.queued.within 0 here) refl
+      (ok.maint.queued.past 0 here) (ok.maint.queued.saw 0 here))
 
   legal : IsLegal o two
   legal = subst (IsLegal o) (sym (append_assoc es (e ∷ []) (entry.Answer a ∷ [])))
@@ -202,7 +219,14 @@ module _ (s : State) (t : ℕ) (b : Rebuilding) (n m : ℕ) (ok : IsSound s) (tu
     opened = ok.on.opened;
     told = record { legal = legal; ordered = ordered };
     clients = clients;
-    spare = omega (arith, ok.on.spare, length-remove s.commands 0 here, ap owed_end past.begun, as_many_up (modes_in s) b.target begun.roles.target, ap (count_by is_up) same_modes);
+    spare = omega (
+      arith,
+      ok.on.spare,
+      length-remove s.commands 0 here,
+      ap owed_end past.begun,
+      as_many_up (modes_in s) b.target begun.roles.target,
+      ap (count_by is_up) same_modes,
+    );
   }
 
   -- ---- the calls on the whole volume, and the turn
@@ -212,28 +236,34 @@ module _ (s : State) (t : ℕ) (b : Rebuilding) (n m : ℕ) (ok : IsSound s) (tu
       let snapshots = (told_of s).volume.snapshots in
       let marked : AreMaint snapshots (length s.indices) one modes s.tickets s.calls s.nodes s.maint s.commands = record {
         queued = queued_mark (length s.indices) es (mark.Promoted b.target) s.maint s.commands ok.maint.queued;
-        fits = idle_maint snapshots snapshots (modes_in s) modes s.nodes s.nodes s.maint s.commands s.tickets s.calls ok.on.clients.paired turn.idle ok.maint.fits;
+        fits = idle_maint snapshots snapshots (modes_in s) modes s.nodes s.nodes s.maint s.commands s.tickets s.calls
+            ok.on.clients.paired turn.idle ok.maint.fits;
       } in
-      command_answered snapshots (length s.indices) one modes s.tickets s.calls s.nodes s.maint s.commands marked a ok.on.clients.paired turn.stands.within turn.idle refl
+      command_answered snapshots (length s.indices) one modes s.tickets s.calls s.nodes s.maint s.commands marked a
+      ok.on.clients.paired turn.stands.within turn.idle refl
 
   pub promoted_kept : IsSound next
-  promoted_kept = record {
-    on = on_same s.whole (told_of s) (told_of next) s.nodes next told on;
-    whole = same_whole (told_of s) (told_of next) modes (modes_in next) s.tickets s.calls s.nodes s.whole told same_modes
-        (whole_promoted (modes_in s) b.target begun.roles.target (told_of s) s.tickets s.calls s.nodes s.whole ok.whole);
-    maint = same_maint (told_of s).volume.snapshots (told_of next).volume.snapshots (length s.indices) (length next.indices) two modes (modes_in next) s.tickets s.calls s.nodes next.maint next.commands
-        (ap (λ (p : PlainState). p.volume.snapshots) told) (sym (length-set s.indices its.stream (index_at s.indices its.stream + 1))) same_modes maint;
-    disk = ap (λ (p : PlainState). length p.volume.disk) (sym told) ∙ ok.disk;
-    rebuild = subst (λ (x : List Mode). IsRebuilding s.size x s.tickets s.calls s.whole s.nodes None) same_modes
-        (promoted_roles s.size (modes_in s) s.tickets s.calls s.whole s.nodes b begun);
-    adds = none_adds next.maint next.commands None next.ended (refl, none);
-    fell = λ given. behind_falls_answer one a (behind_falls_promoted es b.target (ok.fell given));
-    streams = ok.streams ∙ sym (length-set s.indices its.stream (index_at s.indices its.stream + 1));
-  }
+  promoted_kept =
+      let length_set_here = length-set s.indices its.stream (index_at s.indices its.stream + 1) in
+      record {
+        on = on_same s.whole (told_of s) (told_of next) s.nodes next told on;
+        whole = same_whole (told_of s) (told_of next) modes (modes_in next) s.tickets s.calls s.nodes s.whole told same_modes
+            (whole_promoted (modes_in s) b.target begun.roles.target (told_of s) s.tickets s.calls s.nodes s.whole ok.whole);
+        maint = same_maint (told_of s).volume.snapshots (told_of next).volume.snapshots (length s.indices) (length next.indices)
+            two modes (modes_in next) s.tickets s.calls s.nodes next.maint next.commands
+            (ap (λ (p : PlainState). p.volume.snapshots) told) (sym length_set_here) same_modes maint;
+        disk = ap (λ (p : PlainState). length p.volume.disk) (sym told) ∙ ok.disk;
+        rebuild = subst (λ (x : List Mode). IsRebuilding s.size x s.tickets s.calls s.whole s.nodes None) same_modes
+            (promoted_roles s.size (modes_in s) s.tickets s.calls s.whole s.nodes b begun);
+        adds = none_adds next.maint next.commands None next.ended (refl, none);
+        fell = λ given. behind_falls_answer one a (behind_falls_promoted es b.target (ok.fell given));
+        streams = ok.streams ∙ sym length_set_here;
+      }
 
 -- ---- what other streams see
 
-pub promoted_goes : (s s2 : State) (target : ℕ) → IsSound s → IsSound s2 → s2 ≡ promoted s target → MayGo (command_at s.commands 0).stream s s2
+pub promoted_goes : (s s2 : State) (target : ℕ) → IsSound s → IsSound s2 → s2 ≡ promoted s target
+    → MayGo (command_at s.commands 0).stream s s2
 promoted_goes s s2 target ok ok2 is =
     let c = command_at s.commands 0 in
     let e = entry.Mark (mark.Promoted target) in
@@ -241,9 +271,11 @@ promoted_goes s s2 target ok ok2 is =
     record {
       sound = ok2;
       origin = ap origin_of is
-          ∙ ap (λ k. record { first = s.first; opening = s.book.opening; size = s.size; streams = k; replicas = length s.nodes }) (length-set s.indices c.stream (index_at s.indices c.stream + 1));
+          ∙ ap (λ k. record { first = s.first; opening = s.book.opening; size = s.size; streams = k; replicas = length s.nodes })
+          (length-set s.indices c.stream (index_at s.indices c.stream + 1));
       added = (e ∷ a ∷ [], ap (λ (x : State). x.book.entries) is ∙ append_assoc s.book.entries (e ∷ []) (a ∷ []), (tt, (refl, tt)));
       others = λ n other. ap (λ (x : State). running x n) is;
-      turns = λ n other. ap (λ (x : State). turning x n) is ∙ commands-remove_other n s.maint s.commands 0 ok.maint.queued.paired (λ f. other (sym f));
+      turns = λ n other. ap (λ (x : State). turning x n) is
+          ∙ commands-remove_other n s.maint s.commands 0 ok.maint.queued.paired (λ f. other (sym f));
       gave_up = λ n other. ap (λ (x : State). gave_up_at x.gave_up n) is;
     }

@@ -26,7 +26,8 @@ use Rattle.whole_calls.proofs.Ends.{idle_left}
 use Rattle.whole_calls.proofs.Turns.{none_left, turn_ended}
 
 -- what is no snapshot was asked by the command that has the turn
-pub turn_of : (maint : List Ticket) (commands : List MaintCall) (stream : ℕ) (op : WholeOp) → IsOfTurn op → IsAskedBy maint commands stream op → HasTurn maint commands stream (command_of op)
+pub turn_of : (maint : List Ticket) (commands : List MaintCall) (stream : ℕ) (op : WholeOp) → IsOfTurn op
+    → IsAskedBy maint commands stream op → HasTurn maint commands stream (command_of op)
 turn_of maint commands stream (whole.Snapshot name) of asked = absurd of
 turn_of maint commands stream (whole.Remove name) of asked = asked
 turn_of maint commands stream (whole.Revert name) of asked = asked
@@ -35,9 +36,12 @@ turn_of maint commands stream (whole.Barrier r) of asked = asked
 
 -- ---- a call on the whole volume goes: it is done, given up or refused
 
-module _ (s s2 : Snapshots) (streams : ℕ) (es : List Entry) (modes : List Mode) (ts : List Ticket) (cs : List OpenCall) (ns : List Node) (maint : List Ticket) (commands : List MaintCall) (i : ℕ) (op : WholeOp)
-    (seen : AreSeen es cs) (paired : length cs ≡ length ts) (h : i < length ts) (is : (ticket_at ts i).kind ≡ kind.Whole) (asks : (open_at cs i).op ≡ Some op) (ok : AreMaint s streams es modes ts cs ns maint commands)
-    (left : (j : ℕ) → j < length (remove ts i) → FitsMaint s2 modes ns maint commands (ticket_at (remove ts i) j) (open_at (remove cs i) j)) where
+module _ (s s2 : Snapshots) (streams : ℕ) (es : List Entry) (modes : List Mode) (ts : List Ticket) (cs : List OpenCall)
+    (ns : List Node) (maint : List Ticket) (commands : List MaintCall) (i : ℕ) (op : WholeOp)
+    (seen : AreSeen es cs) (paired : length cs ≡ length ts) (h : i < length ts) (is : (ticket_at ts i).kind ≡ kind.Whole)
+    (asks : (open_at cs i).op ≡ Some op) (ok : AreMaint s streams es modes ts cs ns maint commands)
+    (left : (j : ℕ) → j < length (remove ts i) → FitsMaint s2 modes ns maint commands (ticket_at (remove ts i) j)
+    (open_at (remove cs i) j)) where
   abbrev fewer_tickets : List Ticket
   fewer_tickets = remove ts i
 
@@ -59,17 +63,25 @@ module _ (s s2 : Snapshots) (streams : ℕ) (es : List Entry) (modes : List Mode
   unmarked_maint = record { queued = ok.queued; fits = left }
 
   -- with its answer, a snapshot
-  pub snapshot_answered : (name : List ℕ) (a : Answer) → op ≡ whole.Snapshot name → a.stream ≡ (open_at cs i).stream → AreMaint s2 streams (es ++ entry.Answer a ∷ []) modes fewer_tickets fewer_calls ns maint commands
+  pub snapshot_answered : (name : List ℕ) (a : Answer) → op ≡ whole.Snapshot name → a.stream ≡ (open_at cs i).stream
+      → AreMaint s2 streams (es ++ entry.Answer a ∷ []) modes fewer_tickets fewer_calls ns maint commands
   snapshot_answered name a same by =
       let none = (subst (IsAskedBy maint commands (open_at cs i).stream) same asked).1 in
-      record { queued = queued_answer streams es a maint commands ok.queued (subst (λ n. HasNoCommand n commands) (sym by) none); fits = left }
+      record {
+        queued = queued_answer streams es a maint commands ok.queued (subst (λ n. HasNoCommand n commands) (sym by) none);
+        fits =
+            left;
+      }
 
   -- with the answer of its command, which has had the turn
-  pub turn_answered : (a : Answer) → IsOfTurn op → a.stream ≡ (open_at cs i).stream → AreMaint s2 streams (es ++ entry.Answer a ∷ []) modes fewer_tickets fewer_calls ns (remove maint 0) (remove commands 0)
+  pub turn_answered : (a : Answer) → IsOfTurn op → a.stream ≡ (open_at cs i).stream
+      → AreMaint s2 streams (es ++ entry.Answer a ∷ []) modes fewer_tickets fewer_calls ns (remove maint 0)
+      (remove commands 0)
   turn_answered a of by =
       let has = turn_of maint commands (open_at cs i).stream op of asked in
       let some : 0 < length maint = omega (arith, has.some, ok.queued.paired) in
-      let ended = turn_ended s2 streams es modes fewer_tickets fewer_calls ns maint commands (omega (arith, paired, length-remove ts i h, length-remove cs i call_in)) some
+      let ended = turn_ended s2 streams es modes fewer_tickets fewer_calls ns maint commands
+      (omega (arith, paired, length-remove ts i h, length-remove cs i call_in)) some
       (subst (λ n. IsIdle n fewer_calls) (sym has.own) (idle_left es cs i seen call_in)) unmarked_maint in
       record {
         queued = queued_answer streams es a (remove maint 0) (remove commands 0) ended.queued
@@ -79,14 +91,18 @@ module _ (s s2 : Snapshots) (streams : ℕ) (es : List Entry) (modes : List Mode
 
 -- ---- a command goes whose stream has nothing open
 
-module _ (s : Snapshots) (streams : ℕ) (es : List Entry) (modes : List Mode) (ts : List Ticket) (cs : List OpenCall) (ns : List Node) (maint : List Ticket) (commands : List MaintCall)
+module _ (s : Snapshots) (streams : ℕ) (es : List Entry) (modes : List Mode) (ts : List Ticket) (cs : List OpenCall)
+    (ns : List Node) (maint : List Ticket) (commands : List MaintCall)
     (ok : AreMaint s streams es modes ts cs ns maint commands) where
   -- the one that has the turn is answered
-  pub command_answered : (a : Answer) → length cs ≡ length ts → 0 < length maint → IsIdle (command_at commands 0).stream cs → a.stream ≡ (command_at commands 0).stream
+  pub command_answered : (a : Answer) → length cs ≡ length ts → 0 < length maint → IsIdle (command_at commands 0).stream cs
+      → a.stream ≡ (command_at commands 0).stream
       → AreMaint s streams (es ++ entry.Answer a ∷ []) modes ts cs ns (remove maint 0) (remove commands 0)
   command_answered a paired some idle by =
       let ended = turn_ended s streams es modes ts cs ns maint commands paired some idle ok in
       record {
-        queued = queued_answer streams es a (remove maint 0) (remove commands 0) ended.queued (subst (λ n. HasNoCommand n (remove commands 0)) (sym by) (none_left streams es maint commands 0 ok.queued some));
+        queued = queued_answer streams es a (remove maint 0) (remove commands 0) ended.queued
+            (subst (λ n. HasNoCommand n (remove commands 0)) (sym by)
+            (none_left streams es maint commands 0 ok.queued some));
         fits = ended.fits;
       }

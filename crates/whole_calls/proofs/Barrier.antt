@@ -1,6 +1,7 @@
 -- The barrier of a rebuild, from its start to its end. It begins with a mark, by which the volume has its snapshot at
 -- once, and with a failed replica that is written from now on: one without a block, with the layers of its source.
-use Rattle.std.proofs.Common.{◌≡◌, ◌≢◌, ℕ, ◌<◌, Bool, true, false, ◌||◌, List, [], ◌∷◌, ◌++◌, length, map, set, length-set, get_or-set_same, get_or-set_other, subst, sym, refl, ap, ◌∙◌, arith}
+use Rattle.std.proofs.Common.{◌≡◌, ◌≢◌, ℕ, ◌<◌, Bool, true, false, ◌||◌, List, [], ◌∷◌, ◌++◌, length, map, set}
+use Rattle.std.proofs.Common.{length-set, get_or-set_same, get_or-set_other, subst, sym, refl, ap, ◌∙◌, arith}
 use Rattle.std.specs.Prelude.{Some}
 use Rattle.std.specs.List.{All}
 use Rattle.std.specs.Str.{bytes_eq}
@@ -75,7 +76,9 @@ snaps_too n m same can =
     record {
       layers = omega (arith, can.layers, same_count n, same_count m, ap layer_count same);
       free = free_of n (sys_name n.number)
-          (ap (λ k. has_name (tree_of n) (sys_name k)) number ∙ ap (λ (s : Snapshots). has_name s.tree (sys_name m.number)) same ∙ unnamed m.layers (sys_name m.number) can.free);
+          (ap (λ k. has_name (tree_of n) (sys_name k)) number
+          ∙ ap (λ (s : Snapshots). has_name s.tree (sys_name m.number)) same
+          ∙ unnamed m.layers (sys_name m.number) can.free);
       number = omega (arith, can.number, number);
     }
 
@@ -85,8 +88,10 @@ wo_rw : Wo ≡ Rw → ⊥
 wo_rw e = cc
 
 -- while no ticket is started, with the volume's snapshots and its length
-pub joined_clients : (v : Volume) (size streams : ℕ) (es : List Entry) (modes : List Mode) (ts : List Ticket) (cs : List OpenCall) (ns : List Node) (r : ℕ) (target : Node) → AreClients v size streams es modes ts cs ns → IsStill ts
-    → r < length modes → snapshots_of target ≡ v.snapshots → length target.disk ≡ size → AreClients v size streams es (set modes r Wo) ts cs (set ns r target)
+pub joined_clients : (v : Volume) (size streams : ℕ) (es : List Entry) (modes : List Mode) (ts : List Ticket)
+    (cs : List OpenCall) (ns : List Node) (r : ℕ) (target : Node) → AreClients v size streams es modes ts cs ns → IsStill ts
+    → r < length modes → snapshots_of target ≡ v.snapshots → length target.disk ≡ size
+    → AreClients v size streams es (set modes r Wo) ts cs (set ns r target)
 joined_clients v size streams es modes ts cs ns r target ok still h tree long =
     let a = ok.agree in
     let l : r < length ns = omega (arith, h, a.as_many) in
@@ -98,10 +103,15 @@ joined_clients v size streams es modes ts cs ns r target ok still h tree long =
       agree = record {
         disk = a.disk;
         as_many = length-set modes r Wo ∙ a.as_many ∙ sym many;
-        sizes = λ q. each_set (λ (k : ℕ) (n : Node). mode_of (set modes r Wo) k ≢ Err → length n.disk ≡ size) ns r q target (blank 0) l (λ _. long) (λ n up. a.sizes q (was_up q n up));
-        tree = λ q. each_set (λ (k : ℕ) (n : Node). mode_of (set modes r Wo) k ≢ Err → snapshots_of n ≡ v.snapshots) ns r q target (blank 0) l (λ _. tree) (λ n up. a.tree q (was_up q n up));
-        copies = λ q. each_set (λ (k : ℕ) (n : Node). mode_of (set modes r Wo) k ≡ Rw → copies_in n.layers ≡ v.copies) ns r q target (blank 0) l (λ e. absurd (unread e)) (λ n e. a.copies q (was_read q n e));
-        bytes = λ q k e free. each_set (λ (j : ℕ) (n : Node). mode_of (set modes r Wo) j ≡ Rw → byte_of n.disk k ≡ byte_of v.disk k) ns r q target (blank 0) l (λ e. absurd (unread e)) (λ n e. a.bytes q k (was_read q n e) free) e;
+        sizes = λ q. each_set (λ (k : ℕ) (n : Node). mode_of (set modes r Wo) k ≢ Err → length n.disk ≡ size) ns r q target
+            (blank 0) l (λ _. long) (λ n up. a.sizes q (was_up q n up));
+        tree = λ q. each_set (λ (k : ℕ) (n : Node). mode_of (set modes r Wo) k ≢ Err → snapshots_of n ≡ v.snapshots) ns r q
+            target (blank 0) l (λ _. tree) (λ n up. a.tree q (was_up q n up));
+        copies = λ q. each_set (λ (k : ℕ) (n : Node). mode_of (set modes r Wo) k ≡ Rw → copies_in n.layers ≡ v.copies) ns r
+            q target (blank 0) l (λ e. absurd (unread e)) (λ n e. a.copies q (was_read q n e));
+        bytes = λ q k e free. each_set (λ (j : ℕ) (n : Node). mode_of (set modes r Wo) j ≡ Rw
+            → byte_of n.disk k ≡ byte_of v.disk k) ns r q target (blank 0) l (λ e. absurd (unread e))
+            (λ n e. a.bytes q k (was_read q n e) free) e;
       };
       writes = λ j m w. absurd (not_both (ticket_at ts j).started (still j m) w.started);
       reads = λ j m w. absurd (not_both (ticket_at ts j).started (still j m) w.started);
@@ -119,8 +129,10 @@ joined_clients v size streams es modes ts cs ns r target ok still h tree long =
 
 -- ---- the start, of a barrier for replica r
 
-module _ (v : Volume) (size streams : ℕ) (es : List Entry) (m : Mark) (modes : List Mode) (ts : List Ticket) (cs : List OpenCall) (ns : List Node) (i r source : ℕ)
-    (ok : AreClients v size streams es modes ts cs ns) (h : i < length ts) (is : (ticket_at ts i).kind ≡ kind.Whole) (waits : (ticket_at ts i).started ≡ false) (clear : IsClear ts i)
+module _ (v : Volume) (size streams : ℕ) (es : List Entry) (m : Mark) (modes : List Mode) (ts : List Ticket)
+    (cs : List OpenCall) (ns : List Node) (i r source : ℕ)
+    (ok : AreClients v size streams es modes ts cs ns) (h : i < length ts) (is : (ticket_at ts i).kind ≡ kind.Whole)
+    (waits : (ticket_at ts i).started ≡ false) (clear : IsClear ts i)
     (l : r < length modes) (read : mode_of modes source ≡ Rw) where
   abbrev written : List Mode
   written = set modes r Wo
@@ -142,7 +154,9 @@ module _ (v : Volume) (size streams : ℕ) (es : List Entry) (m : Mark) (modes :
   with_target =
       let n = node_at ns source in
       let up = rw_up (mode_of modes source) read in
-      joined_clients v size streams marked_entries modes ts cs ns r target (seen_clients v size streams es marked_entries modes ts cs ns (seen_mark es cs ok.seen m) ok) (still_clear ts i ok.order h is waits clear) l
+      joined_clients v size streams marked_entries modes ts cs ns r target
+      (seen_clients v size streams es marked_entries modes ts cs ns (seen_mark es cs ok.seen m) ok)
+      (still_clear ts i ok.order h is waits clear) l
       (emptied_snapshots n ∙ ok.agree.tree source up) (emptied_size n ∙ ok.agree.sizes source up)
 
   abbrev due_nodes : List Node
@@ -161,34 +175,43 @@ module _ (v : Volume) (size streams : ℕ) (es : List Entry) (m : Mark) (modes :
   barrier_begun =
       let c = with_target in
       let still = still_clear ts i ok.order h is waits clear in
-      started_whole v (snapped v name) size streams marked_entries written ts cs joined due_nodes i c h is waits clear (length-formed (whole.Barrier r) (map part_for written) joined) c.agree.disk
+      started_whole v (snapped v name) size streams marked_entries written ts cs joined due_nodes i c h is waits clear
+      (length-formed (whole.Barrier r) (map part_for written) joined) c.agree.disk
       (λ q up. ap (λ (n : Node). length n.disk) (due_form q up) ∙ c.agree.sizes q up)
       (λ q up. ap snapshots_of (due_form q up) ∙ ap (λ s. with_snapshot s name) (c.agree.tree q up))
-      (λ q e. ap volume_of_node (due_form q (rw_up (mode_of written q) e)) ∙ ap (λ (x : Volume). snapped x name) (is_volume v size q written ts joined still c.agree e))
+      (λ q e. ap volume_of_node (due_form q (rw_up (mode_of written q) e))
+      ∙ ap (λ (x : Volume). snapped x name) (is_volume v size q written ts joined still c.agree e))
 
   -- and its call is started, each replica that has not failed owing its part of it
-  pub barrier_is : (p : PlainState) (w : Whole) → p.volume ≡ snapped v name → CanSnap (node_at ns source) (sys_name (node_at ns source).number) → w.number ≡ (ticket_at ts i).number → w.op ≡ whole.Barrier r
-      → w.parts ≡ map part_for written → AreSpared (whole.Barrier r) written joined w.spares → (open_at cs i).op ≡ Some (whole.Barrier r) → IsStarted p written (with_started ts i) cs joined w
+  pub barrier_is : (p : PlainState) (w : Whole) → p.volume ≡ snapped v name
+      → CanSnap (node_at ns source) (sys_name (node_at ns source).number) → w.number ≡ (ticket_at ts i).number
+      → w.op ≡ whole.Barrier r
+      → w.parts ≡ map part_for written → AreSpared (whole.Barrier r) written joined w.spares
+      → (open_at cs i).op ≡ Some (whole.Barrier r) → IsStarted p written (with_started ts i) cs joined w
   barrier_is p w told can number same owed spares asked =
       let c = with_target in
       started_is p written ts cs joined i (whole.Barrier r) w ok.order h is c.agree.as_many number same owed asked tt
       (λ q up. record {
         still = (
           ap (λ (s : Snapshots). with_snapshot s (sys_name s.number)) (c.agree.tree q up) ∙ sym (ap (λ (x : Volume). x.snapshots) told),
-          snaps_too (node_at joined q) (node_at ns source) (c.agree.tree q up ∙ sym (ok.agree.tree source (rw_up (mode_of modes source) read))) can,
+          snaps_too (node_at joined q) (node_at ns source)
+              (c.agree.tree q up ∙ sym (ok.agree.tree source (rw_up (mode_of modes source) read))) can,
         );
         spared = spares q up;
         folded = tt;
       })
 
   -- no other command has the turn: what waits asks nothing of the volume or of the replicas
-  pub barrier_maint : (s s2 : Snapshots) (maint : List Ticket) (commands : List MaintCall) → (open_at cs i).op ≡ Some (whole.Barrier r) → AreMaint s streams es modes ts cs ns maint commands
+  pub barrier_maint : (s s2 : Snapshots) (maint : List Ticket) (commands : List MaintCall)
+      → (open_at cs i).op ≡ Some (whole.Barrier r) → AreMaint s streams es modes ts cs ns maint commands
       → AreMaint s2 streams marked_entries written (with_started ts i) cs joined maint commands
   barrier_maint s s2 maint commands asked maintained =
       let begun = record (ticket_at ts i) { started = true } in
       let here : ticket_at (with_started ts i) i ≡ begun = get_or-set_same ts i begun no_ticket h in
       record {
         queued = queued_mark streams es m maint commands maintained.queued;
-        fits = none_waits es s s2 modes written ns joined maint commands (with_started ts i) cs i (whole.Barrier r) ok.seen (ok.paired ∙ sym (length-set ts i begun)) (omega (arith, h, length-set ts i begun))
-            (ap (λ (x : Ticket). x.kind) here ∙ is) (ap (λ (x : Ticket). x.started) here) asked tt (maint_started s modes ns maint commands ts cs i h maintained.fits);
+        fits = none_waits es s s2 modes written ns joined maint commands (with_started ts i) cs i (whole.Barrier r) ok.seen
+            (ok.paired ∙ sym (length-set ts i begun)) (omega (arith, h, length-set ts i begun))
+            (ap (λ (x : Ticket). x.kind) here ∙ is) (ap (λ (x : Ticket). x.started) here) asked tt
+            (maint_started s modes ns maint commands ts cs i h maintained.fits);
       }

@@ -27,7 +27,8 @@ length-forms None nodes = refl
 length-forms (Some w) nodes = length-formed w.op w.parts nodes
 
 -- a replica that is there, in due form
-pub formed_in : (op : WholeOp) (parts : List Part) (nodes : List Node) (r : ℕ) → r < length nodes → node_at (formed op parts nodes) r ≡ form_part op (part_at parts r) (node_at nodes r)
+pub formed_in : (op : WholeOp) (parts : List Part) (nodes : List Node) (r : ℕ) → r < length nodes
+    → node_at (formed op parts nodes) r ≡ form_part op (part_at parts r) (node_at nodes r)
 formed_in op parts [] r l = absurd (omega (arith, l))
 formed_in op [] (n ∷ ns) zero l = refl
 formed_in op [] (n ∷ ns) (suc r) l = refl
@@ -35,18 +36,21 @@ formed_in op (p ∷ ps) (n ∷ ns) zero l = refl
 formed_in op (p ∷ ps) (n ∷ ns) (suc r) l = formed_in op ps ns r (omega (arith, l))
 
 -- and any, where there are as many parts as replicas
-pub formed_at : (op : WholeOp) (parts : List Part) (nodes : List Node) (r : ℕ) → length parts ≡ length nodes → node_at (formed op parts nodes) r ≡ form_part op (part_at parts r) (node_at nodes r)
+pub formed_at : (op : WholeOp) (parts : List Part) (nodes : List Node) (r : ℕ) → length parts ≡ length nodes
+    → node_at (formed op parts nodes) r ≡ form_part op (part_at parts r) (node_at nodes r)
 formed_at op parts nodes r many =
     ⊎_elim
     (λ l. formed_in op parts nodes r l)
-    (λ l. get_or_past (formed op parts nodes) r (blank 0) (omega (arith, l, length-formed op parts nodes)) ∙ sym (get_or_past nodes r (blank 0) l)
+    (λ l. get_or_past (formed op parts nodes) r (blank 0) (omega (arith, l, length-formed op parts nodes))
+    ∙ sym (get_or_past nodes r (blank 0) l)
     ∙ ap (λ x. form_part op x (node_at nodes r)) (sym (get_or_past parts r Apart (omega (arith, l, many)))))
     (cases_lt r (length nodes))
 
 -- ---- its parts change
 
 -- a replica that takes its part is in due form what it was
-pub parted_form : (op : WholeOp) (parts : List Part) (nodes : List Node) (r : ℕ) → part_at parts r ≡ Owed → r < length nodes → formed op (set parts r Taken) (set nodes r (part_on op (node_at nodes r))) ≡ formed op parts nodes
+pub parted_form : (op : WholeOp) (parts : List Part) (nodes : List Node) (r : ℕ) → part_at parts r ≡ Owed → r < length nodes
+    → formed op (set parts r Taken) (set nodes r (part_on op (node_at nodes r))) ≡ formed op parts nodes
 parted_form op [] nodes r owed l = absurd (none owed)
   where
     none : Apart ≡ Owed → ⊥
@@ -56,7 +60,8 @@ parted_form op (p ∷ ps) (n ∷ ns) zero owed l = ap (λ x. form_part op x n �
 parted_form op (p ∷ ps) (n ∷ ns) (suc r) owed l = ap (λ xs. form_part op p n ∷ xs) (parted_form op ps ns r owed (omega (arith, l)))
 
 -- so it is where it acknowledges a part that it took
-pub acked_form : (op : WholeOp) (parts : List Part) (nodes : List Node) (r : ℕ) → IsTaken (part_at parts r) → formed op (set parts r Acked) nodes ≡ formed op parts nodes
+pub acked_form : (op : WholeOp) (parts : List Part) (nodes : List Node) (r : ℕ) → IsTaken (part_at parts r)
+    → formed op (set parts r Acked) nodes ≡ formed op parts nodes
 acked_form op [] nodes r taken = absurd taken
 acked_form op (p ∷ ps) [] zero taken = refl
 acked_form op (p ∷ ps) [] (suc r) taken = refl

@@ -59,7 +59,8 @@ due_snaps (whole.Purge f) v = refl
 due_snaps (whole.Barrier r) v = refl
 
 -- a replica that took its part is the due volume of the volume that it was
-pub op_volume : (op : WholeOp) (n : Node) → NamesOnce (tree_of n) → CanBe op (snapshots_of n) → volume_of_node (part_on op n) ≡ due_of op (volume_of_node n)
+pub op_volume : (op : WholeOp) (n : Node) → NamesOnce (tree_of n) → CanBe op (snapshots_of n)
+    → volume_of_node (part_on op n) ≡ due_of op (volume_of_node n)
 op_volume (whole.Snapshot name) n once can = refl
 op_volume (whole.Remove name) n once can = marked_volume n name
 op_volume (whole.Revert name) n once can = reverted_volume n name can
@@ -68,14 +69,18 @@ op_volume (whole.Purge (part.Drop p)) n once can = dropped_volume n p once can
 op_volume (whole.Barrier r) n once can = absurd can
 
 -- a replica that is the volume is the due volume once it took its part
-pub op_whole : (op : WholeOp) (v : Volume) (n : Node) → NamesOnce v.snapshots.tree → CanBe op v.snapshots → volume_of_node n ≡ v → volume_of_node (part_on op n) ≡ due_of op v
+pub op_whole : (op : WholeOp) (v : Volume) (n : Node) → NamesOnce v.snapshots.tree → CanBe op v.snapshots
+    → volume_of_node n ≡ v → volume_of_node (part_on op n) ≡ due_of op v
 op_whole op v n once can is =
-    op_volume op n (subst (λ (w : Volume). NamesOnce w.snapshots.tree) (sym is) once) (subst (λ (w : Volume). CanBe op w.snapshots) (sym is) can) ∙ ap (due_of op) is
+    op_volume op n (subst (λ (w : Volume). NamesOnce w.snapshots.tree) (sym is) once)
+    (subst (λ (w : Volume). CanBe op w.snapshots) (sym is) can) ∙ ap (due_of op) is
 
 -- and one that has the volume's snapshots has the due ones
-pub op_tree : (op : WholeOp) (v : Volume) (n : Node) → NamesOnce v.snapshots.tree → CanBe op v.snapshots → snapshots_of n ≡ v.snapshots → snapshots_of (part_on op n) ≡ (due_of op v).snapshots
+pub op_tree : (op : WholeOp) (v : Volume) (n : Node) → NamesOnce v.snapshots.tree → CanBe op v.snapshots
+    → snapshots_of n ≡ v.snapshots → snapshots_of (part_on op n) ≡ (due_of op v).snapshots
 op_tree op v n once can is =
-    ap (λ (w : Volume). w.snapshots) (op_volume op n (subst (λ (s : Snapshots). NamesOnce s.tree) (sym is) once) (subst (CanBe op) (sym is) can))
+    ap (λ (w : Volume). w.snapshots) (op_volume op n (subst (λ (s : Snapshots). NamesOnce s.tree) (sym is) once)
+    (subst (CanBe op) (sym is) can))
     ∙ due_snaps op (volume_of_node n) ∙ ap (snaps_of op) is ∙ sym (due_snaps op v)
 
 -- the disk of the due volume is as long as the volume's
@@ -105,7 +110,8 @@ not_there p name named unused = go (has_name p.volume.snapshots.tree name) refl
     go false is = refl
 
 -- a snapshot of the volume can be taken of a replica that has its snapshots
-pub can_snap : (p : PlainState) (n : Node) (name : List ℕ) → AreNamed p → snapshots_of n ≡ p.volume.snapshots → is_used p.used name ≡ false → layer_count p.volume.snapshots < MOST_LAYERS
+pub can_snap : (p : PlainState) (n : Node) (name : List ℕ) → AreNamed p → snapshots_of n ≡ p.volume.snapshots
+    → is_used p.used name ≡ false → layer_count p.volume.snapshots < MOST_LAYERS
     → p.volume.snapshots.number + 1 < 2 ^ 64 → CanSnap n name
 can_snap p n name named same unused few number = record {
   layers = omega (arith, few, same_count n, ap layer_count same);
@@ -114,7 +120,8 @@ can_snap p n name named same unused few number = record {
 }
 
 -- what may be done to the volume can be done on each replica that owes its part
-pub fits : (op : WholeOp) (p : PlainState) (n : Node) (spare : Option Tables) → AreNamed p → CanTake op p.volume.snapshots n spare → MayBeDone op p → p.volume.snapshots.number + 1 < 2 ^ 64 → IsFit op n
+pub fits : (op : WholeOp) (p : PlainState) (n : Node) (spare : Option Tables) → AreNamed p
+    → CanTake op p.volume.snapshots n spare → MayBeDone op p → p.volume.snapshots.number + 1 < 2 ^ 64 → IsFit op n
 fits (whole.Snapshot name) p n spare named takes may number = can_snap p n name named takes.still may.1 may.2 number
 fits (whole.Remove name) p n spare named takes may number = ap (λ (t : Snapshots). is_live t.tree name) takes.still ∙ may
 fits (whole.Revert name) p n spare named takes may number = record {

@@ -1,5 +1,6 @@
 -- A call on the whole volume starts: nothing else has started, so each replica that is read is the volume.
-use Rattle.std.proofs.Common.{◌≡◌, ◌≢◌, ℕ, ◌<◌, ⊎_elim, Bool, true, false, List, length, map, length-set, get_or-set_same, subst, sym, refl, ap, ◌∙◌, arith}
+use Rattle.std.proofs.Common.{◌≡◌, ◌≢◌, ℕ, ◌<◌, ⊎_elim, Bool, true, false, List, length, map, length-set}
+use Rattle.std.proofs.Common.{get_or-set_same, subst, sym, refl, ap, ◌∙◌, arith}
 use Rattle.std.specs.Prelude.{Some}
 use Rattle.std.proofs.lemmas.Bool.{cases_lt, cases_eq}
 use Rattle.std.proofs.lemmas.List.{ext_get_or, length-map}
@@ -43,7 +44,8 @@ abbrev pub IsStill : List Ticket → Type 0
 IsStill tickets = (j : ℕ) → j < length tickets → (ticket_at tickets j).started ≡ false
 
 -- none is, where nothing is in the way of a call on the whole volume that waits
-pub still_clear : (ts : List Ticket) (i : ℕ) → AreInOrder ts → i < length ts → (ticket_at ts i).kind ≡ kind.Whole → (ticket_at ts i).started ≡ false → IsClear ts i → IsStill ts
+pub still_clear : (ts : List Ticket) (i : ℕ) → AreInOrder ts → i < length ts → (ticket_at ts i).kind ≡ kind.Whole
+    → (ticket_at ts i).started ≡ false → IsClear ts i → IsStill ts
 still_clear ts i order h is waits clear j l = one (ticket_at ts j).started refl
   where
     one : (b : Bool) → (ticket_at ts j).started ≡ b → (ticket_at ts j).started ≡ false
@@ -74,26 +76,30 @@ same_volume : (d e : List ℕ) (a b : List Copy) (s t : Snapshots) → d ≡ e �
 same_volume d e a b s t f g h = cc
 
 -- a replica that is read is the volume then
-pub is_volume : (v : Volume) (size r : ℕ) (modes : List Mode) (ts : List Ticket) (ns : List Node) → IsStill ts → Agree v size modes ts ns → mode_of modes r ≡ Rw → volume_of_node (node_at ns r) ≡ v
+pub is_volume : (v : Volume) (size r : ℕ) (modes : List Mode) (ts : List Ticket) (ns : List Node) → IsStill ts
+    → Agree v size modes ts ns → mode_of modes r ≡ Rw → volume_of_node (node_at ns r) ≡ v
 unfolding volume_with
 is_volume v size r modes ts ns still ok e =
     let n = node_at ns r in
     let up = rw_up (mode_of modes r) e in
-    let disk : n.disk ≡ v.disk = ext_get_or 0 n.disk v.disk (ok.sizes r up ∙ sym ok.disk) (λ k l. ok.bytes r k e (still_unheld ts k still)) in
+    let disk : n.disk ≡ v.disk = ext_get_or 0 n.disk v.disk (ok.sizes r up ∙ sym ok.disk)
+    (λ k l. ok.bytes r k e (still_unheld ts k still)) in
     same_volume n.disk v.disk _ v.copies _ v.snapshots disk (ok.copies r e) (ok.tree r up)
 
 -- ---- a ticket that starts
 
 -- it keeps its number
 pub started_number : (ts : List Ticket) (i j : ℕ) → i < length ts → (ticket_at (with_started ts i) j).number ≡ (ticket_at ts j).number
-started_number ts i j h = at_set (λ (x : Ticket). x.number ≡ (ticket_at ts j).number) ts i j (record (ticket_at ts i) { started = true }) no_ticket h (λ e. ap (λ n. (ticket_at ts n).number) (sym e)) (λ _. refl)
+started_number ts i j h = at_set (λ (x : Ticket). x.number ≡ (ticket_at ts j).number) ts i j
+    (record (ticket_at ts i) { started = true }) no_ticket h (λ e. ap (λ n. (ticket_at ts n).number) (sym e)) (λ _. refl)
 
 -- and stands there under it alone
 pub started_stands : (ts : List Ticket) (i : ℕ) → AreInOrder ts → i < length ts → StandsAt (with_started ts i) (ticket_at ts i).number i
 started_stands ts i order h = record {
   within = omega (arith, h, length-set ts i (record (ticket_at ts i) { started = true }));
   is = started_number ts i i h;
-  only = λ j l e. alone j (omega (arith, l, length-set ts i (record (ticket_at ts i) { started = true }))) (sym (started_number ts i j h) ∙ e);
+  only = λ j l e. alone j (omega (arith, l, length-set ts i (record (ticket_at ts i) { started = true })))
+      (sym (started_number ts i j h) ∙ e);
 }
   where
     alone : (j : ℕ) → j < length ts → (ticket_at ts j).number ≡ (ticket_at ts i).number → j ≡ i
@@ -107,7 +113,8 @@ started_stands ts i order h = record {
         (cases_eq j i)
 
 -- its operation asks no more of the replicas, and all else of it stays
-pub fits_started : (s : Snapshots) (modes : List Mode) (ns : List Node) (maint : List Ticket) (commands : List MaintCall) (t : Ticket) (c : OpenCall) → FitsMaint s modes ns maint commands t c
+pub fits_started : (s : Snapshots) (modes : List Mode) (ns : List Node) (maint : List Ticket) (commands : List MaintCall)
+    (t : Ticket) (c : OpenCall) → FitsMaint s modes ns maint commands t c
     → FitsMaint s modes ns maint commands (record t { started = true }) c
 fits_started s modes ns maint commands t c fit = record {
   apart = fit.apart;
@@ -118,16 +125,20 @@ fits_started s modes ns maint commands t c fit = record {
     never e = cc
 
 -- each ticket fits the maintenance turn as before
-pub maint_started : (s : Snapshots) (modes : List Mode) (ns : List Node) (maint : List Ticket) (commands : List MaintCall) (ts : List Ticket) (cs : List OpenCall) (i : ℕ) → i < length ts
+pub maint_started : (s : Snapshots) (modes : List Mode) (ns : List Node) (maint : List Ticket) (commands : List MaintCall)
+    (ts : List Ticket) (cs : List OpenCall) (i : ℕ) → i < length ts
     → ((j : ℕ) → j < length ts → FitsMaint s modes ns maint commands (ticket_at ts j) (open_at cs j))
     → (j : ℕ) → j < length (with_started ts i) → FitsMaint s modes ns maint commands (ticket_at (with_started ts i) j) (open_at cs j)
 maint_started s modes ns maint commands ts cs i h fit j l =
-    at_set (λ (x : Ticket). FitsMaint s modes ns maint commands x (open_at cs j)) ts i j (record (ticket_at ts i) { started = true }) no_ticket h
-    (λ e. subst (λ n. FitsMaint s modes ns maint commands (record (ticket_at ts i) { started = true }) (open_at cs n)) (sym e) (fits_started s modes ns maint commands (ticket_at ts i) (open_at cs i) (fit i h)))
+    at_set (λ (x : Ticket). FitsMaint s modes ns maint commands x (open_at cs j)) ts i j
+    (record (ticket_at ts i) { started = true }) no_ticket h
+    (λ e. subst (λ n. FitsMaint s modes ns maint commands (record (ticket_at ts i) { started = true }) (open_at cs n))
+    (sym e) (fits_started s modes ns maint commands (ticket_at ts i) (open_at cs i) (fit i h)))
     (λ _. fit j (omega (arith, l, length-set ts i (record (ticket_at ts i) { started = true }))))
 
 -- what a part of a purge finds that still can be done
-pub folded_still : (op : WholeOp) (s : Snapshots) (modes : List Mode) (ns : List Node) (r : ℕ) → CanStill s modes ns op → mode_of modes r ≡ Rw → IsFoldedFor op (node_at ns r)
+pub folded_still : (op : WholeOp) (s : Snapshots) (modes : List Mode) (ns : List Node) (r : ℕ) → CanStill s modes ns op
+    → mode_of modes r ≡ Rw → IsFoldedFor op (node_at ns r)
 folded_still (whole.Snapshot name) s modes ns r can e = tt
 folded_still (whole.Remove name) s modes ns r can e = tt
 folded_still (whole.Revert name) s modes ns r can e = tt
@@ -143,7 +154,8 @@ no_read : kind.Whole ≢ kind.Read
 no_read e = cc
 
 -- of the volume and of the replicas before and after
-module _ (v v2 : Volume) (size streams : ℕ) (es : List Entry) (modes : List Mode) (ts : List Ticket) (cs : List OpenCall) (ns ns2 : List Node) (i : ℕ) (ok : AreClients v size streams es modes ts cs ns)
+module _ (v v2 : Volume) (size streams : ℕ) (es : List Entry) (modes : List Mode) (ts : List Ticket) (cs : List OpenCall)
+    (ns ns2 : List Node) (i : ℕ) (ok : AreClients v size streams es modes ts cs ns)
     (h : i < length ts) (is : (ticket_at ts i).kind ≡ kind.Whole) (waits : (ticket_at ts i).started ≡ false) (clear : IsClear ts i) where
   abbrev begun : Ticket
   begun = record (ticket_at ts i) { started = true }
@@ -156,14 +168,25 @@ module _ (v v2 : Volume) (size streams : ℕ) (es : List Entry) (modes : List Mo
   still_in j l = omega (arith, l, length-set ts i begun)
 
   no_writing : (j : ℕ) → j < length (with_started ts i) → IsWriting (ticket_at (with_started ts i) j) → ⊥
-  no_writing j l = at_set (λ (x : Ticket). IsWriting x → ⊥) ts i j begun no_ticket h (λ _ w. no_write (sym is ∙ w.writes)) (λ _ w. not_both (ticket_at ts j).started (whole_still j (still_in j l)) w.started)
+  no_writing j l = at_set (λ (x : Ticket). IsWriting x → ⊥) ts i j begun no_ticket h (λ _ w. no_write (sym is ∙ w.writes))
+      (λ _ w. not_both (ticket_at ts j).started (whole_still j (still_in j l)) w.started)
 
   no_reading : (j : ℕ) → j < length (with_started ts i) → IsReading (ticket_at (with_started ts i) j) → ⊥
-  no_reading j l = at_set (λ (x : Ticket). IsReading x → ⊥) ts i j begun no_ticket h (λ _ w. no_read (sym is ∙ w.reads)) (λ _ w. not_both (ticket_at ts j).started (whole_still j (still_in j l)) w.started)
+  no_reading j l = at_set (λ (x : Ticket). IsReading x → ⊥) ts i j begun no_ticket h (λ _ w. no_read (sym is ∙ w.reads))
+      (λ _ w. not_both (ticket_at ts j).started (whole_still j (still_in j l)) w.started)
 
-  fits_begun : (t : Ticket) (c : OpenCall) → t.kind ≡ kind.Whole → Fits size streams (length ns) t c → Fits size streams (length ns) (record t { started = true }) c
+  fits_begun : (t : Ticket) (c : OpenCall) → t.kind ≡ kind.Whole → Fits size streams (length ns) t c
+      → Fits size streams (length ns) (record t { started = true }) c
   fits_begun t c w f = record {
-    lies = record { around = f.lies.around; up = f.lies.up; within = f.lies.within; good = f.lies.good; covers = f.lies.covers; empty = f.lies.empty };
+    lies = record {
+      around = f.lies.around;
+      up = f.lies.up;
+      within = f.lies.within;
+      good = f.lies.good;
+      covers =
+          f.lies.covers;
+      empty = f.lies.empty;
+    };
     stream = f.stream;
     short = f.short;
     count = f.count;
@@ -173,14 +196,18 @@ module _ (v v2 : Volume) (size streams : ℕ) (es : List Entry) (modes : List Mo
   }
 
   -- the call starts, where the replicas are the volume that is due
-  pub started_whole : length ns2 ≡ length ns → length v2.disk ≡ size → ((r : ℕ) → mode_of modes r ≢ Err → length (node_at ns2 r).disk ≡ size) → ((r : ℕ) → mode_of modes r ≢ Err → snapshots_of (node_at ns2 r) ≡ v2.snapshots)
-      → ((r : ℕ) → mode_of modes r ≡ Rw → volume_of_node (node_at ns2 r) ≡ v2) → AreClients v2 size streams es modes (with_started ts i) cs ns2
+  pub started_whole : length ns2 ≡ length ns → length v2.disk ≡ size
+      → ((r : ℕ) → mode_of modes r ≢ Err → length (node_at ns2 r).disk ≡ size)
+      → ((r : ℕ) → mode_of modes r ≢ Err → snapshots_of (node_at ns2 r) ≡ v2.snapshots)
+      → ((r : ℕ) → mode_of modes r ≡ Rw → volume_of_node (node_at ns2 r) ≡ v2)
+      → AreClients v2 size streams es modes (with_started ts i) cs ns2
   started_whole many disk sizes tree read = record {
     paired = ok.paired ∙ sym (length-set ts i begun);
     order = AreInOrder-with_started ts i clear ok.order;
     fits = λ j l. subst (λ n. Fits size streams n (ticket_at (with_started ts i) j) (open_at cs j)) (sym many)
         (at_set (λ (x : Ticket). Fits size streams (length ns) x (open_at cs j)) ts i j begun no_ticket h
-        (λ e. subst (λ n. Fits size streams (length ns) begun (open_at cs n)) (sym e) (fits_begun (ticket_at ts i) (open_at cs i) is (ok.fits i h)))
+        (λ e. subst (λ n. Fits size streams (length ns) begun (open_at cs n)) (sym e)
+        (fits_begun (ticket_at ts i) (open_at cs i) is (ok.fits i h)))
         (λ _. ok.fits j (still_in j l)));
     agree = record {
       disk = disk;
@@ -196,11 +223,15 @@ module _ (v v2 : Volume) (size streams : ℕ) (es : List Entry) (modes : List Mo
   }
 
 -- the call is started then, which owes its part to each replica that has not failed
-pub started_is : (p : PlainState) (modes : List Mode) (ts : List Ticket) (cs : List OpenCall) (ns : List Node) (i : ℕ) (op : WholeOp) (w : Whole) → AreInOrder ts → i < length ts → (ticket_at ts i).kind ≡ kind.Whole
-    → length modes ≡ length ns → w.number ≡ (ticket_at ts i).number → w.op ≡ op → w.parts ≡ map part_for modes → (open_at cs i).op ≡ Some op → MayBeDone op p
-    → ((r : ℕ) → mode_of modes r ≢ Err → CanTake op p.volume.snapshots (node_at ns r) (spare_at w.spares r)) → IsStarted p modes (with_started ts i) cs ns w
+pub started_is : (p : PlainState) (modes : List Mode) (ts : List Ticket) (cs : List OpenCall) (ns : List Node) (i : ℕ)
+    (op : WholeOp) (w : Whole) → AreInOrder ts → i < length ts → (ticket_at ts i).kind ≡ kind.Whole
+    → length modes ≡ length ns → w.number ≡ (ticket_at ts i).number → w.op ≡ op → w.parts ≡ map part_for modes
+    → (open_at cs i).op ≡ Some op → MayBeDone op p
+    → ((r : ℕ) → mode_of modes r ≢ Err → CanTake op p.volume.snapshots (node_at ns r) (spare_at w.spares r))
+    → IsStarted p modes (with_started ts i) cs ns w
 started_is p modes ts cs ns i op w order h is many number same owed asked may takes =
-    let here : ticket_at (with_started ts i) i ≡ record (ticket_at ts i) { started = true } = get_or-set_same ts i (record (ticket_at ts i) { started = true }) no_ticket h in
+    let here : ticket_at (with_started ts i) i ≡ record (ticket_at ts i) { started = true } =
+    get_or-set_same ts i (record (ticket_at ts i) { started = true }) no_ticket h in
     record {
       place = i;
       stands = subst (λ n. StandsAt (with_started ts i) n i) (sym number) (started_stands ts i order h);
@@ -232,7 +263,8 @@ starts_plain (whole.Purge f) modes on = tt
 starts_plain (whole.Barrier q) modes on = absurd on
 
 -- it keeps the length of a disk that is written and not read
-written_size : (op : WholeOp) (modes : List Mode) (r : ℕ) (n : Node) → StartsOn op modes → mode_of modes r ≡ Wo → length (part_on op n).disk ≡ length n.disk
+written_size : (op : WholeOp) (modes : List Mode) (r : ℕ) (n : Node) → StartsOn op modes → mode_of modes r ≡ Wo
+    → length (part_on op n).disk ≡ length n.disk
 written_size (whole.Snapshot name) modes r n on e = refl
 written_size (whole.Remove name) modes r n on e = absurd (on r e)
 written_size (whole.Revert name) modes r n on e = absurd (on r e)
@@ -247,7 +279,8 @@ written_folded (whole.Revert name) modes r n on e = tt
 written_folded (whole.Purge f) modes r n on e = absurd (on r e)
 written_folded (whole.Barrier q) modes r n on e = tt
 
-module _ (op : WholeOp) (p : PlainState) (size streams : ℕ) (es : List Entry) (modes : List Mode) (ts : List Ticket) (cs : List OpenCall) (ns : List Node) (i : ℕ)
+module _ (op : WholeOp) (p : PlainState) (size streams : ℕ) (es : List Entry) (modes : List Mode) (ts : List Ticket)
+    (cs : List OpenCall) (ns : List Node) (i : ℕ)
     (ok : AreClients p.volume size streams es modes ts cs ns) (may : MayBeDone op p) (on : StartsOn op modes)
     (h : i < length ts) (is : (ticket_at ts i).kind ≡ kind.Whole) (waits : (ticket_at ts i).started ≡ false) (clear : IsClear ts i) where
   abbrev parts : List Part
@@ -258,13 +291,15 @@ module _ (op : WholeOp) (p : PlainState) (size streams : ℕ) (es : List Entry) 
 
   -- a replica that has not failed owes its part
   due_form : (r : ℕ) → mode_of modes r ≢ Err → node_at (formed op parts ns) r ≡ part_on op (node_at ns r)
-  due_form r up = formed_in op parts ns r (omega (arith, up_in modes r up, ok.agree.as_many)) ∙ ap (λ x. form_part op x (node_at ns r)) (part_of modes r ∙ part_for_owed (mode_of modes r) up)
+  due_form r up = formed_in op parts ns r (omega (arith, up_in modes r up, ok.agree.as_many))
+      ∙ ap (λ x. form_part op x (node_at ns r)) (part_of modes r ∙ part_for_owed (mode_of modes r) up)
 
   -- one that is read is in due form the due volume
   pub each_due : AreNamed p → (r : ℕ) → mode_of modes r ≡ Rw → volume_of_node (node_at (formed op parts ns) r) ≡ due_of op p.volume
   each_due named r e =
       ap volume_of_node (due_form r (rw_up (mode_of modes r) e))
-      ∙ op_whole op p.volume (node_at ns r) named.once can (is_volume p.volume size r modes ts ns (still_clear ts i ok.order h is waits clear) ok.agree e)
+      ∙ op_whole op p.volume (node_at ns r) named.once can
+      (is_volume p.volume size r modes ts ns (still_clear ts i ok.order h is waits clear) ok.agree e)
 
   -- each has in due form the volume's length
   each_size : AreNamed p → (r : ℕ) → mode_of modes r ≢ Err → length (node_at (formed op parts ns) r).disk ≡ size
@@ -278,11 +313,13 @@ module _ (op : WholeOp) (p : PlainState) (size streams : ℕ) (es : List Entry) 
   -- the replicas agree in due form with the due volume
   pub begun_whole : AreNamed p → AreClients (due_of op p.volume) size streams es modes (with_started ts i) cs (formed op parts ns)
   begun_whole named =
-      started_whole p.volume (due_of op p.volume) size streams es modes ts cs ns (formed op parts ns) i ok h is waits clear (length-formed op parts ns) (due_size op p may ∙ ok.agree.disk) (each_size named)
+      started_whole p.volume (due_of op p.volume) size streams es modes ts cs ns (formed op parts ns) i ok h is waits clear
+      (length-formed op parts ns) (due_size op p may ∙ ok.agree.disk) (each_size named)
       (λ r up. ap snapshots_of (due_form r up) ∙ op_tree op p.volume (node_at ns r) named.once can (ok.agree.tree r up)) (each_due named)
 
   -- and the call on the whole volume is started, which owes its part to each that has not failed
-  pub begun_is : (w : Whole) → w.number ≡ (ticket_at ts i).number → w.op ≡ op → w.parts ≡ parts → AreSpared op modes ns w.spares → (open_at cs i).op ≡ Some op
+  pub begun_is : (w : Whole) → w.number ≡ (ticket_at ts i).number → w.op ≡ op → w.parts ≡ parts
+      → AreSpared op modes ns w.spares → (open_at cs i).op ≡ Some op
       → ((r : ℕ) → mode_of modes r ≡ Rw → IsFoldedFor op (node_at ns r)) → IsStarted p modes (with_started ts i) cs ns w
   begun_is w number same owed spares asked folded =
       started_is p modes ts cs ns i op w ok.order h is ok.agree.as_many number same owed asked may

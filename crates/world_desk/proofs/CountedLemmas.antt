@@ -1,5 +1,6 @@
 -- What steps leave of what the commands of the maintenance turn count on.
-use Rattle.std.proofs.Common.{◌≡◌, ℕ, zero, suc, ◌<◌, Bool, true, false, cond, eqb, List, [], ◌∷◌, length, set, Option, Some, None, inl, inr, refl, sym, ap, ◌∙◌, subst, arith}
+use Rattle.std.proofs.Common.{◌≡◌, ℕ, zero, suc, ◌<◌, Bool, true, false, cond, eqb, List, [], ◌∷◌, length, set}
+use Rattle.std.proofs.Common.{Option, Some, None, inl, inr, refl, sym, ap, ◌∙◌, subst, arith}
 use Rattle.std.proofs.lemmas.Bool.{eqb-true}
 use Rattle.volume_model.specs.declared.call.Call.{Call}
 use Rattle.volume_model.specs.declared.mark.Mark.TheVariants as mark
@@ -31,7 +32,8 @@ use Rattle.world_desk.specs.Laid.{IsLater}
 -- ---- the rebuild stays as it is
 
 -- one replica is another now, with the same layers
-layers-set : (ns : List Node) (r q : ℕ) (node : Node) → node.layers ≡ (node_at ns r).layers → (node_at (set ns r node) q).layers ≡ (node_at ns q).layers
+layers-set : (ns : List Node) (r q : ℕ) (node : Node) → node.layers ≡ (node_at ns r).layers
+    → (node_at (set ns r node) q).layers ≡ (node_at ns q).layers
 layers-set [] r q node same = refl
 layers-set (n ∷ ns) zero zero node same = same
 layers-set (n ∷ ns) zero (suc q) node same = refl
@@ -56,7 +58,8 @@ module _ (s s2 : State) (rebuild : s2.rebuild ≡ s.rebuild) (ended : s2.ended �
   kept_roomier keeps = kept_layers (λ r. ap (λ (n : Node). n.layers) (keeps.same r))
 
   -- where one replica takes a write
-  pub kept_put : (r : ℕ) (node : Node) → s2.nodes ≡ set s.nodes r node → node.layers ≡ (node_at s.nodes r).layers → IsRebuildKept s.rebuild s s2
+  pub kept_put : (r : ℕ) (node : Node) → s2.nodes ≡ set s.nodes r node → node.layers ≡ (node_at s.nodes r).layers
+      → IsRebuildKept s.rebuild s s2
   kept_put r node is same = kept_layers (λ q. ap (λ (ns : List Node). (node_at ns q).layers) is ∙ layers-set s.nodes r q node same)
 
   -- where no replica changes
@@ -64,7 +67,8 @@ module _ (s s2 : State) (rebuild : s2.rebuild ≡ s.rebuild) (ended : s2.ended �
   kept_same nodes = kept_layers (λ r. ap (λ (ns : List Node). (node_at ns r).layers) nodes)
 
 -- what is kept, and then no more changed
-pub kept_then : (o : Option Rebuilding) (s s2 s3 : State) → IsRebuildKept o s s2 → s3.rebuild ≡ s2.rebuild → s3.ended ≡ s2.ended → s3.nodes ≡ s2.nodes → IsRebuildKept o s s3
+pub kept_then : (o : Option Rebuilding) (s s2 s3 : State) → IsRebuildKept o s s2 → s3.rebuild ≡ s2.rebuild
+    → s3.ended ≡ s2.ended → s3.nodes ≡ s2.nodes → IsRebuildKept o s s3
 kept_then o s s2 s3 kept rebuild ended nodes = kept_later o s s2 s3 kept (kept_same s2 s3 rebuild ended nodes)
 
 -- ---- a replica falls, behind its mark in s1
@@ -75,7 +79,8 @@ module _ (s s1 : State) (rebuild : s1.rebuild ≡ s.rebuild) (ended : s1.ended �
   kept_fall r = by s1.rebuild refl
     where
       chosen : (b : Rebuilding) → s1.rebuild ≡ Some b → (c : Bool) → IsRebuildKept s.rebuild s (cond c (aborted s1 b.target) s1)
-      chosen b is true = subst (λ (o : Option Rebuilding). IsRebuildKept o s (aborted s1 b.target)) (sym is ∙ rebuild) (inr (record { none = refl; ended = refl }))
+      chosen b is true = subst (λ (o : Option Rebuilding). IsRebuildKept o s (aborted s1 b.target)) (sym is ∙ rebuild)
+          (inr (record { none = refl; ended = refl }))
       chosen b is false = kept_same s s1 rebuild ended nodes
 
       by : (o : Option Rebuilding) → s1.rebuild ≡ o → IsRebuildKept s.rebuild s (aborted_with o s1 r)
@@ -98,7 +103,8 @@ pub kept_answered : (n : ℕ) (c : Call) (place : ℕ) (s s2 : State) → IsAnsw
 kept_answered n c place s s2 is =
     let fell : State = after_fail (with_place s) (failed_by c) in
     let last : State = answered fell n (length s.book.entries) c (plain_step (modes_in s) (told_of s) c).1 in
-    subst (IsRebuildKept s.rebuild s) (sym is.state) (kept_then s.rebuild s fell last (kept_after_fail s (with_place s) refl refl refl (failed_by c)) refl refl refl)
+    subst (IsRebuildKept s.rebuild s) (sym is.state)
+    (kept_then s.rebuild s fell last (kept_after_fail s (with_place s) refl refl refl (failed_by c)) refl refl refl)
 
 -- ---- what others count on
 
@@ -113,7 +119,8 @@ each_started : (m : ℕ) (P : Type 0) (ts : List Ticket) (cs : List MaintCall)
 each_started m P [] cs f = tt
 each_started m P (t ∷ ts) [] f = tt
 each_started m P (t ∷ ts) (c ∷ cs) f =
-    by (each_started m P ts cs (λ k less fewer started own. f (suc k) (omega (arith, less)) (omega (arith, fewer)) started own)) (eqb c.stream m) refl
+    by (each_started m P ts cs (λ k less fewer started own. f (suc k) (omega (arith, less)) (omega (arith, fewer)) started own))
+    (eqb c.stream m) refl
   where
     by : Each (λ (p : Ticket × MaintCall). p.0.started ≡ true → P) (commands_in m ts cs) → (b : Bool) → eqb c.stream m ≡ b
         → Each (λ (p : Ticket × MaintCall). p.0.started ≡ true → P) (cond b ((t, c) ∷ commands_in m ts cs) (commands_in m ts cs))
@@ -124,18 +131,24 @@ in_way : (a b : Kind) (t u : Ticket) → a ≡ kind.Whole → b ≡ kind.Whole �
 in_way a b t u first second = subst (λ (k : Kind × Kind). ConflictBy k.0 k.1 t.range u.range) (λ i. (sym first i, sym second i)) tt
 
 -- of tickets for the whole volume only the first has started
-first_started : (ts : List Ticket) → AreInOrder ts → ((k : ℕ) → k < length ts → (ticket_at ts k).kind ≡ kind.Whole) → (k : ℕ) → k < length ts → (ticket_at ts k).started ≡ true → k ≡ 0
+first_started : (ts : List Ticket) → AreInOrder ts → ((k : ℕ) → k < length ts → (ticket_at ts k).kind ≡ kind.Whole)
+    → (k : ℕ) → k < length ts → (ticket_at ts k).started ≡ true → k ≡ 0
 first_started ts order kinds zero less started = refl
 first_started ts order kinds (suc k) less started =
-    absurd (order.apart (suc k) less started zero (omega arith) (in_way (ticket_at ts zero).kind (ticket_at ts (suc k)).kind (ticket_at ts zero) (ticket_at ts (suc k)) (kinds zero (omega (arith, less))) (kinds (suc k) less)))
+    absurd (order.apart (suc k) less started zero (omega arith)
+    (in_way (ticket_at ts zero).kind (ticket_at ts (suc k)).kind (ticket_at ts zero) (ticket_at ts (suc k))
+    (kinds zero (omega (arith, less))) (kinds (suc k) less)))
 
 -- where the first command is the stream's, no other stream's has the turn, so that the step owes nothing
 pub own_turn : (n : ℕ) (s s2 : State) → IsSound s → (command_at s.commands 0).stream ≡ n → AreOthersCounted n s s2
 own_turn n s s2 ok own m other = each_started m (IsRebuildKept s.rebuild s s2) s.maint s.commands
-    (λ k less fewer started theirs. absurd (other (sym theirs ∙ ap (λ (i : ℕ). (command_at s.commands i).stream) (first_started s.maint ok.maint.queued.order ok.maint.queued.kinds k less started) ∙ own)))
+    (λ k less fewer started theirs.
+    absurd (other (sym theirs ∙ ap (λ (i : ℕ). (command_at s.commands i).stream)
+    (first_started s.maint ok.maint.queued.order ok.maint.queued.kinds k less started) ∙ own)))
 
 -- ---- what its own stream finds
 
 -- the rebuild that is open while its one command has the turn was kept
-pub kept_in_turn : (n : ℕ) (s t : State) (p : Ticket) (c : MaintCall) → IsLater n s t → turning s n ≡ (p, c) ∷ [] → p.started ≡ true → IsRebuildKept s.rebuild s t
+pub kept_in_turn : (n : ℕ) (s t : State) (p : Ticket) (c : MaintCall) → IsLater n s t → turning s n ≡ (p, c) ∷ []
+    → p.started ≡ true → IsRebuildKept s.rebuild s t
 kept_in_turn n s t p c later is started = (subst (Each (λ (q : Ticket × MaintCall). CountsOn q.0 s t)) is later.counted).0 started

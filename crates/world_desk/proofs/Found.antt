@@ -1,5 +1,6 @@
 -- What the holder of a stream's seat finds of its own in the World, after others' steps.
-use Rattle.std.proofs.Common.{◌≡◌, ◌≢◌, ℕ, zero, suc, ◌<◌, Bool, true, false, cond, eqb, List, [], ◌∷◌, ◌++◌, length, map, filter, Option, Some, append-nil, eq-eqb, ne_eqb, sym, refl, ap, ◌∙◌, subst, arith}
+use Rattle.std.proofs.Common.{◌≡◌, ◌≢◌, ℕ, zero, suc, ◌<◌, Bool, true, false, cond, eqb, List, [], ◌∷◌, ◌++◌, length}
+use Rattle.std.proofs.Common.{map, filter, Option, Some, append-nil, eq-eqb, ne_eqb, sym, refl, ap, ◌∙◌, subst, arith}
 use Rattle.std.proofs.lemmas.List.{append_cancel_left}
 use Rattle.volume_model.specs.declared.entry.Entry.{Entry}
 use Rattle.range_turns.specs.declared.ticket.Ticket.{Ticket}
@@ -14,7 +15,8 @@ use Rattle.volume_core.specs.Streams.{running, turning, commands_in}
 use Rattle.desk_lock.specs.Account.{Each, Finds, is_stream}
 use Rattle.desk_lock.proofs.Lists.{entries_of-append}
 use Rattle.world_desk.specs.declared.kept.WorldOnDesk.{WorldOnDesk}
-use Rattle.world_desk.specs.Laid.{Running, GaveUp, Turn, Call, gave_up_of, MayCountOn, stream_of, parts_for, turn_of, call_of, running_of, parts_of, laid, world_account, IsLater}
+use Rattle.world_desk.specs.Laid.{Running, GaveUp, Turn, Call, gave_up_of, MayCountOn, stream_of, parts_for, turn_of}
+use Rattle.world_desk.specs.Laid.{call_of, running_of, parts_of, laid, world_account, IsLater}
 use Rattle.world_desk.specs.Counted.{CountsOn}
 
 -- ---- what is open, by its kind
@@ -64,7 +66,8 @@ module _ (w : Option Whole) where
   parts_in-calls [] = refl
   parts_in-calls (c ∷ cs) = ap (λ l. parts_for w c.0 ∷ l) (parts_in-calls cs)
 
-  parts_in-both : (ms : List (Ticket × MaintCall)) (cs : List (Ticket × OpenCall)) → parts_in (map turn_of ms ++ map (call_of w) cs) ≡ map (λ (p : Ticket × OpenCall). parts_for w p.0) cs
+  parts_in-both : (ms : List (Ticket × MaintCall)) (cs : List (Ticket × OpenCall))
+      → parts_in (map turn_of ms ++ map (call_of w) cs) ≡ map (λ (p : Ticket × OpenCall). parts_for w p.0) cs
   parts_in-both [] cs = parts_in-calls cs
   parts_in-both (m ∷ ms) cs = parts_in-both ms cs
 
@@ -72,7 +75,8 @@ module _ (w : Option Whole) where
   gave_up_in-calls [] = refl
   gave_up_in-calls (c ∷ cs) = gave_up_in-calls cs
 
-  gave_up_in-both : (ms : List (Ticket × MaintCall)) (cs : List (Ticket × OpenCall)) → gave_up_in (map turn_of ms ++ map (call_of w) cs) ≡ false
+  gave_up_in-both : (ms : List (Ticket × MaintCall)) (cs : List (Ticket × OpenCall))
+      → gave_up_in (map turn_of ms ++ map (call_of w) cs) ≡ false
   gave_up_in-both [] cs = gave_up_in-calls cs
   gave_up_in-both (m ∷ ms) cs = gave_up_in-both ms cs
 
@@ -86,7 +90,8 @@ module _ (w : Option Whole) where
     calls_of-all true = calls_of-both ms cs
     calls_of-all false = calls_of-both ms cs
 
-    parts_in-all : (b : Bool) → parts_in (gave_up_of b ++ (map turn_of ms ++ map (call_of w) cs)) ≡ map (λ (p : Ticket × OpenCall). parts_for w p.0) cs
+    parts_in-all : (b : Bool) → parts_in (gave_up_of b ++ (map turn_of ms ++ map (call_of w) cs)) ≡ map
+        (λ (p : Ticket × OpenCall). parts_for w p.0) cs
     parts_in-all true = parts_in-both ms cs
     parts_in-all false = parts_in-both ms cs
 
@@ -140,24 +145,30 @@ tail_none : (b : Bool) (e : Entry) (es : List Entry) → cond b (e ∷ es) es �
 tail_none true e es h = absurd cc
 tail_none false e es h = h
 
-pub none_own : (n : ℕ) (es : List Entry) → filter (λ e. is_stream n (stream_of e)) es ≡ [] → Each (λ e. is_stream n (stream_of e) ≡ false) es
+pub none_own : (n : ℕ) (es : List Entry) → filter (λ e. is_stream n (stream_of e)) es ≡ []
+    → Each (λ e. is_stream n (stream_of e) ≡ false) es
 none_own n [] h = tt
 none_own n (e ∷ es) h =
     let rest = filter (λ x. is_stream n (stream_of x)) es in
     (cond_none (is_stream n (stream_of e)) e rest h, none_own n es (tail_none (is_stream n (stream_of e)) e rest h))
 
-between_none : (n : ℕ) (all before es : List Entry) → all ≡ before ++ es → filter (λ e. is_stream n (stream_of e)) all ≡ filter (λ e. is_stream n (stream_of e)) before
+between_none : (n : ℕ) (all before es : List Entry) → all ≡ before ++ es
+    → filter (λ e. is_stream n (stream_of e)) all ≡ filter (λ e. is_stream n (stream_of e)) before
     → filter (λ e. is_stream n (stream_of e)) es ≡ []
 between_none n all before es e same =
     let own : List Entry → List Entry = filter (λ x. is_stream n (stream_of x)) in
-    append_cancel_left (own before) (own es) [] (sym (ap own e ∙ entries_of-append world_account n before es) ∙ same ∙ sym (append-nil (own before)))
+    append_cancel_left (own before) (own es) [] (sym (ap own e ∙ entries_of-append world_account n before es) ∙ same
+    ∙ sym (append-nil (own before)))
 
 -- what commands count on, among all that is open
-counted_in : (s t : State) (ms : List (Ticket × MaintCall)) (rs : List Running) → Each (λ r. MayCountOn r s t) (map turn_of ms ++ rs) → Each (λ (p : Ticket × MaintCall). CountsOn p.0 s t) ms
+counted_in : (s t : State) (ms : List (Ticket × MaintCall)) (rs : List Running)
+    → Each (λ r. MayCountOn r s t) (map turn_of ms ++ rs) → Each (λ (p : Ticket × MaintCall). CountsOn p.0 s t) ms
 counted_in s t [] rs h = tt
 counted_in s t (m ∷ ms) rs h = (h.0, counted_in s t ms rs h.1)
 
-counted_of : (s t : State) (b : Bool) (ms : List (Ticket × MaintCall)) (rs : List Running) → Each (λ r. MayCountOn r s t) (gave_up_of b ++ (map turn_of ms ++ rs)) → Each (λ (p : Ticket × MaintCall). CountsOn p.0 s t) ms
+counted_of : (s t : State) (b : Bool) (ms : List (Ticket × MaintCall)) (rs : List Running)
+    → Each (λ r. MayCountOn r s t) (gave_up_of b ++ (map turn_of ms ++ rs))
+    → Each (λ (p : Ticket × MaintCall). CountsOn p.0 s t) ms
 counted_of s t true ms rs h = counted_in s t ms rs h.1
 counted_of s t false ms rs h = counted_in s t ms rs h
 
@@ -170,7 +181,8 @@ found_later n x y f = record {
   turns = same_turns n (laid y) (laid x) f.running;
   parts = same_parts n (laid y) (laid x) f.running;
   gave_up = same_gave_up n (laid y) (laid x) f.running;
-  counted = counted_of (laid y) (laid x) (gave_up_at (laid y).gave_up n) (turning (laid y) n) (map (call_of (laid y).whole) (running (laid y) n)) f.counted;
+  counted = counted_of (laid y) (laid x) (gave_up_at (laid y).gave_up n) (turning (laid y) n)
+      (map (call_of (laid y).whole) (running (laid y) n)) f.counted;
 }
 
 -- ---- a stream without a command of the turn

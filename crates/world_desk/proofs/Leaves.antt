@@ -14,7 +14,8 @@ use Rattle.volume_core.specs.Sound.{IsSound}
 use Rattle.volume_core.specs.Streams.{running, turning, MayAppend, MayAppendMark, MayGo}
 use Rattle.desk_lock.specs.Account.{MayAdd, Each, MayLeave}
 use Rattle.world_desk.specs.declared.kept.WorldOnDesk.{WorldOnDesk}
-use Rattle.world_desk.specs.Laid.{Call, gave_up_of, MayCountOn, laid, stream_of, stream_of_mark, parts_for, turn_of, call_of, parts_of, world_account}
+use Rattle.world_desk.specs.Laid.{Call, gave_up_of, MayCountOn, laid, stream_of, stream_of_mark, parts_for, turn_of}
+use Rattle.world_desk.specs.Laid.{call_of, parts_of, world_account}
 use Rattle.world_desk.specs.Counted.{CountsOn, AreOthersCounted}
 use Rattle.world_desk.proofs.CountedLemmas.{kept_same, others_kept}
 
@@ -61,18 +62,22 @@ calls_counted s t [] = tt
 calls_counted s t (c ∷ cs) = (tt, calls_counted s t cs)
 
 -- so all that is open has what its commands count on
-turns_counted : (s t : State) (ms : List (Ticket × MaintCall)) (cs : List (Ticket × OpenCall)) → Each (λ (p : Ticket × MaintCall). CountsOn p.0 s t) ms → Each (λ r. MayCountOn r s t) (map turn_of ms ++ map (call_of s.whole) cs)
+turns_counted : (s t : State) (ms : List (Ticket × MaintCall)) (cs : List (Ticket × OpenCall))
+    → Each (λ (p : Ticket × MaintCall). CountsOn p.0 s t) ms
+    → Each (λ r. MayCountOn r s t) (map turn_of ms ++ map (call_of s.whole) cs)
 turns_counted s t [] cs h = calls_counted s t cs
 turns_counted s t (m ∷ ms) cs h = (h.0, turns_counted s t ms cs h.1)
 
-all_counted : (s t : State) (b : Bool) (ms : List (Ticket × MaintCall)) (cs : List (Ticket × OpenCall)) → Each (λ (p : Ticket × MaintCall). CountsOn p.0 s t) ms
+all_counted : (s t : State) (b : Bool) (ms : List (Ticket × MaintCall)) (cs : List (Ticket × OpenCall))
+    → Each (λ (p : Ticket × MaintCall). CountsOn p.0 s t) ms
     → Each (λ r. MayCountOn r s t) (gave_up_of b ++ (map turn_of ms ++ map (call_of s.whole) cs))
 all_counted s t true ms cs h = (tt, turns_counted s t ms cs h)
 all_counted s t false ms cs h = turns_counted s t ms cs h
 
 -- The condition of `leave`, for the seat of the stream: what a step may do to others' calls, to how far each replica is
 -- with them, and to what others' commands that have the turn count on.
-pub may_leave : (n : ℕ) (x y : WorldOnDesk) → MayGo n (laid x) (laid y) → ((m : ℕ) → m ≢ n → parts_of (laid y) m ≡ parts_of (laid x) m) → AreOthersCounted n (laid x) (laid y)
+pub may_leave : (n : ℕ) (x y : WorldOnDesk) → MayGo n (laid x) (laid y)
+    → ((m : ℕ) → m ≢ n → parts_of (laid y) m ≡ parts_of (laid x) m) → AreOthersCounted n (laid x) (laid y)
     → MayLeave world_account (Some n) x y
 may_leave n x y may parts counted = record {
   sound = may.sound;
@@ -80,9 +85,11 @@ may_leave n x y may parts counted = record {
   added = (may.added.0, may.added.1, may_add n may.added.0 may.added.2);
   others = λ m other.
       let apart : m ≢ n = λ e. other (ap Some (sym e)) in
-      let calls = made_same (λ p ps. Call p.0 p.1 ps) (laid x).whole (laid y).whole (running (laid x) m) (running (laid y) m) (may.others m apart) (parts m apart) in
+      let calls = made_same (λ p ps. Call p.0 p.1 ps) (laid x).whole (laid y).whole (running (laid x) m)
+      (running (laid y) m) (may.others m apart) (parts m apart) in
       λ i. gave_up_of (may.gave_up m apart i) ++ (map turn_of (may.turns m apart i) ++ calls i);
-  counted = λ m other. all_counted (laid x) (laid y) (gave_up_at (laid x).gave_up m) (turning (laid x) m) (running (laid x) m) (counted m (λ e. other (ap Some (sym e))));
+  counted = λ m other. all_counted (laid x) (laid y) (gave_up_at (laid x).gave_up m) (turning (laid x) m)
+      (running (laid x) m) (counted m (λ e. other (ap Some (sym e))));
 }
 
 -- where the operation on the whole volume stays as it is

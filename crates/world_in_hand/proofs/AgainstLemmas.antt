@@ -1,5 +1,6 @@
 -- What stood against a step, as the stream of the call sees it: its own call has started, so the ticket does not.
-use Rattle.std.proofs.Common.{◌≡◌, ◌≢◌, ℕ, ◌⊎◌, inl, inr, ⊎_elim, List, [], ◌∷◌, true, Result, Ok, OnErr, IfErr, Option, Some, None, subst, sym, refl, ap, ◌∙◌}
+use Rattle.std.proofs.Common.{◌≡◌, ◌≢◌, ℕ, ◌⊎◌, inl, inr, ⊎_elim, List, [], ◌∷◌, true, Result, Ok, OnErr, IfErr}
+use Rattle.std.proofs.Common.{Option, Some, None, subst, sym, refl, ap, ◌∙◌}
 use Rattle.std.proofs.Common.{Err as Failed}
 use Rattle.range_turns.specs.declared.ticket.Kind.{Kind}
 use Rattle.range_turns.specs.declared.ticket.Kind.TheVariants as kind
@@ -125,17 +126,21 @@ module _ (n t : ℕ) (o : OwnCall) (s : State) (ok : IsSound s) (own : IsOwn t o
 
   -- ---- the end
 
-  awaits_write : (k : Kind) (c : OpenCall) (modes : List Mode) (parts : List Part) (r : ℕ) → k ≡ kind.Write → is_pending_at (mode_of modes r) (part_at parts r) ≡ true → AwaitsIn (call_asked k c) modes parts r
+  awaits_write : (k : Kind) (c : OpenCall) (modes : List Mode) (parts : List Part) (r : ℕ) → k ≡ kind.Write
+      → is_pending_at (mode_of modes r) (part_at parts r) ≡ true → AwaitsIn (call_asked k c) modes parts r
   awaits_write kind.Read c modes parts r e h = absurd cc
   awaits_write kind.Write c modes parts r e h = h
   awaits_write kind.Whole c modes parts r e h = absurd cc
 
-  awaits_read : (k : Kind) (c : OpenCall) (modes : List Mode) (parts : List Part) (r : ℕ) → k ≡ kind.Read → (mode_of modes r ≡ Rw) × ((q : ℕ) → part_at parts q ≢ Acked) → AwaitsIn (call_asked k c) modes parts r
+  awaits_read : (k : Kind) (c : OpenCall) (modes : List Mode) (parts : List Part) (r : ℕ) → k ≡ kind.Read
+      → (mode_of modes r ≡ Rw) × ((q : ℕ) → part_at parts q ≢ Acked) → AwaitsIn (call_asked k c) modes parts r
   awaits_read kind.Read c modes parts r e h = h
   awaits_read kind.Write c modes parts r e h = absurd cc
   awaits_read kind.Whole c modes parts r e h = absurd cc
 
-  awaits : (r i : ℕ) → StandsAt s.tickets t i → AwaitsIn (call_asked (ticket_at s.tickets i).kind (open_at s.calls i)) (modes_in s) (open_at s.calls i).parts r → AwaitsIn o.call (modes_in s) o.parts r
+  awaits : (r i : ℕ) → StandsAt s.tickets t i
+      → AwaitsIn (call_asked (ticket_at s.tickets i).kind (open_at s.calls i)) (modes_in s) (open_at s.calls i).parts r
+      → AwaitsIn o.call (modes_in s) o.parts r
   awaits r i at h = subst (λ (x : OwnCall). AwaitsIn x.call (modes_in s) x.parts r) (own_stands n t o s i ok own at).is h
 
   against_end : HasStarted o → (why : NotThis) → core.AgainstEnd s t why → RefusesEnd (modes_in s) o why
@@ -146,8 +151,12 @@ module _ (n t : ℕ) (o : OwnCall) (s : State) (ok : IsSound s) (own : IsOwn t o
       (λ r. absurd (a.1 p.0 (record { stands = p.1.stands; reads = record { started = p.1.started; reads = r } })))
       (write_or_read (ticket_at s.tickets p.0).kind p.1.range)
   against_end b (against.Pending r) a = ⊎_elim
-      (λ w. awaits r w.0 w.1.stands (awaits_write (ticket_at s.tickets w.0).kind (open_at s.calls w.0) (modes_in s) (open_at s.calls w.0).parts r w.1.writes.writes w.2))
-      (λ d. awaits r d.0 d.1.stands (awaits_read (ticket_at s.tickets d.0).kind (open_at s.calls d.0) (modes_in s) (open_at s.calls d.0).parts r d.1.reads.reads d.2))
+      (λ w. awaits r w.0 w.1.stands
+      (awaits_write (ticket_at s.tickets w.0).kind (open_at s.calls w.0) (modes_in s) (open_at s.calls w.0).parts r
+      w.1.writes.writes w.2))
+      (λ d. awaits r d.0 d.1.stands
+      (awaits_read (ticket_at s.tickets d.0).kind (open_at s.calls d.0) (modes_in s) (open_at s.calls d.0).parts r
+      d.1.reads.reads d.2))
       a
   against_end b (against.Mode m) a = a
   against_end b against.Page a = a
@@ -157,31 +166,41 @@ module _ (n t : ℕ) (o : OwnCall) (s : State) (ok : IsSound s) (own : IsOwn t o
 same_call : (x y : OwnCall) → x ∷ [] ≡ y ∷ [] → x ≡ y
 same_call x y e = cc
 
-started_as : (n t : ℕ) (s : State) → ((o : OwnCall) × IsOwn t o (mine_in n s) × HasStarted o) → (o : OwnCall) → IsOwn t o (mine_in n s) → HasStarted o
+started_as : (n t : ℕ) (s : State) → ((o : OwnCall) × IsOwn t o (mine_in n s) × HasStarted o) → (o : OwnCall)
+    → IsOwn t o (mine_in n s) → HasStarted o
 started_as n t s op o own = subst HasStarted (same_call op.0 o (sym op.1.is ∙ own.is)) op.2
 
 -- ---- of a refused step, after which the World is as it was
 
 module _ {A : Type 0} (n t r : ℕ) (s s2 : State) (ok : IsSound s) where
-  pub takes_why : (res : Result A NotThis) → (o : OwnCall) → IsOwn t o (mine_in n s) → IsStartedWrite o → OnErr res (s2 ≡ s) → IfErr res (core.AgainstWrite s t r) → IfErr res (AgainstTake (modes_in s2) r)
+  pub takes_why : (res : Result A NotThis) → (o : OwnCall) → IsOwn t o (mine_in n s) → IsStartedWrite o → OnErr res (s2 ≡ s)
+      → IfErr res (core.AgainstWrite s t r) → IfErr res (AgainstTake (modes_in s2) r)
   takes_why (Ok x) o own w same a = tt
-  takes_why (Failed why) o own w same a = subst (λ (x : State). AgainstTake (modes_in x) r why) (sym same) (against_take n t o s ok own r w why a)
+  takes_why (Failed why) o own w same a = subst (λ (x : State). AgainstTake (modes_in x) r why) (sym same)
+      (against_take n t o s ok own r w why a)
 
-  pub gives_why : (res : Result A NotThis) → (o : OwnCall) → IsOwn t o (mine_in n s) → IsStartedRead o → OnErr res (s2 ≡ s) → IfErr res (core.AgainstRead s t r) → IfErr res (AgainstGive (modes_in s2) r)
+  pub gives_why : (res : Result A NotThis) → (o : OwnCall) → IsOwn t o (mine_in n s) → IsStartedRead o → OnErr res (s2 ≡ s)
+      → IfErr res (core.AgainstRead s t r) → IfErr res (AgainstGive (modes_in s2) r)
   gives_why (Ok x) o own w same a = tt
-  gives_why (Failed why) o own w same a = subst (λ (x : State). AgainstGive (modes_in x) r why) (sym same) (against_give n t o s ok own r w why a)
+  gives_why (Failed why) o own w same a = subst (λ (x : State). AgainstGive (modes_in x) r why) (sym same)
+      (against_give n t o s ok own r w why a)
 
-  pub acks_why : (res : Result A NotThis) → OnErr res (s2 ≡ s) → IfErr res (core.AgainstAck s t r) → ((o : OwnCall) × IsOwn t o (mine_in n s) × HasStarted o)
+  pub acks_why : (res : Result A NotThis) → OnErr res (s2 ≡ s) → IfErr res (core.AgainstAck s t r)
+      → ((o : OwnCall) × IsOwn t o (mine_in n s) × HasStarted o)
       → IfErr res (λ why. (o : OwnCall) → IsOwn t o (mine_in n s) → RefusesAck (modes_in s2) o r why)
   acks_why (Ok x) same a op = tt
-  acks_why (Failed why) same a op = λ o own. subst (λ (x : State). RefusesAck (modes_in x) o r why) (sym same) (against_ack n t o s ok own r (started_as n t s op o own) why a)
+  acks_why (Failed why) same a op = λ o own. subst (λ (x : State). RefusesAck (modes_in x) o r why) (sym same)
+      (against_ack n t o s ok own r (started_as n t s op o own) why a)
 
-  pub ends_why : (res : Result A NotThis) → OnErr res (s2 ≡ s) → IfErr res (core.AgainstEnd s t) → ((o : OwnCall) × IsOwn t o (mine_in n s) × HasStarted o)
+  pub ends_why : (res : Result A NotThis) → OnErr res (s2 ≡ s) → IfErr res (core.AgainstEnd s t)
+      → ((o : OwnCall) × IsOwn t o (mine_in n s) × HasStarted o)
       → IfErr res (λ why. (o : OwnCall) → IsOwn t o (mine_in n s) → RefusesEnd (modes_in s2) o why)
   ends_why (Ok x) same a op = tt
-  ends_why (Failed why) same a op = λ o own. subst (λ (x : State). RefusesEnd (modes_in x) o why) (sym same) (against_end n t o s ok own (started_as n t s op o own) why a)
+  ends_why (Failed why) same a op = λ o own. subst (λ (x : State). RefusesEnd (modes_in x) o why) (sym same)
+      (against_end n t o s ok own (started_as n t s op o own) why a)
 
-  pub faults_why : (count : ℕ) (res : Result A NotThis) → OnErr res (s2 ≡ s) → IfErr res (core.AgainstFault s n r count) → IfErr res (RefusesFault (modes_in s2) (mine_in n s) r count)
+  pub faults_why : (count : ℕ) (res : Result A NotThis) → OnErr res (s2 ≡ s) → IfErr res (core.AgainstFault s n r count)
+      → IfErr res (RefusesFault (modes_in s2) (mine_in n s) r count)
   faults_why count (Ok x) same a = tt
   faults_why count (Failed why) same a = subst (λ (x : State). RefusesFault (modes_in x) (mine_in n s) r count why) (sym same) (by why a)
     where

@@ -12,6 +12,7 @@ invariant-loop-command g l = record {
   count : length l.channels ≡ length l.initial.channels;
   ends : map (λ x. g.L.Line.ends x.line) l.channels ≡ map (λ x. g.L.Line.ends x.line) l.initial.channels;
   room : HasRoom l.rooms;
-  shown : IsShown (g.C.CommandSteps.mine l.steps) (map (λ x. g.L.Line.count x.line) l.channels) (map (λ x. g.L.Line.carried x.line) l.channels);
+  shown : IsShown (g.C.CommandSteps.mine l.steps) (map (λ x. g.L.Line.count x.line) l.channels)
+      (map (λ x. g.L.Line.carried x.line) l.channels);
   done : Commanded (take l.command-index l.commands) (g.C.CommandSteps.mine l.initial.steps) (g.C.CommandSteps.mine l.steps);
 }

@@ -12,4 +12,6 @@ unwrap-place-requires c =
 pub returns-clause-is : goal.returns-clause-is
 returns-clause-is c = λ n o own.
     let s = state_of c.args.world.now in
-    ap (λ (x : Ticket). x.range) c.ticket.ensures ∙ range_at n c.args.t o s c.unwrap-place.result c.requires.sound own (stands_at c.args.t s c.place.result c.unwrap-place.result c.unwrap-place.ensures c.place.ensures.found)
+    ap (λ (x : Ticket). x.range) c.ticket.ensures
+    ∙ range_at n c.args.t o s c.unwrap-place.result c.requires.sound own
+    (stands_at c.args.t s c.place.result c.unwrap-place.result c.unwrap-place.ensures c.place.ensures.found)

@@ -13,5 +13,6 @@ apply_write-requires-clause-writes g c =
       op.0,
       subst (IsOwn c.args.t op.0) (sym same) op.2,
       op.3.writes,
-      filled_boxes op.0 c.args.first op.1 c.args.request.now c.args.blocks.now op.3 op.4 c.fill.new.self c.fill.ensures.bytes c.fill.ensures.full c.fill.ensures.count,
+      filled_boxes op.0 c.args.first op.1 c.args.request.now c.args.blocks.now op.3 op.4 c.fill.new.self
+          c.fill.ensures.bytes c.fill.ensures.full c.fill.ensures.count,
     )

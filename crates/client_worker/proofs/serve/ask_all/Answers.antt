@@ -19,8 +19,11 @@ loop-r-init g c = record {
 pub ask_write-requires-clause-own : goal.ask_write-requires-clause-own
 ask_write-requires-clause-own g c =
     let op = c.requires.own in
-    carries_one op.0 (g.C.ClientSteps.mine c.args.steps.now) (g.C.ClientSteps.mine c.loop-r.steps) c.loop-r.invariant.goes c.args.t c.args.first op.1 c.loop-r.r op.2 c.args.request.now c.loop-r.request c.args.sets.now c.loop-r.sets c.index-sets-r.result
-    op.3 op.4 c.loop-r.invariant.request (search rules) (search rules) (c.loop-r.invariant.sets c.loop-r.r c.index-sets-r.result (search rules) (search rules))
+    carries_one op.0 (g.C.ClientSteps.mine c.args.steps.now) (g.C.ClientSteps.mine c.loop-r.steps) c.loop-r.invariant.goes
+    c.args.t c.args.first op.1 c.loop-r.r op.2 c.args.request.now c.loop-r.request c.args.sets.now c.loop-r.sets
+    c.index-sets-r.result
+    op.3 op.4 c.loop-r.invariant.request (search rules) (search rules)
+    (c.loop-r.invariant.sets c.loop-r.r c.index-sets-r.result (search rules) (search rules))
 
 pub loop-r-preserved : goal.loop-r-preserved
 loop-r-preserved g c = record {
@@ -30,7 +33,9 @@ loop-r-preserved g c = record {
   ends = search rules;
   room = search rules;
   shown = search rules;
-  goes = goes_then (g.C.ClientSteps.mine c.args.steps.now) (g.C.ClientSteps.mine c.loop-r.steps) (g.C.ClientSteps.mine c.ask_write.new.steps) c.loop-r.invariant.goes c.ask_write.ensures.goes;
+  goes = goes_then (g.C.ClientSteps.mine c.args.steps.now) (g.C.ClientSteps.mine c.loop-r.steps)
+      (g.C.ClientSteps.mine c.ask_write.new.steps) c.loop-r.invariant.goes c.ask_write.ensures.goes;
   request = search rules;
-  sets = λ k d low high. sets_left c.args.sets.now c.loop-r.sets c.loop-r.r c.ask_write.new.blocks c.loop-r.invariant.sets k d low high (search rules);
+  sets = λ k d low high. sets_left c.args.sets.now c.loop-r.sets c.loop-r.r c.ask_write.new.blocks c.loop-r.invariant.sets k
+      d low high (search rules);
 }

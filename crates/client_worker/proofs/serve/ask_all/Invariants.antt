@@ -11,7 +11,8 @@ invariant-loop-r g l = record {
   count : length l.channels ≡ length l.initial.channels;
   ends : map (λ x. g.L.Line.ends x.line) l.channels ≡ map (λ x. g.L.Line.ends x.line) l.initial.channels;
   room : vec_capacity l.initial.room ≤ vec_capacity l.room;
-  shown : IsShown (g.C.ClientSteps.mine l.steps) (map (λ x. g.L.Line.count x.line) l.channels) (map (λ x. g.L.Line.carried x.line) l.channels);
+  shown : IsShown (g.C.ClientSteps.mine l.steps) (map (λ x. g.L.Line.count x.line) l.channels)
+      (map (λ x. g.L.Line.carried x.line) l.channels);
   goes : KeepsOpen (g.C.ClientSteps.mine l.initial.steps) (g.C.ClientSteps.mine l.steps);
   request : drop header_length l.request ≡ drop header_length l.initial.request;
   sets : (k : ℕ) (d : List (Option (List ℕ))) → l.r ≤ k → k < length l.sets → slice_index_or l.sets k d ≡ slice_index_or l.initial.sets k d;

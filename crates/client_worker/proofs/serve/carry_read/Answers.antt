@@ -20,27 +20,35 @@ loop-init g c = record {
 }
 
 pub read_round-requires-clause-lines : goal.read_round-requires-clause-lines
-read_round-requires-clause-lines g c = c.loop.invariant.count ∙ c.requires.lines ∙ sym (goes_replicas (g.C.ClientSteps.mine c.args.steps.now) (g.C.ClientSteps.mine c.loop.steps) c.requires.own.0 c.loop.invariant.goes c.requires.own.1.is)
+read_round-requires-clause-lines g c = c.loop.invariant.count ∙ c.requires.lines
+    ∙ sym (goes_replicas (g.C.ClientSteps.mine c.args.steps.now) (g.C.ClientSteps.mine c.loop.steps) c.requires.own.0
+    c.loop.invariant.goes c.requires.own.1.is)
 
 pub read_round-requires-clause-own : goal.read_round-requires-clause-own
 read_round-requires-clause-own g c =
     let op = c.requires.own in
     let e : to_z w64 (of_z w64 c.args.offset) ≡ c.args.offset = search rules in
     subst (λ z. (x : OwnCall) × IsOwn c.args.t x (g.C.ClientSteps.mine c.loop.steps) × CarriesRead x z c.loop.reply) (sym e)
-    (reads_on op.0 (g.C.ClientSteps.mine c.args.steps.now) (g.C.ClientSteps.mine c.loop.steps) c.loop.invariant.goes c.args.t op.1 c.args.offset c.args.reply.now c.loop.reply op.2 (search rules))
+    (reads_on op.0 (g.C.ClientSteps.mine c.args.steps.now) (g.C.ClientSteps.mine c.loop.steps) c.loop.invariant.goes
+    c.args.t op.1 c.args.offset c.args.reply.now c.loop.reply op.2 (search rules))
 
 pub finish-requires-clause-own : goal.finish-requires-clause-own
 finish-requires-clause-own g c =
-    read_started c.args.t c.args.offset (g.C.ClientSteps.mine c.args.steps.now) (g.C.ClientSteps.mine c.read_round.new.steps) c.args.reply.now
-    (goes_then (g.C.ClientSteps.mine c.args.steps.now) (g.C.ClientSteps.mine c.loop.steps) (g.C.ClientSteps.mine c.read_round.new.steps) c.loop.invariant.goes c.read_round.ensures.goes) c.requires.own
+    let mine_read_round = g.C.ClientSteps.mine c.read_round.new.steps in
+    read_started c.args.t c.args.offset (g.C.ClientSteps.mine c.args.steps.now) mine_read_round c.args.reply.now
+    (goes_then (g.C.ClientSteps.mine c.args.steps.now) (g.C.ClientSteps.mine c.loop.steps) mine_read_round
+    c.loop.invariant.goes c.read_round.ensures.goes) c.requires.own
 
 pub returns-then-finish-clause-shown : goal.returns-then-finish-clause-shown
-returns-then-finish-clause-shown g c = c.finish.ensures.shown (map (λ x. g.L.Line.count x.line) c.read_round.new.channels) (map (λ x. g.L.Line.carried x.line) c.read_round.new.channels) c.read_round.ensures.shown
+returns-then-finish-clause-shown g c = c.finish.ensures.shown (map (λ x. g.L.Line.count x.line) c.read_round.new.channels)
+    (map (λ x. g.L.Line.carried x.line) c.read_round.new.channels) c.read_round.ensures.shown
 
 pub returns-then-finish-clause-done : goal.returns-then-finish-clause-done
 returns-then-finish-clause-done g c =
-    ends_by c.args.t (g.C.ClientSteps.mine c.args.steps.now) (g.C.ClientSteps.mine c.read_round.new.steps) (g.C.ClientSteps.mine c.finish.new.steps)
-    (goes_then (g.C.ClientSteps.mine c.args.steps.now) (g.C.ClientSteps.mine c.loop.steps) (g.C.ClientSteps.mine c.read_round.new.steps) c.loop.invariant.goes c.read_round.ensures.goes)
+    let mine_read_round = g.C.ClientSteps.mine c.read_round.new.steps in
+    ends_by c.args.t (g.C.ClientSteps.mine c.args.steps.now) mine_read_round (g.C.ClientSteps.mine c.finish.new.steps)
+    (goes_then (g.C.ClientSteps.mine c.args.steps.now) (g.C.ClientSteps.mine c.loop.steps) mine_read_round
+    c.loop.invariant.goes c.read_round.ensures.goes)
     (c.requires.own.0, c.requires.own.1) (c.finish.ensures.done c.if-finish.true)
 
 pub loop-preserved : goal.loop-preserved
@@ -50,9 +58,18 @@ loop-preserved g c = record {
   count = search rules;
   room = search rules;
   ends = search rules;
-  shown = c.finish.ensures.shown (map (λ x. g.L.Line.count x.line) c.read_round.new.channels) (map (λ x. g.L.Line.carried x.line) c.read_round.new.channels) c.read_round.ensures.shown;
-  none = c.finish.ensures.none c.if-finish.false (still_read c.args.t c.args.offset (g.C.ClientSteps.mine c.args.steps.now) (g.C.ClientSteps.mine c.read_round.new.steps) c.args.reply.now (goes_then (g.C.ClientSteps.mine c.args.steps.now) (g.C.ClientSteps.mine c.loop.steps) (g.C.ClientSteps.mine c.read_round.new.steps) c.loop.invariant.goes c.read_round.ensures.goes) c.requires.own);
-  goes = goes_then (g.C.ClientSteps.mine c.args.steps.now) (g.C.ClientSteps.mine c.read_round.new.steps) (g.C.ClientSteps.mine c.finish.new.steps)
-      (goes_then (g.C.ClientSteps.mine c.args.steps.now) (g.C.ClientSteps.mine c.loop.steps) (g.C.ClientSteps.mine c.read_round.new.steps) c.loop.invariant.goes c.read_round.ensures.goes)
-      (goes_same (g.C.ClientSteps.mine c.read_round.new.steps) (g.C.ClientSteps.mine c.finish.new.steps) (c.finish.ensures.open c.if-finish.false));
+  shown = c.finish.ensures.shown (map (λ x. g.L.Line.count x.line) c.read_round.new.channels)
+      (map (λ x. g.L.Line.carried x.line) c.read_round.new.channels) c.read_round.ensures.shown;
+  none =
+      let mine_read_round = g.C.ClientSteps.mine c.read_round.new.steps in
+      c.finish.ensures.none c.if-finish.false
+      (still_read c.args.t c.args.offset (g.C.ClientSteps.mine c.args.steps.now) mine_read_round c.args.reply.now
+      (goes_then (g.C.ClientSteps.mine c.args.steps.now) (g.C.ClientSteps.mine c.loop.steps) mine_read_round
+      c.loop.invariant.goes c.read_round.ensures.goes) c.requires.own);
+  goes =
+      let mine_read_round = g.C.ClientSteps.mine c.read_round.new.steps in
+      goes_then (g.C.ClientSteps.mine c.args.steps.now) mine_read_round (g.C.ClientSteps.mine c.finish.new.steps)
+      (goes_then (g.C.ClientSteps.mine c.args.steps.now) (g.C.ClientSteps.mine c.loop.steps) mine_read_round
+      c.loop.invariant.goes c.read_round.ensures.goes)
+      (goes_same mine_read_round (g.C.ClientSteps.mine c.finish.new.steps) (c.finish.ensures.open c.if-finish.false));
 }

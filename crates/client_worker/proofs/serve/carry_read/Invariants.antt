@@ -11,7 +11,8 @@ invariant-loop g l = record {
   count : length l.channels ≡ length l.initial.channels;
   ends : map (λ x. g.L.Line.ends x.line) l.channels ≡ map (λ x. g.L.Line.ends x.line) l.initial.channels;
   room : vec_capacity l.initial.room ≤ vec_capacity l.room;
-  shown : IsShown (g.C.ClientSteps.mine l.steps) (map (λ x. g.L.Line.count x.line) l.channels) (map (λ x. g.L.Line.carried x.line) l.channels);
+  shown : IsShown (g.C.ClientSteps.mine l.steps) (map (λ x. g.L.Line.count x.line) l.channels)
+      (map (λ x. g.L.Line.carried x.line) l.channels);
   goes : KeepsOpen (g.C.ClientSteps.mine l.initial.steps) (g.C.ClientSteps.mine l.steps);
   none : NoneAcked (g.C.ClientSteps.mine l.steps);
 }

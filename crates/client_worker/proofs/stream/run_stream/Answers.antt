@@ -23,19 +23,25 @@ loop-left-init g c =
 pub call_in-requires : goal.call_in-requires
 call_in-requires g c =
     let cut : c.loop-left.left ≡ c.in-Some.frame ∷ c.next.new.self = search rules in
-    (All-head IsAsked c.in-Some.frame c.next.new.self (All-same IsAsked (c.in-Some.frame ∷ c.next.new.self) c.loop-left.left (sym cut) c.loop-left.invariant.asked)).call
+    (All-head IsAsked c.in-Some.frame c.next.new.self
+    (All-same IsAsked (c.in-Some.frame ∷ c.next.new.self) c.loop-left.left (sym cut) c.loop-left.invariant.asked)).call
 
 pub serve_call-requires-clause-short : goal.serve_call-requires-clause-short
 serve_call-requires-clause-short g c =
     let cut : c.loop-left.left ≡ c.in-Some.frame ∷ c.next.new.self = search rules in
-    subst IsShort (sym c.call_in.ensures) (asked_short c.in-Some.frame (All-head IsAsked c.in-Some.frame c.next.new.self (All-same IsAsked (c.in-Some.frame ∷ c.next.new.self) c.loop-left.left (sym cut) c.loop-left.invariant.asked)))
+    subst IsShort (sym c.call_in.ensures)
+    (asked_short c.in-Some.frame
+    (All-head IsAsked c.in-Some.frame c.next.new.self
+    (All-same IsAsked (c.in-Some.frame ∷ c.next.new.self) c.loop-left.left (sym cut) c.loop-left.invariant.asked)))
 
 pub loop-left-preserved : goal.loop-left-preserved
 loop-left-preserved g c =
+    let mine_serve_call = g.C.ClientSteps.mine c.serve_call.new.steps in
+    let mine_left = g.C.ClientSteps.mine c.loop-left.steps in
     let cut : c.loop-left.left ≡ c.in-Some.frame ∷ c.next.new.self = search rules in
     let d = c.loop-left.invariant.done in
-    let grew : GrewBy (call_of c.in-Some.frame) (g.C.ClientSteps.mine c.loop-left.steps) (g.C.ClientSteps.mine c.serve_call.new.steps) =
-    subst (λ x. GrewBy x (g.C.ClientSteps.mine c.loop-left.steps) (g.C.ClientSteps.mine c.serve_call.new.steps)) c.call_in.ensures c.in_ok-serve_call.ensures.ok in
+    let grew : GrewBy (call_of c.in-Some.frame) mine_left mine_serve_call =
+    subst (λ x. GrewBy x mine_left mine_serve_call) c.call_in.ensures c.in_ok-serve_call.ensures.ok in
     record {
       ready = search rules;
       home = search rules;
@@ -46,6 +52,6 @@ loop-left-preserved g c =
       done = (
         d.0 ++ c.in-Some.frame ∷ [],
         whole_next c.args.frames.now d.0 c.next.new.self c.loop-left.left c.in-Some.frame d.1 cut,
-        grew_ask call_of d.0 c.in-Some.frame (g.C.ClientSteps.mine c.args.steps.now) (g.C.ClientSteps.mine c.loop-left.steps) (g.C.ClientSteps.mine c.serve_call.new.steps) d.2 grew,
+        grew_ask call_of d.0 c.in-Some.frame (g.C.ClientSteps.mine c.args.steps.now) mine_left mine_serve_call d.2 grew,
       );
     }

@@ -13,9 +13,11 @@ invariant-loop-left g l = record {
   home : g.C.ClientSteps.home l.steps ≡ g.C.ClientSteps.home l.initial.steps;
   count : length l.channels ≡ length l.initial.channels;
   ends : map (λ x. g.L.Line.ends x.line) l.channels ≡ map (λ x. g.L.Line.ends x.line) l.initial.channels;
-  shown : IsShown (g.C.ClientSteps.mine l.steps) (map (λ x. g.L.Line.count x.line) l.channels) (map (λ x. g.L.Line.carried x.line) l.channels);
+  shown : IsShown (g.C.ClientSteps.mine l.steps) (map (λ x. g.L.Line.count x.line) l.channels)
+      (map (λ x. g.L.Line.carried x.line) l.channels);
   asked : All IsAsked l.left;
-  done : (frames : List Frame) × (frames ++ l.left ≡ l.fn.frames) × Grew (map call_of frames) (g.C.ClientSteps.mine l.initial.steps) (g.C.ClientSteps.mine l.steps);
+  done : (frames : List Frame) × (frames ++ l.left ≡ l.fn.frames)
+      × Grew (map call_of frames) (g.C.ClientSteps.mine l.initial.steps) (g.C.ClientSteps.mine l.steps);
 }
 
 abbrev pub decreases-loop-left : goal.decreases-loop-left

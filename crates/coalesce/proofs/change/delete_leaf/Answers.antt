@@ -16,10 +16,12 @@ pub returns-clause-drops : goal.returns-clause-drops
 returns-clause-drops c = record { place = c.place_of-place.result; at = c.place_of-place.ensures.at; is = c.take_out.ensures }
 
 pub returns-clause-readings : goal.returns-clause-readings
-returns-clause-readings c = dropped_keeps c.args.tree.now c.take_out.new.self c.args.name.now c.place_of-place.result c.place_of-place.ensures.at c.requires c.take_out.ensures
+returns-clause-readings c = dropped_keeps c.args.tree.now c.take_out.new.self c.args.name.now c.place_of-place.result
+    c.place_of-place.ensures.at c.requires c.take_out.ensures
 
 pub returns-clause-snapshots : goal.returns-clause-snapshots
-returns-clause-snapshots c = dropped_snapshots c.args.tree.now c.take_out.new.self c.args.name.now c.place_of-place.result c.place_of-place.ensures.whole c.place_of-place.ensures.at c.take_out.ensures
+returns-clause-snapshots c = dropped_snapshots c.args.tree.now c.take_out.new.self c.args.name.now c.place_of-place.result
+    c.place_of-place.ensures.whole c.place_of-place.ensures.at c.take_out.ensures
 
 pub returns-clause-rest : goal.returns-clause-rest
 returns-clause-rest c = dropped_rest c.args.tree.now c.take_out.new.self c.place_of-place.result c.take_out.ensures

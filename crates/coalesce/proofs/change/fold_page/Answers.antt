@@ -7,7 +7,8 @@ use Rattle.coalesce.proofs.change.fold_page.Goals as goal
 pub move_page-requires-clause-parent : goal.move_page-requires-clause-parent
 move_page-requires-clause-parent c =
     let can = c.requires.can.2 in
-    fold_parent c.args.tree.now c.requires.can.0 c.requires.can.1 c.args.places.parent c.args.places.child c.count-count.ensures.whole can.at can.can
+    fold_parent c.args.tree.now c.requires.can.0 c.requires.can.1 c.args.places.parent c.args.places.child
+    c.count-count.ensures.whole can.at can.can
 
 pub returns-clause-folds : goal.returns-clause-folds
 returns-clause-folds c = λ p q can. record {
@@ -27,7 +28,8 @@ returns-clause-readings c = λ p q can.
 same : (c : goal.After-move_page) → snapshots_in c.move_page.new.self ≡ snapshots_in c.args.tree.now
 same c =
     let can = c.requires.can.2 in
-    page_snapshots c.args.tree.now c.move_page.new.self c.requires.can.0 c.requires.can.1 c.args.places.parent c.args.places.child c.args.page
+    page_snapshots c.args.tree.now c.move_page.new.self c.requires.can.0 c.requires.can.1 c.args.places.parent
+    c.args.places.child c.args.page
     c.count-count.ensures.whole can.at can.can c.move_page.ensures.moves
 
 pub returns-clause-snapshots : goal.returns-clause-snapshots

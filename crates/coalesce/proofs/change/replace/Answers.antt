@@ -11,7 +11,8 @@ place_of-above-requires c = child_there c.args.tree.now c.args.parent.now c.args
 
 pub replace-requires-clause-only : goal.replace-requires-clause-only
 replace-requires-clause-only c =
-    fold_only c.args.tree.now c.args.parent.now c.args.child.now c.place_of-below.result c.place_of-above.result c.place_of-below.ensures.whole
+    fold_only c.args.tree.now c.args.parent.now c.args.child.now c.place_of-below.result c.place_of-above.result
+    c.place_of-below.ensures.whole
     (record { parent = c.place_of-below.ensures.at; child = c.place_of-above.ensures.at }) c.requires.can
 
 pub replace-requires-clause-within : goal.replace-requires-clause-within
@@ -27,12 +28,14 @@ returns-clause-replaces c = record {
 
 pub returns-clause-readings : goal.returns-clause-readings
 returns-clause-readings c =
-    replaced_keeps c.args.tree.now c.replace.new.self c.args.parent.now c.args.child.now c.place_of-below.result c.place_of-above.result c.place_of-below.ensures.whole
+    replaced_keeps c.args.tree.now c.replace.new.self c.args.parent.now c.args.child.now c.place_of-below.result
+    c.place_of-above.result c.place_of-below.ensures.whole
     (record { parent = c.place_of-below.ensures.at; child = c.place_of-above.ensures.at }) c.requires.can c.requires.empty c.replace.ensures
 
 pub returns-clause-snapshots : goal.returns-clause-snapshots
 returns-clause-snapshots c =
-    replaced_snapshots c.args.tree.now c.replace.new.self c.args.parent.now c.args.child.now c.place_of-below.result c.place_of-above.result c.place_of-below.ensures.whole
+    replaced_snapshots c.args.tree.now c.replace.new.self c.args.parent.now c.args.child.now c.place_of-below.result
+    c.place_of-above.result c.place_of-below.ensures.whole
     (record { parent = c.place_of-below.ensures.at; child = c.place_of-above.ensures.at }) c.requires.can c.replace.ensures
 
 pub returns-clause-rest : goal.returns-clause-rest

@@ -15,7 +15,8 @@ returns-in-None c =
 pub returns-in-One-Layer : goal.returns-in-One-Layer
 returns-in-One-Layer c =
     let marked : c.meta-meta.result.now.marked ≡ true = search rules in
-    goes_fold c.args.tree.now c.args.place c.meta-meta.result.now c.requires.within c.meta-meta.ensures c.in-One-Layer.child c.meta.result.now c.meta.ensures marked
+    goes_fold c.args.tree.now c.args.place c.meta-meta.result.now c.requires.within c.meta-meta.ensures c.in-One-Layer.child
+    c.meta.result.now c.meta.ensures marked
     (rw c.in-One-Layer.field-0-is at c.in-One-Layer.ensures.told)
 
 pub returns-in-More : goal.returns-in-More

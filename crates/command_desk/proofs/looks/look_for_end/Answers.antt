@@ -13,24 +13,47 @@ use Rattle.command_desk.proofs.looks.look_for_end.Goals as goal
 
 pub leave-requires-clause-may : goal.leave-requires-clause-may
 leave-requires-clause-may g c =
-    may_go c.args.at.now.desk.now c.args.at.now.seat c.args.at.now.stream c.args.at.now.left c.enter-guard.result.state c.requires.ready c.enter-guard.ensures.state c.enter-guard.result.seat.now c.enter-guard.result.state c.enter-guard.ensures.turn.0 (may_stay c.args.at.now.stream (laid c.enter-guard.result.state) c.enter-guard.ensures.state.sound) (λ m other. refl) (counted_stay c.args.at.now.stream (laid c.enter-guard.result.state))
+    let enter = c.enter-guard.result.state in
+    may_go c.args.at.now.desk.now c.args.at.now.seat c.args.at.now.stream c.args.at.now.left enter c.requires.ready
+    c.enter-guard.ensures.state c.enter-guard.result.seat.now enter c.enter-guard.ensures.turn.0
+    (may_stay c.args.at.now.stream (laid enter) c.enter-guard.ensures.state.sound) (λ m other. refl)
+    (counted_stay c.args.at.now.stream (laid enter))
 
 pub returns-clause-ready : goal.returns-clause-ready
 returns-clause-ready g c =
-    at_desk c.args.at.now.desk.now c.args.at.now.seat c.args.at.now.stream c.args.at.now.left c.enter-guard.result.state c.requires.ready c.enter-guard.ensures.state c.enter-guard.result.seat.now c.enter-guard.result.state c.enter-guard.ensures.turn.0 (may_stay c.args.at.now.stream (laid c.enter-guard.result.state) c.enter-guard.ensures.state.sound) c.leave.new.self.0 c.leave.ensures c.args.at.now.left (left_same c.args.at.now.stream (laid c.enter-guard.result.state) c.args.at.now.left (add_left c.args.at.now.desk.now c.args.at.now.seat c.args.at.now.stream c.args.at.now.left c.enter-guard.result.state c.requires.ready c.enter-guard.ensures.state c.args.t c.requires.turn))
+    let enter = c.enter-guard.result.state in
+    at_desk c.args.at.now.desk.now c.args.at.now.seat c.args.at.now.stream c.args.at.now.left enter c.requires.ready
+    c.enter-guard.ensures.state c.enter-guard.result.seat.now enter c.enter-guard.ensures.turn.0
+    (may_stay c.args.at.now.stream (laid enter) c.enter-guard.ensures.state.sound) c.leave.new.self.0 c.leave.ensures
+    c.args.at.now.left (left_same c.args.at.now.stream (laid enter) c.args.at.now.left
+    (add_left c.args.at.now.desk.now c.args.at.now.seat c.args.at.now.stream c.args.at.now.left enter c.requires.ready
+    c.enter-guard.ensures.state c.args.t c.requires.turn))
 
 pub returns-clause-same : goal.returns-clause-same
 returns-clause-same g c =
-    over c.args.at.now.desk.now c.args.at.now.seat c.args.at.now.stream c.args.at.now.left c.enter-guard.result.state c.requires.ready c.enter-guard.ensures.state c.enter-guard.result.seat.now c.enter-guard.result.state c.enter-guard.ensures.turn.0 (may_stay c.args.at.now.stream (laid c.enter-guard.result.state) c.enter-guard.ensures.state.sound) c.leave.new.self.0 c.leave.ensures (λ (m : Mine) (z : State). mine_at c.args.at.now.stream z ≡ m) refl
+    over c.args.at.now.desk.now c.args.at.now.seat c.args.at.now.stream c.args.at.now.left c.enter-guard.result.state
+    c.requires.ready c.enter-guard.ensures.state c.enter-guard.result.seat.now c.enter-guard.result.state
+    c.enter-guard.ensures.turn.0 (may_stay c.args.at.now.stream (laid c.enter-guard.result.state) c.enter-guard.ensures.state.sound)
+    c.leave.new.self.0 c.leave.ensures (λ (m : Mine) (z : State). mine_at c.args.at.now.stream z ≡ m) refl
 
 pub returns-clause-known : goal.returns-clause-known
 returns-clause-known g c =
-    known_over c.args.at.now.desk.now c.args.at.now.seat c.args.at.now.stream c.args.at.now.left c.enter-guard.result.state c.requires.ready c.enter-guard.ensures.state c.args.t c.requires.turn c.enter-guard.result.seat.now c.enter-guard.result.state c.enter-guard.ensures.turn.0 (may_stay c.args.at.now.stream (laid c.enter-guard.result.state) c.enter-guard.ensures.state.sound) c.leave.new.self.0 c.leave.ensures (known_same (laid c.enter-guard.result.state))
+    let enter = c.enter-guard.result.state in
+    known_over c.args.at.now.desk.now c.args.at.now.seat c.args.at.now.stream c.args.at.now.left enter c.requires.ready
+    c.enter-guard.ensures.state c.args.t c.requires.turn c.enter-guard.result.seat.now enter c.enter-guard.ensures.turn.0
+    (may_stay c.args.at.now.stream (laid enter) c.enter-guard.ensures.state.sound) c.leave.new.self.0 c.leave.ensures
+    (known_same (laid enter))
 
 pub returns-clause-is : goal.returns-clause-is
 returns-clause-is g c =
-    at_last c.args.at.now.desk.now c.args.at.now.seat c.args.at.now.stream c.args.at.now.left c.enter-guard.result.state c.requires.ready c.enter-guard.ensures.state c.enter-guard.result.seat.now c.enter-guard.result.state c.enter-guard.ensures.turn.0 (may_stay c.args.at.now.stream (laid c.enter-guard.result.state) c.enter-guard.ensures.state.sound) c.leave.new.self.0 c.leave.ensures (λ (z : State). IfSome c.end_of-end.result (λ place. IsEndedAt z place)) c.end_of-end.ensures.is
+    at_last c.args.at.now.desk.now c.args.at.now.seat c.args.at.now.stream c.args.at.now.left c.enter-guard.result.state
+    c.requires.ready c.enter-guard.ensures.state c.enter-guard.result.seat.now c.enter-guard.result.state
+    c.enter-guard.ensures.turn.0 (may_stay c.args.at.now.stream (laid c.enter-guard.result.state) c.enter-guard.ensures.state.sound)
+    c.leave.new.self.0 c.leave.ensures (λ (z : State). IfSome c.end_of-end.result (λ place. IsEndedAt z place))
+    c.end_of-end.ensures.is
 
 pub returns-clause-gave_up : goal.returns-clause-gave_up
 returns-clause-gave_up g c =
-    flag_over c.args.at.now.desk.now c.args.at.now.seat c.args.at.now.stream c.args.at.now.left c.enter-guard.result.state c.requires.ready c.enter-guard.ensures.state c.enter-guard.result.seat.now c.enter-guard.result.state c.leave.new.self.0 c.leave.ensures refl
+    flag_over c.args.at.now.desk.now c.args.at.now.seat c.args.at.now.stream c.args.at.now.left c.enter-guard.result.state
+    c.requires.ready c.enter-guard.ensures.state c.enter-guard.result.seat.now c.enter-guard.result.state
+    c.leave.new.self.0 c.leave.ensures refl

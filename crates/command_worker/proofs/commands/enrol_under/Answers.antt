@@ -6,5 +6,10 @@ use Rattle.command_worker.proofs.commands.enrol_under.Goals as goal
 
 pub abandon-requires-clause-turn : goal.abandon-requires-clause-turn
 abandon-requires-clause-turn g c =
-    let h = c.requires.turn in
-    (command_of c.args.op.now, h.0, subst (HasTurn c.args.t (command_of c.args.op.now) h.0) (sym (c.in-Err.ensures.err ∙ c.loop.invariant.same)) h.1, no_add c.args.op.now c.requires.plain)
+    let h = c.requires.turn in (
+      command_of c.args.op.now,
+      h.0,
+      subst (HasTurn c.args.t (command_of c.args.op.now) h.0)
+          (sym (c.in-Err.ensures.err ∙ c.loop.invariant.same)) h.1,
+      no_add c.args.op.now c.requires.plain,
+    )

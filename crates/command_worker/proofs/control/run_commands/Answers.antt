@@ -10,11 +10,16 @@ pub returns-in_err-answer-clause-err : goal.returns-in_err-answer-clause-err
 returns-in_err-answer-clause-err g c =
     let i = c.loop-command.command-index in
     let x = c.command-item.result in
-    on_err c.from_residual-in_err-answer.result (commanded_some c.args.commands.now i x (g.C.CommandSteps.mine c.args.steps.now) (g.C.CommandSteps.mine c.loop-command.steps) (g.C.CommandSteps.mine c.answer.new.steps) c.loop-command-test.true c.loop-command.invariant.done
-    (left_of (get_or c.args.commands.now i x) (g.C.CommandSteps.mine c.loop-command.steps) (g.C.CommandSteps.mine c.answer.new.steps) c.in_err-answer.ensures.err))
+    on_err c.from_residual-in_err-answer.result
+    (commanded_some c.args.commands.now i x (g.C.CommandSteps.mine c.args.steps.now)
+    (g.C.CommandSteps.mine c.loop-command.steps) (g.C.CommandSteps.mine c.answer.new.steps) c.loop-command-test.true
+    c.loop-command.invariant.done
+    (left_of (get_or c.args.commands.now i x) (g.C.CommandSteps.mine c.loop-command.steps)
+    (g.C.CommandSteps.mine c.answer.new.steps) c.in_err-answer.ensures.err))
 
 pub answer-requires-clause-idle : goal.answer-requires-clause-idle
-answer-requires-clause-idle g c = commanded_idle (take c.loop-command.command-index c.args.commands.now) (g.C.CommandSteps.mine c.args.steps.now) (g.C.CommandSteps.mine c.loop-command.steps) c.loop-command.invariant.done
+answer-requires-clause-idle g c = commanded_idle (take c.loop-command.command-index c.args.commands.now)
+    (g.C.CommandSteps.mine c.args.steps.now) (g.C.CommandSteps.mine c.loop-command.steps) c.loop-command.invariant.done
 
 pub loop-command-preserved : goal.loop-command-preserved
 loop-command-preserved g c =
@@ -27,12 +32,17 @@ loop-command-preserved g c =
       ends = search rules;
       room = search rules;
       shown = search rules;
-      done = commanded_more c.args.commands.now c.loop-command.command-index x (g.C.CommandSteps.mine c.args.steps.now) (g.C.CommandSteps.mine c.loop-command.steps) (g.C.CommandSteps.mine c.answer.new.steps) c.loop-command-test.true c.loop-command.invariant.done
-          (subst (λ y. GrewByCommand y (g.C.CommandSteps.mine c.loop-command.steps) (g.C.CommandSteps.mine c.answer.new.steps)) (sym at) c.in_ok-answer.ensures.ok);
+      done = commanded_more c.args.commands.now c.loop-command.command-index x (g.C.CommandSteps.mine c.args.steps.now)
+          (g.C.CommandSteps.mine c.loop-command.steps) (g.C.CommandSteps.mine c.answer.new.steps) c.loop-command-test.true
+          c.loop-command.invariant.done
+          (subst (λ y. GrewByCommand y (g.C.CommandSteps.mine c.loop-command.steps) (g.C.CommandSteps.mine c.answer.new.steps)) (sym at)
+          c.in_ok-answer.ensures.ok);
     }
 
 pub returns-in_err-rooms-clause-err : goal.returns-in_err-rooms-clause-err
-returns-in_err-rooms-clause-err g c = on_err c.from_residual.result (commanded_stopped c.args.commands.now (g.C.CommandSteps.mine c.args.steps.now) c.requires.idle)
+returns-in_err-rooms-clause-err g c =
+    on_err c.from_residual.result
+    (commanded_stopped c.args.commands.now (g.C.CommandSteps.mine c.args.steps.now) c.requires.idle)
 
 pub loop-command-init : goal.loop-command-init
 loop-command-init g c = record {

@@ -4,4 +4,6 @@ use Rattle.command_worker.proofs.frames.fill_pair.Goals as goal
 
 pub returns-clause-asks : goal.returns-clause-asks
 returns-clause-asks c =
-    pair_asks c.args.word.now c.args.first.now c.args.second.now c.fill.new.request.items c.extend_from_slice-2.new.self.items (search rules) (search rules) (search rules) (search rules) (search rules) (search rules)
+    pair_asks c.args.word.now c.args.first.now c.args.second.now c.fill.new.request.items
+    c.extend_from_slice-2.new.self.items (search rules) (search rules) (search rules) (search rules) (search rules)
+    (search rules)

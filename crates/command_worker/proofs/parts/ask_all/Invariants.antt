@@ -14,8 +14,10 @@ invariant-loop-r g l = record {
   ends : map (λ x. g.L.Line.ends x.line) l.channels ≡ map (λ x. g.L.Line.ends x.line) l.initial.channels;
   room : vec_capacity l.initial.room ≤ vec_capacity l.room;
   asks : AsksPart l.fn.op l.request;
-  shown : WholeShown l.fn.t (g.C.CommandSteps.mine l.steps) (map (λ x. g.L.Line.count x.line) l.channels) (map (λ x. g.L.Line.carried x.line) l.channels);
+  shown : WholeShown l.fn.t (g.C.CommandSteps.mine l.steps) (map (λ x. g.L.Line.count x.line) l.channels)
+      (map (λ x. g.L.Line.carried x.line) l.channels);
   goes : KeepsWhole l.fn.t (g.C.CommandSteps.mine l.initial.steps) (g.C.CommandSteps.mine l.steps);
   asked : (r : ℕ) → r < l.r → OwesNone l.fn.t l.fn.op r (g.C.CommandSteps.mine l.steps)
-      ⊎ ((seen : g.row.C.Denot) × (g.C.CommandSteps.home seen ≡ g.C.CommandSteps.home l.initial.steps) × (mode_of (g.C.CommandSteps.modes seen) r ≡ Failed));
+      ⊎ ((seen : g.row.C.Denot) × (g.C.CommandSteps.home seen ≡ g.C.CommandSteps.home l.initial.steps)
+      × (mode_of (g.C.CommandSteps.modes seen) r ≡ Failed));
 }

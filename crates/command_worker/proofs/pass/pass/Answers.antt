@@ -6,8 +6,10 @@ use Rattle.command_worker.proofs.pass.pass.Goals as goal
 
 pub returns-then-carry-clause-shown : goal.returns-then-carry-clause-shown
 returns-then-carry-clause-shown g c =
-    shown_later (with_running (g.C.CommandSteps.mine c.args.steps.now) []) (map (λ x. g.L.Line.count x.line) c.args.channels.now) (map (λ x. g.L.Line.count x.line) c.carry.new.channels)
-    (map (λ x. g.L.Line.carried x.line) c.args.channels.now) (map (λ x. g.L.Line.carried x.line) c.carry.new.channels) c.carry.ensures.later c.carry.ensures.told c.requires.shown
+    shown_later (with_running (g.C.CommandSteps.mine c.args.steps.now) [])
+    (map (λ x. g.L.Line.count x.line) c.args.channels.now) (map (λ x. g.L.Line.count x.line) c.carry.new.channels)
+    (map (λ x. g.L.Line.carried x.line) c.args.channels.now) (map (λ x. g.L.Line.carried x.line) c.carry.new.channels)
+    c.carry.ensures.later c.carry.ensures.told c.requires.shown
 
 pub returns-then-carry-clause-goes : goal.returns-then-carry-clause-goes
 returns-then-carry-clause-goes g c = goes_same (g.C.CommandSteps.mine c.args.steps.now) (g.C.CommandSteps.mine c.args.steps.now) refl
@@ -17,5 +19,7 @@ tell_fault-requires-clause-above g c = omega (arith, c.requires.shown.counted c.
 
 pub tell_fault-requires-clause-shown : goal.tell_fault-requires-clause-shown
 tell_fault-requires-clause-shown g c =
-    shown_later (with_running (g.C.CommandSteps.mine c.args.steps.now) []) (map (λ x. g.L.Line.count x.line) c.args.channels.now) (map (λ x. g.L.Line.count x.line) c.carry.new.channels)
-    (map (λ x. g.L.Line.carried x.line) c.args.channels.now) (map (λ x. g.L.Line.carried x.line) c.carry.new.channels) c.carry.ensures.later c.carry.ensures.told c.requires.shown
+    shown_later (with_running (g.C.CommandSteps.mine c.args.steps.now) [])
+    (map (λ x. g.L.Line.count x.line) c.args.channels.now) (map (λ x. g.L.Line.count x.line) c.carry.new.channels)
+    (map (λ x. g.L.Line.carried x.line) c.args.channels.now) (map (λ x. g.L.Line.carried x.line) c.carry.new.channels)
+    c.carry.ensures.later c.carry.ensures.told c.requires.shown

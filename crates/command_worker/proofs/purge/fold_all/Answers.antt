@@ -16,7 +16,8 @@ loop-r-init g c = record {
 }
 
 pub fold_one-requires-clause-turn : goal.fold_one-requires-clause-turn
-fold_one-requires-clause-turn g c = turn_kept c.args.t command.Purge (g.C.CommandSteps.mine c.args.steps.now) (g.C.CommandSteps.mine c.loop-r.steps) c.loop-r.invariant.goes c.requires.turn
+fold_one-requires-clause-turn g c = turn_kept c.args.t command.Purge (g.C.CommandSteps.mine c.args.steps.now)
+    (g.C.CommandSteps.mine c.loop-r.steps) c.loop-r.invariant.goes c.requires.turn
 
 pub loop-r-preserved : goal.loop-r-preserved
 loop-r-preserved g c = record {
@@ -27,5 +28,6 @@ loop-r-preserved g c = record {
   room = search rules;
   text = search rules;
   shown = search rules;
-  goes = goes_on (g.C.CommandSteps.mine c.args.steps.now) (g.C.CommandSteps.mine c.loop-r.steps) (g.C.CommandSteps.mine c.fold_one.new.steps) c.loop-r.invariant.goes c.fold_one.ensures.goes;
+  goes = goes_on (g.C.CommandSteps.mine c.args.steps.now) (g.C.CommandSteps.mine c.loop-r.steps)
+      (g.C.CommandSteps.mine c.fold_one.new.steps) c.loop-r.invariant.goes c.fold_one.ensures.goes;
 }

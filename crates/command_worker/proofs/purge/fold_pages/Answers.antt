@@ -16,7 +16,8 @@ loop-page-init g c = record {
 }
 
 pub fold_all-requires-clause-turn : goal.fold_all-requires-clause-turn
-fold_all-requires-clause-turn g c = turn_kept c.args.t command.Purge (g.C.CommandSteps.mine c.args.steps.now) (g.C.CommandSteps.mine c.loop-page.steps) c.loop-page.invariant.goes c.requires.turn
+fold_all-requires-clause-turn g c = turn_kept c.args.t command.Purge (g.C.CommandSteps.mine c.args.steps.now)
+    (g.C.CommandSteps.mine c.loop-page.steps) c.loop-page.invariant.goes c.requires.turn
 
 pub loop-page-preserved : goal.loop-page-preserved
 loop-page-preserved g c = record {
@@ -27,5 +28,6 @@ loop-page-preserved g c = record {
   room = search rules;
   text = search rules;
   shown = search rules;
-  goes = goes_on (g.C.CommandSteps.mine c.args.steps.now) (g.C.CommandSteps.mine c.loop-page.steps) (g.C.CommandSteps.mine c.fold_all.new.steps) c.loop-page.invariant.goes c.fold_all.ensures.goes;
+  goes = goes_on (g.C.CommandSteps.mine c.args.steps.now) (g.C.CommandSteps.mine c.loop-page.steps)
+      (g.C.CommandSteps.mine c.fold_all.new.steps) c.loop-page.invariant.goes c.fold_all.ensures.goes;
 }

@@ -14,6 +14,7 @@ invariant-loop-page g l = record {
   ends : map (λ x. g.L.Line.ends x.line) l.channels ≡ map (λ x. g.L.Line.ends x.line) l.initial.channels;
   room : vec_capacity l.initial.room ≤ vec_capacity l.room;
   text : drop header_length l.request ≡ drop header_length l.initial.request;
-  shown : IsShown (with_running (g.C.CommandSteps.mine l.steps) []) (map (λ x. g.L.Line.count x.line) l.channels) (map (λ x. g.L.Line.carried x.line) l.channels);
+  shown : IsShown (with_running (g.C.CommandSteps.mine l.steps) []) (map (λ x. g.L.Line.count x.line) l.channels)
+      (map (λ x. g.L.Line.carried x.line) l.channels);
   goes : GoesOn (g.C.CommandSteps.mine l.initial.steps) (g.C.CommandSteps.mine l.steps);
 }

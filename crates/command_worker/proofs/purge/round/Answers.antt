@@ -8,23 +8,43 @@ use Rattle.command_worker.proofs.purge.round.Goals as goal
 
 pub returns-in-Nothing-clause-shown : goal.returns-in-Nothing-clause-shown
 returns-in-Nothing-clause-shown g c =
-    round_shown c.end_maint.result c.args.t reply.Done (g.C.CommandSteps.mine c.args.steps.now) (g.C.CommandSteps.mine c.fold_next.new.self) (g.C.CommandSteps.mine c.end_maint.new.self) c.requires.turn c.fold_next.ensures.same c.end_maint.ensures.ok c.end_maint.ensures.err (map (λ x. g.L.Line.count x.line) c.args.channels.now) (map (λ x. g.L.Line.carried x.line) c.args.channels.now) c.requires.shown
+    round_shown c.end_maint.result c.args.t reply.Done (g.C.CommandSteps.mine c.args.steps.now)
+    (g.C.CommandSteps.mine c.fold_next.new.self) (g.C.CommandSteps.mine c.end_maint.new.self) c.requires.turn
+    c.fold_next.ensures.same c.end_maint.ensures.ok c.end_maint.ensures.err
+    (map (λ x. g.L.Line.count x.line) c.args.channels.now) (map (λ x. g.L.Line.carried x.line) c.args.channels.now)
+    c.requires.shown
 
 pub returns-in-Nothing-clause-ok : goal.returns-in-Nothing-clause-ok
-returns-in-Nothing-clause-ok g c = λ o h.
+returns-in-Nothing-clause-ok g c =
+    let mine_before = g.C.CommandSteps.mine c.args.steps.now in
+    λ o h.
     let e : c.fold_next.result ≡ next.Nothing = search rules in
-    subst (λ x. RoundTo o x (g.C.CommandSteps.mine c.args.steps.now) (g.C.CommandSteps.mine c.end_maint.new.self)) (sym c.is_ok.ensures.value)
-    (round_ends c.end_maint.result c.args.t o reply.Done (g.C.CommandSteps.mine c.args.steps.now) (g.C.CommandSteps.mine c.fold_next.new.self) (g.C.CommandSteps.mine c.end_maint.new.self) h c.fold_next.ensures.same (next_done (g.C.CommandSteps.mine c.args.steps.now).log c.fold_next.result e c.fold_next.ensures.is) c.end_maint.ensures.ok c.end_maint.ensures.err)
+    subst (λ x. RoundTo o x mine_before (g.C.CommandSteps.mine c.end_maint.new.self)) (sym c.is_ok.ensures.value)
+    (round_ends c.end_maint.result c.args.t o reply.Done mine_before (g.C.CommandSteps.mine c.fold_next.new.self)
+    (g.C.CommandSteps.mine c.end_maint.new.self) h c.fold_next.ensures.same
+    (next_done mine_before.log c.fold_next.result e c.fold_next.ensures.is) c.end_maint.ensures.ok
+    c.end_maint.ensures.err)
 
 pub returns-in-NoReplica-clause-shown : goal.returns-in-NoReplica-clause-shown
 returns-in-NoReplica-clause-shown g c =
-    round_shown c.end_maint-in-NoReplica.result c.args.t (reply.Refused NoReplica) (g.C.CommandSteps.mine c.args.steps.now) (g.C.CommandSteps.mine c.fold_next.new.self) (g.C.CommandSteps.mine c.end_maint-in-NoReplica.new.self) c.requires.turn c.fold_next.ensures.same c.end_maint-in-NoReplica.ensures.ok c.end_maint-in-NoReplica.ensures.err (map (λ x. g.L.Line.count x.line) c.args.channels.now) (map (λ x. g.L.Line.carried x.line) c.args.channels.now) c.requires.shown
+    let end_maint = c.end_maint-in-NoReplica in
+    round_shown end_maint.result c.args.t (reply.Refused NoReplica) (g.C.CommandSteps.mine c.args.steps.now)
+    (g.C.CommandSteps.mine c.fold_next.new.self) (g.C.CommandSteps.mine end_maint.new.self) c.requires.turn
+    c.fold_next.ensures.same end_maint.ensures.ok end_maint.ensures.err
+    (map (λ x. g.L.Line.count x.line) c.args.channels.now) (map (λ x. g.L.Line.carried x.line) c.args.channels.now)
+    c.requires.shown
 
 pub returns-in-NoReplica-clause-ok : goal.returns-in-NoReplica-clause-ok
-returns-in-NoReplica-clause-ok g c = λ o h.
+returns-in-NoReplica-clause-ok g c =
+    let mine_before = g.C.CommandSteps.mine c.args.steps.now in
+    let end_maint = c.end_maint-in-NoReplica in
+    λ o h.
     let e : c.fold_next.result ≡ next.NoReplica = search rules in
-    subst (λ x. RoundTo o x (g.C.CommandSteps.mine c.args.steps.now) (g.C.CommandSteps.mine c.end_maint-in-NoReplica.new.self)) (sym c.is_ok-in-NoReplica.ensures.value)
-    (round_ends c.end_maint-in-NoReplica.result c.args.t o (reply.Refused NoReplica) (g.C.CommandSteps.mine c.args.steps.now) (g.C.CommandSteps.mine c.fold_next.new.self) (g.C.CommandSteps.mine c.end_maint-in-NoReplica.new.self) h c.fold_next.ensures.same (next_refused (g.C.CommandSteps.mine c.args.steps.now).log c.fold_next.result e c.fold_next.ensures.is) c.end_maint-in-NoReplica.ensures.ok c.end_maint-in-NoReplica.ensures.err)
+    subst (λ x. RoundTo o x mine_before (g.C.CommandSteps.mine end_maint.new.self)) (sym c.is_ok-in-NoReplica.ensures.value)
+    (round_ends end_maint.result c.args.t o (reply.Refused NoReplica) mine_before
+    (g.C.CommandSteps.mine c.fold_next.new.self) (g.C.CommandSteps.mine end_maint.new.self) h c.fold_next.ensures.same
+    (next_refused mine_before.log c.fold_next.result e c.fold_next.ensures.is) end_maint.ensures.ok end_maint.ensures.err)
 
 pub returns-in-After-clause-ok : goal.returns-in-After-clause-ok
-returns-in-After-clause-ok g c = λ o h. round_waits c.args.t o (g.C.CommandSteps.mine c.args.steps.now) (g.C.CommandSteps.mine c.fold_next.new.self) h c.fold_next.ensures.same
+returns-in-After-clause-ok g c = λ o h. round_waits c.args.t o (g.C.CommandSteps.mine c.args.steps.now)
+    (g.C.CommandSteps.mine c.fold_next.new.self) h c.fold_next.ensures.same

@@ -15,6 +15,8 @@ invariant-loop g l = record {
   count : length l.channels ≡ length l.initial.channels;
   ends : map (λ x. g.L.Line.ends x.line) l.channels ≡ map (λ x. g.L.Line.ends x.line) l.initial.channels;
   room : HasRoom l.rooms;
-  shown : IsShown (with_running (g.C.CommandSteps.mine l.steps) []) (map (λ x. g.L.Line.count x.line) l.channels) (map (λ x. g.L.Line.carried x.line) l.channels);
-  on : (o : OwnCall) → HasTurn l.t command.Purge o (g.C.CommandSteps.mine l.initial.steps) → PurgesOn (o ∷ []) (g.C.CommandSteps.mine l.initial.steps) (g.C.CommandSteps.mine l.steps);
+  shown : IsShown (with_running (g.C.CommandSteps.mine l.steps) []) (map (λ x. g.L.Line.count x.line) l.channels)
+      (map (λ x. g.L.Line.carried x.line) l.channels);
+  on : (o : OwnCall) → HasTurn l.t command.Purge o (g.C.CommandSteps.mine l.initial.steps)
+      → PurgesOn (o ∷ []) (g.C.CommandSteps.mine l.initial.steps) (g.C.CommandSteps.mine l.steps);
 }

@@ -13,8 +13,10 @@ loop-step-preserved c =
     let before : State = state_of c.loop-step.world in
     let after : State = state_of c.take_step.new.world in
     let at : get_or c.args.steps.now c.loop-step.step-index x ≡ x = grind (arith, common_steps) in
-    let made : Makes (get_or c.args.steps.now c.loop-step.step-index x) before after = subst (λ (y : Step). Makes y before after) (sym at) c.in_ok-take_step.ensures.ok in
+    let made : Makes (get_or c.args.steps.now c.loop-step.step-index x) before after =
+    subst (λ (y : Step). Makes y before after) (sym at) c.in_ok-take_step.ensures.ok in
     record {
       sound = c.take_step.ensures.sound;
-      made = in_turn-more c.args.steps.now c.loop-step.step-index x (state_of c.args.world.now) before after c.loop-step-test.true c.loop-step.invariant.made made;
+      made = in_turn-more c.args.steps.now c.loop-step.step-index x (state_of c.args.world.now) before after
+          c.loop-step-test.true c.loop-step.invariant.made made;
     }

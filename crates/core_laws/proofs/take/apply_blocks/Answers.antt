@@ -5,4 +5,5 @@ use Rattle.core_laws.proofs.take.apply_blocks.Goals as goal
 pub returns-clause-ok : goal.returns-clause-ok
 returns-clause-ok c =
     let wrote = c.apply_write.ensures in
-    write_made (state_of c.args.world.now) (state_of c.apply_write.new.self) c.args.ticket c.apply_write.result wrote.err c.args.replica wrote.ok wrote.guard wrote.why
+    write_made (state_of c.args.world.now) (state_of c.apply_write.new.self) c.args.ticket c.apply_write.result wrote.err
+    c.args.replica wrote.ok wrote.guard wrote.why

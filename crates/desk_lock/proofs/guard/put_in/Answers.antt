@@ -9,11 +9,12 @@ put-requires-clause-may g c = let s = c.args.seat.now in let holds = turn_known 
     (known s, holds.0, is_known s.pass.me.0 s.live, holds.1, c.requires.may)
 
 pub invariant_of-seat : goal.invariant_of-seat
-invariant_of-seat g c = let s = c.args.seat.now in let now = ap (λ m. m.0) (c.put.ensures.left (known s) (is_known s.pass.me.0 s.live)) in record {
-  live = ap is_live now;
-  numbered = ap number_in now ∙ (sym (number_known s.pass.me.0 s.live) ∙ s.numbered);
-  counted = ap made_in now ∙ (sym (made_known s.pass.me.0 s.live) ∙ s.counted);
-}
+invariant_of-seat g c = let s = c.args.seat.now in
+    let now = ap (λ m. m.0) (c.put.ensures.left (known s) (is_known s.pass.me.0 s.live)) in record {
+      live = ap is_live now;
+      numbered = ap number_in now ∙ (sym (number_known s.pass.me.0 s.live) ∙ s.numbered);
+      counted = ap made_in now ∙ (sym (made_known s.pass.me.0 s.live) ∙ s.counted);
+    }
 
 pub returns : goal.returns
 returns g c = let s = c.args.seat.now in let now = c.put.ensures.left (known s) (is_known s.pass.me.0 s.live) in

@@ -6,12 +6,15 @@ use Rattle.desk_trial.proofs.Gathers.{some_is, at_next, each_snoc, whole_next, w
 use Rattle.desk_trial.proofs.each.gather.Goals as goal
 
 pub join-requires-clause-other : goal.join-requires-clause-other
-join-requires-clause-other c = let next = at_next (λ (k : ℕ) (x : Done). IsSeatOf c.args.desk.now x.seat × (number_of x.seat ≡ Some k)) _ _ _ _ c.in-Some.done c.loop-done.invariant.whole c.in-Some.ensures.steps.0 c.requires.all in
+join-requires-clause-other c = let next =
+    at_next (λ (k : ℕ) (x : Done). IsSeatOf c.args.desk.now x.seat × (number_of x.seat ≡ Some k)) _ _ _ _ c.in-Some.done
+    c.loop-done.invariant.whole c.in-Some.ensures.steps.0 c.requires.all in
     (next.0, some_is _ _ next.1)
 
 pub loop-done-preserved-then-ok : goal.loop-done-preserved-then-ok
 loop-done-preserved-then-ok c = let inv = c.loop-done.invariant in
-    let next = at_next (λ (k : ℕ) (x : Done). IsSeatOf c.args.desk.now x.seat × (number_of x.seat ≡ Some k)) _ _ _ _ c.in-Some.done inv.whole c.in-Some.ensures.steps.0 c.requires.all in
+    let next = at_next (λ (k : ℕ) (x : Done). IsSeatOf c.args.desk.now x.seat × (number_of x.seat ≡ Some k)) _ _ _ _
+    c.in-Some.done inv.whole c.in-Some.ensures.steps.0 c.requires.all in
     let kept = c.join.ensures.kept _ next.1 in
     let joined = ap (λ v. v.joined) kept in record {
       whole = whole_next _ _ _ _ c.in-Some.done inv.whole c.in-Some.ensures.steps.0;
@@ -26,7 +29,8 @@ loop-done-preserved-then-ok c = let inv = c.loop-done.invariant in
 
 pub loop-done-preserved : goal.loop-done-preserved
 loop-done-preserved c = let inv = c.loop-done.invariant in
-    let next = at_next (λ (k : ℕ) (x : Done). IsSeatOf c.args.desk.now x.seat × (number_of x.seat ≡ Some k)) _ _ _ _ c.in-Some.done inv.whole c.in-Some.ensures.steps.0 c.requires.all in
+    let next = at_next (λ (k : ℕ) (x : Done). IsSeatOf c.args.desk.now x.seat × (number_of x.seat ≡ Some k)) _ _ _ _
+    c.in-Some.done inv.whole c.in-Some.ensures.steps.0 c.requires.all in
     let kept = c.join.ensures.kept _ next.1 in
     let joined = ap (λ v. v.joined) kept in record {
       whole = whole_next _ _ _ _ c.in-Some.done inv.whole c.in-Some.ensures.steps.0;
@@ -43,4 +47,5 @@ pub returns-clause-pairs : goal.returns-clause-pairs
 returns-clause-pairs c =
     let none : length c.loop-done.done-iterator.rest.items ≡ 0 = search rules in
     let all = whole_end _ _ _ c.loop-done.invariant.whole none in
-    subst (λ (l : List Done). (k : ℕ) (d : Done) → k < length l → HasPair k (last_of (get_or l k d).seat) (known c.loop-done.seat).joined) all c.loop-done.invariant.pairs
+    subst (λ (l : List Done). (k : ℕ) (d : Done) → k < length l
+    → HasPair k (last_of (get_or l k d).seat) (known c.loop-done.seat).joined) all c.loop-done.invariant.pairs

@@ -8,5 +8,6 @@ invariant-loop-value g l = record {
   seat : IsSeatOf l.desk l.seat;
   number : number_of l.seat ≡ Some l.stream;
   inside : l.stream < streams_of (last_of l.seat);
-  mine : notes_in l.stream (last_of l.seat) ≡ notes_in l.stream (last_of l.initial.seat) ++ map (note_of l.stream) (take l.value-index l.values);
+  mine : notes_in l.stream (last_of l.seat) ≡ notes_in l.stream (last_of l.initial.seat)
+      ++ map (note_of l.stream) (take l.value-index l.values);
 }

@@ -9,4 +9,5 @@ returns-in-Some-clause-names c =
 
 pub returns-in_default-clause-names : goal.returns-in_default-clause-names
 returns-in_default-clause-names c =
-    ap (λ m. taken_of m.entries) c.get_mut.follows.holds-at-none ∙ taken_unmarked c.args.names.now.entries c.args.name.now (sym c.in_default.ensures.value)
+    ap (λ m. taken_of m.entries) c.get_mut.follows.holds-at-none
+    ∙ taken_unmarked c.args.names.now.entries c.args.name.now (sym c.in_default.ensures.value)

@@ -11,7 +11,8 @@ pub returns-then-not-contains_key-clause-names : goal.returns-then-not-contains_
 returns-then-not-contains_key-clause-names c =
     let es = c.args.names.now.entries in
     let new : lookup (bytes_eq c.args.name) es ≡ None = none_there _ (sym c.contains_key.ensures ∙ c.if-not-contains_key.true) in
-    ap taken_of ((rw c.unwrap.ensures at c.insert.ensures.entries) ∙ insert_entry-new bytes_eq c.args.names.now c.args.name false new) ∙ taken_new es c.args.name new
+    ap taken_of ((rw c.unwrap.ensures at c.insert.ensures.entries) ∙ insert_entry-new bytes_eq c.args.names.now c.args.name false new)
+    ∙ taken_new es c.args.name new
 
 pub returns-else-not-contains_key-clause-names : goal.returns-else-not-contains_key-clause-names
 returns-else-not-contains_key-clause-names c =

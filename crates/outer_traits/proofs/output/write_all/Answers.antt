@@ -9,5 +9,10 @@ loop-rest-preserved g c =
     let rest = c.loop-rest.rest.now in
     let n = c.in_ok-count.count in
     let cut : c.args.bytes.now ≡ (i.0 ++ take n rest) ++ c.split_at.result.1.now =
-    i.1 ∙ ap (λ l. i.0 ++ l) (sym (take-append-drop n rest) ∙ ap (λ l. take n rest ++ l) (sym c.split_at.ensures.back)) ∙ sym (append_assoc i.0 (take n rest) _) in
-    (i.0 ++ take n rest, cut, Appends-trans _ _ _ i.0 (take n rest) i.2 c.in_ok-count.ensures.bytes, c.in_ok-count.ensures.cause.cause ∙ i.3)
+    i.1 ∙ ap (λ l. i.0 ++ l) (sym (take-append-drop n rest) ∙ ap (λ l. take n rest ++ l) (sym c.split_at.ensures.back))
+    ∙ sym (append_assoc i.0 (take n rest) _) in (
+      i.0 ++ take n rest,
+      cut,
+      Appends-trans _ _ _ i.0 (take n rest) i.2 c.in_ok-count.ensures.bytes,
+      c.in_ok-count.ensures.cause.cause ∙ i.3,
+    )

@@ -4,10 +4,16 @@ use Rattle.outer_traits.proofs.wiring.take_back_all.Goals as goal
 
 pub loop-line-preserved : goal.loop-line-preserved
 loop-line-preserved g c =
-    let cut : c.args.lines.items ≡ (c.loop-line.yielded ++ c.in-Some.line ∷ []) ++ c.next.new.self.rest.items =
-    cut_further c.args.lines.items c.loop-line.yielded c.loop-line.line-iterator.rest.items c.in-Some.line c.next.new.self.rest.items c.loop-line.invariant.all c.in-Some.ensures.steps.0 in
+    let items_next = c.next.new.self.rest.items in
+    let cut : c.args.lines.items ≡ (c.loop-line.yielded ++ c.in-Some.line ∷ []) ++ items_next =
+    cut_further c.args.lines.items c.loop-line.yielded c.loop-line.line-iterator.rest.items c.in-Some.line items_next
+    c.loop-line.invariant.all c.in-Some.ensures.steps.0 in
     record {
       all = cut;
-      counts = λ worker lined. RecordsOf-step _ _ g.W.L.Line.ends g.W.L.Line.count _ _ _ worker c.args.lines.items c.loop-line.yielded c.in-Some.line c.next.new.self.rest.items cut lined (c.loop-line.invariant.counts worker lined) c.take_back.ensures.counts;
-      carried = λ worker lined. RecordsOf-step _ _ g.W.L.Line.ends g.W.L.Line.carried _ _ _ worker c.args.lines.items c.loop-line.yielded c.in-Some.line c.next.new.self.rest.items cut lined (c.loop-line.invariant.carried worker lined) c.take_back.ensures.carried;
+      counts = λ worker lined. RecordsOf-step _ _ g.W.L.Line.ends g.W.L.Line.count _ _ _ worker c.args.lines.items
+          c.loop-line.yielded c.in-Some.line items_next cut lined (c.loop-line.invariant.counts worker lined)
+          c.take_back.ensures.counts;
+      carried = λ worker lined. RecordsOf-step _ _ g.W.L.Line.ends g.W.L.Line.carried _ _ _ worker c.args.lines.items
+          c.loop-line.yielded c.in-Some.line items_next cut lined (c.loop-line.invariant.carried worker lined)
+          c.take_back.ensures.carried;
     }

@@ -3,4 +3,5 @@ use Rattle.vol_units.proofs.NameLemmas.{IsName-layer}
 use Rattle.page_text.proofs.text.bytes_of.Goals as goal
 
 pub returns-clause-few : goal.returns-clause-few
-returns-clause-few c = subst (λ n. n ≤ 64) (ap length (sym c.as_bytes.ensures.value)) (IsName-layer c.args.layer.now c.as_bytes.ensures.name).most
+returns-clause-few c = subst (λ n. n ≤ 64) (ap length (sym c.as_bytes.ensures.value))
+    (IsName-layer c.args.layer.now c.as_bytes.ensures.name).most

@@ -32,7 +32,8 @@ pages-preserved g c =
       fewer = omega (arith, c.copy_page.ensures.fewer, c.next.ensures.fewer, before.fewer);
       pages = copies_more (texts c.next.new.self) (texts c.copy_page.new.steps) c.in-Page.page
           (copying c.args.steps.now) (copying c.next.new.self) (copying c.copy_page.new.steps)
-          (copies_still (texts c.pages.steps) (texts c.next.new.self) (copying c.args.steps.now) (copying c.pages.steps) (copying c.next.new.self)
+          (copies_still (texts c.pages.steps) (texts c.next.new.self) (copying c.args.steps.now) (copying c.pages.steps)
+          (copying c.next.new.self)
           before.pages c.next.ensures.quiet takes.2 c.next.ensures.kept.texts)
           (c.copy_page.ensures.copied whole) lists c.copy_page.ensures.kept.texts;
     }

@@ -8,7 +8,8 @@ abbrev pub invariant-pages : goal.invariant-pages
 invariant-pages g l = record {
   ready : g.C.CopySteps.ready l.steps;
   home : g.C.CopySteps.home l.steps ≡ g.C.CopySteps.home l.initial.steps;
-  kept : AreKept (g.C.CopySteps.is_aborted l.initial.steps) (g.C.CopySteps.is_aborted l.steps) (g.C.CopySteps.is_text l.initial.steps) (g.C.CopySteps.is_text l.steps);
+  kept : AreKept (g.C.CopySteps.is_aborted l.initial.steps) (g.C.CopySteps.is_aborted l.steps)
+      (g.C.CopySteps.is_text l.initial.steps) (g.C.CopySteps.is_text l.steps);
   stays : (f : g.C.CopySteps.Fact) → g.C.CopySteps.stays l.initial.steps f → g.C.CopySteps.stays l.steps f;
   idle : (g.C.CopySteps.copying l.steps).hand ≡ None;
   room : HasRoom l.rooms;

@@ -1,4 +1,5 @@
-use Rattle.std.proofs.Common.{◌≡◌, ◌+◌, ◌*◌, ◌<◌, ℕ, List, [], ◌∷◌, ◌++◌, Option, Some, is_some, length, take, drop, set, refl, sym, ap, subst, true, ◌∙◌, arith, add-one, length-set}
+use Rattle.std.proofs.Common.{◌≡◌, ◌+◌, ◌*◌, ◌<◌, ℕ, List, [], ◌∷◌, ◌++◌, Option, Some, is_some, length, take, drop}
+use Rattle.std.proofs.Common.{set, refl, sym, ap, subst, true, ◌∙◌, arith, add-one, length-set}
 use Rattle.std.proofs.Math.Seq.{take-suc-set}
 use Rattle.std.proofs.lemmas.List.{drop-set-lt, take_all}
 use Rattle.std.specs.List.{All}
@@ -35,7 +36,8 @@ loop-i-preserved c =
           ∙ ap (λ (ys : List (Option (List ℕ))). ys ++ filled ∷ []) i.done
           ∙ ap (λ (y : Option (List ℕ)). blocks_of c.args.bytes.now at ++ y ∷ []) c.fill_slot.ensures
           ∙ sym (listed-more blocks at);
-      rest = drop-set-lt (at + 1) c.loop-i.slots at filled (omega arith) ∙ ap (λ n. drop n c.loop-i.slots) (add-one at) ∙ same.1 ∙ ap (λ n. drop n c.args.slots.now) (sym (add-one at));
+      rest = drop-set-lt (at + 1) c.loop-i.slots at filled (omega arith) ∙ ap (λ n. drop n c.loop-i.slots) (add-one at)
+          ∙ same.1 ∙ ap (λ n. drop n c.args.slots.now) (sym (add-one at));
       count = length-set c.loop-i.slots at filled ∙ i.count;
     }
 
@@ -53,4 +55,5 @@ pub returns-clause-bytes : goal.returns-clause-bytes
 returns-clause-bytes c = ap bytes_in (all c) ∙ bytes_in-filled c.args.bytes.now (length c.args.slots.now) c.requires.whole
 
 pub returns-clause-full : goal.returns-clause-full
-returns-clause-full c = subst (All (λ (b : Option (List ℕ)). is_some b ≡ true)) (sym (all c)) (filled-full c.args.bytes.now (length c.args.slots.now))
+returns-clause-full c = subst (All (λ (b : Option (List ℕ)). is_some b ≡ true)) (sym (all c))
+    (filled-full c.args.bytes.now (length c.args.slots.now))

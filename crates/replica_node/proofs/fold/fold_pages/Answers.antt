@@ -25,8 +25,10 @@ fold_page-requires-clause-under c =
 pub loop-page-preserved : goal.loop-page-preserved
 loop-page-preserved c = λ p q can.
     let far = c.loop-page.invariant p q can in
-    one_page c.args.tree.now c.loop-page.tree c.fold_page.new.tree p q c.args.places c.args.pages c.loop-page.page far c.count-count.ensures.whole
+    one_page c.args.tree.now c.loop-page.tree c.fold_page.new.tree p q c.args.places c.args.pages c.loop-page.page far
+    c.count-count.ensures.whole
     (omega arith) (c.fold_page.ensures.folds p q far.can) (c.fold_page.ensures.readings p q far.can) (c.fold_page.ensures.can p q far.can)
 
 pub returns : goal.returns
-returns c = λ p q can. all_pages c.args.tree.now c.loop-page.tree p q c.args.places c.args.pages c.loop-page.page (omega arith) (c.loop-page.invariant p q can)
+returns c = λ p q can. all_pages c.args.tree.now c.loop-page.tree p q c.args.places c.args.pages c.loop-page.page
+    (omega arith) (c.loop-page.invariant p q can)

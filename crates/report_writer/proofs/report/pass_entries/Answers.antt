@@ -14,7 +14,8 @@ loop-place-preserved g c =
     let place = c.loop-place.place in
     let e = c.entry.result.now in
     let inside : place < length entries = omega (arith, c.len-place-end.ensures) in
-    let t = next_line i.0 (journal_lines 0 entries) place entries e inside (get_or_from_slice_get entries place e e c.entry.ensures) i.2 in (
+    let t = next_line i.0 (journal_lines 0 entries) place entries e inside
+    (get_or_from_slice_get entries place e e c.entry.ensures) i.2 in (
       i.0 ++ entry_line place e,
       Passes-trans _ _ _ _ _ _ i.0 (entry_line place e) i.1 c.in_ok-pass_entry.ensures.passed,
       t,

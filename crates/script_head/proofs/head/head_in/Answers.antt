@@ -21,7 +21,8 @@ good c = record {
 pub returns-in_err-streams : goal.returns-in_err-streams
 returns-in_err-streams c =
     let p = err_from_is_err_and c.from_residual-in_err-streams.result c.from_residual-in_err-streams.ensures.1 in
-    rw (p.1, p.2) (refused_at_streams (view c.args.line.now) _ _ (good (goal.at.returns-in_err-streams c).In_ok-now) c.in_err-streams.ensures)
+    rw (p.1, p.2) (refused_at_streams (view c.args.line.now) _ _ (good (goal.at.returns-in_err-streams c).In_ok-now)
+    c.in_err-streams.ensures)
 
 pub returns-in_err-lines : goal.returns-in_err-lines
 returns-in_err-lines c =

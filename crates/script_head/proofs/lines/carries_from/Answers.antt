@@ -15,21 +15,25 @@ pub returns-in_err-carry : goal.returns-in_err-carry
 returns-in_err-carry c =
     let p = err_from_is_err_and c.from_residual.result c.from_residual.ensures.1 in
     rw (p.1, p.2)
-    (one_refused_of Lines IsCarryItem (RisesAbove 0) c.args.items.now c.loop-item.item-index c.item-item.result _ c.loop-item-test.true c.item-item.is c.in_err-carry.ensures)
+    (one_refused_of Lines IsCarryItem (RisesAbove 0) c.args.items.now c.loop-item.item-index c.item-item.result _
+    c.loop-item-test.true c.item-item.is c.in_err-carry.ensures)
 
 pub returns-then-carry-last : goal.returns-then-carry-last
 returns-then-carry-last c =
     let so_far = c.loop-item.invariant in (
       refl,
-      none_behind IsCarryItem one_carry (RisesAbove 0) (RisesAbove-front 0) c.args.items.now c.loop-item.item-index c.item-item.result c.loop-item.carries.items c.in_ok-carry.carry
-          c.loop-item-test.true c.item-item.is so_far.read c.in_ok-carry.ensures (not_above 0 c.loop-item.carries.items c.loop-item.last c.in_ok-carry.carry so_far.rises c.if-carry-last.true),
+      none_behind IsCarryItem one_carry (RisesAbove 0) (RisesAbove-front 0) c.args.items.now c.loop-item.item-index
+          c.item-item.result c.loop-item.carries.items c.in_ok-carry.carry
+          c.loop-item-test.true c.item-item.is so_far.read c.in_ok-carry.ensures
+          (not_above 0 c.loop-item.carries.items c.loop-item.last c.in_ok-carry.carry so_far.rises c.if-carry-last.true),
     )
 
 pub loop-item-preserved : goal.loop-item-preserved
 loop-item-preserved c =
     let so_far = c.loop-item.invariant in
     rw c.in_ok-push.ensures.items (record {
-      read = one_more IsCarryItem c.args.items.now c.loop-item.item-index c.item-item.result c.loop-item.carries.items c.in_ok-carry.carry c.loop-item-test.true c.item-item.is so_far.read c.in_ok-carry.ensures;
+      read = one_more IsCarryItem c.args.items.now c.loop-item.item-index c.item-item.result c.loop-item.carries.items
+          c.in_ok-carry.carry c.loop-item-test.true c.item-item.is so_far.read c.in_ok-carry.ensures;
       rises = RisesTo-push 0 c.loop-item.carries.items c.loop-item.last c.in_ok-carry.carry so_far.rises c.if-carry-last.false;
     })
 
@@ -38,6 +42,7 @@ returns c =
     let so_far = c.loop-item.invariant in
     let carries = c.loop-item.carries.items in
     rw c.of.ensures (
-      subst (λ vs. AreItems IsCarryItem (items_view vs) carries) (take_all c.loop-item.item-index c.args.items.now c.loop-item-test.false) so_far.read,
+      subst (λ vs. AreItems IsCarryItem (items_view vs) carries)
+          (take_all c.loop-item.item-index c.args.items.now c.loop-item-test.false) so_far.read,
       RisesAbove-of_to 0 carries c.loop-item.last so_far.rises,
     )

@@ -12,8 +12,14 @@ use Rattle.script_head.proofs.lines.fail_in.Goals as goal
 pub returns-then-len-gt-MOST_FAILURES : goal.returns-then-len-gt-MOST_FAILURES
 returns-then-len-gt-MOST_FAILURES c =
     let vs = c.in_ok-items.items.now.items in
-    let there : as_array (view c.args.fail.now) ≡ Some (items_view vs) = search rules in
-    (refl, λ fail has. omega (arith, length-AreItems IsCarryItem vs fail (items_there IsCarryItem (Some (view c.args.fail.now)) vs fail there has.0)))
+    let there : as_array (view c.args.fail.now) ≡ Some (items_view vs) = search rules in (
+      refl,
+      λ fail has. omega (
+        arith,
+        length-AreItems IsCarryItem vs fail
+            (items_there IsCarryItem (Some (view c.args.fail.now)) vs fail there has.0),
+      ),
+    )
 
 pub returns : goal.returns
 returns c =

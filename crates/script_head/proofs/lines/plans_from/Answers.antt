@@ -12,7 +12,8 @@ pub returns-in_err-plan : goal.returns-in_err-plan
 returns-in_err-plan c =
     let p = err_from_is_err_and c.from_residual.result c.from_residual.ensures.1 in
     rw (p.1, p.2)
-    (one_refused_of Lines (IsLinePlan c.args.streams c.args.replicas) NoPairTwice c.args.items.now c.loop-item.item-index c.item-item.result _ c.loop-item-test.true c.item-item.is c.in_err-plan.ensures)
+    (one_refused_of Lines (IsLinePlan c.args.streams c.args.replicas) NoPairTwice c.args.items.now c.loop-item.item-index
+    c.item-item.result _ c.loop-item-test.true c.item-item.is c.in_err-plan.ensures)
 
 pub returns-then-has_plan : goal.returns-then-has_plan
 returns-then-has_plan c =
@@ -33,6 +34,7 @@ loop-item-preserved c =
     let plan = c.in_ok-plan.plan in
     let apart = rw c.deref.ensures.value at c.if-has_plan.ensures.apart in
     rw c.in_ok-push.ensures.items (record {
-      read = one_more (IsLinePlan c.args.streams c.args.replicas) c.args.items.now c.loop-item.item-index c.item-item.result plans plan c.loop-item-test.true c.item-item.is so_far.read c.in_ok-plan.ensures;
+      read = one_more (IsLinePlan c.args.streams c.args.replicas) c.args.items.now c.loop-item.item-index c.item-item.result
+          plans plan c.loop-item-test.true c.item-item.is so_far.read c.in_ok-plan.ensures;
       apart = NoPairTwice-push plans plan so_far.apart apart;
     })

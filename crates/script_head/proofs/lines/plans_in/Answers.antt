@@ -14,7 +14,8 @@ returns c =
     let vs = c.in_ok-items.items.now.items in
     let IsPlan = IsLinePlan c.args.streams c.args.replicas in
     let there : as_array (view c.args.value.now) ≡ Some (items_view vs) = search rules in
-    Reads-along Lines (λ plans. AreItems IsPlan (items_view vs) plans × NoPairTwice plans) (λ plans. HasItems IsPlan (Some (view c.args.value.now)) plans × NoPairTwice plans)
+    Reads-along Lines (λ plans. AreItems IsPlan (items_view vs) plans × NoPairTwice plans)
+    (λ plans. HasItems IsPlan (Some (view c.args.value.now)) plans × NoPairTwice plans)
     c.plans_from.result
     (λ plans are. ((items_view vs, there, are.0), are.1))
     (λ plans has. (items_there IsPlan (Some (view c.args.value.now)) vs plans there has.0, has.1))

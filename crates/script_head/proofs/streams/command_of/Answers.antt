@@ -16,8 +16,12 @@ returns-in_default c =
     let there : as_str d ≡ Some text = search rules in
     elim c.in_default.branch [
       | in_default-via-in-Ok+else-names_replica w ↦
-          let is : IsCommand text w.in-Ok.command = subst (λ t. IsCommand t w.in-Ok.command) c.as_bytes.ensures.value w.in-Ok.ensures.found in
-          (refl, no_replica c.args.replicas d text w.in-Ok.command there is (λ names. not_both _ w.if-names_replica.false (w.names_replica.ensures.1 names)))
+          let is : IsCommand text w.in-Ok.command = subst (λ t. IsCommand t w.in-Ok.command) c.as_bytes.ensures.value
+          w.in-Ok.ensures.found in (
+            refl,
+            no_replica c.args.replicas d text w.in-Ok.command there is
+                (λ names. not_both _ w.if-names_replica.false (w.names_replica.ensures.1 names)),
+          )
       | in_default-via-in_default w ↦
           let none : IsNoCommand text = subst IsNoCommand c.as_bytes.ensures.value w.in_default.ensures.refused in
           (refl, no_text c.args.replicas d text there none)

@@ -12,14 +12,22 @@ use Rattle.script_head.proofs.streams.commands_in.Goals as goal
 pub returns-then-len-gt-MOST_CALLS : goal.returns-then-len-gt-MOST_CALLS
 returns-then-len-gt-MOST_CALLS c =
     let vs = c.in_ok-items.items.now.items in
-    let there : as_array (view c.args.control.now) ≡ Some (items_view vs) = search rules in
-    (refl, λ commands has. omega (arith, length-AreItems (IsCommandItem c.args.replicas) vs commands (items_there (IsCommandItem c.args.replicas) (Some (view c.args.control.now)) vs commands there has.0)))
+    let there : as_array (view c.args.control.now) ≡ Some (items_view vs) = search rules in (
+      refl,
+      λ commands has. omega (
+        arith,
+        length-AreItems (IsCommandItem c.args.replicas) vs commands
+            (items_there (IsCommandItem c.args.replicas) (Some (view c.args.control.now)) vs commands there has.0),
+      ),
+    )
 
 pub returns : goal.returns
 returns c =
     let vs = c.in_ok-items.items.now.items in
     let there : as_array (view c.args.control.now) ≡ Some (items_view vs) = search rules in
-    Reads-along Streams (AreItems (IsCommandItem c.args.replicas) (items_view vs)) (λ commands. HasItems (IsCommandItem c.args.replicas) (Some (view c.args.control.now)) commands × (length commands ≤ most_calls))
+    Reads-along Streams (AreItems (IsCommandItem c.args.replicas) (items_view vs))
+    (λ commands. HasItems (IsCommandItem c.args.replicas) (Some (view c.args.control.now)) commands
+    × (length commands ≤ most_calls))
     c.commands_from.result
     (λ commands are. ((items_view vs, there, are), omega (arith, length-AreItems (IsCommandItem c.args.replicas) vs commands are)))
     (λ commands has. items_there (IsCommandItem c.args.replicas) (Some (view c.args.control.now)) vs commands there has.0)

@@ -25,4 +25,5 @@ returns-in_err-streams c =
     let of_line : AnswersBody (length line + 1) head.streams c.in_ok-body.body (Err e) =
     subst (λ k. AnswersBody (k + 1) head.streams c.in_ok-body.body (Err e)) (sym (length-take-le n input long)) c.in_err-streams.ensures in
     let p = err_from_is_err_and c.from_residual-in_err-streams.result c.from_residual-in_err-streams.ensures.1 in
-    rw (p.1, p.2) (refused_behind input line body head e cut says (subst (λ l. AnswersBody (length line + 1) head.streams l (Err e)) rest of_line))
+    rw (p.1, p.2) (refused_behind input line body head e cut says
+    (subst (λ l. AnswersBody (length line + 1) head.streams l (Err e)) rest of_line))

@@ -27,7 +27,8 @@ returns-then-head-eq-CLOSE c =
     let head = c.in-Some.head in
     let behind = drop (span head) rest in
     let some = some_bytes c.split_at.result.1.now _ c.if-is_empty.ensures refl in
-    subst (λ more. IsNoStream c.args.room c.args.place c.args.bytes (c.args.place + c.len.result - length more) what.Frame) (sym c.split_at.ensures.back)
+    subst (λ more. IsNoStream c.args.room c.args.place c.args.bytes (c.args.place + c.len.result - length more) what.Frame)
+    (sym c.split_at.ensures.back)
     (bad_behind_close c.args.room c.args.place (c.args.place + c.len.result) c.args.bytes (frames_under heads c.args.bytes) rest so_far.0
     (omega (arith, length-frames heads c.args.bytes, so_far.1)) so_far.2
     (frame_under head rest) behind c.in-Some.ensures.some c.if-head-eq-CLOSE.true (λ none. some (c.split_at.ensures.back ∙ none)))
@@ -45,15 +46,17 @@ returns-then-len-room c =
 
 pub loop-rest-preserved : goal.loop-rest-preserved
 loop-rest-preserved c =
+    let items_push = c.push.new.self.items in
     let so_far = c.loop-rest.invariant in
     let heads = c.loop-rest.heads.items in
     let rest = c.loop-rest.rest.now in
     let head = c.in-Some.head in
-    let pushed : c.push.new.self.items ≡ heads ++ head ∷ [] = c.in_ok-push.ensures.items in
-    let more = one_frame_more c.args.bytes heads head rest so_far.0 so_far.3 so_far.4 c.in-Some.ensures.some c.in-Some.ensures.within c.if-head-eq-CLOSE.false in
-    subst (λ after. BeginWithCalls c.args.bytes (frames_under c.push.new.self.items c.args.bytes) after × (length c.push.new.self.items ≤ c.args.room)
-    × (c.args.place + c.len.result ≡ c.args.place + length c.args.bytes) × HoldFrames c.push.new.self.items c.args.bytes
-    × (after ≡ behind_frames c.push.new.self.items c.args.bytes)) (sym c.split_at.ensures.back) (
+    let pushed : items_push ≡ heads ++ head ∷ [] = c.in_ok-push.ensures.items in
+    let more = one_frame_more c.args.bytes heads head rest so_far.0 so_far.3 so_far.4 c.in-Some.ensures.some
+    c.in-Some.ensures.within c.if-head-eq-CLOSE.false in
+    subst (λ after. BeginWithCalls c.args.bytes (frames_under items_push c.args.bytes) after × (length items_push ≤ c.args.room)
+    × (c.args.place + c.len.result ≡ c.args.place + length c.args.bytes) × HoldFrames items_push c.args.bytes
+    × (after ≡ behind_frames items_push c.args.bytes)) (sym c.split_at.ensures.back) (
       subst (λ hs. BeginWithCalls c.args.bytes (frames_under hs c.args.bytes) (drop (span head) rest)) (sym pushed) more.0,
       omega (arith, ap length pushed, length_push heads head),
       so_far.2,

@@ -13,7 +13,8 @@ loop-head-preserved c =
     let cut : others ≡ c.in-Some.head ∷ behind = c.in-Some.ensures.steps.0 in
     record {
       read = rw (c.in_ok-push.ensures.items, c.frame_count-left.ensures, c.in_ok-bytes.ensures.rest)
-          (next_read c.args.room c.args.place c.args.heads c.args.bytes c.loop-head.streams.items c.loop-head.left c.loop-head.rest others c.in-Some.head behind c.byte_count.result
+          (next_read c.args.room c.args.place c.args.heads c.args.bytes c.loop-head.streams.items c.loop-head.left
+          c.loop-head.rest others c.in-Some.head behind c.byte_count.result
           cut c.byte_count.ensures so_far.read c.in_ok-bytes.bytes stream c.in_ok-bytes.ensures.front found.0 found.1);
       count = omega (arith, ap length cut, c.in-Some.ensures.steps.1, so_far.count);
       end = so_far.end;
@@ -25,4 +26,5 @@ returns c =
     let others = into_iter_items c.loop-head.head-iterator in
     let none : length others ≡ 0 = sym so_far.count ∙ c.in-None.ensures.steps.0 in
     rw c.of.ensures
-    (all_read c.args.room c.args.place c.args.heads c.args.bytes c.loop-head.streams.items c.loop-head.left c.loop-head.rest others none so_far.read)
+    (all_read c.args.room c.args.place c.args.heads c.args.bytes c.loop-head.streams.items c.loop-head.left c.loop-head.rest
+    others none so_far.read)

@@ -6,7 +6,8 @@ use Rattle.stream_turns.proofs.lines.channels_of.Given as goal
 -- So many lines are there, and the wiring tells the same as before.
 abbrev pub invariant-loop-replica : goal.invariant-loop-replica
 invariant-loop-replica g l = record {
-  new : AreNewLines l.worker l.replica (map (λ c. g.W.L.Line.ends c.line) l.channels.items) (map (λ c. g.W.L.Line.count c.line) l.channels.items)
+  new : AreNewLines l.worker l.replica (map (λ c. g.W.L.Line.ends c.line) l.channels.items)
+      (map (λ c. g.W.L.Line.count c.line) l.channels.items)
       (map (λ c. g.W.L.Line.carried c.line) l.channels.items);
   counts : TellsSame (g.W.Wiring.counts l.fn.wiring) (g.W.Wiring.counts l.wiring);
   carried : TellsSame (g.W.Wiring.carried l.fn.wiring) (g.W.Wiring.carried l.wiring);

@@ -7,16 +7,20 @@ use Rattle.stream_turns.proofs.serving.serve_streams.Goals as goal
 
 pub loop-stream-init : goal.loop-stream-init
 loop-stream-init g c =
-    let gives : into_iter_items c.into_iter-stream-iterator.result ≡ c.args.streams.items = c.into_iter-stream-iterator.ensures.into_iter_gives.0 in
+    let gives : into_iter_items c.into_iter-stream-iterator.result ≡ c.args.streams.items =
+    c.into_iter-stream-iterator.ensures.into_iter_gives.0 in
     record {
-      far = subst (λ xs. StreamsSoFar 0 c.args.streams.items xs c.args.world c.args.world (g.W.Wiring.counts c.args.wiring.now) (g.W.Wiring.carried c.args.wiring.now)) (sym gives)
-          (no_streams c.args.streams.items c.args.world (g.W.Wiring.counts c.args.wiring.now) (g.W.Wiring.carried c.args.wiring.now) c.requires.between c.requires.begun);
+      far = subst (λ xs. StreamsSoFar 0 c.args.streams.items xs c.args.world c.args.world
+          (g.W.Wiring.counts c.args.wiring.now) (g.W.Wiring.carried c.args.wiring.now)) (sym gives)
+          (no_streams c.args.streams.items c.args.world (g.W.Wiring.counts c.args.wiring.now)
+          (g.W.Wiring.carried c.args.wiring.now) c.requires.between c.requires.begun);
       heads = λ i. c.new-heads.ensures.items i ++ map heads_of (gives i);
     }
 
 pub serve_stream-requires-clause-first : goal.serve_stream-requires-clause-first
 serve_stream-requires-clause-first g c κs within =
-    is_first c.loop-stream.number c.args.streams.items (into_iter_items c.loop-stream.stream-iterator) c.args.world c.loop-stream.world (g.W.Wiring.counts c.loop-stream.wiring) (g.W.Wiring.carried c.loop-stream.wiring)
+    is_first c.loop-stream.number c.args.streams.items (into_iter_items c.loop-stream.stream-iterator) c.args.world
+    c.loop-stream.world (g.W.Wiring.counts c.loop-stream.wiring) (g.W.Wiring.carried c.loop-stream.wiring)
     c.loop-stream.invariant.far
 
 pub loop-stream-preserved : goal.loop-stream-preserved
@@ -26,15 +30,22 @@ loop-stream-preserved g c =
     let stream = c.in-Some.stream in
     let cut : into_iter_items c.loop-stream.stream-iterator ≡ stream ∷ rest = c.in-Some.ensures.steps.0 in
     record {
-      far = streams_more c.loop-stream.number (c.loop-stream.number + 1) all rest stream c.args.world c.loop-stream.world c.in_ok-world.world
-          (g.W.Wiring.counts c.loop-stream.wiring) (g.W.Wiring.counts c.serve_stream.new.wiring) (g.W.Wiring.carried c.loop-stream.wiring) (g.W.Wiring.carried c.serve_stream.new.wiring)
-          (subst (λ xs. StreamsSoFar c.loop-stream.number all xs c.args.world c.loop-stream.world (g.W.Wiring.counts c.loop-stream.wiring) (g.W.Wiring.carried c.loop-stream.wiring)) cut c.loop-stream.invariant.far)
-          c.in_ok-world.ensures.between c.in_ok-world.ensures.origin c.in_ok-world.ensures.turn c.in_ok-world.ensures.counts c.in_ok-world.ensures.carried refl;
-      heads = one_kept heads_of all rest stream _ c.loop-stream.heads.items c.push.new.self.items c.in_ok-push.ensures.items c.heads_in.ensures
+      far = streams_more c.loop-stream.number (c.loop-stream.number + 1) all rest stream c.args.world c.loop-stream.world
+          c.in_ok-world.world
+          (g.W.Wiring.counts c.loop-stream.wiring) (g.W.Wiring.counts c.serve_stream.new.wiring)
+          (g.W.Wiring.carried c.loop-stream.wiring) (g.W.Wiring.carried c.serve_stream.new.wiring)
+          (subst (λ xs. StreamsSoFar c.loop-stream.number all xs c.args.world c.loop-stream.world
+          (g.W.Wiring.counts c.loop-stream.wiring) (g.W.Wiring.carried c.loop-stream.wiring)) cut
+          c.loop-stream.invariant.far)
+          c.in_ok-world.ensures.between c.in_ok-world.ensures.origin c.in_ok-world.ensures.turn c.in_ok-world.ensures.counts
+          c.in_ok-world.ensures.carried refl;
+      heads = one_kept heads_of all rest stream _ c.loop-stream.heads.items c.push.new.self.items c.in_ok-push.ensures.items
+          c.heads_in.ensures
           (subst (λ xs. c.loop-stream.heads.items ++ map heads_of xs ≡ map heads_of all) cut c.loop-stream.invariant.heads);
     }
 
 pub returns-clause-turns : goal.returns-clause-turns
 returns-clause-turns g c =
-    streams_all c.loop-stream.number c.args.streams.items (into_iter_items c.loop-stream.stream-iterator) c.args.world c.loop-stream.world (g.W.Wiring.counts c.loop-stream.wiring) (g.W.Wiring.carried c.loop-stream.wiring)
+    streams_all c.loop-stream.number c.args.streams.items (into_iter_items c.loop-stream.stream-iterator) c.args.world
+    c.loop-stream.world (g.W.Wiring.counts c.loop-stream.wiring) (g.W.Wiring.carried c.loop-stream.wiring)
     c.loop-stream.invariant.far (nil_from_length _ (omega (arith, c.in-None.ensures.steps.0)))

@@ -7,6 +7,7 @@ use Rattle.stream_turns.proofs.serving.serve_streams.Given as goal
 -- The streams before have had their turns, the next has the number of them, and their headers are kept.
 abbrev pub invariant-loop-stream : goal.invariant-loop-stream
 invariant-loop-stream g l = record {
-  far : StreamsSoFar l.number l.fn.streams.items (into_iter_items l.stream-iterator) l.fn.world l.world (g.W.Wiring.counts l.wiring) (g.W.Wiring.carried l.wiring);
+  far : StreamsSoFar l.number l.fn.streams.items (into_iter_items l.stream-iterator) l.fn.world l.world
+      (g.W.Wiring.counts l.wiring) (g.W.Wiring.carried l.wiring);
   heads : l.heads.items ++ map heads_of (into_iter_items l.stream-iterator) ≡ map heads_of l.fn.streams.items;
 }

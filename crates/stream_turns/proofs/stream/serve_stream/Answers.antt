@@ -6,18 +6,28 @@ use Rattle.stream_turns.proofs.stream.serve_stream.Goals as goal
 
 pub returns-clause-turn : goal.returns-clause-turn
 returns-clause-turn g c = each_ok c.run-after.result (λ after turn.
-    noted_back c.args.number c.len-replicas.result _ c.in_ok-channels.channels.len _ (λ x. g.W.L.Line.ends x.line) (λ x. g.W.L.Line.count x.line) (λ x. g.W.L.Line.carried x.line) c.in_ok-channels.channels.items
-    c.as_mut_slice.result.now c.run-after.new.channels c.in_ok-channels.ensures.new (c.len-replicas.ensures ∙ c.args.world.nodes.ok.0) c.in_ok-channels.channels.ok.0 c.as_mut_slice.ensures.value c.run-after.auto.channels c.run-after.ensures.ends
-    _ _ _ _ _ _ _ _ (modes_many (state_of c.args.world) c.requires.between.sound) turn c.take_back.ensures.counts c.take_back.ensures.carried) c.run-after.ensures.turn
+    noted_back c.args.number c.len-replicas.result _ c.in_ok-channels.channels.len _ (λ x. g.W.L.Line.ends x.line)
+    (λ x. g.W.L.Line.count x.line) (λ x. g.W.L.Line.carried x.line) c.in_ok-channels.channels.items
+    c.as_mut_slice.result.now c.run-after.new.channels c.in_ok-channels.ensures.new
+    (c.len-replicas.ensures ∙ c.args.world.nodes.ok.0) c.in_ok-channels.channels.ok.0 c.as_mut_slice.ensures.value
+    c.run-after.auto.channels c.run-after.ensures.ends
+    _ _ _ _ _ _ _ _ (modes_many (state_of c.args.world) c.requires.between.sound) turn c.take_back.ensures.counts
+    c.take_back.ensures.carried) c.run-after.ensures.turn
 
 pub returns-clause-counts : goal.returns-clause-counts
 returns-clause-counts g c = any_ok c.run-after.result (
-    others_back c.args.number c.len-replicas.result _ c.in_ok-channels.channels.len _ (λ x. g.W.L.Line.ends x.line) (λ x. g.W.L.Line.count x.line) (λ x. g.W.L.Line.carried x.line) c.in_ok-channels.channels.items
-    c.as_mut_slice.result.now c.run-after.new.channels c.in_ok-channels.ensures.new (c.len-replicas.ensures ∙ c.args.world.nodes.ok.0) c.in_ok-channels.channels.ok.0 c.as_mut_slice.ensures.value c.run-after.auto.channels c.run-after.ensures.ends
+    others_back c.args.number c.len-replicas.result _ c.in_ok-channels.channels.len _ (λ x. g.W.L.Line.ends x.line)
+    (λ x. g.W.L.Line.count x.line) (λ x. g.W.L.Line.carried x.line) c.in_ok-channels.channels.items
+    c.as_mut_slice.result.now c.run-after.new.channels c.in_ok-channels.ensures.new
+    (c.len-replicas.ensures ∙ c.args.world.nodes.ok.0) c.in_ok-channels.channels.ok.0 c.as_mut_slice.ensures.value
+    c.run-after.auto.channels c.run-after.ensures.ends
     (λ x. g.W.L.Line.count x.line) _ _ _ c.channels_of.ensures.counts c.take_back.ensures.counts)
 
 pub returns-clause-carried : goal.returns-clause-carried
 returns-clause-carried g c = any_ok c.run-after.result (
-    others_back c.args.number c.len-replicas.result _ c.in_ok-channels.channels.len _ (λ x. g.W.L.Line.ends x.line) (λ x. g.W.L.Line.count x.line) (λ x. g.W.L.Line.carried x.line) c.in_ok-channels.channels.items
-    c.as_mut_slice.result.now c.run-after.new.channels c.in_ok-channels.ensures.new (c.len-replicas.ensures ∙ c.args.world.nodes.ok.0) c.in_ok-channels.channels.ok.0 c.as_mut_slice.ensures.value c.run-after.auto.channels c.run-after.ensures.ends
+    others_back c.args.number c.len-replicas.result _ c.in_ok-channels.channels.len _ (λ x. g.W.L.Line.ends x.line)
+    (λ x. g.W.L.Line.count x.line) (λ x. g.W.L.Line.carried x.line) c.in_ok-channels.channels.items
+    c.as_mut_slice.result.now c.run-after.new.channels c.in_ok-channels.ensures.new
+    (c.len-replicas.ensures ∙ c.args.world.nodes.ok.0) c.in_ok-channels.channels.ok.0 c.as_mut_slice.ensures.value
+    c.run-after.auto.channels c.run-after.ensures.ends
     (λ x. g.W.L.Line.carried x.line) _ _ _ c.channels_of.ensures.carried c.take_back.ensures.carried)

@@ -8,5 +8,6 @@ invariant-loop-channel g l = record {
   counts : (worker : ℕ) → AreLinesOf worker 0 (map (λ c. g.V.Wrapped.Line.ends c.line) l.fn.channels.items)
       → RecordsOf (g.W.Wiring.counts l.fn.wiring) (g.W.Wiring.counts l.wiring) worker (map (λ c. g.V.Wrapped.Line.count c.line) l.yielded);
   carried : (worker : ℕ) → AreLinesOf worker 0 (map (λ c. g.V.Wrapped.Line.ends c.line) l.fn.channels.items)
-      → RecordsOf (g.W.Wiring.carried l.fn.wiring) (g.W.Wiring.carried l.wiring) worker (map (λ c. g.V.Wrapped.Line.carried c.line) l.yielded);
+      → RecordsOf (g.W.Wiring.carried l.fn.wiring) (g.W.Wiring.carried l.wiring) worker
+      (map (λ c. g.V.Wrapped.Line.carried c.line) l.yielded);
 }

@@ -4,5 +4,7 @@ use Rattle.stream_workers.proofs.lines.wrapped_channels.Goals as goal
 
 pub loop-replica-preserved : goal.loop-replica-preserved
 loop-replica-preserved g c =
-    more_channels _ _ (λ c. c.line) g.V.Wrapped.Line.ends g.V.Wrapped.Line.count g.V.Wrapped.Line.carried c.args.worker c.loop-replica.replica c.loop-replica.channels.items c.push.new.self.items c.new.result c.wrap.result
-    c.in_ok-push.ensures.items c.new.ensures c.loop-replica.invariant (same_new _ _ _ _ _ _ _ _ c.wrap.ensures.ends c.wrap.ensures.count c.wrap.ensures.carried c.in_ok-line.ensures.fresh)
+    more_channels _ _ (λ c. c.line) g.V.Wrapped.Line.ends g.V.Wrapped.Line.count g.V.Wrapped.Line.carried c.args.worker
+    c.loop-replica.replica c.loop-replica.channels.items c.push.new.self.items c.new.result c.wrap.result
+    c.in_ok-push.ensures.items c.new.ensures c.loop-replica.invariant
+    (same_new _ _ _ _ _ _ _ _ c.wrap.ensures.ends c.wrap.ensures.count c.wrap.ensures.carried c.in_ok-line.ensures.fresh)

@@ -12,16 +12,20 @@ overflow_cast-len g c = let few = (few_streams c.requires.0 c.args.script c.requ
 
 pub serve_streams-requires-clause-some : goal.serve_streams-requires-clause-some
 serve_streams-requires-clause-some g c κs within =
-    subst (λ (ss : List Stream). (1 ≤ length ss) × (length ss ≤ 16)) (sym c.into_vec.ensures) (few_streams c.requires.0 c.args.script c.requires.1)
+    subst (λ (ss : List Stream). (1 ≤ length ss) × (length ss ≤ 16)) (sym c.into_vec.ensures)
+    (few_streams c.requires.0 c.args.script c.requires.1)
 
 pub serve_streams-requires-clause-taken : goal.serve_streams-requires-clause-taken
-serve_streams-requires-clause-taken g c κs within = subst (All IsTaken) (sym c.into_vec.ensures) (all_taken c.requires.0 c.args.script c.requires.1)
+serve_streams-requires-clause-taken g c κs within =
+    subst (All IsTaken) (sym c.into_vec.ensures) (all_taken c.requires.0 c.args.script c.requires.1)
 
 pub serve_streams-requires-clause-between : goal.serve_streams-requires-clause-between
 serve_streams-requires-clause-between g c κs within =
-    begins_between c.args.script c.in_ok-world.world c.len.result c.in_ok-world.ensures.sound c.in_ok-world.ensures.begun (few_replicas c.requires.0 c.args.script c.requires.1).1
+    begins_between c.args.script c.in_ok-world.world c.len.result c.in_ok-world.ensures.sound c.in_ok-world.ensures.begun
+    (few_replicas c.requires.0 c.args.script c.requires.1).1
 
 pub returns : goal.returns
 returns g c =
-    each_served c.args.script c.in_ok-world.world c.serve_streams.result c.into_vec.result.items _ _ c.len.result c.in_ok-world.ensures.begun c.serve_streams.ensures.between
+    each_served c.args.script c.in_ok-world.world c.serve_streams.result c.into_vec.result.items _ _ c.len.result
+    c.in_ok-world.ensures.begun c.serve_streams.ensures.between
     c.serve_streams.ensures.origin c.serve_streams.ensures.ended c.into_vec.ensures c.serve_streams.ensures.heads

@@ -11,18 +11,21 @@ use Rattle.stream_workers.proofs.All.{has_all, have_ended, between_is}
 use Rattle.stream_workers.proofs.serving.serve_streams.Goals as goal
 
 pub do_tasks-tasks-requires-after_bounds : goal.do_tasks-tasks-requires-after_bounds
-do_tasks-tasks-requires-after_bounds g c κs within = let well : is_err c.deal-dealt.result ≡ false = search rules in not_err c.deal-dealt.result well c.deal-dealt.ensures.tasks
+do_tasks-tasks-requires-after_bounds g c κs within = let well : is_err c.deal-dealt.result ≡ false = search rules in
+    not_err c.deal-dealt.result well c.deal-dealt.ensures.tasks
 
 pub take_all_in-requires-clause-back : goal.take_all_in-requires-clause-back
 take_all_in-requires-clause-back g c κs within =
     let served : c.are_served.result ≡ true = search rules in
-    all_back g.V.Wrapped.Line.ends g.V.Wrapped.Line.count g.V.Wrapped.Line.carried c.in_ok-desk.desk c.deal-dealt.new.tasks.items c.do_tasks-tasks.result.items c.do_tasks-tasks.ensures
+    all_back g.V.Wrapped.Line.ends g.V.Wrapped.Line.count g.V.Wrapped.Line.carried c.in_ok-desk.desk
+    c.deal-dealt.new.tasks.items c.do_tasks-tasks.result.items c.do_tasks-tasks.ensures
     (subst (All (λ j. j.served ≡ true)) c.as_slice.ensures.value (c.are_served.ensures served))
 
 pub take_all_in-requires-clause-numbered : goal.take_all_in-requires-clause-numbered
 take_all_in-requires-clause-numbered g c κs within =
     let well : is_err c.deal-dealt.result ≡ false = search rules in
-    all_numbered g.V.Wrapped.Line.ends g.V.Wrapped.Line.count g.V.Wrapped.Line.carried c.in_ok-desk.desk c.deal-dealt.new.tasks.items c.do_tasks-tasks.result.items c.do_tasks-tasks.ensures
+    all_numbered g.V.Wrapped.Line.ends g.V.Wrapped.Line.count g.V.Wrapped.Line.carried c.in_ok-desk.desk
+    c.deal-dealt.new.tasks.items c.do_tasks-tasks.result.items c.do_tasks-tasks.ensures
     (not_err c.deal-dealt.result well c.deal-dealt.ensures.numbered)
 
 pub take_up-world-requires-clause-all : goal.take_up-world-requires-clause-all
@@ -39,8 +42,10 @@ take_up-world-requires-clause-all g c =
       ap length (not_err c.deal-dealt.result well c.deal-dealt.ensures.streams),
       length-map dealt (λ j. j.stream),
     ) in
-    has_all g.V.Wrapped.Line.count g.V.Wrapped.Line.carried tasks (known c.take_all_in.new.first) (g.W.Wiring.counts c.take_all_in.new.wiring) (g.W.Wiring.carried c.take_all_in.new.wiring)
-    (all_numbered g.V.Wrapped.Line.ends g.V.Wrapped.Line.count g.V.Wrapped.Line.carried c.in_ok-desk.desk dealt tasks c.do_tasks-tasks.ensures (not_err c.deal-dealt.result well c.deal-dealt.ensures.numbered))
+    has_all g.V.Wrapped.Line.count g.V.Wrapped.Line.carried tasks (known c.take_all_in.new.first)
+    (g.W.Wiring.counts c.take_all_in.new.wiring) (g.W.Wiring.carried c.take_all_in.new.wiring)
+    (all_numbered g.V.Wrapped.Line.ends g.V.Wrapped.Line.count g.V.Wrapped.Line.carried c.in_ok-desk.desk dealt tasks
+    c.do_tasks-tasks.ensures (not_err c.deal-dealt.result well c.deal-dealt.ensures.numbered))
     c.take_all_in.ensures.joined made
 
 pub returns-then-take_all_in-clause-ended : goal.returns-then-take_all_in-clause-ended
@@ -50,26 +55,35 @@ returns-then-take_all_in-clause-ended g c =
     let tasks = c.do_tasks-tasks.result.items in
     let desk = c.in_ok-desk.desk in
     let last = c.take_all_in.ensures.same.1 ∙ (c.deal-dealt.ensures.fresh.1 ∙ ap (λ k. k.last) c.in_ok-desk.ensures.seat) in
-    let numbered = all_numbered g.V.Wrapped.Line.ends g.V.Wrapped.Line.count g.V.Wrapped.Line.carried desk dealt tasks c.do_tasks-tasks.ensures (not_err c.deal-dealt.result well c.deal-dealt.ensures.numbered) in
+    let numbered = all_numbered g.V.Wrapped.Line.ends g.V.Wrapped.Line.count g.V.Wrapped.Line.carried desk dealt tasks
+    c.do_tasks-tasks.ensures (not_err c.deal-dealt.result well c.deal-dealt.ensures.numbered) in
     let served : c.are_served.result ≡ true = search rules in
-    let back = all_back g.V.Wrapped.Line.ends g.V.Wrapped.Line.count g.V.Wrapped.Line.carried desk dealt tasks c.do_tasks-tasks.ensures (subst (All (λ j. j.served ≡ true)) c.as_slice.ensures.value (c.are_served.ensures served)) in
-    let are = all_streams g.V.Wrapped.Line.ends g.V.Wrapped.Line.count g.V.Wrapped.Line.carried desk dealt tasks c.do_tasks-tasks.ensures ∙ not_err c.deal-dealt.result well c.deal-dealt.ensures.streams in
-    have_ended g.V.Wrapped.Line.ends g.V.Wrapped.Line.count g.V.Wrapped.Line.carried desk tasks (known c.take_all_in.new.first) (record { world = c.take_up-world.result }) (g.W.Wiring.counts c.take_all_in.new.wiring) (g.W.Wiring.carried c.take_all_in.new.wiring)
+    let back = all_back g.V.Wrapped.Line.ends g.V.Wrapped.Line.count g.V.Wrapped.Line.carried desk dealt tasks
+    c.do_tasks-tasks.ensures
+    (subst (All (λ j. j.served ≡ true)) c.as_slice.ensures.value (c.are_served.ensures served)) in
+    let are = all_streams g.V.Wrapped.Line.ends g.V.Wrapped.Line.count g.V.Wrapped.Line.carried desk dealt tasks
+    c.do_tasks-tasks.ensures ∙ not_err c.deal-dealt.result well c.deal-dealt.ensures.streams in
+    have_ended g.V.Wrapped.Line.ends g.V.Wrapped.Line.count g.V.Wrapped.Line.carried desk tasks
+    (known c.take_all_in.new.first) (record { world = c.take_up-world.result })
+    (g.W.Wiring.counts c.take_all_in.new.wiring) (g.W.Wiring.carried c.take_all_in.new.wiring)
     c.take_all_in.ensures.first.1 c.take_up-world.ensures numbered back c.take_all_in.ensures.joined c.args.streams.items are
     (c.take_all_in.ensures.same.0 ∙ not_err c.deal-dealt.result well c.deal-dealt.ensures.made)
-    (ap (λ (o : Origin). o.streams) c.take_up-world.ensures.finds.same_origin ∙ ap (λ (x : WorldOnDesk). length (laid x).indices) last ∙ c.requires.many)
+    (ap (λ (o : Origin). o.streams) c.take_up-world.ensures.finds.same_origin
+    ∙ ap (λ (x : WorldOnDesk). length (laid x).indices) last ∙ c.requires.many)
 
 pub returns-then-take_all_in-clause-between : goal.returns-then-take_all_in-clause-between
 returns-then-take_all_in-clause-between g c =
     let last = c.take_all_in.ensures.same.1 ∙ (c.deal-dealt.ensures.fresh.1 ∙ ap (λ k. k.last) c.in_ok-desk.ensures.seat) in
     let many : length c.take_up-world.result.nodes.items ≡ length c.args.world.nodes.items =
     ap (λ (o : Origin). o.replicas) c.take_up-world.ensures.finds.same_origin ∙ ap (λ (x : WorldOnDesk). length (laid x).nodes) last in
-    between_is (map stream_calls c.args.streams.items) (g.W.Wiring.counts c.take_all_in.new.wiring) (g.W.Wiring.carried c.take_all_in.new.wiring) c.take_up-world.result c.take_up-world.ensures.sound
+    between_is (map stream_calls c.args.streams.items) (g.W.Wiring.counts c.take_all_in.new.wiring)
+    (g.W.Wiring.carried c.take_all_in.new.wiring) c.take_up-world.result c.take_up-world.ensures.sound
     (omega (arith, many, c.requires.between.few)) (returns-then-take_all_in-clause-ended g c)
 
 pub returns-then-take_all_in-clause-heads : goal.returns-then-take_all_in-clause-heads
 returns-then-take_all_in-clause-heads g c =
     let well : is_err c.deal-dealt.result ≡ false = search rules in
     c.take_all_in.ensures.heads c.if-take_all_in.true
-    ∙ all_heads g.V.Wrapped.Line.ends g.V.Wrapped.Line.count g.V.Wrapped.Line.carried c.in_ok-desk.desk c.deal-dealt.new.tasks.items c.do_tasks-tasks.result.items c.do_tasks-tasks.ensures c.args.streams.items
+    ∙ all_heads g.V.Wrapped.Line.ends g.V.Wrapped.Line.count g.V.Wrapped.Line.carried c.in_ok-desk.desk
+    c.deal-dealt.new.tasks.items c.do_tasks-tasks.result.items c.do_tasks-tasks.ensures c.args.streams.items
     (not_err c.deal-dealt.result well c.deal-dealt.ensures.streams)

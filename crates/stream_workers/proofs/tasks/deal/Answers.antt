@@ -9,23 +9,32 @@ use Rattle.stream_workers.proofs.tasks.deal.Goals as goal
 
 pub loop-stream-preserved : goal.loop-stream-preserved
 loop-stream-preserved g c =
+    let items = c.loop-stream.tasks.items in
+    let yielded = c.loop-stream.yielded in
     let inv = c.loop-stream.invariant in
     let split = c.split_off-at.ensures in
     let pushed = c.in_ok-push.ensures.items in
-    let taken = at_next (λ k s. IsTaken s) c.args.streams.items c.loop-stream.yielded c.next.new.self.rest.items c.loop-stream.stream-iterator.rest.items c.in-Some.stream inv.whole c.in-Some.ensures.steps.0 c.requires.taken in
-    let next : c.loop-stream.number ≡ length c.loop-stream.tasks.items = inv.count ∙ sym inv.many in
+    let taken = at_next (λ k s. IsTaken s) c.args.streams.items yielded c.next.new.self.rest.items
+    c.loop-stream.stream-iterator.rest.items c.in-Some.stream inv.whole c.in-Some.ensures.steps.0 c.requires.taken in
+    let next : c.loop-stream.number ≡ length items = inv.count ∙ sym inv.many in
     record {
-      whole = whole_next c.args.streams.items c.loop-stream.yielded c.next.new.self.rest.items c.loop-stream.stream-iterator.rest.items c.in-Some.stream inv.whole c.in-Some.ensures.steps.0;
+      whole = whole_next c.args.streams.items yielded c.next.new.self.rest.items c.loop-stream.stream-iterator.rest.items
+          c.in-Some.stream inv.whole c.in-Some.ensures.steps.0;
       seat = split.seat;
       first = ap (λ k. k.number) split.first ∙ inv.first;
       joined = ap (λ k. k.joined) split.first ∙ inv.joined;
       made = ap (λ k. k.made) split.first ∙ ap (λ n. n + 1) inv.made;
       last = ap (λ k. k.last) split.first ∙ inv.last;
-      count = omega (arith, inv.count, length-append c.loop-stream.yielded (c.in-Some.stream ∷ []));
-      many = many_more c.loop-stream.tasks.items c.push.new.self.items _ (length c.loop-stream.yielded) pushed inv.many ∙ sym (length-append c.loop-stream.yielded (c.in-Some.stream ∷ []));
-      tasks = tasks_more g.V.Wrapped.Line.ends g.V.Wrapped.Line.count g.V.Wrapped.Line.carried c.args.desk.now c.loop-stream.tasks.items c.push.new.self.items _ pushed inv.tasks
-          (is_task g.V.Wrapped.Line.ends g.V.Wrapped.Line.count g.V.Wrapped.Line.carried c.args.desk.now _ c.split_off-at.result.seat (last_of c.loop-stream.first) c.args.replicas refl split.ready split.last split.idle split.none taken
+      count = omega (arith, inv.count, length-append yielded (c.in-Some.stream ∷ []));
+      many = many_more items c.push.new.self.items _ (length yielded) pushed inv.many ∙ sym (length-append yielded (c.in-Some.stream ∷ []));
+      tasks = tasks_more g.V.Wrapped.Line.ends g.V.Wrapped.Line.count g.V.Wrapped.Line.carried c.args.desk.now items
+          c.push.new.self.items _ pushed inv.tasks
+          (is_task g.V.Wrapped.Line.ends g.V.Wrapped.Line.count g.V.Wrapped.Line.carried c.args.desk.now _
+          c.split_off-at.result.seat (last_of c.loop-stream.first) c.args.replicas refl split.ready split.last split.idle
+          split.none taken
           (c.requires.replicas.0 ∙ sym (ap (λ w. length (laid w).nodes) inv.last)) c.requires.replicas.1 c.in_ok-channels.ensures);
-      numbered = numbers_more g.V.Wrapped.Line.ends g.V.Wrapped.Line.count g.V.Wrapped.Line.carried c.args.desk.now c.loop-stream.tasks.items c.push.new.self.items _ pushed inv.numbered next;
-      streams = streams_more g.V.Wrapped.Line.ends g.V.Wrapped.Line.count g.V.Wrapped.Line.carried c.args.desk.now c.loop-stream.tasks.items c.push.new.self.items _ c.loop-stream.yielded pushed inv.streams;
+      numbered = numbers_more g.V.Wrapped.Line.ends g.V.Wrapped.Line.count g.V.Wrapped.Line.carried c.args.desk.now items
+          c.push.new.self.items _ pushed inv.numbered next;
+      streams = streams_more g.V.Wrapped.Line.ends g.V.Wrapped.Line.count g.V.Wrapped.Line.carried c.args.desk.now items
+          c.push.new.self.items _ yielded pushed inv.streams;
     }

@@ -12,6 +12,7 @@ invariant-loop-task g l = record {
   first : number_of l.first ≡ None;
   made : made_of l.first ≡ made_of l.initial.first;
   last : last_of l.first ≡ last_of l.initial.first;
-  joined : All (IsIn g.V.Wrapped.Line.count g.V.Wrapped.Line.carried (known l.first).joined (g.W.Wiring.counts l.wiring) (g.W.Wiring.carried l.wiring)) l.yielded;
+  joined : All (IsIn g.V.Wrapped.Line.count g.V.Wrapped.Line.carried (known l.first).joined (g.W.Wiring.counts l.wiring)
+      (g.W.Wiring.carried l.wiring)) l.yielded;
   heads : l.well ≡ true → l.heads.items ≡ map (λ j. heads_of j.stream) l.yielded;
 }

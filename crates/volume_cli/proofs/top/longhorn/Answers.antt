@@ -19,7 +19,8 @@ returns-in-Ok-clause-done g c = λ is. (
 pub returns-in-Err-BadScript-clause-script_only : goal.returns-in-Err-BadScript-clause-script_only
 returns-in-Err-BadScript-clause-script_only g c = (
   asks_run _ c.read_words.result c.in-Ok-Run.field-0 c.in-Ok-Run.is c.read_words.ensures.found,
-  stopped_at (IsRun (g.W.Wiring.counts c.run.new.wiring)) c.in-Err-BadScript.field-0 c.in-Err-BadScript.place c.in-Err-BadScript.what (c.run.new.sink ≡ c.args.sink.now)
+  stopped_at (IsRun (g.W.Wiring.counts c.run.new.wiring)) c.in-Err-BadScript.field-0 c.in-Err-BadScript.place
+      c.in-Err-BadScript.what (c.run.new.sink ≡ c.args.sink.now)
       (g.S.Source.left c.args.source.now) (g.K.Sink.contents c.args.sink.now) (g.K.Sink.contents c.run.new.sink)
       c.in-Err-BadScript.field-0-is c.in-Err-BadScript.ensures.printed,
 )
@@ -36,6 +37,8 @@ returns-in-Err-BadScript-clause-complete g c =
 
 pub returns-in-Err-WriteFault-clause-script : goal.returns-in-Err-WriteFault-clause-script
 returns-in-Err-WriteFault-clause-script g c =
-    let t = stopped_writing (IsRun (g.W.Wiring.counts c.run.new.wiring)) c.in-Err-WriteFault.field-0 (c.run.new.sink ≡ c.args.sink.now) (g.S.Source.left c.args.source.now)
-    (g.K.Sink.contents c.args.sink.now) (g.K.Sink.contents c.run.new.sink) c.in-Err-WriteFault.field-0-is c.in-Err-WriteFault.ensures.printed in
+    let t = stopped_writing (IsRun (g.W.Wiring.counts c.run.new.wiring)) c.in-Err-WriteFault.field-0
+    (c.run.new.sink ≡ c.args.sink.now) (g.S.Source.left c.args.source.now)
+    (g.K.Sink.contents c.args.sink.now) (g.K.Sink.contents c.run.new.sink) c.in-Err-WriteFault.field-0-is
+    c.in-Err-WriteFault.ensures.printed in
     λ asked same. no_refusal _ t.0 _ t.2

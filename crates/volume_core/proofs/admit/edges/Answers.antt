@@ -13,8 +13,10 @@ returns c =
     let some : 0 < n = omega arith in
     let low = c.requires.covers at (omega arith) (omega arith) in
     let high = c.requires.covers (at + n - 1) (omega arith) (omega arith) in
-    let lf : length c.in_ok-front.front ≡ at - from = ap length c.in_ok-front.ensures ∙ length-bytes_at disk from (at - from) (omega (arith, low.0, low.1, c.requires.inside)) in
-    let lb : length c.in_ok-back.back ≡ until - at - n = ap length c.in_ok-back.ensures ∙ length-bytes_at disk (at + n) (until - at - n) (omega (arith, high.1, c.requires.inside)) in
+    let lf : length c.in_ok-front.front ≡ at - from = ap length c.in_ok-front.ensures
+    ∙ length-bytes_at disk from (at - from) (omega (arith, low.0, low.1, c.requires.inside)) in
+    let lb : length c.in_ok-back.back ≡ until - at - n = ap length c.in_ok-back.ensures
+    ∙ length-bytes_at disk (at + n) (until - at - n) (omega (arith, high.1, c.requires.inside)) in
     record {
       before = c.in_ok-front.ensures ∙ ap (bytes_at disk from) (sym lf);
       behind = c.in_ok-back.ensures ∙ ap (bytes_at disk (at + n)) (sym lb);

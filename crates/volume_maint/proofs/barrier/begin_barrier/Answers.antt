@@ -22,12 +22,16 @@ returns-clause-ok c =
     let target = c.in_ok-blank.blank in
     let spares = c.in_ok-spares.spares in
     let read : c.index-node.result.now ≡ node_at s.nodes source =
-    c.index-node.ensures ∙ get_or_default s.nodes source c.index-node.result.now (blank 0) (node_within s source c.requires.sound c.requires.source.read) in
+    c.index-node.ensures ∙ get_or_default s.nodes source c.index-node.result.now (blank 0)
+    (node_within s source c.requires.sound c.requires.source.read) in
     let begun = c.in_ok-rebuild.ensures in
     let spared : AreSpared (whole.Barrier c.args.target) (barrier_modes s c.args.target) (set s.nodes c.args.target target) spares =
-    subst (λ (ms : List Mode). AreSpared (whole.Barrier c.args.target) (set ms c.args.target Wo) (set s.nodes c.args.target target) spares) c.modes-modes.ensures
-    (subst (λ (ns : List Node). AreSpared (whole.Barrier c.args.target) (set c.modes-modes.result.now c.args.target Wo) (set ns c.args.target target) spares) c.deref.ensures.value c.in_ok-spares.ensures) in
+    subst (λ (ms : List Mode). AreSpared (whole.Barrier c.args.target) (set ms c.args.target Wo)
+    (set s.nodes c.args.target target) spares) c.modes-modes.ensures
+    (subst (λ (ns : List Node). AreSpared (whole.Barrier c.args.target) (set c.modes-modes.result.now c.args.target Wo)
+    (set ns c.args.target target) spares) c.deref.ensures.value c.in_ok-spares.ensures) in
     let is : state_of c.put_barrier.new.world ≡ barrier_put (with_places s) c.args.i b target spares =
     c.put_barrier.ensures ∙ ap (λ (x : State). barrier_put x c.args.i b target spares) c.in_ok-make_places.ensures.ok in
-    begins_by s (state_of c.put_barrier.new.world) c.args.i c.args.target source b target spares c.requires.source begun.0 begun.1 (long_node s source c.requires.sound c.requires.none c.requires.source.read)
+    begins_by s (state_of c.put_barrier.new.world) c.args.i c.args.target source b target spares c.requires.source begun.0
+    begun.1 (long_node s source c.requires.sound c.requires.none c.requires.source.read)
     (subst (λ (n : Node). IsNew (length n.disk) n (sys_name n.number) b) read begun.2) (c.in_ok-blank.ensures ∙ ap emptied read) spared is

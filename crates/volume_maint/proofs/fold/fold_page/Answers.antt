@@ -17,27 +17,34 @@ use Rattle.volume_maint.proofs.Purging.{IsPurging, can_told, told_can, long_on, 
 use Rattle.volume_maint.proofs.fold.fold_page.Goals as goal
 
 -- where the purge has the turn, and the replica is read
-module _ (s : State) (r : ℕ) (p : List ℕ) (ok : IsSound s) (idle : IsIdle (command_at s.commands 0).stream s.calls) (read : mode_of (modes_in s) r ≡ Rw) where
+module _ (s : State) (r : ℕ) (p : List ℕ) (ok : IsSound s) (idle : IsIdle (command_at s.commands 0).stream s.calls)
+    (read : mode_of (modes_in s) r ≡ Rw) where
   abbrev purging : IsPurging s
   purging = record { stream = (command_at s.commands 0).stream; own = refl; idle = idle }
 
-  can_fold : (c : List ℕ) → CanFold (tree_of (node_at s.nodes r)) (node_at s.nodes r).on p c → (IsNew s c → ⊥) → CanFold (snapshots_told s).tree (snapshots_told s).on p c
+  can_fold : (c : List ℕ) → CanFold (tree_of (node_at s.nodes r)) (node_at s.nodes r).on p c → (IsNew s c → ⊥)
+      → CanFold (snapshots_told s).tree (snapshots_told s).on p c
   can_fold c can off = can_told s r ok purging read (part.Fold p c) can off
 
   -- what is not folded there could not be
-  none_on : ((c : List ℕ) → CanFold (tree_of (node_at s.nodes r)) (node_at s.nodes r).on p c → ⊥) → (page : ℕ) (s2 : State) → FoldsPage s r p page s2 → ⊥
+  none_on : ((c : List ℕ) → CanFold (tree_of (node_at s.nodes r)) (node_at s.nodes r).on p c → ⊥) → (page : ℕ) (s2 : State)
+      → FoldsPage s r p page s2 → ⊥
   none_on none page s2 f = none f.c (told_can s r ok purging read (part.Fold p f.c) f.can)
 
-  new_on : (c : List ℕ) → CanFold (tree_of (node_at s.nodes r)) (node_at s.nodes r).on p c → IsNew s c → (page : ℕ) (s2 : State) → FoldsPage s r p page s2 → ⊥
+  new_on : (c : List ℕ) → CanFold (tree_of (node_at s.nodes r)) (node_at s.nodes r).on p c → IsNew s c
+      → (page : ℕ) (s2 : State) → FoldsPage s r p page s2 → ⊥
   new_on c can new page s2 f =
-      not_onto_new s (part.Fold p f.c) ok f.can (subst (IsNew s) (one_child (tree_of (node_at s.nodes r)) (node_at s.nodes r).on p c f.c can (told_can s r ok purging read (part.Fold p f.c) f.can)) new)
+      not_onto_new s (part.Fold p f.c) ok f.can
+      (subst (IsNew s) (one_child (tree_of (node_at s.nodes r)) (node_at s.nodes r).on p c f.c can
+      (told_can s r ok purging read (part.Fold p f.c) f.can)) new)
 
 pub fold_on-requires-clause-inside : goal.fold_on-requires-clause-inside
 fold_on-requires-clause-inside c =
     let s : State = state_of c.args.world.now in
     let read : mode_of (modes_in s) c.args.replica ≡ Rw = search rules in
     let turn : IsTurnOf s command.Purge × IsIdle (command_at s.commands 0).stream s.calls = search rules in
-    let long = long_on s c.args.replica c.requires.sound (record { stream = (command_at s.commands 0).stream; own = refl; idle = turn.1 }) read in
+    let long = long_on s c.args.replica c.requires.sound
+    (record { stream = (command_at s.commands 0).stream; own = refl; idle = turn.1 }) read in
     omega (arith, c.requires.page, long)
 
 pub returns-in-Some-clause-sound : goal.returns-in-Some-clause-sound
@@ -47,7 +54,10 @@ returns-in-Some-clause-sound c =
     let turn : IsTurnOf s command.Purge × IsIdle (command_at s.commands 0).stream s.calls = search rules in
     let off : IsNew s c.in-Some.child → ⊥ = search rules in
     let can = can_fold s c.args.replica c.args.parent.now c.requires.sound turn.1 read c.in-Some.child c.in-Some.ensures off in
-    subst IsSound (sym c.fold_on.ensures) (folded_sound s c.args.replica c.requires.sound (record { stream = (command_at s.commands 0).stream; own = refl; idle = turn.1 }) read c.args.parent.now c.in-Some.child c.args.page turn.0.command can)
+    subst IsSound (sym c.fold_on.ensures)
+    (folded_sound s c.args.replica c.requires.sound
+    (record { stream = (command_at s.commands 0).stream; own = refl; idle = turn.1 }) read c.args.parent.now
+    c.in-Some.child c.args.page turn.0.command can)
 
 pub returns-in-Some-clause-ok : goal.returns-in-Some-clause-ok
 returns-in-Some-clause-ok c =
@@ -73,10 +83,12 @@ returns-in_default-clause-why c = λ s2 f.
 pub returns-in_default-2-clause-why : goal.returns-in_default-2-clause-why
 returns-in_default-2-clause-why c = λ s2 f.
     let s : State = state_of c.args.world.now in
-    let none : (child : List ℕ) → CanFold (tree_of (node_at s.nodes c.args.replica)) (node_at s.nodes c.args.replica).on c.args.parent.now child → ⊥ = search rules in
+    let none : (child : List ℕ) → CanFold (tree_of (node_at s.nodes c.args.replica)) (node_at s.nodes c.args.replica).on
+    c.args.parent.now child → ⊥ = search rules in
     none_on s c.args.replica c.args.parent.now c.requires.sound f.idle f.read none c.args.page s2 f
 
 pub returns-in-Some-clause-may : goal.returns-in-Some-clause-may
 returns-in-Some-clause-may c =
     let s : State = state_of c.args.world.now in
-    folded_goes (command_at s.commands 0).stream s (state_of c.fold_on.new.world) (returns-in-Some-clause-sound c) c.args.replica c.args.parent.now c.in-Some.child c.args.page c.fold_on.ensures
+    folded_goes (command_at s.commands 0).stream s (state_of c.fold_on.new.world) (returns-in-Some-clause-sound c)
+    c.args.replica c.args.parent.now c.in-Some.child c.args.page c.fold_on.ensures

@@ -10,5 +10,6 @@ use Rattle.volume_maint.proofs.fold.is_folded.Goals as goal
 pub returns-clause-folded : goal.returns-clause-folded
 returns-clause-folded c = λ e r read.
     let s = state_of c.args.world.now in
-    let within : r < c.replica_count-r-end.result = omega (arith, up_in (modes_in s) r (rw_up (mode_of (modes_in s) r) read), c.replica_count-r-end.ensures.value) in
+    let within : r < c.replica_count-r-end.result =
+    omega (arith, up_in (modes_in s) r (rw_up (mode_of (modes_in s) r) read), c.replica_count-r-end.ensures.value) in
     subst (λ (f : FoldOrDrop). IsFolded f (node_at s.nodes r)) (sym c.in-Fold.is) (c.loop-r.invariant r (omega arith) read)

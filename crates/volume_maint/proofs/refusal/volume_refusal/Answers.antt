@@ -19,4 +19,5 @@ returns-else-used c =
     let s = state_of c.args.world.now in
     let name = c.in-Snapshot.name in
     let used = sym (told_used s name c.requires.sound) ∙ ap (is_used_in (names_of s.book)) (sym c.from.ensures) ∙ sym c.used.ensures in
-    name_unused s name c.chain_refusal.result (used ∙ c.if-used.false) c.chain_refusal.ensures ∙ ap (λ d. refusal_of (modes_in s) (told_of s) (call.Command d)) (sym c.in-Snapshot.is)
+    name_unused s name c.chain_refusal.result (used ∙ c.if-used.false) c.chain_refusal.ensures
+    ∙ ap (λ d. refusal_of (modes_in s) (told_of s) (call.Command d)) (sym c.in-Snapshot.is)

@@ -20,7 +20,8 @@ returns-in-Some-clause-may c =
     let s2 : State = state_of c.end_first.new.world in
     let is : s2 ≡ turn_abandoned s = search rules in
     for_asker s c.args.t 0 (λ stream. MayGo stream s s2) c.requires.turn.stands
-    (abandoned_goes s s2 c.requires.sound (returns-in-Some-clause-sound c) (omega (arith, c.requires.turn.stands.within, c.requires.sound.maint.queued.paired)) is)
+    (abandoned_goes s s2 c.requires.sound (returns-in-Some-clause-sound c)
+    (omega (arith, c.requires.turn.stands.within, c.requires.sound.maint.queued.paired)) is)
 
 -- it was aborted
 pub returns-in-Some-ended-clause-sound : goal.returns-in-Some-ended-clause-sound
@@ -35,7 +36,8 @@ returns-in-Some-ended-clause-may c =
     let s2 : State = state_of c.end_first-in-Some-ended.new.world in
     let is : s2 ≡ turn_abandoned s = search rules in
     for_asker s c.args.t 0 (λ stream. MayGo stream s s2) c.requires.turn.stands
-    (abandoned_goes s s2 c.requires.sound (returns-in-Some-ended-clause-sound c) (omega (arith, c.requires.turn.stands.within, c.requires.sound.maint.queued.paired)) is)
+    (abandoned_goes s s2 c.requires.sound (returns-in-Some-ended-clause-sound c)
+    (omega (arith, c.requires.turn.stands.within, c.requires.sound.maint.queued.paired)) is)
 
 -- the turn is given back
 pub returns-in_default-ended-clause-sound : goal.returns-in_default-ended-clause-sound
@@ -50,4 +52,5 @@ returns-in_default-ended-clause-may c =
     let s2 : State = state_of c.take_command.new.world in
     let is : s2 ≡ turn_abandoned s = search rules in
     for_asker s c.args.t 0 (λ stream. MayGo stream s s2) c.requires.turn.stands
-    (abandoned_goes s s2 c.requires.sound (returns-in_default-ended-clause-sound c) (omega (arith, c.requires.turn.stands.within, c.requires.sound.maint.queued.paired)) is)
+    (abandoned_goes s s2 c.requires.sound (returns-in_default-ended-clause-sound c)
+    (omega (arith, c.requires.turn.stands.within, c.requires.sound.maint.queued.paired)) is)

@@ -12,14 +12,25 @@ pub returns-clause-sound : goal.returns-clause-sound
 returns-clause-sound c =
     let s : State = state_of c.args.world.now in
     let call : MaintCall = record { stream = c.args.stream; saw = length s.book.entries; command = c.args.command.now } in
-    let after : World = record c.args.world.now { maint = c.enrol-number.new.self; commands = c.push.new.self; journal = c.reserve-3.new.self } in
+    let after : World = record c.args.world.now {
+      maint = c.enrol-number.new.self;
+      commands = c.push.new.self;
+      journal =
+          c.reserve-3.new.self;
+    } in
     let is : state_of after ≡ maint_enrolled s c.enrol-number.result call = search rules in
-    subst IsSound (sym is) (enrolled_kept s c.enrol-number.result call c.requires.sound c.requires.stream c.requires.idle c.requires.free c.requires.wants refl (search rules))
+    subst IsSound (sym is) (enrolled_kept s c.enrol-number.result call c.requires.sound c.requires.stream c.requires.idle
+    c.requires.free c.requires.wants refl (search rules))
 
 pub returns-clause-may : goal.returns-clause-may
 returns-clause-may c =
     let s : State = state_of c.args.world.now in
     let call : MaintCall = record { stream = c.args.stream; saw = length s.book.entries; command = c.args.command.now } in
-    let after : World = record c.args.world.now { maint = c.enrol-number.new.self; commands = c.push.new.self; journal = c.reserve-3.new.self } in
+    let after : World = record c.args.world.now {
+      maint = c.enrol-number.new.self;
+      commands = c.push.new.self;
+      journal =
+          c.reserve-3.new.self;
+    } in
     let is : state_of after ≡ maint_enrolled s c.enrol-number.result call = search rules in
     enrolled_goes s (state_of after) c.requires.sound (returns-clause-sound c) c.enrol-number.result call is

@@ -16,4 +16,5 @@ returns-clause-may c =
     let s = state_of c.args.world.now in
     let s2 = state_of c.take_command.new.world in
     let k = c.waiting_command_at-k.result in
-    for_asker s c.args.t k (λ stream. MayGo stream s s2) c.waiting_command_at-k.ensures.stands (less_goes s s2 c.requires.sound (returns-clause-sound c) k c.take_command.ensures.gone)
+    for_asker s c.args.t k (λ stream. MayGo stream s s2) c.waiting_command_at-k.ensures.stands
+    (less_goes s s2 c.requires.sound (returns-clause-sound c) k c.take_command.ensures.gone)

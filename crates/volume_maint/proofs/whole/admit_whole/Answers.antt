@@ -41,8 +41,10 @@ returns-in-Some-refusal-clause-sound c =
     let asks : (open_at s.calls i).op ≡ Some c.op_at-op.result = search rules in
     let begins : MayBegin s c.op_at-op.result = search rules in
     let why : refused_in s (command_of c.op_at-op.result) ≡ Some c.in-Some-refusal.why = search rules in
-    let is : state_of c.refuse.new.world ≡ whole_ended (with_place s) i c.op_at-op.result (reply.Refused c.in-Some-refusal.why) = search rules in
-    subst IsSound (sym is) (refused_whole s i c.op_at-op.result c.in-Some-refusal.why c.requires.sound at.stands.within at.kind at.waits clear asks begins why)
+    let is : state_of c.refuse.new.world ≡ whole_ended (with_place s) i c.op_at-op.result
+    (reply.Refused c.in-Some-refusal.why) = search rules in
+    subst IsSound (sym is) (refused_whole s i c.op_at-op.result c.in-Some-refusal.why c.requires.sound at.stands.within
+    at.kind at.waits clear asks begins why)
 
 pub long_source-source-requires-clause-read : goal.long_source-source-requires-clause-read
 long_source-source-requires-clause-read c =
@@ -62,7 +64,8 @@ returns-clause-sound c =
     let free : refused_in s (command_of op) ≡ None = search rules in
     let few : length s.book.entries < 2 ^ 63 = search rules in
     let waiting : IsWaiting s c.args.t i op = record { awaits = c.waiting_whole_at-i.ensures; asks = asks; clear = clear } in
-    starts_sound s (state_of c.begin.new.world) c.args.t i c.long_source-source.result op c.requires.sound waiting begins free few c.long_source-source.ensures.long c.in_ok-begin.ensures.ok
+    starts_sound s (state_of c.begin.new.world) c.args.t i c.long_source-source.result op c.requires.sound waiting begins
+    free few c.long_source-source.ensures.long c.in_ok-begin.ensures.ok
 
 pub returns-in-Some-refusal-clause-may : goal.returns-in-Some-refusal-clause-may
 returns-in-Some-refusal-clause-may c =
@@ -74,7 +77,8 @@ returns-in-Some-refusal-clause-may c =
     let asks : (open_at s.calls i).op ≡ Some op = search rules in
     let is : s2 ≡ whole_ended (with_place s) i op (reply.Refused c.in-Some-refusal.why) = search rules in
     for_caller s c.args.t i (λ n. MayGo n s s2) at.stands
-    (ended_goes s s2 c.requires.sound (returns-in-Some-refusal-clause-sound c) i (s.book.spare + 1) op (reply.Refused c.in-Some-refusal.why) (asked_op s i op c.requires.sound at.stands.within at.kind asks) is)
+    (ended_goes s s2 c.requires.sound (returns-in-Some-refusal-clause-sound c) i (s.book.spare + 1) op
+    (reply.Refused c.in-Some-refusal.why) (asked_op s i op c.requires.sound at.stands.within at.kind asks) is)
 
 pub returns-clause-may : goal.returns-clause-may
 returns-clause-may c =
@@ -82,4 +86,5 @@ returns-clause-may c =
     let s2 : State = state_of c.begin.new.world in
     let i = c.waiting_whole_at-i.result in
     let op : WholeOp = c.op_at-op.result in
-    for_caller s c.args.t i (λ n. MayGo n s s2) c.waiting_whole_at-i.ensures.stands (starts_goes s s2 c.requires.sound (returns-clause-sound c) i op c.in_ok-begin.ensures.ok)
+    for_caller s c.args.t i (λ n. MayGo n s s2) c.waiting_whole_at-i.ensures.stands
+    (starts_goes s s2 c.requires.sound (returns-clause-sound c) i op c.in_ok-begin.ensures.ok)

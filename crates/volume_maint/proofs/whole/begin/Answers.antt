@@ -10,6 +10,7 @@ returns-in-Snapshot c =
     let s2 : State = state_of c.begin_other.new.world in
     let op : WholeOp = c.args.op in
     record {
-      ok = ok_to c.begin_other.result (BeginsWith s c.args.i op s2) (BeginsWhole s c.args.i op s2) (begins_plain s s2 c.args.i op (plain_of op c.in-Snapshot.is)) c.begin_other.ensures.ok;
+      ok = ok_to c.begin_other.result (BeginsWith s c.args.i op s2) (BeginsWhole s c.args.i op s2)
+          (begins_plain s s2 c.args.i op (plain_of op c.in-Snapshot.is)) c.begin_other.ensures.ok;
       err = c.begin_other.ensures.err;
     }

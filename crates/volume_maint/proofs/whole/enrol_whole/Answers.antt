@@ -12,13 +12,17 @@ use Rattle.volume_maint.proofs.whole.enrol_whole.Goals as goal
 pub returns-clause-sound : goal.returns-clause-sound
 returns-clause-sound c =
     let s : State = state_of c.args.world.now in
-    let is : state_of c.put_whole.new.world ≡ whole_enrolled s c.in_ok-number.number c.args.stream (seen_by s c.args.op.now) c.args.op.now = search rules in
+    let is : state_of c.put_whole.new.world ≡ whole_enrolled s c.in_ok-number.number c.args.stream (seen_by s c.args.op.now)
+    c.args.op.now = search rules in
     let can : CanStill (snapshots_told s) (modes_in s) s.nodes c.args.op.now = search rules in
     let fresh : IsFresh s.tickets c.in_ok-number.number = search rules in
-    subst IsSound (sym is) (asked_sound s c.in_ok-number.number c.args.stream c.args.op.now c.requires.sound c.bytes-size.ensures.size.whole fresh c.requires.stream c.requires.idle c.requires.asks can)
+    subst IsSound (sym is) (asked_sound s c.in_ok-number.number c.args.stream c.args.op.now c.requires.sound
+    c.bytes-size.ensures.size.whole fresh c.requires.stream c.requires.idle c.requires.asks can)
 
 pub returns-clause-may : goal.returns-clause-may
 returns-clause-may c =
     let s : State = state_of c.args.world.now in
-    let is : state_of c.put_whole.new.world ≡ whole_enrolled s c.in_ok-number.number c.args.stream (seen_by s c.args.op.now) c.args.op.now = search rules in
-    asked_goes s (state_of c.put_whole.new.world) c.requires.sound (returns-clause-sound c) c.in_ok-number.number c.args.stream (seen_by s c.args.op.now) c.args.op.now is
+    let is : state_of c.put_whole.new.world ≡ whole_enrolled s c.in_ok-number.number c.args.stream (seen_by s c.args.op.now)
+    c.args.op.now = search rules in
+    asked_goes s (state_of c.put_whole.new.world) c.requires.sound (returns-clause-sound c) c.in_ok-number.number
+    c.args.stream (seen_by s c.args.op.now) c.args.op.now is

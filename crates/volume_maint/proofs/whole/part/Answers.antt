@@ -27,5 +27,6 @@ returns-clause-may c = λ i stands.
     let s = state_of c.args.world.now in
     let s2 = state_of c.part_on.new.world in
     let owes : OwesPart s c.args.t c.args.replica = search rules in
-    let is : s2 ≡ whole_parted s owes.0 c.args.replica = if_whole s.whole owes.0 (λ w. s2 ≡ whole_parted s w c.args.replica) owes.2.is c.part_on.ensures in
+    let is : s2 ≡ whole_parted s owes.0 c.args.replica =
+    if_whole s.whole owes.0 (λ w. s2 ≡ whole_parted s w c.args.replica) owes.2.is c.part_on.ensures in
     parted_goes (open_at s.calls i).stream s s2 (returns-clause-sound c) owes.0 c.args.replica is

@@ -9,11 +9,13 @@ use Rattle.volume_maint.proofs.whole.withdraw_whole.Goals as goal
 pub returns-clause-sound : goal.returns-clause-sound
 returns-clause-sound c =
     subst IsSound (sym c.take_call.ensures)
-    (withdrawn_kept (state_of c.args.world.now) c.waiting_whole_at-i.result c.requires.sound c.waiting_whole_at-i.ensures.stands.within c.waiting_whole_at-i.ensures.waits)
+    (withdrawn_kept (state_of c.args.world.now) c.waiting_whole_at-i.result c.requires.sound
+    c.waiting_whole_at-i.ensures.stands.within c.waiting_whole_at-i.ensures.waits)
 
 pub returns-clause-may : goal.returns-clause-may
 returns-clause-may c =
     let s = state_of c.args.world.now in
     let s2 = state_of c.take_call.new.world in
     let i = c.waiting_whole_at-i.result in
-    for_caller s c.args.t i (λ stream. MayGo stream s s2) c.waiting_whole_at-i.ensures.stands (gone_goes s s2 c.requires.sound (returns-clause-sound c) i s.whole s.rebuild c.take_call.ensures)
+    for_caller s c.args.t i (λ stream. MayGo stream s s2) c.waiting_whole_at-i.ensures.stands
+    (gone_goes s s2 c.requires.sound (returns-clause-sound c) i s.whole s.rebuild c.take_call.ensures)

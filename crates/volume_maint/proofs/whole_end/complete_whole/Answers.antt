@@ -22,4 +22,5 @@ returns-clause-ok c =
     ends_whole s (state_of c.end_at.new.world) c.args.t c.in-Some.i c.requires.sound at pending c.end_at.ensures.done c.end_at.ensures.lost
 
 pub returns-clause-may : goal.returns-clause-may
-returns-clause-may c = ends_goes (state_of c.args.world.now) (state_of c.end_at.new.world) c.args.t c.requires.sound (returns-clause-sound c) (returns-clause-ok c)
+returns-clause-may c = ends_goes (state_of c.args.world.now) (state_of c.end_at.new.world) c.args.t c.requires.sound
+    (returns-clause-sound c) (returns-clause-ok c)

@@ -15,4 +15,10 @@ returns-clause-done c =
     let first : c.is_some-is_read.result ≡ is_some (source_of (modes_in s)) = search rules in
     whole_if s.whole c.in-Some.whole (λ w. HasSource (modes_in s) → state_of c.match-whole.world ≡ whole_done s c.args.i w.op) is
     (λ source. let read : c.is_some-is_read.result ≡ true = first ∙ has_first (modes_in s) source in
-    elim c.match-whole.branch [ in-Purge-true w ↦ search rules | in-Purge-false w ↦ search rules | in-Barrier-default w ↦ search rules | in_default-true w ↦ search rules | in_default-false w ↦ search rules ])
+    elim c.match-whole.branch [
+      | in-Purge-true w ↦ search rules
+      | in-Purge-false w ↦ search rules
+      | in-Barrier-default w ↦ search rules
+      | in_default-true w ↦ search rules
+      | in_default-false w ↦ search rules
+    ])

@@ -47,10 +47,12 @@ returns-clause-legal c = (
 )
 
 pub returns-clause-no_fall : goal.returns-clause-no_fall
-returns-clause-no_fall c = λ behind. not_behind (told_to_fail 0 0 1 []) (mark.Added 1 0 (sys_name 0)) 1 0 refl (λ f. f) (λ f. f) behind.1.1.1.0
+returns-clause-no_fall c = λ behind. not_behind (told_to_fail 0 0 1 []) (mark.Added 1 0 (sys_name 0)) 1 0 refl (λ f. f)
+    (λ f. f) behind.1.1.1.0
 
 pub returns-clause-another_falls : goal.returns-clause-another_falls
-returns-clause-another_falls c = λ behind. not_behind (rebuilding []) (mark.Fault 1 2 1) 1 0 refl (falls_apart 1 (omega arith)) (falls_apart 0 (omega arith)) behind.1.1.1.1.0
+returns-clause-another_falls c = λ behind. not_behind (rebuilding []) (mark.Fault 1 2 1) 1 0 refl
+    (falls_apart 1 (omega arith)) (falls_apart 0 (omega arith)) behind.1.1.1.1.0
 
 pub returns-clause-source_falls : goal.returns-clause-source_falls
 returns-clause-source_falls c = (tt, (tt, (tt, (tt, (behind_fault (rebuilding []) 1 0 1 1 0 refl (inr refl), (tt, tt))))))

@@ -17,21 +17,24 @@ take_page-requires-clause-kept c =
     let s : State = state_of c.args.world.now in
     let found = c.in-Some.ensures in
     let is : IsToCopy s found.0 c.args.page.now = found.1 in
-    subst (λ r. Contains (layer_names (node_at s.nodes r).layers) c.args.page.now.layer) found.2 (target_kept s found.0 c.requires.sound is.begun c.args.page.now is.left.frozen)
+    subst (λ r. Contains (layer_names (node_at s.nodes r).layers) c.args.page.now.layer) found.2
+    (target_kept s found.0 c.requires.sound is.begun c.args.page.now is.left.frozen)
 
 pub take_page-requires-clause-inside : goal.take_page-requires-clause-inside
 take_page-requires-clause-inside c =
     let s : State = state_of c.args.world.now in
     let found = c.in-Some.ensures in
     let is : IsToCopy s found.0 c.args.page.now = found.1 in
-    subst (λ r. c.args.page.now.page * PAGE_BYTES < length (node_at s.nodes r).disk) found.2 (target_inside s found.0 c.requires.sound is.begun c.args.page.now is.left.frozen)
+    subst (λ r. c.args.page.now.page * PAGE_BYTES < length (node_at s.nodes r).disk) found.2
+    (target_inside s found.0 c.requires.sound is.begun c.args.page.now is.left.frozen)
 
 pub returns-clause-sound : goal.returns-clause-sound
 returns-clause-sound c =
     let s : State = state_of c.args.world.now in
     let s2 : State = state_of c.list.new.world in
     let copied : CopiesIn s c.args.page.now c.args.with.now c.take_page.new.with s2 = search rules in
-    subst IsSound (sym copied.state) (copied_kept s copied.b c.args.page.now copied.after c.args.with.now c.requires.sound copied.is copied.puts (c.requires.page copied.b copied.is))
+    subst IsSound (sym copied.state) (copied_kept s copied.b c.args.page.now copied.after c.args.with.now c.requires.sound
+    copied.is copied.puts (c.requires.page copied.b copied.is))
 
 pub returns-clause-may : goal.returns-clause-may
 returns-clause-may c =

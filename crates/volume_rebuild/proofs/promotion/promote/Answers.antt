@@ -16,7 +16,8 @@ returns-clause-sound c =
     let done : Promotes s c.args.t s2 = search rules in
     let source : IsReplica (node_at s.nodes done.b.source) c.replica_blocks-source.result = c.replica_blocks-source.ensures in
     let target : IsReplica (node_at s.nodes done.b.target) c.replica_blocks-target.result = c.replica_blocks-target.ensures in
-    subst IsSound (sym done.state) (promoted_kept s c.args.t done.b c.replica_blocks-source.result c.replica_blocks-target.result c.requires.sound done.turn done.past done.all source target)
+    subst IsSound (sym done.state) (promoted_kept s c.args.t done.b c.replica_blocks-source.result
+    c.replica_blocks-target.result c.requires.sound done.turn done.past done.all source target)
 
 pub returns-clause-may : goal.returns-clause-may
 returns-clause-may c =

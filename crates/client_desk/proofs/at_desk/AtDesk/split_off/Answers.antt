@@ -11,7 +11,8 @@ pub returns-clause-ready : goal.returns-clause-ready
 returns-clause-ready g c =
     let new = c.split-seat.ensures.new in
     silent_at c.args.desk.now c.split-seat.result c.args.stream (last_of c.args.first.now) c.split-seat.ensures.seats.1
-    (ap (λ (k : Known WorldOnDesk). k.number) new ∙ ap Some (sym c.requires.next)) (ap (λ (k : Known WorldOnDesk). k.last) new) c.requires.there
+    (ap (λ (k : Known WorldOnDesk). k.number) new ∙ ap Some (sym c.requires.next))
+    (ap (λ (k : Known WorldOnDesk). k.last) new) c.requires.there
     (subst (λ (k : ℕ). IsSilent world_account k (last_of c.args.first.now)) (sym c.requires.next) c.split-seat.ensures.silent)
 
 pub returns-clause-idle : goal.returns-clause-idle

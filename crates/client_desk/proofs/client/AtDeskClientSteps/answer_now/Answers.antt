@@ -13,25 +13,53 @@ use Rattle.client_desk.proofs.Unlogged.{hidden_now}
 use Rattle.client_desk.proofs.client.AtDeskClientSteps.answer_now.Goals as goal
 
 pub answer_now-answer-requires-clause-idle : goal.answer_now-answer-requires-clause-idle
-answer_now-answer-requires-clause-idle g c = found_idle c.args.self.now.desk.now c.args.self.now.seat c.args.self.now.stream c.enter-guard.result.state c.requires.ready c.enter-guard.ensures.state c.requires.idle
+answer_now-answer-requires-clause-idle g c = found_idle c.args.self.now.desk.now c.args.self.now.seat c.args.self.now.stream
+    c.enter-guard.result.state c.requires.ready c.enter-guard.ensures.state c.requires.idle
 
 pub answer_now-answer-requires-clause-free : goal.answer_now-answer-requires-clause-free
-answer_now-answer-requires-clause-free g c = found_free c.args.self.now.desk.now c.args.self.now.seat c.args.self.now.stream c.enter-guard.result.state c.requires.ready c.enter-guard.ensures.state
+answer_now-answer-requires-clause-free g c = found_free c.args.self.now.desk.now c.args.self.now.seat c.args.self.now.stream
+    c.enter-guard.result.state c.requires.ready c.enter-guard.ensures.state
 
 pub leave-requires-clause-may : goal.leave-requires-clause-may
-leave-requires-clause-may g c = may_go c.args.self.now.desk.now c.args.self.now.seat c.args.self.now.stream c.enter-guard.result.state c.requires.ready c.enter-guard.ensures.state c.enter-guard.result.seat.now (record { world = c.answer_now-answer.new.self }) c.enter-guard.ensures.turn.0 c.answer_now-answer.ensures.may (turns_answered c.args.self.now.stream c.args.call.now (laid c.enter-guard.result.state) (state_of c.answer_now-answer.new.self) c.answer_now-answer.result c.answer_now-answer.ensures.ok c.answer_now-answer.ensures.err) (kept_now c.args.self.now.stream c.args.call.now (laid c.enter-guard.result.state) (state_of c.answer_now-answer.new.self) c.answer_now-answer.result c.answer_now-answer.ensures.ok c.answer_now-answer.ensures.err)
+leave-requires-clause-may g c =
+    let answer_now = c.answer_now-answer in
+    may_go c.args.self.now.desk.now c.args.self.now.seat c.args.self.now.stream c.enter-guard.result.state c.requires.ready
+    c.enter-guard.ensures.state c.enter-guard.result.seat.now (record { world = answer_now.new.self })
+    c.enter-guard.ensures.turn.0 answer_now.ensures.may
+    (turns_answered c.args.self.now.stream c.args.call.now (laid c.enter-guard.result.state)
+    (state_of answer_now.new.self) answer_now.result answer_now.ensures.ok answer_now.ensures.err)
+    (kept_now c.args.self.now.stream c.args.call.now (laid c.enter-guard.result.state) (state_of answer_now.new.self)
+    answer_now.result answer_now.ensures.ok answer_now.ensures.err)
 
 pub returns-clause-ready : goal.returns-clause-ready
-returns-clause-ready g c = at_work c.args.self.now.desk.now c.args.self.now.seat c.args.self.now.stream c.enter-guard.result.state c.requires.ready c.enter-guard.ensures.state c.enter-guard.result.seat.now (record { world = c.answer_now-answer.new.self }) c.enter-guard.ensures.turn.0 c.answer_now-answer.ensures.may c.leave.new.self.0 c.leave.ensures (turns_answered c.args.self.now.stream c.args.call.now (laid c.enter-guard.result.state) (state_of c.answer_now-answer.new.self) c.answer_now-answer.result c.answer_now-answer.ensures.ok c.answer_now-answer.ensures.err)
+returns-clause-ready g c =
+    let answer_now = c.answer_now-answer in
+    at_work c.args.self.now.desk.now c.args.self.now.seat c.args.self.now.stream c.enter-guard.result.state c.requires.ready
+    c.enter-guard.ensures.state c.enter-guard.result.seat.now (record { world = answer_now.new.self })
+    c.enter-guard.ensures.turn.0 answer_now.ensures.may c.leave.new.self.0 c.leave.ensures
+    (turns_answered c.args.self.now.stream c.args.call.now (laid c.enter-guard.result.state)
+    (state_of answer_now.new.self) answer_now.result answer_now.ensures.ok answer_now.ensures.err)
 
 pub returns-clause-ok : goal.returns-clause-ok
 returns-clause-ok g c =
-    over c.args.self.now.desk.now c.args.self.now.seat c.args.self.now.stream c.enter-guard.result.state c.requires.ready c.enter-guard.ensures.state c.enter-guard.result.seat.now (record { world = c.answer_now-answer.new.self }) c.enter-guard.ensures.turn.0 c.answer_now-answer.ensures.may c.leave.new.self.0 c.leave.ensures
-    (λ (m : Mine) (z : State). OnOk c.answer_now-answer.result (AnswersNow c.args.call.now m (mine_at c.args.self.now.stream z)))
-    (hidden_now (mine_in c.args.self.now.stream (laid c.enter-guard.result.state)) (mine_in c.args.self.now.stream (state_of c.answer_now-answer.new.self)) c.args.call.now c.answer_now-answer.result (nows_mine c.args.self.now.stream c.args.call.now (laid c.enter-guard.result.state) (state_of c.answer_now-answer.new.self) c.answer_now-answer.result c.requires.frame c.answer_now-answer.ensures.may c.answer_now-answer.ensures.ok c.answer_now-answer.ensures.sees (now_uncarried (modes_in (laid c.enter-guard.result.state)) (told_of (laid c.enter-guard.result.state)) c.args.call.now c.requires.now c.requires.frame)))
+    let answer_now = c.answer_now-answer in
+    let laid_here = laid c.enter-guard.result.state in
+    let stream = c.args.self.now.stream in
+    over c.args.self.now.desk.now c.args.self.now.seat stream c.enter-guard.result.state c.requires.ready
+    c.enter-guard.ensures.state c.enter-guard.result.seat.now (record { world = answer_now.new.self })
+    c.enter-guard.ensures.turn.0 answer_now.ensures.may c.leave.new.self.0 c.leave.ensures
+    (λ (m : Mine) (z : State). OnOk answer_now.result (AnswersNow c.args.call.now m (mine_at stream z)))
+    (hidden_now (mine_in stream laid_here) (mine_in stream (state_of answer_now.new.self)) c.args.call.now answer_now.result
+    (nows_mine stream c.args.call.now laid_here (state_of answer_now.new.self) answer_now.result c.requires.frame
+    answer_now.ensures.may answer_now.ensures.ok answer_now.ensures.sees
+    (now_uncarried (modes_in laid_here) (told_of laid_here) c.args.call.now c.requires.now c.requires.frame)))
 
 pub returns-clause-err : goal.returns-clause-err
 returns-clause-err g c =
-    over c.args.self.now.desk.now c.args.self.now.seat c.args.self.now.stream c.enter-guard.result.state c.requires.ready c.enter-guard.ensures.state c.enter-guard.result.seat.now (record { world = c.answer_now-answer.new.self }) c.enter-guard.ensures.turn.0 c.answer_now-answer.ensures.may c.leave.new.self.0 c.leave.ensures
-    (λ (m : Mine) (z : State). OnErr c.answer_now-answer.result (mine_at c.args.self.now.stream z ≡ m))
-    (unchanged c.args.self.now.stream (laid c.enter-guard.result.state) (state_of c.answer_now-answer.new.self) c.answer_now-answer.result c.answer_now-answer.ensures.err)
+    let answer_now = c.answer_now-answer in
+    over c.args.self.now.desk.now c.args.self.now.seat c.args.self.now.stream c.enter-guard.result.state c.requires.ready
+    c.enter-guard.ensures.state c.enter-guard.result.seat.now (record { world = answer_now.new.self })
+    c.enter-guard.ensures.turn.0 answer_now.ensures.may c.leave.new.self.0 c.leave.ensures
+    (λ (m : Mine) (z : State). OnErr answer_now.result (mine_at c.args.self.now.stream z ≡ m))
+    (unchanged c.args.self.now.stream (laid c.enter-guard.result.state) (state_of answer_now.new.self) answer_now.result
+    answer_now.ensures.err)

@@ -16,28 +16,82 @@ use Rattle.client_desk.proofs.Unlogged.{hidden_takes}
 use Rattle.client_desk.proofs.client.AtDeskClientSteps.apply_write.Goals as goal
 
 pub apply_write-answer-requires-clause-blocks : goal.apply_write-answer-requires-clause-blocks
-apply_write-answer-requires-clause-blocks g c = blocks_at c.args.self.now.stream c.args.t c.requires.writes.0 (laid c.enter-guard.result.state) c.args.blocks.now c.enter-guard.ensures.state.sound (found_own c.args.self.now.desk.now c.args.self.now.seat c.args.self.now.stream c.enter-guard.result.state c.requires.ready c.enter-guard.ensures.state c.args.t c.requires.writes.0 c.requires.writes.1) c.requires.writes.3
+apply_write-answer-requires-clause-blocks g c =
+    blocks_at c.args.self.now.stream c.args.t c.requires.writes.0 (laid c.enter-guard.result.state) c.args.blocks.now
+    c.enter-guard.ensures.state.sound
+    (found_own c.args.self.now.desk.now c.args.self.now.seat c.args.self.now.stream c.enter-guard.result.state
+    c.requires.ready c.enter-guard.ensures.state c.args.t c.requires.writes.0 c.requires.writes.1) c.requires.writes.3
 
 pub leave-requires-clause-may : goal.leave-requires-clause-may
-leave-requires-clause-may g c = may_go c.args.self.now.desk.now c.args.self.now.seat c.args.self.now.stream c.enter-guard.result.state c.requires.ready c.enter-guard.ensures.state c.enter-guard.result.seat.now (record { world = c.apply_write-answer.new.self }) c.enter-guard.ensures.turn.0 (found_may c.args.self.now.desk.now c.args.self.now.seat c.args.self.now.stream c.enter-guard.result.state c.requires.ready c.enter-guard.ensures.state c.args.t c.requires.writes.0 (state_of c.apply_write-answer.new.self) c.requires.writes.1 c.apply_write-answer.ensures.may) (turns_wrote c.args.t c.args.replica (laid c.enter-guard.result.state) (state_of c.apply_write-answer.new.self) c.apply_write-answer.result c.apply_write-answer.ensures.ok c.apply_write-answer.ensures.err) (kept_wrote c.args.t c.args.replica (laid c.enter-guard.result.state) (state_of c.apply_write-answer.new.self) c.apply_write-answer.result c.apply_write-answer.ensures.ok c.apply_write-answer.ensures.err)
+leave-requires-clause-may g c =
+    let apply_write = c.apply_write-answer in
+    let enter = c.enter-guard.result.state in
+    let state_here = state_of apply_write.new.self in
+    may_go c.args.self.now.desk.now c.args.self.now.seat c.args.self.now.stream enter c.requires.ready
+    c.enter-guard.ensures.state c.enter-guard.result.seat.now (record { world = apply_write.new.self })
+    c.enter-guard.ensures.turn.0
+    (found_may c.args.self.now.desk.now c.args.self.now.seat c.args.self.now.stream enter c.requires.ready
+    c.enter-guard.ensures.state c.args.t c.requires.writes.0 state_here c.requires.writes.1 apply_write.ensures.may)
+    (turns_wrote c.args.t c.args.replica (laid enter) state_here apply_write.result apply_write.ensures.ok apply_write.ensures.err)
+    (kept_wrote c.args.t c.args.replica (laid enter) state_here apply_write.result apply_write.ensures.ok
+    apply_write.ensures.err)
 
 pub returns-clause-ready : goal.returns-clause-ready
-returns-clause-ready g c = at_work c.args.self.now.desk.now c.args.self.now.seat c.args.self.now.stream c.enter-guard.result.state c.requires.ready c.enter-guard.ensures.state c.enter-guard.result.seat.now (record { world = c.apply_write-answer.new.self }) c.enter-guard.ensures.turn.0 (found_may c.args.self.now.desk.now c.args.self.now.seat c.args.self.now.stream c.enter-guard.result.state c.requires.ready c.enter-guard.ensures.state c.args.t c.requires.writes.0 (state_of c.apply_write-answer.new.self) c.requires.writes.1 c.apply_write-answer.ensures.may) c.leave.new.self.0 c.leave.ensures (turns_wrote c.args.t c.args.replica (laid c.enter-guard.result.state) (state_of c.apply_write-answer.new.self) c.apply_write-answer.result c.apply_write-answer.ensures.ok c.apply_write-answer.ensures.err)
+returns-clause-ready g c =
+    let apply_write = c.apply_write-answer in
+    at_work c.args.self.now.desk.now c.args.self.now.seat c.args.self.now.stream c.enter-guard.result.state c.requires.ready
+    c.enter-guard.ensures.state c.enter-guard.result.seat.now (record { world = apply_write.new.self })
+    c.enter-guard.ensures.turn.0
+    (found_may c.args.self.now.desk.now c.args.self.now.seat c.args.self.now.stream c.enter-guard.result.state
+    c.requires.ready c.enter-guard.ensures.state c.args.t c.requires.writes.0 (state_of apply_write.new.self)
+    c.requires.writes.1 apply_write.ensures.may) c.leave.new.self.0 c.leave.ensures
+    (turns_wrote c.args.t c.args.replica (laid c.enter-guard.result.state) (state_of apply_write.new.self)
+    apply_write.result apply_write.ensures.ok apply_write.ensures.err)
 
 pub returns-clause-ok : goal.returns-clause-ok
 returns-clause-ok g c =
-    over c.args.self.now.desk.now c.args.self.now.seat c.args.self.now.stream c.enter-guard.result.state c.requires.ready c.enter-guard.ensures.state c.enter-guard.result.seat.now (record { world = c.apply_write-answer.new.self }) c.enter-guard.ensures.turn.0 (found_may c.args.self.now.desk.now c.args.self.now.seat c.args.self.now.stream c.enter-guard.result.state c.requires.ready c.enter-guard.ensures.state c.args.t c.requires.writes.0 (state_of c.apply_write-answer.new.self) c.requires.writes.1 c.apply_write-answer.ensures.may) c.leave.new.self.0 c.leave.ensures
-    (λ (m : Mine) (z : State). OnOk c.apply_write-answer.result ((o : OwnCall) → IsOwn c.args.t o m → TakesTo o c.args.replica o.buffer m (mine_at c.args.self.now.stream z)))
-    (hidden_takes (mine_in c.args.self.now.stream (laid c.enter-guard.result.state)) (mine_in c.args.self.now.stream (state_of c.apply_write-answer.new.self)) c.args.t c.args.replica c.apply_write-answer.result (writes_mine c.args.self.now.stream c.args.t c.args.replica (laid c.enter-guard.result.state) (state_of c.apply_write-answer.new.self) c.apply_write-answer.result c.enter-guard.ensures.state.sound (λ o own. c.apply_write-answer.ensures.may c.args.self.now.stream o.call (open_from c.args.self.now.stream c.args.t o (laid c.enter-guard.result.state) own)) c.apply_write-answer.ensures.ok))
+    let apply_write = c.apply_write-answer in
+    let stream = c.args.self.now.stream in
+    let enter = c.enter-guard.result.state in
+    let state_here = state_of apply_write.new.self in
+    over c.args.self.now.desk.now c.args.self.now.seat stream enter c.requires.ready c.enter-guard.ensures.state
+    c.enter-guard.result.seat.now (record { world = apply_write.new.self }) c.enter-guard.ensures.turn.0
+    (found_may c.args.self.now.desk.now c.args.self.now.seat stream enter c.requires.ready c.enter-guard.ensures.state
+    c.args.t c.requires.writes.0 state_here c.requires.writes.1 apply_write.ensures.may) c.leave.new.self.0
+    c.leave.ensures
+    (λ (m : Mine) (z : State). OnOk apply_write.result
+    ((o : OwnCall) → IsOwn c.args.t o m → TakesTo o c.args.replica o.buffer m (mine_at stream z)))
+    (hidden_takes (mine_in stream (laid enter)) (mine_in stream state_here) c.args.t c.args.replica apply_write.result
+    (writes_mine stream c.args.t c.args.replica (laid enter) state_here apply_write.result
+    c.enter-guard.ensures.state.sound
+    (λ o own. apply_write.ensures.may stream o.call (open_from stream c.args.t o (laid enter) own))
+    apply_write.ensures.ok))
 
 pub returns-clause-why : goal.returns-clause-why
 returns-clause-why g c =
-    over c.args.self.now.desk.now c.args.self.now.seat c.args.self.now.stream c.enter-guard.result.state c.requires.ready c.enter-guard.ensures.state c.enter-guard.result.seat.now (record { world = c.apply_write-answer.new.self }) c.enter-guard.ensures.turn.0 (found_may c.args.self.now.desk.now c.args.self.now.seat c.args.self.now.stream c.enter-guard.result.state c.requires.ready c.enter-guard.ensures.state c.args.t c.requires.writes.0 (state_of c.apply_write-answer.new.self) c.requires.writes.1 c.apply_write-answer.ensures.may) c.leave.new.self.0 c.leave.ensures
-    (λ (m : Mine) (z : State). IfErr c.apply_write-answer.result (AgainstTake (modes_in z) c.args.replica))
-    (takes_why c.args.self.now.stream c.args.t c.args.replica (laid c.enter-guard.result.state) (state_of c.apply_write-answer.new.self) c.enter-guard.ensures.state.sound c.apply_write-answer.result c.requires.writes.0 (found_own c.args.self.now.desk.now c.args.self.now.seat c.args.self.now.stream c.enter-guard.result.state c.requires.ready c.enter-guard.ensures.state c.args.t c.requires.writes.0 c.requires.writes.1) c.requires.writes.2 c.apply_write-answer.ensures.err c.apply_write-answer.ensures.why)
+    let apply_write = c.apply_write-answer in
+    let enter_holds = c.enter-guard.ensures.state in
+    let enter = c.enter-guard.result.state in
+    over c.args.self.now.desk.now c.args.self.now.seat c.args.self.now.stream enter c.requires.ready enter_holds
+    c.enter-guard.result.seat.now (record { world = apply_write.new.self }) c.enter-guard.ensures.turn.0
+    (found_may c.args.self.now.desk.now c.args.self.now.seat c.args.self.now.stream enter c.requires.ready enter_holds
+    c.args.t c.requires.writes.0 (state_of apply_write.new.self) c.requires.writes.1 apply_write.ensures.may)
+    c.leave.new.self.0 c.leave.ensures
+    (λ (m : Mine) (z : State). IfErr apply_write.result (AgainstTake (modes_in z) c.args.replica))
+    (takes_why c.args.self.now.stream c.args.t c.args.replica (laid enter) (state_of apply_write.new.self) enter_holds.sound
+    apply_write.result c.requires.writes.0
+    (found_own c.args.self.now.desk.now c.args.self.now.seat c.args.self.now.stream enter c.requires.ready enter_holds
+    c.args.t c.requires.writes.0 c.requires.writes.1) c.requires.writes.2 apply_write.ensures.err apply_write.ensures.why)
 
 pub returns-clause-err : goal.returns-clause-err
 returns-clause-err g c =
-    over c.args.self.now.desk.now c.args.self.now.seat c.args.self.now.stream c.enter-guard.result.state c.requires.ready c.enter-guard.ensures.state c.enter-guard.result.seat.now (record { world = c.apply_write-answer.new.self }) c.enter-guard.ensures.turn.0 (found_may c.args.self.now.desk.now c.args.self.now.seat c.args.self.now.stream c.enter-guard.result.state c.requires.ready c.enter-guard.ensures.state c.args.t c.requires.writes.0 (state_of c.apply_write-answer.new.self) c.requires.writes.1 c.apply_write-answer.ensures.may) c.leave.new.self.0 c.leave.ensures
-    (λ (m : Mine) (z : State). OnErr c.apply_write-answer.result (mine_at c.args.self.now.stream z ≡ m))
-    (unchanged c.args.self.now.stream (laid c.enter-guard.result.state) (state_of c.apply_write-answer.new.self) c.apply_write-answer.result c.apply_write-answer.ensures.err)
+    let apply_write = c.apply_write-answer in
+    over c.args.self.now.desk.now c.args.self.now.seat c.args.self.now.stream c.enter-guard.result.state c.requires.ready
+    c.enter-guard.ensures.state c.enter-guard.result.seat.now (record { world = apply_write.new.self })
+    c.enter-guard.ensures.turn.0
+    (found_may c.args.self.now.desk.now c.args.self.now.seat c.args.self.now.stream c.enter-guard.result.state
+    c.requires.ready c.enter-guard.ensures.state c.args.t c.requires.writes.0 (state_of apply_write.new.self)
+    c.requires.writes.1 apply_write.ensures.may) c.leave.new.self.0 c.leave.ensures
+    (λ (m : Mine) (z : State). OnErr apply_write.result (mine_at c.args.self.now.stream z ≡ m))
+    (unchanged c.args.self.now.stream (laid c.enter-guard.result.state) (state_of apply_write.new.self) apply_write.result
+    apply_write.ensures.err)

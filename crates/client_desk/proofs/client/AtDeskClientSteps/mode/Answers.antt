@@ -9,13 +9,24 @@ use Rattle.client_desk.proofs.AtTurn.{may_go, at_work, over}
 use Rattle.client_desk.proofs.client.AtDeskClientSteps.mode.Goals as goal
 
 pub leave-requires-clause-may : goal.leave-requires-clause-may
-leave-requires-clause-may g c = may_go c.args.self.now.desk.now c.args.self.now.seat c.args.self.now.stream c.enter-guard.result.state c.requires.ready c.enter-guard.ensures.state c.enter-guard.result.seat.now c.enter-guard.result.state c.enter-guard.ensures.turn.0 (may_stay c.args.self.now.stream (laid c.enter-guard.result.state) c.enter-guard.ensures.state.sound) refl (kept_itself (laid c.enter-guard.result.state))
+leave-requires-clause-may g c =
+    let enter = c.enter-guard.result.state in
+    may_go c.args.self.now.desk.now c.args.self.now.seat c.args.self.now.stream enter c.requires.ready
+    c.enter-guard.ensures.state c.enter-guard.result.seat.now enter c.enter-guard.ensures.turn.0
+    (may_stay c.args.self.now.stream (laid enter) c.enter-guard.ensures.state.sound) refl (kept_itself (laid enter))
 
 pub returns-clause-ready : goal.returns-clause-ready
-returns-clause-ready g c = at_work c.args.self.now.desk.now c.args.self.now.seat c.args.self.now.stream c.enter-guard.result.state c.requires.ready c.enter-guard.ensures.state c.enter-guard.result.seat.now c.enter-guard.result.state c.enter-guard.ensures.turn.0 (may_stay c.args.self.now.stream (laid c.enter-guard.result.state) c.enter-guard.ensures.state.sound) c.leave.new.self.0 c.leave.ensures (refl)
+returns-clause-ready g c = at_work c.args.self.now.desk.now c.args.self.now.seat c.args.self.now.stream
+    c.enter-guard.result.state c.requires.ready c.enter-guard.ensures.state c.enter-guard.result.seat.now
+    c.enter-guard.result.state c.enter-guard.ensures.turn.0
+    (may_stay c.args.self.now.stream (laid c.enter-guard.result.state) c.enter-guard.ensures.state.sound) c.leave.new.self.0
+    c.leave.ensures (refl)
 
 pub returns-clause-same : goal.returns-clause-same
 returns-clause-same g c =
-    over c.args.self.now.desk.now c.args.self.now.seat c.args.self.now.stream c.enter-guard.result.state c.requires.ready c.enter-guard.ensures.state c.enter-guard.result.seat.now c.enter-guard.result.state c.enter-guard.ensures.turn.0 (may_stay c.args.self.now.stream (laid c.enter-guard.result.state) c.enter-guard.ensures.state.sound) c.leave.new.self.0 c.leave.ensures
+    over c.args.self.now.desk.now c.args.self.now.seat c.args.self.now.stream c.enter-guard.result.state c.requires.ready
+    c.enter-guard.ensures.state c.enter-guard.result.seat.now c.enter-guard.result.state c.enter-guard.ensures.turn.0
+    (may_stay c.args.self.now.stream (laid c.enter-guard.result.state) c.enter-guard.ensures.state.sound)
+    c.leave.new.self.0 c.leave.ensures
     (λ (m : Mine) (z : State). mine_at c.args.self.now.stream z ≡ m)
     (refl)

@@ -5,4 +5,7 @@ use Rattle.command_desk.proofs.add.CommandsAtDeskAddSteps.aborted.Goals as goal
 
 pub returns-clause-home : goal.returns-clause-home
 returns-clause-home g c =
-    home_once c.args.self.now.desk.now c.look_for_end.new.at.desk.now c.args.self.now.stream c.look_for_end.new.at.stream (gave_up_at (seen_in c.args.self.now.seat).gave_up c.args.self.now.stream) (gave_up_at (seen_in c.look_for_end.new.at.seat).gave_up c.look_for_end.new.at.stream) c.look_for_end.ensures.home c.look_for_end.ensures.gave_up
+    home_once c.args.self.now.desk.now c.look_for_end.new.at.desk.now c.args.self.now.stream c.look_for_end.new.at.stream
+    (gave_up_at (seen_in c.args.self.now.seat).gave_up c.args.self.now.stream)
+    (gave_up_at (seen_in c.look_for_end.new.at.seat).gave_up c.look_for_end.new.at.stream) c.look_for_end.ensures.home
+    c.look_for_end.ensures.gave_up

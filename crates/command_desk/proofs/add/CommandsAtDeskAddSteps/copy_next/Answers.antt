@@ -14,26 +14,52 @@ use Rattle.command_desk.proofs.add.CommandsAtDeskAddSteps.copy_next.Goals as goa
 
 pub leave-requires-clause-may : goal.leave-requires-clause-may
 leave-requires-clause-may g c =
-    may_go c.args.self.now.desk.now c.args.self.now.seat c.args.self.now.stream c.args.self.now.left c.enter-guard.result.state c.requires.ready c.enter-guard.ensures.state c.enter-guard.result.seat.now c.enter-guard.result.state c.enter-guard.ensures.turn.0 (may_stay c.args.self.now.stream (laid c.enter-guard.result.state) c.enter-guard.ensures.state.sound) (λ m other. refl) (counted_stay c.args.self.now.stream (laid c.enter-guard.result.state))
+    let enter = c.enter-guard.result.state in
+    may_go c.args.self.now.desk.now c.args.self.now.seat c.args.self.now.stream c.args.self.now.left enter c.requires.ready
+    c.enter-guard.ensures.state c.enter-guard.result.seat.now enter c.enter-guard.ensures.turn.0
+    (may_stay c.args.self.now.stream (laid enter) c.enter-guard.ensures.state.sound) (λ m other. refl)
+    (counted_stay c.args.self.now.stream (laid enter))
 
 pub returns-clause-ready : goal.returns-clause-ready
 returns-clause-ready g c =
-    at_desk c.args.self.now.desk.now c.args.self.now.seat c.args.self.now.stream c.args.self.now.left c.enter-guard.result.state c.requires.ready c.enter-guard.ensures.state c.enter-guard.result.seat.now c.enter-guard.result.state c.enter-guard.ensures.turn.0 (may_stay c.args.self.now.stream (laid c.enter-guard.result.state) c.enter-guard.ensures.state.sound) c.leave.new.self.0 c.leave.ensures c.args.self.now.left (left_same c.args.self.now.stream (laid c.enter-guard.result.state) c.args.self.now.left (add_left c.args.self.now.desk.now c.args.self.now.seat c.args.self.now.stream c.args.self.now.left c.enter-guard.result.state c.requires.ready c.enter-guard.ensures.state c.args.t c.requires.turn))
+    let enter = c.enter-guard.result.state in
+    at_desk c.args.self.now.desk.now c.args.self.now.seat c.args.self.now.stream c.args.self.now.left enter c.requires.ready
+    c.enter-guard.ensures.state c.enter-guard.result.seat.now enter c.enter-guard.ensures.turn.0
+    (may_stay c.args.self.now.stream (laid enter) c.enter-guard.ensures.state.sound) c.leave.new.self.0 c.leave.ensures
+    c.args.self.now.left (left_same c.args.self.now.stream (laid enter) c.args.self.now.left
+    (add_left c.args.self.now.desk.now c.args.self.now.seat c.args.self.now.stream c.args.self.now.left enter
+    c.requires.ready c.enter-guard.ensures.state c.args.t c.requires.turn))
 
 pub returns-clause-same : goal.returns-clause-same
 returns-clause-same g c =
-    over c.args.self.now.desk.now c.args.self.now.seat c.args.self.now.stream c.args.self.now.left c.enter-guard.result.state c.requires.ready c.enter-guard.ensures.state c.enter-guard.result.seat.now c.enter-guard.result.state c.enter-guard.ensures.turn.0 (may_stay c.args.self.now.stream (laid c.enter-guard.result.state) c.enter-guard.ensures.state.sound) c.leave.new.self.0 c.leave.ensures (λ (m : Mine) (z : State). mine_at c.args.self.now.stream z ≡ m) refl
+    over c.args.self.now.desk.now c.args.self.now.seat c.args.self.now.stream c.args.self.now.left
+    c.enter-guard.result.state c.requires.ready c.enter-guard.ensures.state c.enter-guard.result.seat.now
+    c.enter-guard.result.state c.enter-guard.ensures.turn.0
+    (may_stay c.args.self.now.stream (laid c.enter-guard.result.state) c.enter-guard.ensures.state.sound)
+    c.leave.new.self.0 c.leave.ensures (λ (m : Mine) (z : State). mine_at c.args.self.now.stream z ≡ m) refl
 
 pub returns-clause-kept : goal.returns-clause-kept
 returns-clause-kept g c =
-    (known_over c.args.self.now.desk.now c.args.self.now.seat c.args.self.now.stream c.args.self.now.left c.enter-guard.result.state c.requires.ready c.enter-guard.ensures.state c.args.t c.requires.turn c.enter-guard.result.seat.now c.enter-guard.result.state c.enter-guard.ensures.turn.0 (may_stay c.args.self.now.stream (laid c.enter-guard.result.state) c.enter-guard.ensures.state.sound) c.leave.new.self.0 c.leave.ensures (known_same (laid c.enter-guard.result.state))).kept
+    let enter = c.enter-guard.result.state in
+    (known_over c.args.self.now.desk.now c.args.self.now.seat c.args.self.now.stream c.args.self.now.left enter
+    c.requires.ready c.enter-guard.ensures.state c.args.t c.requires.turn c.enter-guard.result.seat.now enter
+    c.enter-guard.ensures.turn.0 (may_stay c.args.self.now.stream (laid enter) c.enter-guard.ensures.state.sound)
+    c.leave.new.self.0 c.leave.ensures (known_same (laid enter))).kept
 
 pub returns-clause-takes : goal.returns-clause-takes
 returns-clause-takes g c =
-    at_last c.args.self.now.desk.now c.args.self.now.seat c.args.self.now.stream c.args.self.now.left c.enter-guard.result.state c.requires.ready c.enter-guard.ensures.state c.enter-guard.result.seat.now c.enter-guard.result.state c.enter-guard.ensures.turn.0 (may_stay c.args.self.now.stream (laid c.enter-guard.result.state) c.enter-guard.ensures.state.sound) c.leave.new.self.0 c.leave.ensures
-    (λ (z : State). TakesNext c.next_in-next.result (λ page. AwaitsAt z.rebuild z.ended page) (λ place. IsEndedAt z place) c.args.self.now.left)
-    (takes_left c.next_in-next.result (laid c.enter-guard.result.state) c.args.self.now.left (add_left c.args.self.now.desk.now c.args.self.now.seat c.args.self.now.stream c.args.self.now.left c.enter-guard.result.state c.requires.ready c.enter-guard.ensures.state c.args.t c.requires.turn) c.next_in-next.ensures)
+    let enter = c.enter-guard.result.state in
+    at_last c.args.self.now.desk.now c.args.self.now.seat c.args.self.now.stream c.args.self.now.left enter c.requires.ready
+    c.enter-guard.ensures.state c.enter-guard.result.seat.now enter c.enter-guard.ensures.turn.0
+    (may_stay c.args.self.now.stream (laid enter) c.enter-guard.ensures.state.sound) c.leave.new.self.0 c.leave.ensures
+    (λ (z : State). TakesNext c.next_in-next.result (λ page. AwaitsAt z.rebuild z.ended page) (λ place. IsEndedAt z place)
+    c.args.self.now.left)
+    (takes_left c.next_in-next.result (laid enter) c.args.self.now.left
+    (add_left c.args.self.now.desk.now c.args.self.now.seat c.args.self.now.stream c.args.self.now.left enter
+    c.requires.ready c.enter-guard.ensures.state c.args.t c.requires.turn) c.next_in-next.ensures)
 
 pub returns-clause-home : goal.returns-clause-home
 returns-clause-home g c =
-    home_over c.args.self.now.desk.now c.args.self.now.seat c.args.self.now.stream c.args.self.now.left c.enter-guard.result.state c.requires.ready c.enter-guard.ensures.state c.enter-guard.result.seat.now c.enter-guard.result.state c.leave.new.self.0 c.leave.ensures refl
+    home_over c.args.self.now.desk.now c.args.self.now.seat c.args.self.now.stream c.args.self.now.left
+    c.enter-guard.result.state c.requires.ready c.enter-guard.ensures.state c.enter-guard.result.seat.now
+    c.enter-guard.result.state c.leave.new.self.0 c.leave.ensures refl

@@ -15,23 +15,75 @@ use Rattle.command_desk.proofs.add.CommandsAtDeskAddSteps.promote.Goals as goal
 
 pub leave-requires-clause-may : goal.leave-requires-clause-may
 leave-requires-clause-may g c =
-    may_go c.args.self.now.desk.now c.args.self.now.seat c.args.self.now.stream c.args.self.now.left c.enter-guard.result.state c.requires.ready c.enter-guard.ensures.state c.enter-guard.result.seat.now (record { world = c.promote_in-answer.new.world }) c.enter-guard.ensures.turn.0 (turn_owner c.args.self.now.stream c.args.t (laid c.enter-guard.result.state) c.enter-guard.ensures.state.sound (command.Add (add_found c.args.self.now.desk.now c.args.self.now.seat c.args.self.now.stream c.args.self.now.left c.enter-guard.result.state c.requires.ready c.enter-guard.ensures.state c.args.t c.requires.turn).0) (add_found c.args.self.now.desk.now c.args.self.now.seat c.args.self.now.stream c.args.self.now.left c.enter-guard.result.state c.requires.ready c.enter-guard.ensures.state c.args.t c.requires.turn).1 (add_found c.args.self.now.desk.now c.args.self.now.seat c.args.self.now.stream c.args.self.now.left c.enter-guard.result.state c.requires.ready c.enter-guard.ensures.state c.args.t c.requires.turn).2 (λ k. MayGo k (laid c.enter-guard.result.state) (state_of c.promote_in-answer.new.world)) c.promote_in-answer.ensures.may) (promotes_parts c.args.self.now.stream c.args.t (laid c.enter-guard.result.state) (state_of c.promote_in-answer.new.world) c.enter-guard.ensures.state.sound (turn_owner c.args.self.now.stream c.args.t (laid c.enter-guard.result.state) c.enter-guard.ensures.state.sound (command.Add (add_found c.args.self.now.desk.now c.args.self.now.seat c.args.self.now.stream c.args.self.now.left c.enter-guard.result.state c.requires.ready c.enter-guard.ensures.state c.args.t c.requires.turn).0) (add_found c.args.self.now.desk.now c.args.self.now.seat c.args.self.now.stream c.args.self.now.left c.enter-guard.result.state c.requires.ready c.enter-guard.ensures.state c.args.t c.requires.turn).1 (add_found c.args.self.now.desk.now c.args.self.now.seat c.args.self.now.stream c.args.self.now.left c.enter-guard.result.state c.requires.ready c.enter-guard.ensures.state c.args.t c.requires.turn).2 (λ k. MayGo k (laid c.enter-guard.result.state) (state_of c.promote_in-answer.new.world)) c.promote_in-answer.ensures.may) c.promote_in-answer.result c.promote_in-answer.ensures.done c.promote_in-answer.ensures.none) (add_counted c.args.self.now.desk.now c.args.self.now.seat c.args.self.now.stream c.args.self.now.left c.enter-guard.result.state c.requires.ready c.enter-guard.ensures.state c.args.t c.requires.turn (state_of c.promote_in-answer.new.world))
+    let enter = c.enter-guard.result.state in
+    let enter_holds = c.enter-guard.ensures.state in
+    let stream = c.args.self.now.stream in
+    let add_found_here = add_found c.args.self.now.desk.now c.args.self.now.seat stream c.args.self.now.left enter
+    c.requires.ready enter_holds c.args.t c.requires.turn in
+    let promote_in = c.promote_in-answer in
+    let state_here = state_of promote_in.new.world in
+    let turn_owner_here = turn_owner stream c.args.t (laid enter) enter_holds.sound (command.Add add_found_here.0)
+    add_found_here.1 add_found_here.2 (λ k. MayGo k (laid enter) state_here) promote_in.ensures.may in
+    may_go c.args.self.now.desk.now c.args.self.now.seat stream c.args.self.now.left enter c.requires.ready enter_holds
+    c.enter-guard.result.seat.now (record { world = promote_in.new.world }) c.enter-guard.ensures.turn.0 turn_owner_here
+    (promotes_parts stream c.args.t (laid enter) state_here enter_holds.sound turn_owner_here promote_in.result
+    promote_in.ensures.done promote_in.ensures.none)
+    (add_counted c.args.self.now.desk.now c.args.self.now.seat stream c.args.self.now.left enter c.requires.ready
+    enter_holds c.args.t c.requires.turn state_here)
 
 pub returns-clause-ready : goal.returns-clause-ready
 returns-clause-ready g c =
-    at_desk c.args.self.now.desk.now c.args.self.now.seat c.args.self.now.stream c.args.self.now.left c.enter-guard.result.state c.requires.ready c.enter-guard.ensures.state c.enter-guard.result.seat.now (record { world = c.promote_in-answer.new.world }) c.enter-guard.ensures.turn.0 (turn_owner c.args.self.now.stream c.args.t (laid c.enter-guard.result.state) c.enter-guard.ensures.state.sound (command.Add (add_found c.args.self.now.desk.now c.args.self.now.seat c.args.self.now.stream c.args.self.now.left c.enter-guard.result.state c.requires.ready c.enter-guard.ensures.state c.args.t c.requires.turn).0) (add_found c.args.self.now.desk.now c.args.self.now.seat c.args.self.now.stream c.args.self.now.left c.enter-guard.result.state c.requires.ready c.enter-guard.ensures.state c.args.t c.requires.turn).1 (add_found c.args.self.now.desk.now c.args.self.now.seat c.args.self.now.stream c.args.self.now.left c.enter-guard.result.state c.requires.ready c.enter-guard.ensures.state c.args.t c.requires.turn).2 (λ k. MayGo k (laid c.enter-guard.result.state) (state_of c.promote_in-answer.new.world)) c.promote_in-answer.ensures.may) c.leave.new.self.0 c.leave.ensures c.left_seen-left.result c.left_seen-left.ensures
+    let enter = c.enter-guard.result.state in
+    let add_found_here = add_found c.args.self.now.desk.now c.args.self.now.seat c.args.self.now.stream c.args.self.now.left
+    enter c.requires.ready c.enter-guard.ensures.state c.args.t c.requires.turn in
+    at_desk c.args.self.now.desk.now c.args.self.now.seat c.args.self.now.stream c.args.self.now.left enter c.requires.ready
+    c.enter-guard.ensures.state c.enter-guard.result.seat.now (record { world = c.promote_in-answer.new.world })
+    c.enter-guard.ensures.turn.0
+    (turn_owner c.args.self.now.stream c.args.t (laid enter) c.enter-guard.ensures.state.sound
+    (command.Add add_found_here.0) add_found_here.1 add_found_here.2
+    (λ k. MayGo k (laid enter) (state_of c.promote_in-answer.new.world)) c.promote_in-answer.ensures.may)
+    c.leave.new.self.0 c.leave.ensures c.left_seen-left.result c.left_seen-left.ensures
 
 pub returns-clause-done : goal.returns-clause-done
 returns-clause-done g c =
-    over c.args.self.now.desk.now c.args.self.now.seat c.args.self.now.stream c.args.self.now.left c.enter-guard.result.state c.requires.ready c.enter-guard.ensures.state c.enter-guard.result.seat.now (record { world = c.promote_in-answer.new.world }) c.enter-guard.ensures.turn.0 (turn_owner c.args.self.now.stream c.args.t (laid c.enter-guard.result.state) c.enter-guard.ensures.state.sound (command.Add (add_found c.args.self.now.desk.now c.args.self.now.seat c.args.self.now.stream c.args.self.now.left c.enter-guard.result.state c.requires.ready c.enter-guard.ensures.state c.args.t c.requires.turn).0) (add_found c.args.self.now.desk.now c.args.self.now.seat c.args.self.now.stream c.args.self.now.left c.enter-guard.result.state c.requires.ready c.enter-guard.ensures.state c.args.t c.requires.turn).1 (add_found c.args.self.now.desk.now c.args.self.now.seat c.args.self.now.stream c.args.self.now.left c.enter-guard.result.state c.requires.ready c.enter-guard.ensures.state c.args.t c.requires.turn).2 (λ k. MayGo k (laid c.enter-guard.result.state) (state_of c.promote_in-answer.new.world)) c.promote_in-answer.ensures.may) c.leave.new.self.0 c.leave.ensures (λ (m : Mine) (z : State). IfSome c.promote_in-answer.result (λ place. (r : ℕ) (o : OwnCall) → HasAdd c.args.t r o m → Promotes r o m (mine_at c.args.self.now.stream z)))
-    (promotes c.args.self.now.stream c.args.t (laid c.enter-guard.result.state) (state_of c.promote_in-answer.new.world) c.enter-guard.ensures.state.sound (turn_owner c.args.self.now.stream c.args.t (laid c.enter-guard.result.state) c.enter-guard.ensures.state.sound (command.Add (add_found c.args.self.now.desk.now c.args.self.now.seat c.args.self.now.stream c.args.self.now.left c.enter-guard.result.state c.requires.ready c.enter-guard.ensures.state c.args.t c.requires.turn).0) (add_found c.args.self.now.desk.now c.args.self.now.seat c.args.self.now.stream c.args.self.now.left c.enter-guard.result.state c.requires.ready c.enter-guard.ensures.state c.args.t c.requires.turn).1 (add_found c.args.self.now.desk.now c.args.self.now.seat c.args.self.now.stream c.args.self.now.left c.enter-guard.result.state c.requires.ready c.enter-guard.ensures.state c.args.t c.requires.turn).2 (λ k. MayGo k (laid c.enter-guard.result.state) (state_of c.promote_in-answer.new.world)) c.promote_in-answer.ensures.may) c.promote_in-answer.result c.promote_in-answer.ensures.done)
+    let enter = c.enter-guard.result.state in
+    let enter_holds = c.enter-guard.ensures.state in
+    let promote_in = c.promote_in-answer in
+    let stream = c.args.self.now.stream in
+    let add_found_here = add_found c.args.self.now.desk.now c.args.self.now.seat stream c.args.self.now.left enter
+    c.requires.ready enter_holds c.args.t c.requires.turn in
+    let turn_owner_here = turn_owner stream c.args.t (laid enter) enter_holds.sound (command.Add add_found_here.0)
+    add_found_here.1 add_found_here.2 (λ k. MayGo k (laid enter) (state_of promote_in.new.world))
+    promote_in.ensures.may in
+    over c.args.self.now.desk.now c.args.self.now.seat stream c.args.self.now.left enter c.requires.ready enter_holds
+    c.enter-guard.result.seat.now (record { world = promote_in.new.world }) c.enter-guard.ensures.turn.0 turn_owner_here
+    c.leave.new.self.0 c.leave.ensures
+    (λ (m : Mine) (z : State). IfSome promote_in.result (λ place. (r : ℕ) (o : OwnCall) → HasAdd c.args.t r o m
+    → Promotes r o m (mine_at stream z)))
+    (promotes stream c.args.t (laid enter) (state_of promote_in.new.world) enter_holds.sound turn_owner_here
+    promote_in.result promote_in.ensures.done)
 
 pub returns-clause-none : goal.returns-clause-none
 returns-clause-none g c =
-    over c.args.self.now.desk.now c.args.self.now.seat c.args.self.now.stream c.args.self.now.left c.enter-guard.result.state c.requires.ready c.enter-guard.ensures.state c.enter-guard.result.seat.now (record { world = c.promote_in-answer.new.world }) c.enter-guard.ensures.turn.0 (turn_owner c.args.self.now.stream c.args.t (laid c.enter-guard.result.state) c.enter-guard.ensures.state.sound (command.Add (add_found c.args.self.now.desk.now c.args.self.now.seat c.args.self.now.stream c.args.self.now.left c.enter-guard.result.state c.requires.ready c.enter-guard.ensures.state c.args.t c.requires.turn).0) (add_found c.args.self.now.desk.now c.args.self.now.seat c.args.self.now.stream c.args.self.now.left c.enter-guard.result.state c.requires.ready c.enter-guard.ensures.state c.args.t c.requires.turn).1 (add_found c.args.self.now.desk.now c.args.self.now.seat c.args.self.now.stream c.args.self.now.left c.enter-guard.result.state c.requires.ready c.enter-guard.ensures.state c.args.t c.requires.turn).2 (λ k. MayGo k (laid c.enter-guard.result.state) (state_of c.promote_in-answer.new.world)) c.promote_in-answer.ensures.may) c.leave.new.self.0 c.leave.ensures (λ (m : Mine) (z : State). c.promote_in-answer.result ≡ None → mine_at c.args.self.now.stream z ≡ m)
-    (same_where c.args.self.now.stream c.args.t (laid c.enter-guard.result.state) (state_of c.promote_in-answer.new.world) c.enter-guard.ensures.state.sound (turn_owner c.args.self.now.stream c.args.t (laid c.enter-guard.result.state) c.enter-guard.ensures.state.sound (command.Add (add_found c.args.self.now.desk.now c.args.self.now.seat c.args.self.now.stream c.args.self.now.left c.enter-guard.result.state c.requires.ready c.enter-guard.ensures.state c.args.t c.requires.turn).0) (add_found c.args.self.now.desk.now c.args.self.now.seat c.args.self.now.stream c.args.self.now.left c.enter-guard.result.state c.requires.ready c.enter-guard.ensures.state c.args.t c.requires.turn).1 (add_found c.args.self.now.desk.now c.args.self.now.seat c.args.self.now.stream c.args.self.now.left c.enter-guard.result.state c.requires.ready c.enter-guard.ensures.state c.args.t c.requires.turn).2 (λ k. MayGo k (laid c.enter-guard.result.state) (state_of c.promote_in-answer.new.world)) c.promote_in-answer.ensures.may) c.promote_in-answer.result c.promote_in-answer.ensures.none)
+    let enter = c.enter-guard.result.state in
+    let enter_holds = c.enter-guard.ensures.state in
+    let promote_in = c.promote_in-answer in
+    let stream = c.args.self.now.stream in
+    let add_found_here = add_found c.args.self.now.desk.now c.args.self.now.seat stream c.args.self.now.left enter
+    c.requires.ready enter_holds c.args.t c.requires.turn in
+    let turn_owner_here = turn_owner stream c.args.t (laid enter) enter_holds.sound (command.Add add_found_here.0)
+    add_found_here.1 add_found_here.2 (λ k. MayGo k (laid enter) (state_of promote_in.new.world))
+    promote_in.ensures.may in
+    over c.args.self.now.desk.now c.args.self.now.seat stream c.args.self.now.left enter c.requires.ready enter_holds
+    c.enter-guard.result.seat.now (record { world = promote_in.new.world }) c.enter-guard.ensures.turn.0 turn_owner_here
+    c.leave.new.self.0 c.leave.ensures (λ (m : Mine) (z : State). promote_in.result ≡ None → mine_at stream z ≡ m)
+    (same_where stream c.args.t (laid enter) (state_of promote_in.new.world) enter_holds.sound turn_owner_here
+    promote_in.result promote_in.ensures.none)
 
 pub returns-clause-home : goal.returns-clause-home
 returns-clause-home g c =
-    home_over c.args.self.now.desk.now c.args.self.now.seat c.args.self.now.stream c.args.self.now.left c.enter-guard.result.state c.requires.ready c.enter-guard.ensures.state c.enter-guard.result.seat.now (record { world = c.promote_in-answer.new.world }) c.leave.new.self.0 c.leave.ensures
-    (promotes_gave (laid c.enter-guard.result.state) (state_of c.promote_in-answer.new.world) c.args.t c.promote_in-answer.result c.promote_in-answer.ensures.done c.promote_in-answer.ensures.none)
+    home_over c.args.self.now.desk.now c.args.self.now.seat c.args.self.now.stream c.args.self.now.left
+    c.enter-guard.result.state c.requires.ready c.enter-guard.ensures.state c.enter-guard.result.seat.now
+    (record { world = c.promote_in-answer.new.world }) c.leave.new.self.0 c.leave.ensures
+    (promotes_gave (laid c.enter-guard.result.state) (state_of c.promote_in-answer.new.world) c.args.t
+    c.promote_in-answer.result c.promote_in-answer.ensures.done c.promote_in-answer.ensures.none)

@@ -14,25 +14,187 @@ use Rattle.command_desk.proofs.command.CommandsAtDeskCommandSteps.complete_whole
 
 pub leave-requires-clause-may : goal.leave-requires-clause-may
 leave-requires-clause-may g c =
-    may_go c.args.self.now.desk.now c.args.self.now.seat c.args.self.now.stream c.args.self.now.left c.enter-guard.result.state c.requires.ready c.enter-guard.ensures.state c.enter-guard.result.seat.now (record { world = c.complete_whole-answer.new.world }) c.enter-guard.ensures.turn.0 (whole_owner c.args.self.now.stream c.args.t (laid c.enter-guard.result.state) c.enter-guard.ensures.state.sound ((found_in c.args.self.now.desk.now c.args.self.now.seat c.args.self.now.stream c.args.self.now.left c.enter-guard.result.state c.requires.ready c.enter-guard.ensures.state (λ (m : Mine). (op : WholeOp) × (turn : List OwnCall) × (o : OwnCall) × HasWhole c.args.t op turn o m × (o.started ≡ true)) c.requires.started).0, (found_in c.args.self.now.desk.now c.args.self.now.seat c.args.self.now.stream c.args.self.now.left c.enter-guard.result.state c.requires.ready c.enter-guard.ensures.state (λ (m : Mine). (op : WholeOp) × (turn : List OwnCall) × (o : OwnCall) × HasWhole c.args.t op turn o m × (o.started ≡ true)) c.requires.started).1, (found_in c.args.self.now.desk.now c.args.self.now.seat c.args.self.now.stream c.args.self.now.left c.enter-guard.result.state c.requires.ready c.enter-guard.ensures.state (λ (m : Mine). (op : WholeOp) × (turn : List OwnCall) × (o : OwnCall) × HasWhole c.args.t op turn o m × (o.started ≡ true)) c.requires.started).2, (found_in c.args.self.now.desk.now c.args.self.now.seat c.args.self.now.stream c.args.self.now.left c.enter-guard.result.state c.requires.ready c.enter-guard.ensures.state (λ (m : Mine). (op : WholeOp) × (turn : List OwnCall) × (o : OwnCall) × HasWhole c.args.t op turn o m × (o.started ≡ true)) c.requires.started).3) (λ k. MayGo k (laid c.enter-guard.result.state) (state_of c.complete_whole-answer.new.world)) c.complete_whole-answer.ensures.may) (completes_parts c.args.self.now.stream c.args.t (laid c.enter-guard.result.state) c.enter-guard.ensures.state.sound (state_of c.complete_whole-answer.new.world) (whole_owner c.args.self.now.stream c.args.t (laid c.enter-guard.result.state) c.enter-guard.ensures.state.sound ((found_in c.args.self.now.desk.now c.args.self.now.seat c.args.self.now.stream c.args.self.now.left c.enter-guard.result.state c.requires.ready c.enter-guard.ensures.state (λ (m : Mine). (op : WholeOp) × (turn : List OwnCall) × (o : OwnCall) × HasWhole c.args.t op turn o m × (o.started ≡ true)) c.requires.started).0, (found_in c.args.self.now.desk.now c.args.self.now.seat c.args.self.now.stream c.args.self.now.left c.enter-guard.result.state c.requires.ready c.enter-guard.ensures.state (λ (m : Mine). (op : WholeOp) × (turn : List OwnCall) × (o : OwnCall) × HasWhole c.args.t op turn o m × (o.started ≡ true)) c.requires.started).1, (found_in c.args.self.now.desk.now c.args.self.now.seat c.args.self.now.stream c.args.self.now.left c.enter-guard.result.state c.requires.ready c.enter-guard.ensures.state (λ (m : Mine). (op : WholeOp) × (turn : List OwnCall) × (o : OwnCall) × HasWhole c.args.t op turn o m × (o.started ≡ true)) c.requires.started).2, (found_in c.args.self.now.desk.now c.args.self.now.seat c.args.self.now.stream c.args.self.now.left c.enter-guard.result.state c.requires.ready c.enter-guard.ensures.state (λ (m : Mine). (op : WholeOp) × (turn : List OwnCall) × (o : OwnCall) × HasWhole c.args.t op turn o m × (o.started ≡ true)) c.requires.started).3) (λ k. MayGo k (laid c.enter-guard.result.state) (state_of c.complete_whole-answer.new.world)) c.complete_whole-answer.ensures.may) c.complete_whole-answer.result c.complete_whole-answer.ensures.ok c.complete_whole-answer.ensures.err ((found_in c.args.self.now.desk.now c.args.self.now.seat c.args.self.now.stream c.args.self.now.left c.enter-guard.result.state c.requires.ready c.enter-guard.ensures.state (λ (m : Mine). (op : WholeOp) × (turn : List OwnCall) × (o : OwnCall) × HasWhole c.args.t op turn o m × (o.started ≡ true)) c.requires.started).0, (found_in c.args.self.now.desk.now c.args.self.now.seat c.args.self.now.stream c.args.self.now.left c.enter-guard.result.state c.requires.ready c.enter-guard.ensures.state (λ (m : Mine). (op : WholeOp) × (turn : List OwnCall) × (o : OwnCall) × HasWhole c.args.t op turn o m × (o.started ≡ true)) c.requires.started).1, (found_in c.args.self.now.desk.now c.args.self.now.seat c.args.self.now.stream c.args.self.now.left c.enter-guard.result.state c.requires.ready c.enter-guard.ensures.state (λ (m : Mine). (op : WholeOp) × (turn : List OwnCall) × (o : OwnCall) × HasWhole c.args.t op turn o m × (o.started ≡ true)) c.requires.started).2, (found_in c.args.self.now.desk.now c.args.self.now.seat c.args.self.now.stream c.args.self.now.left c.enter-guard.result.state c.requires.ready c.enter-guard.ensures.state (λ (m : Mine). (op : WholeOp) × (turn : List OwnCall) × (o : OwnCall) × HasWhole c.args.t op turn o m × (o.started ≡ true)) c.requires.started).3)) (counted_end c.args.self.now.stream c.args.t (laid c.enter-guard.result.state) (state_of c.complete_whole-answer.new.world) c.enter-guard.ensures.state.sound c.complete_whole-answer.result c.complete_whole-answer.ensures.ok c.complete_whole-answer.ensures.err ((found_in c.args.self.now.desk.now c.args.self.now.seat c.args.self.now.stream c.args.self.now.left c.enter-guard.result.state c.requires.ready c.enter-guard.ensures.state (λ (m : Mine). (op : WholeOp) × (turn : List OwnCall) × (o : OwnCall) × HasWhole c.args.t op turn o m × (o.started ≡ true)) c.requires.started).0, (found_in c.args.self.now.desk.now c.args.self.now.seat c.args.self.now.stream c.args.self.now.left c.enter-guard.result.state c.requires.ready c.enter-guard.ensures.state (λ (m : Mine). (op : WholeOp) × (turn : List OwnCall) × (o : OwnCall) × HasWhole c.args.t op turn o m × (o.started ≡ true)) c.requires.started).1, (found_in c.args.self.now.desk.now c.args.self.now.seat c.args.self.now.stream c.args.self.now.left c.enter-guard.result.state c.requires.ready c.enter-guard.ensures.state (λ (m : Mine). (op : WholeOp) × (turn : List OwnCall) × (o : OwnCall) × HasWhole c.args.t op turn o m × (o.started ≡ true)) c.requires.started).2, (found_in c.args.self.now.desk.now c.args.self.now.seat c.args.self.now.stream c.args.self.now.left c.enter-guard.result.state c.requires.ready c.enter-guard.ensures.state (λ (m : Mine). (op : WholeOp) × (turn : List OwnCall) × (o : OwnCall) × HasWhole c.args.t op turn o m × (o.started ≡ true)) c.requires.started).3))
+    let enter = c.enter-guard.result.state in
+    let enter_holds = c.enter-guard.ensures.state in
+    let stream = c.args.self.now.stream in
+    let desk = c.args.self.now.desk.now in
+    let seat = c.args.self.now.seat in
+    let left = c.args.self.now.left in
+    let complete_whole = c.complete_whole-answer in
+    let started_asked = c.requires.started in
+    let ready_asked = c.requires.ready in
+    let state_here = state_of complete_whole.new.world in
+    may_go desk seat stream left enter ready_asked enter_holds c.enter-guard.result.seat.now
+    (record { world = complete_whole.new.world }) c.enter-guard.ensures.turn.0
+    (whole_owner stream c.args.t (laid enter) enter_holds.sound (
+      (found_in desk seat stream left enter ready_asked enter_holds
+          (λ (m : Mine). (op : WholeOp) × (turn : List OwnCall) × (o : OwnCall) × HasWhole c.args.t op turn o m
+          × (o.started ≡ true)) started_asked).0,
+      (found_in desk seat stream left enter ready_asked enter_holds
+          (λ (m : Mine). (op : WholeOp) × (turn : List OwnCall) × (o : OwnCall) × HasWhole c.args.t op turn o m
+          × (o.started ≡ true)) started_asked).1,
+      (found_in desk seat stream left enter ready_asked enter_holds
+          (λ (m : Mine). (op : WholeOp) × (turn : List OwnCall) × (o : OwnCall) × HasWhole c.args.t op turn o m
+          × (o.started ≡ true)) started_asked).2,
+      (found_in desk seat stream left enter ready_asked enter_holds
+          (λ (m : Mine). (op : WholeOp) × (turn : List OwnCall) × (o : OwnCall) × HasWhole c.args.t op turn o m
+          × (o.started ≡ true)) started_asked).3,
+    ) (λ k. MayGo k (laid enter) state_here) complete_whole.ensures.may)
+    (completes_parts stream c.args.t (laid enter) enter_holds.sound state_here
+    (whole_owner stream c.args.t (laid enter) enter_holds.sound (
+      (found_in desk seat stream left enter ready_asked enter_holds
+          (λ (m : Mine). (op : WholeOp) × (turn : List OwnCall) × (o : OwnCall) × HasWhole c.args.t op turn o m
+          × (o.started ≡ true)) started_asked).0,
+      (found_in desk seat stream left enter ready_asked enter_holds
+          (λ (m : Mine). (op : WholeOp) × (turn : List OwnCall) × (o : OwnCall) × HasWhole c.args.t op turn o m
+          × (o.started ≡ true)) started_asked).1,
+      (found_in desk seat stream left enter ready_asked enter_holds
+          (λ (m : Mine). (op : WholeOp) × (turn : List OwnCall) × (o : OwnCall) × HasWhole c.args.t op turn o m
+          × (o.started ≡ true)) started_asked).2,
+      (found_in desk seat stream left enter ready_asked enter_holds
+          (λ (m : Mine). (op : WholeOp) × (turn : List OwnCall) × (o : OwnCall) × HasWhole c.args.t op turn o m
+          × (o.started ≡ true)) started_asked).3,
+    ) (λ k. MayGo k (laid enter) state_here) complete_whole.ensures.may)
+    complete_whole.result complete_whole.ensures.ok complete_whole.ensures.err (
+      (found_in desk seat stream left enter ready_asked enter_holds
+          (λ (m : Mine). (op : WholeOp) × (turn : List OwnCall) × (o : OwnCall) × HasWhole c.args.t op turn o m
+          × (o.started ≡ true)) started_asked).0,
+      (found_in desk seat stream left enter ready_asked enter_holds
+          (λ (m : Mine). (op : WholeOp) × (turn : List OwnCall) × (o : OwnCall) × HasWhole c.args.t op turn o m
+          × (o.started ≡ true)) started_asked).1,
+      (found_in desk seat stream left enter ready_asked enter_holds
+          (λ (m : Mine). (op : WholeOp) × (turn : List OwnCall) × (o : OwnCall) × HasWhole c.args.t op turn o m
+          × (o.started ≡ true)) started_asked).2,
+      (found_in desk seat stream left enter ready_asked enter_holds
+          (λ (m : Mine). (op : WholeOp) × (turn : List OwnCall) × (o : OwnCall) × HasWhole c.args.t op turn o m
+          × (o.started ≡ true)) started_asked).3,
+    ))
+    (counted_end stream c.args.t (laid enter) state_here enter_holds.sound complete_whole.result
+    complete_whole.ensures.ok complete_whole.ensures.err (
+      (found_in desk seat stream left enter ready_asked enter_holds
+          (λ (m : Mine). (op : WholeOp) × (turn : List OwnCall) × (o : OwnCall) × HasWhole c.args.t op turn o m
+          × (o.started ≡ true)) started_asked).0,
+      (found_in desk seat stream left enter ready_asked enter_holds
+          (λ (m : Mine). (op : WholeOp) × (turn : List OwnCall) × (o : OwnCall) × HasWhole c.args.t op turn o m
+          × (o.started ≡ true)) started_asked).1,
+      (found_in desk seat stream left enter ready_asked enter_holds
+          (λ (m : Mine). (op : WholeOp) × (turn : List OwnCall) × (o : OwnCall) × HasWhole c.args.t op turn o m
+          × (o.started ≡ true)) started_asked).2,
+      (found_in desk seat stream left enter ready_asked enter_holds
+          (λ (m : Mine). (op : WholeOp) × (turn : List OwnCall) × (o : OwnCall) × HasWhole c.args.t op turn o m
+          × (o.started ≡ true)) started_asked).3,
+    ))
 
 pub returns-clause-ready : goal.returns-clause-ready
 returns-clause-ready g c =
-    at_desk c.args.self.now.desk.now c.args.self.now.seat c.args.self.now.stream c.args.self.now.left c.enter-guard.result.state c.requires.ready c.enter-guard.ensures.state c.enter-guard.result.seat.now (record { world = c.complete_whole-answer.new.world }) c.enter-guard.ensures.turn.0 (whole_owner c.args.self.now.stream c.args.t (laid c.enter-guard.result.state) c.enter-guard.ensures.state.sound ((found_in c.args.self.now.desk.now c.args.self.now.seat c.args.self.now.stream c.args.self.now.left c.enter-guard.result.state c.requires.ready c.enter-guard.ensures.state (λ (m : Mine). (op : WholeOp) × (turn : List OwnCall) × (o : OwnCall) × HasWhole c.args.t op turn o m × (o.started ≡ true)) c.requires.started).0, (found_in c.args.self.now.desk.now c.args.self.now.seat c.args.self.now.stream c.args.self.now.left c.enter-guard.result.state c.requires.ready c.enter-guard.ensures.state (λ (m : Mine). (op : WholeOp) × (turn : List OwnCall) × (o : OwnCall) × HasWhole c.args.t op turn o m × (o.started ≡ true)) c.requires.started).1, (found_in c.args.self.now.desk.now c.args.self.now.seat c.args.self.now.stream c.args.self.now.left c.enter-guard.result.state c.requires.ready c.enter-guard.ensures.state (λ (m : Mine). (op : WholeOp) × (turn : List OwnCall) × (o : OwnCall) × HasWhole c.args.t op turn o m × (o.started ≡ true)) c.requires.started).2, (found_in c.args.self.now.desk.now c.args.self.now.seat c.args.self.now.stream c.args.self.now.left c.enter-guard.result.state c.requires.ready c.enter-guard.ensures.state (λ (m : Mine). (op : WholeOp) × (turn : List OwnCall) × (o : OwnCall) × HasWhole c.args.t op turn o m × (o.started ≡ true)) c.requires.started).3) (λ k. MayGo k (laid c.enter-guard.result.state) (state_of c.complete_whole-answer.new.world)) c.complete_whole-answer.ensures.may) c.leave.new.self.0 c.leave.ensures c.left_seen-left.result c.left_seen-left.ensures
+    let enter = c.enter-guard.result.state in
+    let enter_holds = c.enter-guard.ensures.state in
+    let stream = c.args.self.now.stream in
+    let desk = c.args.self.now.desk.now in
+    let seat = c.args.self.now.seat in
+    let left = c.args.self.now.left in
+    at_desk desk seat stream left enter c.requires.ready enter_holds c.enter-guard.result.seat.now
+    (record { world = c.complete_whole-answer.new.world }) c.enter-guard.ensures.turn.0
+    (whole_owner stream c.args.t (laid enter) enter_holds.sound (
+      (found_in desk seat stream left enter c.requires.ready enter_holds
+          (λ (m : Mine). (op : WholeOp) × (turn : List OwnCall) × (o : OwnCall) × HasWhole c.args.t op turn o m
+          × (o.started ≡ true)) c.requires.started).0,
+      (found_in desk seat stream left enter c.requires.ready enter_holds
+          (λ (m : Mine). (op : WholeOp) × (turn : List OwnCall) × (o : OwnCall) × HasWhole c.args.t op turn o m
+          × (o.started ≡ true)) c.requires.started).1,
+      (found_in desk seat stream left enter c.requires.ready enter_holds
+          (λ (m : Mine). (op : WholeOp) × (turn : List OwnCall) × (o : OwnCall) × HasWhole c.args.t op turn o m
+          × (o.started ≡ true)) c.requires.started).2,
+      (found_in desk seat stream left enter c.requires.ready enter_holds
+          (λ (m : Mine). (op : WholeOp) × (turn : List OwnCall) × (o : OwnCall) × HasWhole c.args.t op turn o m
+          × (o.started ≡ true)) c.requires.started).3,
+    )
+    (λ k. MayGo k (laid enter) (state_of c.complete_whole-answer.new.world)) c.complete_whole-answer.ensures.may)
+    c.leave.new.self.0 c.leave.ensures c.left_seen-left.result c.left_seen-left.ensures
 
 pub returns-clause-ok : goal.returns-clause-ok
 returns-clause-ok g c =
-    over c.args.self.now.desk.now c.args.self.now.seat c.args.self.now.stream c.args.self.now.left c.enter-guard.result.state c.requires.ready c.enter-guard.ensures.state c.enter-guard.result.seat.now (record { world = c.complete_whole-answer.new.world }) c.enter-guard.ensures.turn.0 (whole_owner c.args.self.now.stream c.args.t (laid c.enter-guard.result.state) c.enter-guard.ensures.state.sound ((found_in c.args.self.now.desk.now c.args.self.now.seat c.args.self.now.stream c.args.self.now.left c.enter-guard.result.state c.requires.ready c.enter-guard.ensures.state (λ (m : Mine). (op : WholeOp) × (turn : List OwnCall) × (o : OwnCall) × HasWhole c.args.t op turn o m × (o.started ≡ true)) c.requires.started).0, (found_in c.args.self.now.desk.now c.args.self.now.seat c.args.self.now.stream c.args.self.now.left c.enter-guard.result.state c.requires.ready c.enter-guard.ensures.state (λ (m : Mine). (op : WholeOp) × (turn : List OwnCall) × (o : OwnCall) × HasWhole c.args.t op turn o m × (o.started ≡ true)) c.requires.started).1, (found_in c.args.self.now.desk.now c.args.self.now.seat c.args.self.now.stream c.args.self.now.left c.enter-guard.result.state c.requires.ready c.enter-guard.ensures.state (λ (m : Mine). (op : WholeOp) × (turn : List OwnCall) × (o : OwnCall) × HasWhole c.args.t op turn o m × (o.started ≡ true)) c.requires.started).2, (found_in c.args.self.now.desk.now c.args.self.now.seat c.args.self.now.stream c.args.self.now.left c.enter-guard.result.state c.requires.ready c.enter-guard.ensures.state (λ (m : Mine). (op : WholeOp) × (turn : List OwnCall) × (o : OwnCall) × HasWhole c.args.t op turn o m × (o.started ≡ true)) c.requires.started).3) (λ k. MayGo k (laid c.enter-guard.result.state) (state_of c.complete_whole-answer.new.world)) c.complete_whole-answer.ensures.may) c.leave.new.self.0 c.leave.ensures
-    (λ (m : Mine) (z : State). OnOk c.complete_whole-answer.result ((op : WholeOp) (turn : List OwnCall) (o : OwnCall) → HasWhole c.args.t op turn o m → WholeEnds op turn o m (mine_at c.args.self.now.stream z)))
-    (completes c.args.self.now.stream c.args.t (laid c.enter-guard.result.state) c.enter-guard.ensures.state.sound (state_of c.complete_whole-answer.new.world) (whole_owner c.args.self.now.stream c.args.t (laid c.enter-guard.result.state) c.enter-guard.ensures.state.sound ((found_in c.args.self.now.desk.now c.args.self.now.seat c.args.self.now.stream c.args.self.now.left c.enter-guard.result.state c.requires.ready c.enter-guard.ensures.state (λ (m : Mine). (op : WholeOp) × (turn : List OwnCall) × (o : OwnCall) × HasWhole c.args.t op turn o m × (o.started ≡ true)) c.requires.started).0, (found_in c.args.self.now.desk.now c.args.self.now.seat c.args.self.now.stream c.args.self.now.left c.enter-guard.result.state c.requires.ready c.enter-guard.ensures.state (λ (m : Mine). (op : WholeOp) × (turn : List OwnCall) × (o : OwnCall) × HasWhole c.args.t op turn o m × (o.started ≡ true)) c.requires.started).1, (found_in c.args.self.now.desk.now c.args.self.now.seat c.args.self.now.stream c.args.self.now.left c.enter-guard.result.state c.requires.ready c.enter-guard.ensures.state (λ (m : Mine). (op : WholeOp) × (turn : List OwnCall) × (o : OwnCall) × HasWhole c.args.t op turn o m × (o.started ≡ true)) c.requires.started).2, (found_in c.args.self.now.desk.now c.args.self.now.seat c.args.self.now.stream c.args.self.now.left c.enter-guard.result.state c.requires.ready c.enter-guard.ensures.state (λ (m : Mine). (op : WholeOp) × (turn : List OwnCall) × (o : OwnCall) × HasWhole c.args.t op turn o m × (o.started ≡ true)) c.requires.started).3) (λ k. MayGo k (laid c.enter-guard.result.state) (state_of c.complete_whole-answer.new.world)) c.complete_whole-answer.ensures.may) c.complete_whole-answer.result c.complete_whole-answer.ensures.ok)
+    let enter = c.enter-guard.result.state in
+    let enter_holds = c.enter-guard.ensures.state in
+    let stream = c.args.self.now.stream in
+    let desk = c.args.self.now.desk.now in
+    let complete_whole = c.complete_whole-answer in
+    let seat = c.args.self.now.seat in
+    let left = c.args.self.now.left in
+    let started_asked = c.requires.started in
+    let state_here = state_of complete_whole.new.world in
+    let ready_asked = c.requires.ready in
+    over desk seat stream left enter ready_asked enter_holds c.enter-guard.result.seat.now
+    (record { world = complete_whole.new.world }) c.enter-guard.ensures.turn.0
+    (whole_owner stream c.args.t (laid enter) enter_holds.sound (
+      (found_in desk seat stream left enter ready_asked enter_holds
+          (λ (m : Mine). (op : WholeOp) × (turn : List OwnCall) × (o : OwnCall) × HasWhole c.args.t op turn o m
+          × (o.started ≡ true)) started_asked).0,
+      (found_in desk seat stream left enter ready_asked enter_holds
+          (λ (m : Mine). (op : WholeOp) × (turn : List OwnCall) × (o : OwnCall) × HasWhole c.args.t op turn o m
+          × (o.started ≡ true)) started_asked).1,
+      (found_in desk seat stream left enter ready_asked enter_holds
+          (λ (m : Mine). (op : WholeOp) × (turn : List OwnCall) × (o : OwnCall) × HasWhole c.args.t op turn o m
+          × (o.started ≡ true)) started_asked).2,
+      (found_in desk seat stream left enter ready_asked enter_holds
+          (λ (m : Mine). (op : WholeOp) × (turn : List OwnCall) × (o : OwnCall) × HasWhole c.args.t op turn o m
+          × (o.started ≡ true)) started_asked).3,
+    ) (λ k. MayGo k (laid enter) state_here) complete_whole.ensures.may)
+    c.leave.new.self.0 c.leave.ensures
+    (λ (m : Mine) (z : State). OnOk complete_whole.result
+    ((op : WholeOp) (turn : List OwnCall) (o : OwnCall) → HasWhole c.args.t op turn o m
+    → WholeEnds op turn o m (mine_at stream z)))
+    (completes stream c.args.t (laid enter) enter_holds.sound state_here
+    (whole_owner stream c.args.t (laid enter) enter_holds.sound (
+      (found_in desk seat stream left enter ready_asked enter_holds
+          (λ (m : Mine). (op : WholeOp) × (turn : List OwnCall) × (o : OwnCall) × HasWhole c.args.t op turn o m
+          × (o.started ≡ true)) started_asked).0,
+      (found_in desk seat stream left enter ready_asked enter_holds
+          (λ (m : Mine). (op : WholeOp) × (turn : List OwnCall) × (o : OwnCall) × HasWhole c.args.t op turn o m
+          × (o.started ≡ true)) started_asked).1,
+      (found_in desk seat stream left enter ready_asked enter_holds
+          (λ (m : Mine). (op : WholeOp) × (turn : List OwnCall) × (o : OwnCall) × HasWhole c.args.t op turn o m
+          × (o.started ≡ true)) started_asked).2,
+      (found_in desk seat stream left enter ready_asked enter_holds
+          (λ (m : Mine). (op : WholeOp) × (turn : List OwnCall) × (o : OwnCall) × HasWhole c.args.t op turn o m
+          × (o.started ≡ true)) started_asked).3,
+    ) (λ k. MayGo k (laid enter) state_here) complete_whole.ensures.may)
+    complete_whole.result complete_whole.ensures.ok)
 
 pub returns-clause-err : goal.returns-clause-err
 returns-clause-err g c =
-    over c.args.self.now.desk.now c.args.self.now.seat c.args.self.now.stream c.args.self.now.left c.enter-guard.result.state c.requires.ready c.enter-guard.ensures.state c.enter-guard.result.seat.now (record { world = c.complete_whole-answer.new.world }) c.enter-guard.ensures.turn.0 (whole_owner c.args.self.now.stream c.args.t (laid c.enter-guard.result.state) c.enter-guard.ensures.state.sound ((found_in c.args.self.now.desk.now c.args.self.now.seat c.args.self.now.stream c.args.self.now.left c.enter-guard.result.state c.requires.ready c.enter-guard.ensures.state (λ (m : Mine). (op : WholeOp) × (turn : List OwnCall) × (o : OwnCall) × HasWhole c.args.t op turn o m × (o.started ≡ true)) c.requires.started).0, (found_in c.args.self.now.desk.now c.args.self.now.seat c.args.self.now.stream c.args.self.now.left c.enter-guard.result.state c.requires.ready c.enter-guard.ensures.state (λ (m : Mine). (op : WholeOp) × (turn : List OwnCall) × (o : OwnCall) × HasWhole c.args.t op turn o m × (o.started ≡ true)) c.requires.started).1, (found_in c.args.self.now.desk.now c.args.self.now.seat c.args.self.now.stream c.args.self.now.left c.enter-guard.result.state c.requires.ready c.enter-guard.ensures.state (λ (m : Mine). (op : WholeOp) × (turn : List OwnCall) × (o : OwnCall) × HasWhole c.args.t op turn o m × (o.started ≡ true)) c.requires.started).2, (found_in c.args.self.now.desk.now c.args.self.now.seat c.args.self.now.stream c.args.self.now.left c.enter-guard.result.state c.requires.ready c.enter-guard.ensures.state (λ (m : Mine). (op : WholeOp) × (turn : List OwnCall) × (o : OwnCall) × HasWhole c.args.t op turn o m × (o.started ≡ true)) c.requires.started).3) (λ k. MayGo k (laid c.enter-guard.result.state) (state_of c.complete_whole-answer.new.world)) c.complete_whole-answer.ensures.may) c.leave.new.self.0 c.leave.ensures
-    (λ (m : Mine) (z : State). OnErr c.complete_whole-answer.result (mine_at c.args.self.now.stream z ≡ m))
-    (unchanged c.args.self.now.stream (laid c.enter-guard.result.state) (state_of c.complete_whole-answer.new.world) c.complete_whole-answer.result c.complete_whole-answer.ensures.err)
+    let enter = c.enter-guard.result.state in
+    let enter_holds = c.enter-guard.ensures.state in
+    let stream = c.args.self.now.stream in
+    let complete_whole = c.complete_whole-answer in
+    let desk = c.args.self.now.desk.now in
+    let seat = c.args.self.now.seat in
+    let left = c.args.self.now.left in
+    over desk seat stream left enter c.requires.ready enter_holds c.enter-guard.result.seat.now
+    (record { world = complete_whole.new.world }) c.enter-guard.ensures.turn.0
+    (whole_owner stream c.args.t (laid enter) enter_holds.sound (
+      (found_in desk seat stream left enter c.requires.ready enter_holds
+          (λ (m : Mine). (op : WholeOp) × (turn : List OwnCall) × (o : OwnCall) × HasWhole c.args.t op turn o m
+          × (o.started ≡ true)) c.requires.started).0,
+      (found_in desk seat stream left enter c.requires.ready enter_holds
+          (λ (m : Mine). (op : WholeOp) × (turn : List OwnCall) × (o : OwnCall) × HasWhole c.args.t op turn o m
+          × (o.started ≡ true)) c.requires.started).1,
+      (found_in desk seat stream left enter c.requires.ready enter_holds
+          (λ (m : Mine). (op : WholeOp) × (turn : List OwnCall) × (o : OwnCall) × HasWhole c.args.t op turn o m
+          × (o.started ≡ true)) c.requires.started).2,
+      (found_in desk seat stream left enter c.requires.ready enter_holds
+          (λ (m : Mine). (op : WholeOp) × (turn : List OwnCall) × (o : OwnCall) × HasWhole c.args.t op turn o m
+          × (o.started ≡ true)) c.requires.started).3,
+    ) (λ k. MayGo k (laid enter) (state_of complete_whole.new.world))
+    complete_whole.ensures.may) c.leave.new.self.0 c.leave.ensures
+    (λ (m : Mine) (z : State). OnErr complete_whole.result (mine_at stream z ≡ m))
+    (unchanged stream (laid enter) (state_of complete_whole.new.world) complete_whole.result complete_whole.ensures.err)
 
 pub returns-clause-home : goal.returns-clause-home
 returns-clause-home g c =
-    home_over c.args.self.now.desk.now c.args.self.now.seat c.args.self.now.stream c.args.self.now.left c.enter-guard.result.state c.requires.ready c.enter-guard.ensures.state c.enter-guard.result.seat.now (record { world = c.complete_whole-answer.new.world }) c.leave.new.self.0 c.leave.ensures
-    (completes_gave (laid c.enter-guard.result.state) (state_of c.complete_whole-answer.new.world) c.args.t c.complete_whole-answer.result c.complete_whole-answer.ensures.ok c.complete_whole-answer.ensures.err)
+    let complete_whole = c.complete_whole-answer in
+    home_over c.args.self.now.desk.now c.args.self.now.seat c.args.self.now.stream c.args.self.now.left
+    c.enter-guard.result.state c.requires.ready c.enter-guard.ensures.state c.enter-guard.result.seat.now
+    (record { world = complete_whole.new.world }) c.leave.new.self.0 c.leave.ensures
+    (completes_gave (laid c.enter-guard.result.state) (state_of complete_whole.new.world) c.args.t complete_whole.result
+    complete_whole.ensures.ok complete_whole.ensures.err)

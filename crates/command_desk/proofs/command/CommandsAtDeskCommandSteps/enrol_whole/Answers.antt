@@ -13,39 +13,80 @@ use Rattle.command_desk.proofs.command.CommandsAtDeskCommandSteps.enrol_whole.Go
 
 pub enrol_whole-answer-requires-clause-idle : goal.enrol_whole-answer-requires-clause-idle
 enrol_whole-answer-requires-clause-idle g c =
-    turn_idle c.args.self.now.stream c.args.t (laid c.enter-guard.result.state) c.enter-guard.ensures.state.sound c.args.op.now (found_in c.args.self.now.desk.now c.args.self.now.seat c.args.self.now.stream c.args.self.now.left c.enter-guard.result.state c.requires.ready c.enter-guard.ensures.state (λ (m : Mine). (o : OwnCall) × HasTurn c.args.t (command_of c.args.op.now) o m) c.requires.turn)
+    turn_idle c.args.self.now.stream c.args.t (laid c.enter-guard.result.state) c.enter-guard.ensures.state.sound
+    c.args.op.now (found_in c.args.self.now.desk.now c.args.self.now.seat c.args.self.now.stream c.args.self.now.left
+    c.enter-guard.result.state c.requires.ready c.enter-guard.ensures.state
+    (λ (m : Mine). (o : OwnCall) × HasTurn c.args.t (command_of c.args.op.now) o m) c.requires.turn)
 
 pub enrol_whole-answer-requires-clause-asks : goal.enrol_whole-answer-requires-clause-asks
 enrol_whole-answer-requires-clause-asks g c =
-    turn_asks c.args.self.now.stream c.args.t (laid c.enter-guard.result.state) c.enter-guard.ensures.state.sound c.args.op.now (found_in c.args.self.now.desk.now c.args.self.now.seat c.args.self.now.stream c.args.self.now.left c.enter-guard.result.state c.requires.ready c.enter-guard.ensures.state (λ (m : Mine). (o : OwnCall) × HasTurn c.args.t (command_of c.args.op.now) o m) c.requires.turn)
+    turn_asks c.args.self.now.stream c.args.t (laid c.enter-guard.result.state) c.enter-guard.ensures.state.sound
+    c.args.op.now (found_in c.args.self.now.desk.now c.args.self.now.seat c.args.self.now.stream c.args.self.now.left
+    c.enter-guard.result.state c.requires.ready c.enter-guard.ensures.state
+    (λ (m : Mine). (o : OwnCall) × HasTurn c.args.t (command_of c.args.op.now) o m) c.requires.turn)
 
 pub leave-requires-clause-may : goal.leave-requires-clause-may
 leave-requires-clause-may g c =
-    may_go c.args.self.now.desk.now c.args.self.now.seat c.args.self.now.stream c.args.self.now.left c.enter-guard.result.state c.requires.ready c.enter-guard.ensures.state c.enter-guard.result.seat.now (record { world = c.enrol_whole-answer.new.world }) c.enter-guard.ensures.turn.0 c.enrol_whole-answer.ensures.may (parts_enrolled c.args.self.now.stream c.args.op.now (laid c.enter-guard.result.state) (state_of c.enrol_whole-answer.new.world) c.enrol_whole-answer.result c.enrol_whole-answer.ensures.may c.enrol_whole-answer.ensures.ok c.enrol_whole-answer.ensures.err) (counted_turn_of c.args.self.now.stream c.args.t (laid c.enter-guard.result.state) (state_of c.enrol_whole-answer.new.world) c.enter-guard.ensures.state.sound (command_of c.args.op.now) (found_in c.args.self.now.desk.now c.args.self.now.seat c.args.self.now.stream c.args.self.now.left c.enter-guard.result.state c.requires.ready c.enter-guard.ensures.state (λ (m : Mine). (o : OwnCall) × HasTurn c.args.t (command_of c.args.op.now) o m) c.requires.turn))
+    let enrol_whole = c.enrol_whole-answer in
+    let enter = c.enter-guard.result.state in
+    may_go c.args.self.now.desk.now c.args.self.now.seat c.args.self.now.stream c.args.self.now.left enter c.requires.ready
+    c.enter-guard.ensures.state c.enter-guard.result.seat.now (record { world = enrol_whole.new.world })
+    c.enter-guard.ensures.turn.0 enrol_whole.ensures.may
+    (parts_enrolled c.args.self.now.stream c.args.op.now (laid enter) (state_of enrol_whole.new.world)
+    enrol_whole.result enrol_whole.ensures.may enrol_whole.ensures.ok enrol_whole.ensures.err)
+    (counted_turn_of c.args.self.now.stream c.args.t (laid enter) (state_of enrol_whole.new.world)
+    c.enter-guard.ensures.state.sound (command_of c.args.op.now)
+    (found_in c.args.self.now.desk.now c.args.self.now.seat c.args.self.now.stream c.args.self.now.left enter
+    c.requires.ready c.enter-guard.ensures.state
+    (λ (m : Mine). (o : OwnCall) × HasTurn c.args.t (command_of c.args.op.now) o m) c.requires.turn))
 
 pub returns-clause-ready : goal.returns-clause-ready
 returns-clause-ready g c =
-    at_desk c.args.self.now.desk.now c.args.self.now.seat c.args.self.now.stream c.args.self.now.left c.enter-guard.result.state c.requires.ready c.enter-guard.ensures.state c.enter-guard.result.seat.now (record { world = c.enrol_whole-answer.new.world }) c.enter-guard.ensures.turn.0 c.enrol_whole-answer.ensures.may c.leave.new.self.0 c.leave.ensures c.left_seen-left.result c.left_seen-left.ensures
+    at_desk c.args.self.now.desk.now c.args.self.now.seat c.args.self.now.stream c.args.self.now.left
+    c.enter-guard.result.state c.requires.ready c.enter-guard.ensures.state c.enter-guard.result.seat.now
+    (record { world = c.enrol_whole-answer.new.world }) c.enter-guard.ensures.turn.0 c.enrol_whole-answer.ensures.may
+    c.leave.new.self.0 c.leave.ensures c.left_seen-left.result c.left_seen-left.ensures
 
 pub returns-clause-ok : goal.returns-clause-ok
 returns-clause-ok g c =
-    over c.args.self.now.desk.now c.args.self.now.seat c.args.self.now.stream c.args.self.now.left c.enter-guard.result.state c.requires.ready c.enter-guard.ensures.state c.enter-guard.result.seat.now (record { world = c.enrol_whole-answer.new.world }) c.enter-guard.ensures.turn.0 c.enrol_whole-answer.ensures.may c.leave.new.self.0 c.leave.ensures
-    (λ (m : Mine) (z : State). IfOk c.enrol_whole-answer.result (λ w. IfSome w (λ k. (o : OwnCall) → HasTurn c.args.t (command_of c.args.op.now) o m → EnrolsUnder k c.args.op.now o m (mine_at c.args.self.now.stream z))))
-    (under_mine c.args.self.now.stream c.args.t (laid c.enter-guard.result.state) c.enter-guard.ensures.state.sound c.args.op.now (state_of c.enrol_whole-answer.new.world) c.enrol_whole-answer.ensures.may c.enrol_whole-answer.result c.enrol_whole-answer.ensures.ok)
+    let enrol_whole = c.enrol_whole-answer in
+    over c.args.self.now.desk.now c.args.self.now.seat c.args.self.now.stream c.args.self.now.left
+    c.enter-guard.result.state c.requires.ready c.enter-guard.ensures.state c.enter-guard.result.seat.now
+    (record { world = enrol_whole.new.world }) c.enter-guard.ensures.turn.0 enrol_whole.ensures.may c.leave.new.self.0
+    c.leave.ensures
+    (λ (m : Mine) (z : State). IfOk enrol_whole.result
+    (λ w. IfSome w (λ k. (o : OwnCall) → HasTurn c.args.t (command_of c.args.op.now) o m
+    → EnrolsUnder k c.args.op.now o m (mine_at c.args.self.now.stream z))))
+    (under_mine c.args.self.now.stream c.args.t (laid c.enter-guard.result.state) c.enter-guard.ensures.state.sound
+    c.args.op.now (state_of enrol_whole.new.world) enrol_whole.ensures.may enrol_whole.result enrol_whole.ensures.ok)
 
 pub returns-clause-none : goal.returns-clause-none
 returns-clause-none g c =
-    over c.args.self.now.desk.now c.args.self.now.seat c.args.self.now.stream c.args.self.now.left c.enter-guard.result.state c.requires.ready c.enter-guard.ensures.state c.enter-guard.result.seat.now (record { world = c.enrol_whole-answer.new.world }) c.enter-guard.ensures.turn.0 c.enrol_whole-answer.ensures.may c.leave.new.self.0 c.leave.ensures
-    (λ (m : Mine) (z : State). c.enrol_whole-answer.result ≡ Ok None → mine_at c.args.self.now.stream z ≡ m)
-    (under_none c.args.self.now.stream c.args.t (laid c.enter-guard.result.state) c.enter-guard.ensures.state.sound c.args.op.now (state_of c.enrol_whole-answer.new.world) c.enrol_whole-answer.ensures.may c.enrol_whole-answer.result c.enrol_whole-answer.ensures.ok)
+    let enrol_whole = c.enrol_whole-answer in
+    over c.args.self.now.desk.now c.args.self.now.seat c.args.self.now.stream c.args.self.now.left
+    c.enter-guard.result.state c.requires.ready c.enter-guard.ensures.state c.enter-guard.result.seat.now
+    (record { world = enrol_whole.new.world }) c.enter-guard.ensures.turn.0 enrol_whole.ensures.may c.leave.new.self.0
+    c.leave.ensures
+    (λ (m : Mine) (z : State). enrol_whole.result ≡ Ok None → mine_at c.args.self.now.stream z ≡ m)
+    (under_none c.args.self.now.stream c.args.t (laid c.enter-guard.result.state) c.enter-guard.ensures.state.sound
+    c.args.op.now (state_of enrol_whole.new.world) enrol_whole.ensures.may enrol_whole.result enrol_whole.ensures.ok)
 
 pub returns-clause-err : goal.returns-clause-err
 returns-clause-err g c =
-    over c.args.self.now.desk.now c.args.self.now.seat c.args.self.now.stream c.args.self.now.left c.enter-guard.result.state c.requires.ready c.enter-guard.ensures.state c.enter-guard.result.seat.now (record { world = c.enrol_whole-answer.new.world }) c.enter-guard.ensures.turn.0 c.enrol_whole-answer.ensures.may c.leave.new.self.0 c.leave.ensures
-    (λ (m : Mine) (z : State). OnErr c.enrol_whole-answer.result (mine_at c.args.self.now.stream z ≡ m))
-    (unchanged c.args.self.now.stream (laid c.enter-guard.result.state) (state_of c.enrol_whole-answer.new.world) c.enrol_whole-answer.result c.enrol_whole-answer.ensures.err)
+    let enrol_whole = c.enrol_whole-answer in
+    over c.args.self.now.desk.now c.args.self.now.seat c.args.self.now.stream c.args.self.now.left
+    c.enter-guard.result.state c.requires.ready c.enter-guard.ensures.state c.enter-guard.result.seat.now
+    (record { world = enrol_whole.new.world }) c.enter-guard.ensures.turn.0 enrol_whole.ensures.may c.leave.new.self.0
+    c.leave.ensures
+    (λ (m : Mine) (z : State). OnErr enrol_whole.result (mine_at c.args.self.now.stream z ≡ m))
+    (unchanged c.args.self.now.stream (laid c.enter-guard.result.state) (state_of enrol_whole.new.world) enrol_whole.result
+    enrol_whole.ensures.err)
 
 pub returns-clause-home : goal.returns-clause-home
 returns-clause-home g c =
-    home_over c.args.self.now.desk.now c.args.self.now.seat c.args.self.now.stream c.args.self.now.left c.enter-guard.result.state c.requires.ready c.enter-guard.ensures.state c.enter-guard.result.seat.now (record { world = c.enrol_whole-answer.new.world }) c.leave.new.self.0 c.leave.ensures
-    (whole_gave (laid c.enter-guard.result.state) (state_of c.enrol_whole-answer.new.world) c.args.self.now.stream c.args.op.now c.enrol_whole-answer.result c.enrol_whole-answer.ensures.ok c.enrol_whole-answer.ensures.err)
+    let enrol_whole = c.enrol_whole-answer in
+    home_over c.args.self.now.desk.now c.args.self.now.seat c.args.self.now.stream c.args.self.now.left
+    c.enter-guard.result.state c.requires.ready c.enter-guard.ensures.state c.enter-guard.result.seat.now
+    (record { world = enrol_whole.new.world }) c.leave.new.self.0 c.leave.ensures
+    (whole_gave (laid c.enter-guard.result.state) (state_of enrol_whole.new.world) c.args.self.now.stream c.args.op.now
+    enrol_whole.result enrol_whole.ensures.ok enrol_whole.ensures.err)

@@ -15,19 +15,81 @@ use Rattle.command_desk.proofs.command.CommandsAtDeskCommandSteps.fold_page.Goal
 
 pub leave-requires-clause-may : goal.leave-requires-clause-may
 leave-requires-clause-may g c =
-    may_go c.args.self.now.desk.now c.args.self.now.seat c.args.self.now.stream c.args.self.now.left c.enter-guard.result.state c.requires.ready c.enter-guard.ensures.state c.enter-guard.result.seat.now (record { world = c.fold_in-answer.new.world }) c.enter-guard.ensures.turn.0 (subst (λ k. MayGo k (laid c.enter-guard.result.state) (state_of c.fold_in-answer.new.world)) (turn_stream c.args.self.now.stream c.args.t (laid c.enter-guard.result.state) c.enter-guard.ensures.state.sound command.Purge (found_in c.args.self.now.desk.now c.args.self.now.seat c.args.self.now.stream c.args.self.now.left c.enter-guard.result.state c.requires.ready c.enter-guard.ensures.state (λ (m : Mine). (o : OwnCall) × HasTurn c.args.t command.Purge o m) c.requires.turn).0 (found_in c.args.self.now.desk.now c.args.self.now.seat c.args.self.now.stream c.args.self.now.left c.enter-guard.result.state c.requires.ready c.enter-guard.ensures.state (λ (m : Mine). (o : OwnCall) × HasTurn c.args.t command.Purge o m) c.requires.turn).1) c.fold_in-answer.ensures.may) (folds_parts c.args.self.now.stream c.args.t (laid c.enter-guard.result.state) (state_of c.fold_in-answer.new.world) c.enter-guard.ensures.state.sound (subst (λ k. MayGo k (laid c.enter-guard.result.state) (state_of c.fold_in-answer.new.world)) (turn_stream c.args.self.now.stream c.args.t (laid c.enter-guard.result.state) c.enter-guard.ensures.state.sound command.Purge (found_in c.args.self.now.desk.now c.args.self.now.seat c.args.self.now.stream c.args.self.now.left c.enter-guard.result.state c.requires.ready c.enter-guard.ensures.state (λ (m : Mine). (o : OwnCall) × HasTurn c.args.t command.Purge o m) c.requires.turn).0 (found_in c.args.self.now.desk.now c.args.self.now.seat c.args.self.now.stream c.args.self.now.left c.enter-guard.result.state c.requires.ready c.enter-guard.ensures.state (λ (m : Mine). (o : OwnCall) × HasTurn c.args.t command.Purge o m) c.requires.turn).1) c.fold_in-answer.ensures.may) c.args.replica c.args.page c.args.parent.now c.fold_in-answer.result c.fold_in-answer.ensures.ok c.fold_in-answer.ensures.err) (counted_turn_of c.args.self.now.stream c.args.t (laid c.enter-guard.result.state) (state_of c.fold_in-answer.new.world) c.enter-guard.ensures.state.sound command.Purge (found_in c.args.self.now.desk.now c.args.self.now.seat c.args.self.now.stream c.args.self.now.left c.enter-guard.result.state c.requires.ready c.enter-guard.ensures.state (λ (m : Mine). (o : OwnCall) × HasTurn c.args.t command.Purge o m) c.requires.turn))
+    let enter = c.enter-guard.result.state in
+    let enter_holds = c.enter-guard.ensures.state in
+    let stream = c.args.self.now.stream in
+    let state_here = state_of c.fold_in-answer.new.world in
+    let desk = c.args.self.now.desk.now in
+    let seat = c.args.self.now.seat in
+    let left = c.args.self.now.left in
+    may_go desk seat stream left enter c.requires.ready enter_holds c.enter-guard.result.seat.now
+    (record { world = c.fold_in-answer.new.world }) c.enter-guard.ensures.turn.0
+    (subst (λ k. MayGo k (laid enter) state_here)
+    (turn_stream stream c.args.t (laid enter) enter_holds.sound command.Purge
+    (found_in desk seat stream left enter c.requires.ready enter_holds
+    (λ (m : Mine). (o : OwnCall) × HasTurn c.args.t command.Purge o m) c.requires.turn).0
+    (found_in desk seat stream left enter c.requires.ready enter_holds
+    (λ (m : Mine). (o : OwnCall) × HasTurn c.args.t command.Purge o m) c.requires.turn).1) c.fold_in-answer.ensures.may)
+    (folds_parts stream c.args.t (laid enter) state_here enter_holds.sound
+    (subst (λ k. MayGo k (laid enter) state_here)
+    (turn_stream stream c.args.t (laid enter) enter_holds.sound command.Purge
+    (found_in desk seat stream left enter c.requires.ready enter_holds
+    (λ (m : Mine). (o : OwnCall) × HasTurn c.args.t command.Purge o m) c.requires.turn).0
+    (found_in desk seat stream left enter c.requires.ready enter_holds
+    (λ (m : Mine). (o : OwnCall) × HasTurn c.args.t command.Purge o m) c.requires.turn).1) c.fold_in-answer.ensures.may)
+    c.args.replica c.args.page c.args.parent.now c.fold_in-answer.result c.fold_in-answer.ensures.ok c.fold_in-answer.ensures.err)
+    (counted_turn_of stream c.args.t (laid enter) state_here enter_holds.sound command.Purge
+    (found_in desk seat stream left enter c.requires.ready enter_holds
+    (λ (m : Mine). (o : OwnCall) × HasTurn c.args.t command.Purge o m) c.requires.turn))
 
 pub returns-clause-ready : goal.returns-clause-ready
 returns-clause-ready g c =
-    at_desk c.args.self.now.desk.now c.args.self.now.seat c.args.self.now.stream c.args.self.now.left c.enter-guard.result.state c.requires.ready c.enter-guard.ensures.state c.enter-guard.result.seat.now (record { world = c.fold_in-answer.new.world }) c.enter-guard.ensures.turn.0 (subst (λ k. MayGo k (laid c.enter-guard.result.state) (state_of c.fold_in-answer.new.world)) (turn_stream c.args.self.now.stream c.args.t (laid c.enter-guard.result.state) c.enter-guard.ensures.state.sound command.Purge (found_in c.args.self.now.desk.now c.args.self.now.seat c.args.self.now.stream c.args.self.now.left c.enter-guard.result.state c.requires.ready c.enter-guard.ensures.state (λ (m : Mine). (o : OwnCall) × HasTurn c.args.t command.Purge o m) c.requires.turn).0 (found_in c.args.self.now.desk.now c.args.self.now.seat c.args.self.now.stream c.args.self.now.left c.enter-guard.result.state c.requires.ready c.enter-guard.ensures.state (λ (m : Mine). (o : OwnCall) × HasTurn c.args.t command.Purge o m) c.requires.turn).1) c.fold_in-answer.ensures.may) c.leave.new.self.0 c.leave.ensures c.left_seen-left.result c.left_seen-left.ensures
+    let enter = c.enter-guard.result.state in
+    let enter_holds = c.enter-guard.ensures.state in
+    at_desk c.args.self.now.desk.now c.args.self.now.seat c.args.self.now.stream c.args.self.now.left enter c.requires.ready
+    enter_holds c.enter-guard.result.seat.now (record { world = c.fold_in-answer.new.world })
+    c.enter-guard.ensures.turn.0
+    (subst (λ k. MayGo k (laid enter) (state_of c.fold_in-answer.new.world))
+    (turn_stream c.args.self.now.stream c.args.t (laid enter) enter_holds.sound command.Purge
+    (found_in c.args.self.now.desk.now c.args.self.now.seat c.args.self.now.stream c.args.self.now.left enter
+    c.requires.ready enter_holds (λ (m : Mine). (o : OwnCall) × HasTurn c.args.t command.Purge o m) c.requires.turn).0
+    (found_in c.args.self.now.desk.now c.args.self.now.seat c.args.self.now.stream c.args.self.now.left enter
+    c.requires.ready enter_holds (λ (m : Mine). (o : OwnCall) × HasTurn c.args.t command.Purge o m) c.requires.turn).1)
+    c.fold_in-answer.ensures.may) c.leave.new.self.0 c.leave.ensures c.left_seen-left.result c.left_seen-left.ensures
 
 pub returns-clause-same : goal.returns-clause-same
 returns-clause-same g c =
-    over c.args.self.now.desk.now c.args.self.now.seat c.args.self.now.stream c.args.self.now.left c.enter-guard.result.state c.requires.ready c.enter-guard.ensures.state c.enter-guard.result.seat.now (record { world = c.fold_in-answer.new.world }) c.enter-guard.ensures.turn.0 (subst (λ k. MayGo k (laid c.enter-guard.result.state) (state_of c.fold_in-answer.new.world)) (turn_stream c.args.self.now.stream c.args.t (laid c.enter-guard.result.state) c.enter-guard.ensures.state.sound command.Purge (found_in c.args.self.now.desk.now c.args.self.now.seat c.args.self.now.stream c.args.self.now.left c.enter-guard.result.state c.requires.ready c.enter-guard.ensures.state (λ (m : Mine). (o : OwnCall) × HasTurn c.args.t command.Purge o m) c.requires.turn).0 (found_in c.args.self.now.desk.now c.args.self.now.seat c.args.self.now.stream c.args.self.now.left c.enter-guard.result.state c.requires.ready c.enter-guard.ensures.state (λ (m : Mine). (o : OwnCall) × HasTurn c.args.t command.Purge o m) c.requires.turn).1) c.fold_in-answer.ensures.may) c.leave.new.self.0 c.leave.ensures
-    (λ (m : Mine) (z : State). mine_at c.args.self.now.stream z ≡ m)
-    (folds_mine c.args.self.now.stream c.args.t (laid c.enter-guard.result.state) (state_of c.fold_in-answer.new.world) c.enter-guard.ensures.state.sound (subst (λ k. MayGo k (laid c.enter-guard.result.state) (state_of c.fold_in-answer.new.world)) (turn_stream c.args.self.now.stream c.args.t (laid c.enter-guard.result.state) c.enter-guard.ensures.state.sound command.Purge (found_in c.args.self.now.desk.now c.args.self.now.seat c.args.self.now.stream c.args.self.now.left c.enter-guard.result.state c.requires.ready c.enter-guard.ensures.state (λ (m : Mine). (o : OwnCall) × HasTurn c.args.t command.Purge o m) c.requires.turn).0 (found_in c.args.self.now.desk.now c.args.self.now.seat c.args.self.now.stream c.args.self.now.left c.enter-guard.result.state c.requires.ready c.enter-guard.ensures.state (λ (m : Mine). (o : OwnCall) × HasTurn c.args.t command.Purge o m) c.requires.turn).1) c.fold_in-answer.ensures.may) c.args.replica c.args.page c.args.parent.now c.fold_in-answer.result c.fold_in-answer.ensures.ok c.fold_in-answer.ensures.err)
+    let enter = c.enter-guard.result.state in
+    let enter_holds = c.enter-guard.ensures.state in
+    let stream = c.args.self.now.stream in
+    let desk = c.args.self.now.desk.now in
+    let state_here = state_of c.fold_in-answer.new.world in
+    let seat = c.args.self.now.seat in
+    let left = c.args.self.now.left in
+    over desk seat stream left enter c.requires.ready enter_holds c.enter-guard.result.seat.now
+    (record { world = c.fold_in-answer.new.world }) c.enter-guard.ensures.turn.0
+    (subst (λ k. MayGo k (laid enter) state_here)
+    (turn_stream stream c.args.t (laid enter) enter_holds.sound command.Purge
+    (found_in desk seat stream left enter c.requires.ready enter_holds
+    (λ (m : Mine). (o : OwnCall) × HasTurn c.args.t command.Purge o m) c.requires.turn).0
+    (found_in desk seat stream left enter c.requires.ready enter_holds
+    (λ (m : Mine). (o : OwnCall) × HasTurn c.args.t command.Purge o m) c.requires.turn).1) c.fold_in-answer.ensures.may)
+    c.leave.new.self.0 c.leave.ensures
+    (λ (m : Mine) (z : State). mine_at stream z ≡ m)
+    (folds_mine stream c.args.t (laid enter) state_here enter_holds.sound
+    (subst (λ k. MayGo k (laid enter) state_here)
+    (turn_stream stream c.args.t (laid enter) enter_holds.sound command.Purge
+    (found_in desk seat stream left enter c.requires.ready enter_holds
+    (λ (m : Mine). (o : OwnCall) × HasTurn c.args.t command.Purge o m) c.requires.turn).0
+    (found_in desk seat stream left enter c.requires.ready enter_holds
+    (λ (m : Mine). (o : OwnCall) × HasTurn c.args.t command.Purge o m) c.requires.turn).1) c.fold_in-answer.ensures.may)
+    c.args.replica c.args.page c.args.parent.now c.fold_in-answer.result c.fold_in-answer.ensures.ok
+    c.fold_in-answer.ensures.err)
 
 pub returns-clause-home : goal.returns-clause-home
 returns-clause-home g c =
-    home_over c.args.self.now.desk.now c.args.self.now.seat c.args.self.now.stream c.args.self.now.left c.enter-guard.result.state c.requires.ready c.enter-guard.ensures.state c.enter-guard.result.seat.now (record { world = c.fold_in-answer.new.world }) c.leave.new.self.0 c.leave.ensures
-    (folds_gave (laid c.enter-guard.result.state) (state_of c.fold_in-answer.new.world) c.args.replica c.args.page c.args.parent.now c.fold_in-answer.result c.fold_in-answer.ensures.ok c.fold_in-answer.ensures.err)
+    home_over c.args.self.now.desk.now c.args.self.now.seat c.args.self.now.stream c.args.self.now.left
+    c.enter-guard.result.state c.requires.ready c.enter-guard.ensures.state c.enter-guard.result.seat.now
+    (record { world = c.fold_in-answer.new.world }) c.leave.new.self.0 c.leave.ensures
+    (folds_gave (laid c.enter-guard.result.state) (state_of c.fold_in-answer.new.world) c.args.replica c.args.page
+    c.args.parent.now c.fold_in-answer.result c.fold_in-answer.ensures.ok c.fold_in-answer.ensures.err)

@@ -10,18 +10,32 @@ use Rattle.command_desk.proofs.command.CommandsAtDeskCommandSteps.mode_of.Goals 
 
 pub leave-requires-clause-may : goal.leave-requires-clause-may
 leave-requires-clause-may g c =
-    may_go c.args.self.now.desk.now c.args.self.now.seat c.args.self.now.stream c.args.self.now.left c.enter-guard.result.state c.requires.ready c.enter-guard.ensures.state c.enter-guard.result.seat.now c.enter-guard.result.state c.enter-guard.ensures.turn.0 (may_stay c.args.self.now.stream (laid c.enter-guard.result.state) c.enter-guard.ensures.state.sound) (λ m other. refl) (counted_stay c.args.self.now.stream (laid c.enter-guard.result.state))
+    let enter = c.enter-guard.result.state in
+    may_go c.args.self.now.desk.now c.args.self.now.seat c.args.self.now.stream c.args.self.now.left enter c.requires.ready
+    c.enter-guard.ensures.state c.enter-guard.result.seat.now enter c.enter-guard.ensures.turn.0
+    (may_stay c.args.self.now.stream (laid enter) c.enter-guard.ensures.state.sound) (λ m other. refl)
+    (counted_stay c.args.self.now.stream (laid enter))
 
 pub returns-clause-ready : goal.returns-clause-ready
 returns-clause-ready g c =
-    at_desk c.args.self.now.desk.now c.args.self.now.seat c.args.self.now.stream c.args.self.now.left c.enter-guard.result.state c.requires.ready c.enter-guard.ensures.state c.enter-guard.result.seat.now c.enter-guard.result.state c.enter-guard.ensures.turn.0 (may_stay c.args.self.now.stream (laid c.enter-guard.result.state) c.enter-guard.ensures.state.sound) c.leave.new.self.0 c.leave.ensures c.left_seen-left.result c.left_seen-left.ensures
+    at_desk c.args.self.now.desk.now c.args.self.now.seat c.args.self.now.stream c.args.self.now.left
+    c.enter-guard.result.state c.requires.ready c.enter-guard.ensures.state c.enter-guard.result.seat.now
+    c.enter-guard.result.state c.enter-guard.ensures.turn.0
+    (may_stay c.args.self.now.stream (laid c.enter-guard.result.state) c.enter-guard.ensures.state.sound)
+    c.leave.new.self.0 c.leave.ensures c.left_seen-left.result c.left_seen-left.ensures
 
 pub returns-clause-same : goal.returns-clause-same
 returns-clause-same g c =
-    over c.args.self.now.desk.now c.args.self.now.seat c.args.self.now.stream c.args.self.now.left c.enter-guard.result.state c.requires.ready c.enter-guard.ensures.state c.enter-guard.result.seat.now c.enter-guard.result.state c.enter-guard.ensures.turn.0 (may_stay c.args.self.now.stream (laid c.enter-guard.result.state) c.enter-guard.ensures.state.sound) c.leave.new.self.0 c.leave.ensures
+    over c.args.self.now.desk.now c.args.self.now.seat c.args.self.now.stream c.args.self.now.left
+    c.enter-guard.result.state c.requires.ready c.enter-guard.ensures.state c.enter-guard.result.seat.now
+    c.enter-guard.result.state c.enter-guard.ensures.turn.0
+    (may_stay c.args.self.now.stream (laid c.enter-guard.result.state) c.enter-guard.ensures.state.sound)
+    c.leave.new.self.0 c.leave.ensures
     (λ (m : Mine) (z : State). mine_at c.args.self.now.stream z ≡ m)
     refl
 
 pub returns-clause-home : goal.returns-clause-home
 returns-clause-home g c =
-    home_over c.args.self.now.desk.now c.args.self.now.seat c.args.self.now.stream c.args.self.now.left c.enter-guard.result.state c.requires.ready c.enter-guard.ensures.state c.enter-guard.result.seat.now c.enter-guard.result.state c.leave.new.self.0 c.leave.ensures refl
+    home_over c.args.self.now.desk.now c.args.self.now.seat c.args.self.now.stream c.args.self.now.left
+    c.enter-guard.result.state c.requires.ready c.enter-guard.ensures.state c.enter-guard.result.seat.now
+    c.enter-guard.result.state c.leave.new.self.0 c.leave.ensures refl

@@ -8,4 +8,5 @@ use Rattle.commands_in_hand.proofs.add.CommandsInHandAddSteps.added.Goals as goa
 pub returns-in-Some-added_of-clause-is : goal.returns-in-Some-added_of-clause-is
 returns-in-Some-added_of-clause-is g c =
     barrier_told c.args.self.now.stream c.args.t (state_of c.args.self.now.world) c.requires.ready
-    (λ k. Contains (state_of c.args.self.now.world).book.entries (entry.Mark (mark.Added k c.in-Some-added_of.added.source c.in-Some-added_of.added.name))) c.in-Some-added_of.ensures
+    (λ k. Contains (state_of c.args.self.now.world).book.entries
+    (entry.Mark (mark.Added k c.in-Some-added_of.added.source c.in-Some-added_of.added.name))) c.in-Some-added_of.ensures

@@ -12,20 +12,37 @@ use Rattle.commands_in_hand.proofs.command.CommandsInHandCommandSteps.enrol_snap
 
 pub enrol_whole-requires-clause-idle : goal.enrol_whole-requires-clause-idle
 enrol_whole-requires-clause-idle g c =
-    idle_calls c.args.self.now.stream c.args.self.now.stream (state_of c.args.self.now.world) (has_none c.args.self.now.stream (state_of c.args.self.now.world) c.requires.ready c.requires.idle)
+    idle_calls c.args.self.now.stream c.args.self.now.stream (state_of c.args.self.now.world)
+    (has_none c.args.self.now.stream (state_of c.args.self.now.world) c.requires.ready c.requires.idle)
 
 pub enrol_whole-requires-clause-asks : goal.enrol_whole-requires-clause-asks
 enrol_whole-requires-clause-asks g c =
-    snap_asks c.args.self.now.stream (state_of c.args.self.now.world) c.args.op.now (has_none c.args.self.now.stream (state_of c.args.self.now.world) c.requires.ready c.requires.idle) c.requires.snapshot
+    snap_asks c.args.self.now.stream (state_of c.args.self.now.world) c.args.op.now
+    (has_none c.args.self.now.stream (state_of c.args.self.now.world) c.requires.ready c.requires.idle)
+    c.requires.snapshot
 
 pub returns-clause-ok : goal.returns-clause-ok
 returns-clause-ok g c =
-    some_of c.in_ok-t.field-0 c.in-Some.t (λ k. EnrolsWhole k c.args.op.now [] (mine_in c.args.self.now.stream (state_of c.args.self.now.world)) (mine_in c.args.self.now.stream (state_of c.enrol_whole.new.world))) c.in-Some.is (snap_mine c.args.self.now.stream (state_of c.args.self.now.world) (state_of c.enrol_whole.new.world) c.requires.ready c.enrol_whole.ensures.sound (has_none c.args.self.now.stream (state_of c.args.self.now.world) c.requires.ready c.requires.idle) c.args.op.now c.requires.snapshot c.in_ok-t.field-0 c.in_ok-t.ensures.ok)
+    let state_here = state_of c.args.self.now.world in
+    some_of c.in_ok-t.field-0 c.in-Some.t
+    (λ k. EnrolsWhole k c.args.op.now [] (mine_in c.args.self.now.stream state_here)
+    (mine_in c.args.self.now.stream (state_of c.enrol_whole.new.world))) c.in-Some.is
+    (snap_mine c.args.self.now.stream state_here (state_of c.enrol_whole.new.world) c.requires.ready
+    c.enrol_whole.ensures.sound (has_none c.args.self.now.stream state_here c.requires.ready c.requires.idle)
+    c.args.op.now c.requires.snapshot c.in_ok-t.field-0 c.in_ok-t.ensures.ok)
 
 pub returns-clause-saw : goal.returns-clause-saw
 returns-clause-saw g c =
-    some_of c.in_ok-t.field-0 c.in-Some.t (λ k. EnrolsAt k (call.Command (command_of c.args.op.now)) (mine_in c.args.self.now.stream (state_of c.args.self.now.world)) (mine_in c.args.self.now.stream (state_of c.enrol_whole.new.world))) c.in-Some.is (snap_at c.args.self.now.stream (state_of c.args.self.now.world) (state_of c.enrol_whole.new.world) c.requires.ready c.enrol_whole.ensures.sound (has_none c.args.self.now.stream (state_of c.args.self.now.world) c.requires.ready c.requires.idle) c.args.op.now c.requires.snapshot c.in_ok-t.field-0 c.in_ok-t.ensures.ok)
+    let state_here = state_of c.args.self.now.world in
+    some_of c.in_ok-t.field-0 c.in-Some.t
+    (λ k. EnrolsAt k (call.Command (command_of c.args.op.now)) (mine_in c.args.self.now.stream state_here)
+    (mine_in c.args.self.now.stream (state_of c.enrol_whole.new.world))) c.in-Some.is
+    (snap_at c.args.self.now.stream state_here (state_of c.enrol_whole.new.world) c.requires.ready
+    c.enrol_whole.ensures.sound (has_none c.args.self.now.stream state_here c.requires.ready c.requires.idle)
+    c.args.op.now c.requires.snapshot c.in_ok-t.field-0 c.in_ok-t.ensures.ok)
 
 pub returns-clause-ready : goal.returns-clause-ready
 returns-clause-ready g c =
-    (snap_kept c.args.self.now.stream (state_of c.args.self.now.world) (state_of c.enrol_whole.new.world) c.requires.ready c.enrol_whole.ensures.sound (has_none c.args.self.now.stream (state_of c.args.self.now.world) c.requires.ready c.requires.idle) c.args.op.now c.requires.snapshot c.in_ok-t.field-0 c.in_ok-t.ensures.ok).ready
+    (snap_kept c.args.self.now.stream (state_of c.args.self.now.world) (state_of c.enrol_whole.new.world) c.requires.ready
+    c.enrol_whole.ensures.sound (has_none c.args.self.now.stream (state_of c.args.self.now.world) c.requires.ready c.requires.idle)
+    c.args.op.now c.requires.snapshot c.in_ok-t.field-0 c.in_ok-t.ensures.ok).ready

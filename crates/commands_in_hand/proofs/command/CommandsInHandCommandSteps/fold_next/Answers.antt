@@ -4,4 +4,5 @@ use Rattle.commands_in_hand.proofs.command.CommandsInHandCommandSteps.fold_next.
 
 pub returns-clause-is : goal.returns-clause-is
 returns-clause-is g c =
-    goes_next c.args.self.now.stream c.args.t (state_of c.args.self.now.world) c.fold_next.result c.requires.ready c.fold_next.ensures c.requires.turn
+    goes_next c.args.self.now.stream c.args.t (state_of c.args.self.now.world) c.fold_next.result c.requires.ready
+    c.fold_next.ensures c.requires.turn

@@ -10,25 +10,37 @@ use Rattle.commands_in_hand.proofs.command.CommandsInHandCommandSteps.line_faile
 
 pub returns-clause-ok : goal.returns-clause-ok
 returns-clause-ok g c =
-    faults c.args.self.now.stream c.args.replica c.args.count (state_of c.args.self.now.world) (state_of c.fault.new.self) c.fault.result c.fault.ensures.may c.fault.ensures.ok
+    faults c.args.self.now.stream c.args.replica c.args.count (state_of c.args.self.now.world) (state_of c.fault.new.self)
+    c.fault.result c.fault.ensures.may c.fault.ensures.ok
 
 pub returns-clause-failed : goal.returns-clause-failed
 returns-clause-failed g c =
-    fault_fails c.args.self.now.stream c.args.replica c.args.count (state_of c.args.self.now.world) (state_of c.fault.new.self) c.fault.result c.fault.ensures.ok
+    fault_fails c.args.self.now.stream c.args.replica c.args.count (state_of c.args.self.now.world)
+    (state_of c.fault.new.self) c.fault.result c.fault.ensures.ok
 
 pub returns-clause-why : goal.returns-clause-why
 returns-clause-why g c =
-    faults_why (modes_in (state_of c.fault.new.self)) c.args.self.now.stream c.args.replica c.args.count (state_of c.args.self.now.world) c.fault.result (other.faults_why c.args.self.now.stream 0 c.args.replica (state_of c.args.self.now.world) (state_of c.fault.new.self) c.requires.ready.sound c.args.count c.fault.result c.fault.ensures.err c.fault.ensures.why)
+    faults_why (modes_in (state_of c.fault.new.self)) c.args.self.now.stream c.args.replica c.args.count
+    (state_of c.args.self.now.world) c.fault.result
+    (other.faults_why c.args.self.now.stream 0 c.args.replica (state_of c.args.self.now.world) (state_of c.fault.new.self)
+    c.requires.ready.sound c.args.count c.fault.result c.fault.ensures.err c.fault.ensures.why)
 
 pub returns-clause-ready : goal.returns-clause-ready
 returns-clause-ready g c =
-    (kept_by c.args.self.now.stream (state_of c.args.self.now.world) (state_of c.fault.new.self) c.requires.ready c.fault.ensures.may
-    (turns_faulted c.args.self.now.stream c.args.replica c.args.count (state_of c.args.self.now.world) (state_of c.fault.new.self) c.fault.result c.fault.ensures.ok c.fault.ensures.err)
-    (faults_begins c.args.self.now.stream c.args.replica c.args.count (state_of c.args.self.now.world) (state_of c.fault.new.self) c.fault.result c.fault.ensures.ok c.fault.ensures.err c.requires.ready.begins)).ready
+    let state_here = state_of c.args.self.now.world in
+    (kept_by c.args.self.now.stream state_here (state_of c.fault.new.self) c.requires.ready c.fault.ensures.may
+    (turns_faulted c.args.self.now.stream c.args.replica c.args.count state_here (state_of c.fault.new.self) c.fault.result
+    c.fault.ensures.ok c.fault.ensures.err)
+    (faults_begins c.args.self.now.stream c.args.replica c.args.count state_here (state_of c.fault.new.self) c.fault.result
+    c.fault.ensures.ok c.fault.ensures.err c.requires.ready.begins)).ready
 
 pub returns-clause-home : goal.returns-clause-home
 returns-clause-home g c =
-    home_same c.args.self.now.stream (state_of c.args.self.now.world) (state_of c.fault.new.self)
-    (kept_by c.args.self.now.stream (state_of c.args.self.now.world) (state_of c.fault.new.self) c.requires.ready c.fault.ensures.may
-    (turns_faulted c.args.self.now.stream c.args.replica c.args.count (state_of c.args.self.now.world) (state_of c.fault.new.self) c.fault.result c.fault.ensures.ok c.fault.ensures.err)
-    (faults_begins c.args.self.now.stream c.args.replica c.args.count (state_of c.args.self.now.world) (state_of c.fault.new.self) c.fault.result c.fault.ensures.ok c.fault.ensures.err c.requires.ready.begins))
+    let state_here = state_of c.args.self.now.world in
+    let state_fault = state_of c.fault.new.self in
+    home_same c.args.self.now.stream state_here state_fault
+    (kept_by c.args.self.now.stream state_here state_fault c.requires.ready c.fault.ensures.may
+    (turns_faulted c.args.self.now.stream c.args.replica c.args.count state_here state_fault c.fault.result
+    c.fault.ensures.ok c.fault.ensures.err)
+    (faults_begins c.args.self.now.stream c.args.replica c.args.count state_here state_fault c.fault.result
+    c.fault.ensures.ok c.fault.ensures.err c.requires.ready.begins))

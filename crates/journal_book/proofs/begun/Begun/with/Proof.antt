@@ -11,7 +11,8 @@ use contract.Monad.{Fun}
 use contract.Running.{tables, tables_of}
 use sound.WpLaws.{WpFn-mono}
 use types.Logic.{Logic}
-use types.Kit.{Goal, Step, step, Item, ‵, raw, ◌⊛◌, prop, ◌$◌, ◌∵◌, !, qed, move, keep, drop, split, fsplit, fjoin, fpack, feq_i, feq_l, regoal, suffices, done}
+use types.Kit.{Goal, Step, step, Item, ‵, raw, ◌⊛◌, prop, ◌$◌, ◌∵◌, !, qed, move, keep, drop, split, fsplit, fjoin}
+use types.Kit.{fpack, feq_i, feq_l, regoal, suffices, done}
 use types.Part.{agg}
 use types.Run.{enter, returns, no_more}
 use types.ByLocal.{alloc_all, pass_all, free_all, look_at, sets}
@@ -41,7 +42,8 @@ none = vstruct vnil
 abbrev fieldless : RattleType
 fieldless = Struct (record { name = []; args = []; types = []; fields = [] })
 
-none_made : {M : Type 1} {𝓤 : Ura M} {𝓛 : Logic 𝓤} {K : Type 0} {Γ : List (Item 𝓤)} {G : Goal 𝓤 𝓛.H} → K → Step K 𝓛 (‵ (fieldless.own_val tt (none ∷ [])) ∷ Γ) G Γ G
+none_made : {M : Type 1} {𝓤 : Ura M} {𝓛 : Logic 𝓤} {K : Type 0} {Γ : List (Item 𝓤)} {G : Goal 𝓤 𝓛.H} → K
+    → Step K 𝓛 (‵ (fieldless.own_val tt (none ∷ [])) ∷ Γ) G Γ G
 none_made t = step (λ s.
     nothing t $ feq_i t (List Val) (none ∷ []) (none ∷ []) refl $ fjoin t $
     fpack t (Valss []) (within (record { name = []; args = []; types = []; fields = [] }) tt (none ∷ [])) tt $ s)
@@ -88,7 +90,8 @@ module _ {M : Type 1} {𝓤 : Ura M} (𝓛 : Logic 𝓤) (at_mem : Memory → SP
 
   meets : (𝓣 : Tables 𝓤 H) → Meets 𝓛 ended.signature (WpFn 𝓤 H 𝓣.C 𝓣.Λ function) (closing 𝓛 ended held)
   meets 𝓣 =
-      walk_Meets 𝓛 ended stayed (Goes-dropped 𝓛 1 (RefOf (0 ∷ []) tt (plain (λ _. Opening.the_row)) (λ _. tt)) yes (λ κs x f. refl), tt) held
+      walk_Meets 𝓛 ended stayed (Goes-dropped 𝓛 1 (RefOf (0 ∷ []) tt (plain (λ _. Opening.the_row)) (λ _. tt)) yes (λ κs x f. refl), tt)
+      held
       (WpFn 𝓤 H 𝓣.C 𝓣.Λ function) (WpFn-mono 𝓤 H 𝓛.laws 𝓣 function) (walks 𝓣.C 𝓣.Λ)
 
 pub with_spec : {M : Type 1} → stated.statement M

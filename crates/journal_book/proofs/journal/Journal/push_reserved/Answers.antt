@@ -9,7 +9,8 @@ invariant_of-self c =
     let left = c.self.invariant.0 in
     let es = j.entries.items in
     let e = c.args.entry in
-    let pushed : c.push.new.self.items ≡ es ++ e ∷ [] = c.push.ensures.items ∙ ap (λ o. cond (is_ok o) (es ++ e ∷ []) es) c.unwrap.ensures in (
+    let pushed : c.push.new.self.items ≡ es ++ e ∷ [] = c.push.ensures.items
+    ∙ ap (λ o. cond (is_ok o) (es ++ e ∷ []) es) c.unwrap.ensures in (
       record {
         modes = modes_left j.opening.value.modes j.modes _ es _ e left.modes c.follow_modes.ensures pushed;
         layers = layers_left j.opening.value.layers j.layers _ es _ e left.layers c.layers_after-self-inside.ensures.layers pushed;

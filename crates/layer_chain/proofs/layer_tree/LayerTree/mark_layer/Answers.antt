@@ -9,7 +9,8 @@ invariant_of-self c =
     let within : c.args.place < length c.self.inside.layers.items = omega (arith, ap (λ (t : Tree). length t.layers) c.self.view_is) in
     record {
       whole =
-          subst (λ (xs : List Layer). IsWholeTree (record { layers = xs; head = c.self.inside.head; on = c.self.inside.on; number = c.self.inside.number }))
+          subst (λ (xs : List Layer). IsWholeTree
+          (record { layers = xs; head = c.self.inside.head; on = c.self.inside.on; number = c.self.inside.number }))
           (sym (marked_is c.self.inside.layers.items c.args.place c.index_mut.result.now within c.index_mut.ensures.value))
           (mark_whole _ c.args.place within c.self.invariant.whole);
       room = c.self.invariant.room;

@@ -8,7 +8,8 @@ use Rattle.layer_chain.proofs.layer_tree.LayerTree.replace.Goals as goal
 
 pub index_mut-upper-requires : goal.index_mut-upper-requires
 index_mut-upper-requires c =
-    let above : c.args.child < c.args.parent = child_above c.args.self.now c.args.parent c.args.child (subst (λ (t : Tree). IsWholeTree t) c.self.view_is c.self.invariant.whole) c.requires.within c.requires.only in
+    let above : c.args.child < c.args.parent = child_above c.args.self.now c.args.parent c.args.child
+    (subst (λ (t : Tree). IsWholeTree t) c.self.view_is c.self.invariant.whole) c.requires.within c.requires.only in
     omega (arith, above, c.requires.within, c.remove-meta.ensures.len, ap (λ (t : Tree). length t.layers) c.self.view_is)
 
 whole : (c : goal.Joined-meta) → IsWholeTree c.args.self.now
@@ -20,7 +21,8 @@ new c = set c.remove-meta.new.self.items c.args.child (in_place_of c.index_mut-u
 is : (c : goal.Joined-meta) → new c ≡ (replaced c.args.self.now c.args.parent c.args.child).layers
 is c =
     let same = ap (λ (t : Tree). t.layers) c.self.view_is in
-    replaced_is c.args.self.now.layers c.remove-meta.new.self.items c.args.parent c.args.child c.index_mut-upper.result.now c.remove-meta.result
+    replaced_is c.args.self.now.layers c.remove-meta.new.self.items c.args.parent c.args.child c.index_mut-upper.result.now
+    c.remove-meta.result
     (child_above c.args.self.now c.args.parent c.args.child (whole c) c.requires.within c.requires.only) c.requires.within
     (c.remove-meta.ensures.items ∙ ap (λ (xs : List Layer). remove xs c.args.parent) same)
     c.index_mut-upper.ensures.value

@@ -12,13 +12,18 @@ pub invariant_of-self : goal.invariant_of-self
 invariant_of-self c =
     record {
       whole =
-          subst (λ (xs : List Layer). IsWholeTree (record { layers = xs; head = c.self.inside.head; on = c.self.inside.on; number = c.self.inside.number }))
-          (sym (image_is c.self.inside.layers.items c.args.place c.index_mut.result.now c.swap_page.new.self (within c) c.index_mut.ensures.value))
+          subst (λ (xs : List Layer). IsWholeTree
+          (record { layers = xs; head = c.self.inside.head; on = c.self.inside.on; number = c.self.inside.number }))
+          (sym (image_is c.self.inside.layers.items c.args.place c.index_mut.result.now c.swap_page.new.self (within c)
+          c.index_mut.ensures.value))
           (image_whole _ c.args.place c.swap_page.new.self (within c) c.self.invariant.whole);
       room = c.self.invariant.room;
     }
 
 pub returns-clause-puts : goal.returns-clause-puts
 returns-clause-puts c =
-    subst (λ (t : Tree). PutsPage t.layers (set c.self.inside.layers.items c.args.place (with_image c.index_mut.result.now c.swap_page.new.self)) c.args.place c.args.page c.args.with.now) c.self.view_is
-    (puts_page c.self.inside.layers.items c.args.place c.index_mut.result.now c.swap_page.new.self c.args.page c.args.with.now (within c) c.index_mut.ensures.value c.swap_page.ensures.own)
+    subst (λ (t : Tree). PutsPage t.layers
+    (set c.self.inside.layers.items c.args.place (with_image c.index_mut.result.now c.swap_page.new.self)) c.args.place
+    c.args.page c.args.with.now) c.self.view_is
+    (puts_page c.self.inside.layers.items c.args.place c.index_mut.result.now c.swap_page.new.self c.args.page
+    c.args.with.now (within c) c.index_mut.ensures.value c.swap_page.ensures.own)

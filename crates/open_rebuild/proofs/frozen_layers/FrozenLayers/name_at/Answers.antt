@@ -8,7 +8,8 @@ pub returns-clause-place : goal.returns-clause-place
 returns-clause-place c =
     let names = c.self.inside.names.items in
     let inside : c.args.place < length names = search rules in
-    let there : get_or names c.args.place [] ≡ c.index.result.now = sym (get_or_read names c.args.place c.index.result.now inside c.index.ensures []) in
+    let there : get_or names c.args.place [] ≡ c.index.result.now =
+    sym (get_or_read names c.args.place c.index.result.now inside c.index.ensures []) in
     ap (λ ns. place_of ns c.index.result.now) (sym c.self.view_is)
     ∙ ap (place_of names) (sym there)
     ∙ place_in_order names c.args.place inside c.self.invariant

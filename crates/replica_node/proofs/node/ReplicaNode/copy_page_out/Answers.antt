@@ -16,8 +16,16 @@ pub copy_page-requires-clause-inside : goal.copy_page-requires-clause-inside
 copy_page-requires-clause-inside c =
     let t = c.self.inside.tree in
     let i = c.place_of-place.result in
-    let pages : length (layer_at t.layers i).image * 512 ≡ c.self.inside.size / 4096 = (c.self.invariant.images i _ c.place_of-place.ensures.at.within).pages in
-    omega (arith, pages, ap length c.image.ensures, length-node t (c.self.inside.size / 4096) c.args.self.now c.self.view_is c.self.invariant, c.requires.inside)
+    let pages : length (layer_at t.layers i).image * 512 ≡ c.self.inside.size / 4096 =
+    (c.self.invariant.images i _ c.place_of-place.ensures.at.within).pages in
+    omega (
+      arith,
+      pages,
+      ap length c.image.ensures,
+      length-node t (c.self.inside.size / 4096) c.args.self.now c.self.view_is
+          c.self.invariant,
+      c.requires.inside,
+    )
 
 pub returns-clause-some : goal.returns-clause-some
 returns-clause-some c = λ found.
@@ -40,6 +48,8 @@ returns-clause-copied c = λ found.
     let t = c.self.inside.tree in
     let i = c.place_of-place.result in
     let image = (layer_at t.layers i).image in
-    page_out t (c.self.inside.size / 4096) c.args.self.now c.args.layer.now c.args.page i c.copy_page.new.into c.self.view_is c.self.invariant
+    page_out t (c.self.inside.size / 4096) c.args.self.now c.args.layer.now c.args.page i c.copy_page.new.into
+    c.self.view_is c.self.invariant
     c.place_of-place.ensures.whole.layers c.place_of-place.ensures.at
-    (λ k h. ap (λ table. place_at table k) (c.copy_page.ensures.copied found ∙ ap (λ m. table_at m c.args.page) c.image.ensures) ∙ sym (table_places image c.args.page k h))
+    (λ k h. ap (λ table. place_at table k) (c.copy_page.ensures.copied found ∙ ap (λ m. table_at m c.args.page) c.image.ensures)
+    ∙ sym (table_places image c.args.page k h))

@@ -21,33 +21,39 @@ pub fold_pages-requires-clause-node : goal.fold_pages-requires-clause-node
 fold_pages-requires-clause-node c = subst (IsNode c.self.inside.tree) (blocks c) c.self.invariant
 
 -- all pages are folded in the tree
-far : (c : goal.After-replace-arg-1) → FoldsPages c.self.inside.tree c.fold_pages.new.tree c.args.parent.now c.args.child.now c.fold_places-places.result (c.page_count.result * 512) c.page_count.result
+far : (c : goal.After-replace-arg-1) → FoldsPages c.self.inside.tree c.fold_pages.new.tree c.args.parent.now
+    c.args.child.now c.fold_places-places.result (c.page_count.result * 512) c.page_count.result
 far c = c.fold_pages.ensures c.args.parent.now c.args.child.now c.fold_places-places.ensures
 
 -- so the child has no block left
-none : (c : goal.After-replace-arg-1) (block : ℕ) → has_own (own_named (node_of c.fold_pages.new.tree (c.page_count.result * 512)).layers c.args.child.now) block ≡ false
+none : (c : goal.After-replace-arg-1) (block : ℕ)
+    → has_own (own_named (node_of c.fold_pages.new.tree (c.page_count.result * 512)).layers c.args.child.now) block ≡ false
 none c block =
     let start = node_of c.self.inside.tree (c.page_count.result * 512) in
     ap (λ n. has_own (own_named n.layers c.args.child.now) block) (far c).is
-    ∙ none_left start c.args.parent.now c.args.child.now c.page_count.result (own_count c.self.inside.tree (c.page_count.result * 512) start refl) block
+    ∙ none_left start c.args.parent.now c.args.child.now c.page_count.result
+    (own_count c.self.inside.tree (c.page_count.result * 512) start refl) block
 
 pub replace-requires-clause-can : goal.replace-requires-clause-can
 replace-requires-clause-can c = (far c).can.can
 
 pub replace-requires-clause-empty : goal.replace-requires-clause-empty
 replace-requires-clause-empty c =
-    has_no_block c.fold_pages.new.tree (c.page_count.result * 512) (node_of c.fold_pages.new.tree (c.page_count.result * 512)) c.args.child.now refl
+    has_no_block c.fold_pages.new.tree (c.page_count.result * 512)
+    (node_of c.fold_pages.new.tree (c.page_count.result * 512)) c.args.child.now refl
     (far c).node c.count-count.ensures.whole (none c)
 
 -- what the parent's going leaves
 left : (c : goal.After-replace) → IsNode c.replace.new.tree (c.page_count.result * 512)
-    × (node_of c.replace.new.tree (c.page_count.result * 512) ≡ replaced_node (node_of c.fold_pages.new.tree (c.page_count.result * 512)) c.args.parent.now c.args.child.now)
+    × (node_of c.replace.new.tree (c.page_count.result * 512) ≡ replaced_node
+    (node_of c.fold_pages.new.tree (c.page_count.result * 512)) c.args.parent.now c.args.child.now)
 left c =
     let r = c.replace.ensures in
     let count = c.page_count.result * 512 in
     let all = c.fold_pages.ensures c.args.parent.now c.args.child.now c.fold_places-places.ensures in
     replace_is c.fold_pages.new.tree c.replace.new.tree count (node_of c.fold_pages.new.tree count) c.args.parent.now c.args.child.now refl
-    all.node c.count-count.ensures.whole (can_back c.fold_pages.new.tree count c.args.parent.now c.args.child.now all.can.can) r.replaces r.rest r.readings
+    all.node c.count-count.ensures.whole (can_back c.fold_pages.new.tree count c.args.parent.now c.args.child.now all.can.can)
+    r.replaces r.rest r.readings
 
 pub invariant_of-self : goal.invariant_of-self
 invariant_of-self c =

@@ -12,24 +12,30 @@ fold_page-requires-clause-can c = (c.args.parent.now, c.args.child.now, c.fold_p
 
 pub fold_page-requires-clause-own : goal.fold_page-requires-clause-own
 fold_page-requires-clause-own c =
-    page_inside c.self.inside.tree (c.self.inside.size / 4096) c.args.self.now c.fold_places-places.result.child c.args.page c.self.view_is c.self.invariant c.requires.inside
+    page_inside c.self.inside.tree (c.self.inside.size / 4096) c.args.self.now c.fold_places-places.result.child c.args.page
+    c.self.view_is c.self.invariant c.requires.inside
     c.fold_places-places.ensures.at.child.within
 
 pub fold_page-requires-clause-under : goal.fold_page-requires-clause-under
 fold_page-requires-clause-under c =
-    page_inside c.self.inside.tree (c.self.inside.size / 4096) c.args.self.now c.fold_places-places.result.parent c.args.page c.self.view_is c.self.invariant c.requires.inside
+    page_inside c.self.inside.tree (c.self.inside.size / 4096) c.args.self.now c.fold_places-places.result.parent
+    c.args.page c.self.view_is c.self.invariant c.requires.inside
     c.fold_places-places.ensures.at.parent.within
 
 pub invariant_of-self : goal.invariant_of-self
 invariant_of-self c =
     let can = c.fold_places-places.ensures in
-    (fold_is c.self.inside.tree c.fold_page.new.tree (c.self.inside.size / 4096) c.args.self.now c.args.parent.now c.args.child.now c.args.page
+    (fold_is c.self.inside.tree c.fold_page.new.tree (c.self.inside.size / 4096) c.args.self.now c.args.parent.now
+    c.args.child.now c.args.page
     c.self.view_is c.self.invariant c.count-count.ensures.whole c.requires.can c.requires.inside
-    (c.fold_page.ensures.folds c.args.parent.now c.args.child.now can) (c.fold_page.ensures.readings c.args.parent.now c.args.child.now can)).0
+    (c.fold_page.ensures.folds c.args.parent.now c.args.child.now can)
+    (c.fold_page.ensures.readings c.args.parent.now c.args.child.now can)).0
 
 pub returns : goal.returns
 returns c =
     let can = c.fold_places-places.ensures in
-    (fold_is c.self.inside.tree c.fold_page.new.tree (c.self.inside.size / 4096) c.args.self.now c.args.parent.now c.args.child.now c.args.page
+    (fold_is c.self.inside.tree c.fold_page.new.tree (c.self.inside.size / 4096) c.args.self.now c.args.parent.now
+    c.args.child.now c.args.page
     c.self.view_is c.self.invariant c.count-count.ensures.whole c.requires.can c.requires.inside
-    (c.fold_page.ensures.folds c.args.parent.now c.args.child.now can) (c.fold_page.ensures.readings c.args.parent.now c.args.child.now can)).1
+    (c.fold_page.ensures.folds c.args.parent.now c.args.child.now can)
+    (c.fold_page.ensures.readings c.args.parent.now c.args.child.now can)).1

@@ -8,15 +8,23 @@ use Rattle.replica_node.proofs.node.ReplicaNode.make_room.Goals as goal
 
 pub make_room-requires : goal.make_room-requires
 make_room-requires c =
-    omega (arith, end_within c.self.inside.tree (c.self.inside.size / 4096) c.args.self.now c.args.range.end c.self.view_is c.self.invariant c.requires, c.self.invariant.pages)
+    omega (
+      arith,
+      end_within c.self.inside.tree (c.self.inside.size / 4096) c.args.self.now c.args.range.end c.self.view_is
+          c.self.invariant c.requires,
+      c.self.invariant.pages,
+    )
 
-ok : (c : goal.After-make_room) → OnOk c.make_room.result (node_of c.make_room.new.self (c.self.inside.size / 4096) ≡ with_room c.args.self.now c.args.range)
+ok : (c : goal.After-make_room) → OnOk c.make_room.result
+    (node_of c.make_room.new.self (c.self.inside.size / 4096) ≡ with_room c.args.self.now c.args.range)
 ok c = on_ok_weaker c.make_room.result
-    (made_node c.self.inside.tree c.make_room.new.self (c.self.inside.size / 4096) c.args.self.now c.args.range c.self.view_is c.make_room.ensures.rest)
+    (made_node c.self.inside.tree c.make_room.new.self (c.self.inside.size / 4096) c.args.self.now c.args.range
+    c.self.view_is c.make_room.ensures.rest)
     c.make_room.ensures.ok
 
 err : (c : goal.After-make_room) → OnErr c.make_room.result (node_of c.make_room.new.self (c.self.inside.size / 4096) ≡ c.args.self.now)
-err c = on_err_weaker c.make_room.result (λ same. ap (λ t. node_of t (c.self.inside.size / 4096)) same ∙ c.self.view_is) c.make_room.ensures.err
+err c = on_err_weaker c.make_room.result (λ same. ap (λ t. node_of t (c.self.inside.size / 4096)) same ∙ c.self.view_is)
+    c.make_room.ensures.err
 
 pub returns-clause-ok : goal.returns-clause-ok
 returns-clause-ok c = ok c
@@ -29,7 +37,8 @@ returns-clause-room c =
     let count = c.self.inside.size / 4096 in
     let inside = end_within c.self.inside.tree count c.args.self.now c.args.range.end c.self.view_is c.self.invariant c.requires in
     on_ok_weaker c.make_room.result
-    (room_made c.args.self.now _ c.args.range (omega (arith, inside, length-made_in c.self.inside.tree.head count, ap (λ n. length n.room) c.self.view_is)))
+    (room_made c.args.self.now _ c.args.range
+    (omega (arith, inside, length-made_in c.self.inside.tree.head count, ap (λ n. length n.room) c.self.view_is)))
     (ok c)
 
 pub returns-clause-kept : goal.returns-clause-kept

@@ -15,5 +15,6 @@ returns-clause-put c =
     let there_two = put_stays c.overwrite.new.self c.overwrite-2.new.self block _ two there_one in
     let three = c.overwrite-3.ensures.put (c.overwrite-3.ensures.there ∙ there_two) in
     let inside : block * 4096 + 4096 ≤ length node.disk = omega (arith, c.requires.inside, c.block_count-count.ensures.value) in
-    λ _. put_parts node c.overwrite.new.self c.overwrite-2.new.self c.overwrite-3.new.self block c.args.front.now c.args.bytes.now c.args.back.now
+    λ _. put_parts node c.overwrite.new.self c.overwrite-2.new.self c.overwrite-3.new.self block c.args.front.now
+    c.args.bytes.now c.args.back.now
     inside c.requires.whole one two three

@@ -26,14 +26,17 @@ loop-done-preserved c =
     let new = c.copy_from_slice.new.self in
     let part = slice_range block start (start + piece) in
     let after : new ≡ part = c.copy_from_slice.ensures.after in
-    let size : length part ≡ start + piece - start = length-between block start (start + piece) (omega (arith, c.block-block.ensures.whole)) in
+    let size : length part ≡ start + piece - start =
+    length-between block start (start + piece) (omega (arith, c.block-block.ensures.whole)) in
     let long : length new ≡ piece = omega (arith, ap length after, size) in
-    let same : length (put_mid done (done + piece - done) into new) ≡ length into = same_len_mid done (done + piece - done) into new c.copy_from_slice.ensures.len in
+    let same : length (put_mid done (done + piece - done) into new) ≡ length into =
+    same_len_mid done (done + piece - done) into new c.copy_from_slice.ensures.len in
     record {
       read =
           take-put_mid done (done + piece - done) into new (done + piece) (omega (arith, long)) (omega (arith, i.within))
           ∙ ap (λ x. take done into ++ x) after
-          ∙ piece_more disk block (take done into) at done ((at + done) / 4096 * 4096) start piece c.block-block.ensures.disk (omega arith) room i.read;
+          ∙ piece_more disk block (take done into) at done ((at + done) / 4096 * 4096) start piece
+          c.block-block.ensures.disk (omega arith) room i.read;
       within = omega (arith, same, i.within);
       len = same ∙ i.len;
     }

@@ -12,7 +12,8 @@ pub invariant_of-self : goal.invariant_of-self
 invariant_of-self c =
     let count = c.self.inside.size / 4096 in
     subst (λ t. IsNode t count) (sym c.snapshot.ensures.tree)
-    (snapped_whole c.self.inside.tree count c.args.name (not (begins_sys c.args.name)) c.args.spare (length c.args.spare) c.self.invariant c.requires.spare.1
+    (snapped_whole c.self.inside.tree count c.args.name (not (begins_sys c.args.name)) c.args.spare (length c.args.spare)
+    c.self.invariant c.requires.spare.1
     (spare_pages c.self.inside.tree count c.args.self.now c.args.spare c.self.view_is c.requires.spare))
 
 pub returns : goal.returns

@@ -13,7 +13,8 @@ swap_into-requires-clause-pages c =
 
 pub swap_into-requires-clause-inside : goal.swap_into-requires-clause-inside
 swap_into-requires-clause-inside c =
-    let inside = end_within c.self.inside.tree (c.self.inside.size / 4096) c.args.self.now c.args.range.end c.self.view_is c.self.invariant c.requires.inside in
+    let inside = end_within c.self.inside.tree (c.self.inside.size / 4096) c.args.self.now c.args.range.end c.self.view_is
+    c.self.invariant c.requires.inside in
     omega (arith, inside, c.requires.count, c.self.invariant.pages)
 
 pub returns-clause-put : goal.returns-clause-put
@@ -26,7 +27,8 @@ returns-clause-back c =
     let count = c.self.inside.size / 4096 in
     let inside = end_within c.self.inside.tree count c.args.self.now c.args.range.end c.self.view_is c.self.invariant c.requires.inside in
     c.swap_into.ensures.back
-    ∙ head_blocks_are c.self.inside.tree count c.args.self.now c.args.range.first _ c.self.view_is c.self.invariant (omega (arith, inside, c.requires.count))
+    ∙ head_blocks_are c.self.inside.tree count c.args.self.now c.args.range.first _ c.self.view_is c.self.invariant
+    (omega (arith, inside, c.requires.count))
 
 pub returns-clause-count : goal.returns-clause-count
 returns-clause-count c = ap length c.swap_into.ensures.back ∙ length-listed _ (length c.args.blocks.now)

@@ -14,7 +14,8 @@ returns-then-is_made-clause-ok t c =
     ap (λ (i : Tables). has_page i first) (sym c.self.view_is)
     ∙ has_page-read image first _ (get_or_read image first _ inside c.index.ensures [])
     ∙ sym c.is_made.ensures.made ∙ c.if-is_made.true in
-    on_ok_weaker c.make_pages.result (MakesPages-there c.args.self.now c.make_pages.new.self first c.args.end (omega arith) there) c.make_pages.ensures.ok
+    on_ok_weaker c.make_pages.result (MakesPages-there c.args.self.now c.make_pages.new.self first c.args.end (omega arith) there)
+    c.make_pages.ensures.ok
 
 pub returns-clause-ok : goal.returns-clause-ok
 returns-clause-ok t c =
@@ -26,6 +27,8 @@ returns-clause-ok t c =
     ap (λ (i : Tables). table_at i first) (sym c.self.view_is)
     ∙ sym (get_or_read image first _ inside c.index.ensures []) ∙ c.is_made.ensures.unmade c.if-is_made.false in
     let makes : MakesPages c.args.self.now later (from_to (first + 1) c.args.end) =
-    subst (λ (i : Tables). MakesPages c.args.self.now i (from_to (first + 1) c.args.end)) (sym c.self-2.view_is) c.in_ok-make_pages.ensures.ok in
+    subst (λ (i : Tables). MakesPages c.args.self.now i (from_to (first + 1) c.args.end)) (sym c.self-2.view_is)
+    c.in_ok-make_pages.ensures.ok in
     MakesPages-first c.args.self.now later _ first c.args.end (omega arith) makes
-    (MakesPages-set later first 512 _ (omega (arith, makes.count, c.requires)) c.in_ok-table.ensures refl (still_unmade c.args.self.now later first c.args.end makes c.self-2.invariant none))
+    (MakesPages-set later first 512 _ (omega (arith, makes.count, c.requires)) c.in_ok-table.ensures refl
+    (still_unmade c.args.self.now later first c.args.end makes c.self-2.invariant none))

@@ -7,7 +7,8 @@ use Rattle.sparse_image.proofs.ImageLemmas.{has_page-read, MakesPages-set, Makes
 use Rattle.sparse_image.proofs.image.Image.ensure_page.Goals as goal
 
 -- what the call does to the fields, where the page was not made
-makes : (c : goal.After-drop-index_mut) → MakesPages c.self.inside.pages.items (set c.self.inside.pages.items c.args.page c.in_ok-self-inside.field-0) (λ p. eqb p c.args.page)
+makes : (c : goal.After-drop-index_mut) → MakesPages c.self.inside.pages.items
+    (set c.self.inside.pages.items c.args.page c.in_ok-self-inside.field-0) (λ p. eqb p c.args.page)
 makes c =
     let image = c.self.inside.pages.items in
     let page = c.args.page in
@@ -17,7 +18,8 @@ makes c =
 
 pub returns-in_ok-self-inside-clause-ok : goal.returns-in_ok-self-inside-clause-ok
 returns-in_ok-self-inside-clause-ok c =
-    subst (λ i. MakesPages i (set c.self.inside.pages.items c.args.page c.in_ok-self-inside.field-0) (λ p. eqb p c.args.page)) c.self.view_is
+    subst (λ i. MakesPages i (set c.self.inside.pages.items c.args.page c.in_ok-self-inside.field-0) (λ p. eqb p c.args.page))
+    c.self.view_is
     (makes c)
 
 pub returns-in_ok-self-inside-clause-disk : goal.returns-in_ok-self-inside-clause-disk
@@ -30,4 +32,5 @@ returns-else-not-is_made-clause-ok c =
     let page = c.args.page in
     let inside : page < length image = omega (arith, ap length c.self.view_is) in
     subst (λ i. MakesPages i i (λ p. eqb p page)) c.self.view_is
-    (MakesPages-made image page (has_page-read image page _ (get_or_read image page _ inside c.index.ensures []) ∙ sym c.is_made.ensures.made ∙ c.if-not-is_made.false))
+    (MakesPages-made image page (has_page-read image page _ (get_or_read image page _ inside c.index.ensures [])
+    ∙ sym c.is_made.ensures.made ∙ c.if-not-is_made.false))

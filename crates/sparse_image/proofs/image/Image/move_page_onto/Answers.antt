@@ -23,7 +23,8 @@ returns-clause-own c =
     let page = c.args.page in
     let own : page < length above = omega (arith, ap length c.self.view_is) in
     subst (λ i. EmptiesPage i (set above page c.move_onto.new.self) page) c.self.view_is
-    (EmptiesPage-set above _ page (subst (SetsTable above (set above page c.move_onto.new.self) page) c.move_onto.ensures.own (SetsTable-set above page _ own)))
+    (EmptiesPage-set above _ page (subst (SetsTable above (set above page c.move_onto.new.self) page)
+    c.move_onto.ensures.own (SetsTable-set above page _ own)))
 
 pub returns-clause-under : goal.returns-clause-under
 returns-clause-under c =
@@ -36,4 +37,5 @@ returns-clause-under c =
     let lower = get_or_read below page _ under c.index_mut-2.ensures.value [] in
     subst (λ i. LaysPageOver i c.args.below.now (set below page c.move_onto.new.below) page) c.self.view_is
     (subst (λ i. LaysPageOver above i (set below page c.move_onto.new.below) page) c.below.view_is
-    (LaysPageOver-set above below _ page (SetsTable-over above below page _ _ _ under upper lower c.move_onto.ensures.under) (c.self.invariant.tables page) (c.below.invariant.tables page)))
+    (LaysPageOver-set above below _ page (SetsTable-over above below page _ _ _ under upper lower c.move_onto.ensures.under)
+    (c.self.invariant.tables page) (c.below.invariant.tables page)))

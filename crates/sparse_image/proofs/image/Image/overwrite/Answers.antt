@@ -20,7 +20,9 @@ returns-then-page-len-clause-changes c =
     (ChangesBlock-past c.self.inside.pages.items c.args.block write (omega arith)).1
 
 -- what the call does to the fields
-changed : (c : goal.After-self-1) → ChangesBlock c.self.inside.pages.items (set c.self.inside.pages.items (c.args.block / 512) c.overwrite.new.self) c.args.block (option_map (λ b. with_bytes_at b c.args.start c.args.bytes.now) (block_at c.self.inside.pages.items c.args.block))
+changed : (c : goal.After-self-1) → ChangesBlock c.self.inside.pages.items
+    (set c.self.inside.pages.items (c.args.block / 512) c.overwrite.new.self) c.args.block
+    (option_map (λ b. with_bytes_at b c.args.start c.args.bytes.now) (block_at c.self.inside.pages.items c.args.block))
 unfolding block_at
 changed c =
     let image = c.self.inside.pages.items in
@@ -44,10 +46,12 @@ returns-clause-there c = there c ∙ ap (λ i. is_some (block_at i c.args.block)
 
 pub returns-clause-changes : goal.returns-clause-changes
 returns-clause-changes c =
-    subst (λ i. ChangesBlock i (set c.self.inside.pages.items (c.args.block / 512) c.overwrite.new.self) c.args.block (option_map (λ b. with_bytes_at b c.args.start c.args.bytes.now) (block_at i c.args.block))) c.self.view_is
+    subst (λ i. ChangesBlock i (set c.self.inside.pages.items (c.args.block / 512) c.overwrite.new.self) c.args.block
+    (option_map (λ b. with_bytes_at b c.args.start c.args.bytes.now) (block_at i c.args.block))) c.self.view_is
     (changed c)
 
 pub returns-clause-disk : goal.returns-clause-disk
 returns-clause-disk c = λ done.
-    disk_of-overwrite _ _ c.args.block c.args.start c.args.bytes.now c.self.invariant (changed c) (sym (there c) ∙ done) (omega arith) c.requires
+    disk_of-overwrite _ _ c.args.block c.args.start c.args.bytes.now c.self.invariant (changed c) (sym (there c) ∙ done)
+    (omega arith) c.requires
     ∙ ap (λ i. with_bytes_at (disk_of i) (c.args.block * 4096 + c.args.start) c.args.bytes.now) c.self.view_is

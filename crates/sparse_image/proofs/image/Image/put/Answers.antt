@@ -20,7 +20,8 @@ put-requires c =
     omega (arith, ap length read, made.1)
 
 -- what the call does to the fields
-changed : (c : goal.After-self-1) → ChangesBlock c.self.inside.pages.items (set c.self.inside.pages.items (c.args.block / 512) c.put.new.self) c.args.block (Some c.args.new.value)
+changed : (c : goal.After-self-1) → ChangesBlock c.self.inside.pages.items
+    (set c.self.inside.pages.items (c.args.block / 512) c.put.new.self) c.args.block (Some c.args.new.value)
 changed c =
     let image = c.self.inside.pages.items in
     let page = c.args.block / 512 in
@@ -32,7 +33,8 @@ changed c =
 
 pub returns-clause-changes : goal.returns-clause-changes
 returns-clause-changes c =
-    subst (λ i. ChangesBlock i (set c.self.inside.pages.items (c.args.block / 512) c.put.new.self) c.args.block (Some c.args.new.value)) c.self.view_is
+    subst (λ i. ChangesBlock i (set c.self.inside.pages.items (c.args.block / 512) c.put.new.self) c.args.block (Some c.args.new.value))
+    c.self.view_is
     (changed c)
 
 pub returns-clause-old : goal.returns-clause-old

@@ -8,7 +8,8 @@ use Rattle.sparse_image.proofs.image.Image.with_pages.Goals as goal
 empty : (c : goal.After-loop-page) → IsEmpty c.loop-page.pages.items c.args.page_count
 empty c =
     let all : c.loop-page._page ≡ c.args.page_count = omega arith in
-    subst (λ i. IsEmpty i c.args.page_count) (sym (c.loop-page.invariant ∙ ap (λ n. replicate n []) all)) (IsEmpty-replicate c.args.page_count)
+    subst (λ i. IsEmpty i c.args.page_count) (sym (c.loop-page.invariant ∙ ap (λ n. replicate n []) all))
+    (IsEmpty-replicate c.args.page_count)
 
 pub returns-clause-empty : goal.returns-clause-empty
 returns-clause-empty c = empty c

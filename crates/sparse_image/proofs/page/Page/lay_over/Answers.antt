@@ -1,4 +1,5 @@
-use Rattle.std.proofs.Common.{◌≡◌, ◌≢◌, ◌<◌, length, None, sym, ap, subst, ◌∙◌, arith, below_more, length-set, get_or-set_same, get_or-set_other}
+use Rattle.std.proofs.Common.{◌≡◌, ◌≢◌, ◌<◌, length, None, sym, ap, subst, ◌∙◌, arith, below_more, length-set}
+use Rattle.std.proofs.Common.{get_or-set_same, get_or-set_other}
 use Rattle.std.proofs.lemmas.List.{get_or_read}
 use Rattle.sparse_image.specs.Image.{place_at}
 use Rattle.sparse_image.specs.Whole.{IsTable}
@@ -22,7 +23,8 @@ loop-i-preserved c =
           ∙ c.loop-i.invariant.moved;
       empty =
           below_more (λ k. place_at _ k ≡ None) i
-          (λ k h. let other : k ≢ i = omega arith in get_or-set_other own i k c.move_onto.new.self None other ∙ c.loop-i.invariant.empty k h)
+          (λ k h. let other : k ≢ i = omega arith in
+          get_or-set_other own i k c.move_onto.new.self None other ∙ c.loop-i.invariant.empty k h)
           (get_or-set_same own i c.move_onto.new.self None in_own ∙ c.move_onto.ensures.own);
     }
 

@@ -6,6 +6,7 @@ abbrev pub invariant-loop-i : goal.invariant-loop-i
 invariant-loop-i l = record {
   own : length l.self-inside.places.items ≡ length l.initial.self-inside.places.items;
   under : length l.below-inside.places.items ≡ length l.initial.below-inside.places.items;
-  moved : page_over l.self-inside.places.items l.below-inside.places.items ≡ page_over l.initial.self-inside.places.items l.initial.below-inside.places.items;
+  moved : page_over l.self-inside.places.items l.below-inside.places.items ≡ page_over l.initial.self-inside.places.items
+      l.initial.below-inside.places.items;
   empty : (k : ℕ) → k < l.i → place_at l.self-inside.places.items k ≡ None;
 }

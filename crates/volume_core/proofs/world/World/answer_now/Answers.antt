@@ -16,18 +16,23 @@ pub returns-clause-sound : goal.returns-clause-sound
 returns-clause-sound c =
     let s : State = state_of c.args.self.now in
     let call = c.args.call.now in
-    let e : state_of c.push_answer.new.self ≡ answered (after_fail (with_place s) (failed_by call)) c.args.stream (length s.book.entries) call (plain_step (modes_in s) (told_of s) call).1 = search rules in
+    let e : state_of c.push_answer.new.self ≡ answered (after_fail (with_place s) (failed_by call)) c.args.stream
+    (length s.book.entries) call (plain_step (modes_in s) (told_of s) call).1 = search rules in
     subst IsSound (sym e) (now_sound s c.args.stream call c.requires.sound c.requires.stream c.requires.idle c.requires.free c.requires.now)
 
 pub returns-clause-may : goal.returns-clause-may
 returns-clause-may c =
-    let is : IsAnsweredNow (state_of c.args.self.now) c.args.stream c.args.call.now c.push_answer.result (state_of c.push_answer.new.self) = search rules in
-    now_may c.args.stream (state_of c.args.self.now) (state_of c.push_answer.new.self) c.args.call.now c.push_answer.result is (returns-clause-sound c)
+    let is : IsAnsweredNow (state_of c.args.self.now) c.args.stream c.args.call.now c.push_answer.result
+    (state_of c.push_answer.new.self) = search rules in
+    now_may c.args.stream (state_of c.args.self.now) (state_of c.push_answer.new.self) c.args.call.now c.push_answer.result
+    is (returns-clause-sound c)
 
 pub returns-clause-sees : goal.returns-clause-sees
 returns-clause-sees c =
-    let is : IsAnsweredNow (state_of c.args.self.now) c.args.stream c.args.call.now c.push_answer.result (state_of c.push_answer.new.self) = search rules in
-    now_sees c.args.stream (state_of c.args.self.now) (state_of c.push_answer.new.self) c.args.call.now c.push_answer.result is c.requires.idle
+    let is : IsAnsweredNow (state_of c.args.self.now) c.args.stream c.args.call.now c.push_answer.result
+    (state_of c.push_answer.new.self) = search rules in
+    now_sees c.args.stream (state_of c.args.self.now) (state_of c.push_answer.new.self) c.args.call.now c.push_answer.result
+    is c.requires.idle
 
 pub returns-in_err-reply-clause-may : goal.returns-in_err-reply-clause-may
 returns-in_err-reply-clause-may c = may_same c.args.stream (state_of c.args.self.now) c.requires.sound
@@ -36,4 +41,6 @@ pub push_answer-requires-clause-spare : goal.push_answer-requires-clause-spare
 push_answer-requires-clause-spare c =
     let s : State = state_of c.args.self.now in
     let e : state_of c.follow_fail.new.self ≡ after_fail (with_place s) (failed_by c.args.call.now) = search rules in
-    subst (λ (x : State). 0 < x.book.spare) (sym e) (place_left (due s.whole (told_of s).volume) (forms s.whole s.nodes) s c.requires.sound.on (failed_by c.args.call.now))
+    subst (λ (x : State). 0 < x.book.spare) (sym e)
+    (place_left (due s.whole (told_of s).volume) (forms s.whole s.nodes) s c.requires.sound.on
+    (failed_by c.args.call.now))

@@ -14,9 +14,11 @@ use Rattle.volume_core.proofs.world.World.apply_read.Goals as goal
 
 pub returns-clause-sound : goal.returns-clause-sound
 returns-clause-sound c =
+    let place_holds = c.in-Some.ensures.place in
     let read : mode_of (modes_in (state_of c.args.self.now)) c.args.replica ≡ Rw = search rules in
     subst IsSound (sym c.read_on.ensures)
-    (has_read_kept (state_of c.args.self.now) c.in-Some.i c.requires.sound c.in-Some.ensures.place.stands.within c.in-Some.ensures.place.reads.started (read_no_whole _ c.in-Some.ensures.place.reads.reads) c.args.replica c.in-Some.ensures.place.reads read)
+    (has_read_kept (state_of c.args.self.now) c.in-Some.i c.requires.sound place_holds.stands.within
+    place_holds.reads.started (read_no_whole _ place_holds.reads.reads) c.args.replica place_holds.reads read)
 
 pub returns-clause-may : goal.returns-clause-may
 returns-clause-may c =
@@ -30,7 +32,8 @@ returns-clause-stays c =
     let s : State = state_of c.args.self.now in
     let i = c.in-Some.i in
     step_stays s (state_of c.read_on.new.self) c.args.t i c.requires.sound (returns-clause-sound c) c.in-Some.ensures.place.stands
-    (read_from (open_at s.calls i) c.args.replica (node_at s.nodes c.args.replica)) s.nodes refl (given (ticket_at s.tickets i) (open_at s.calls i) c.args.replica (node_at s.nodes c.args.replica)) c.read_on.ensures
+    (read_from (open_at s.calls i) c.args.replica (node_at s.nodes c.args.replica)) s.nodes refl
+    (given (ticket_at s.tickets i) (open_at s.calls i) c.args.replica (node_at s.nodes c.args.replica)) c.read_on.ensures
 
 pub returns-in_default-clause-may : goal.returns-in_default-clause-may
 returns-in_default-clause-may c = refused_may c.args.t (state_of c.args.self.now) c.requires.sound

@@ -20,5 +20,12 @@ pub returns-in_err-make_rooms-clause-err : goal.returns-in_err-make_rooms-clause
 returns-in_err-make_rooms-clause-err c =
     let s : State = state_of c.args.self.now in
     let more : IsRoomier s (record s { nodes = c.make_rooms.new.nodes.items }) =
-    record { nodes = c.make_rooms.new.nodes.items; spare = s.book.spare; keeps = c.make_rooms.ensures.keeps; more = at_most s.book.spare; state = refl } in
+    record {
+      nodes = c.make_rooms.new.nodes.items;
+      spare = s.book.spare;
+      keeps = c.make_rooms.ensures.keeps;
+      more =
+          at_most s.book.spare;
+      state = refl;
+    } in
     on_err _ _ more

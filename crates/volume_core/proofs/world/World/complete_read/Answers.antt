@@ -14,7 +14,8 @@ returns-in-Some-clause-sound c =
     let s = state_of c.args.self.now in
     let at = c.requires.is.1 in
     let read : c.index.result.now ≡ open_at s.calls c.args.i = grind (arith, elements) in
-    let acked : part_at (open_at s.calls c.args.i).parts c.in-Some._replica ≡ Acked = subst (λ (x : OpenCall). part_at x.parts c.in-Some._replica ≡ Acked) read c.in-Some.ensures in
+    let acked : part_at (open_at s.calls c.args.i).parts c.in-Some._replica ≡ Acked =
+    subst (λ (x : OpenCall). part_at x.parts c.in-Some._replica ≡ Acked) read c.in-Some.ensures in
     subst IsSound (sym c.end_read.ensures.state) (read_kept s c.args.i c.requires.sound at.stands.within at.reads c.in-Some._replica acked)
 
 pub returns-in-None-clause-sound : goal.returns-in-None-clause-sound

@@ -24,19 +24,38 @@ returns-clause-sound c =
     let at = c.in-Some.at in
     let around : range ≡ blocks_around at c.args.count = search rules in
     let good : at + c.args.count ≤ s.size = search rules in
-    let e : state_of c.put_behind.new.self ≡ enrolled s (record { number = c.in_ok-number.number; range = range; kind = kind.Read; started = false })
-    (record { stream = c.args.stream; saw = length s.book.entries; at = at; length = c.args.count; bytes = []; front = []; back = []; buffer = []; parts = []; op = None }) = search rules in
+    let e : state_of c.put_behind.new.self ≡ enrolled s
+    (record { number = c.in_ok-number.number; range = range; kind = kind.Read; started = false })
+    (record {
+      stream = c.args.stream;
+      saw = length s.book.entries;
+      at = at;
+      length = c.args.count;
+      bytes = [];
+      front =
+          [];
+      back = [];
+      buffer = [];
+      parts = [];
+      op = None;
+    }) = search rules in
     subst IsSound (sym e)
-    (call_enrolled s kind.Read c.in_ok-number.number c.args.stream at c.args.count range [] c.requires.sound no_whole c.requires.free c.bytes-size.ensures.size.whole around good (λ _. c.requires.short) (λ w. absurd (no_write w)) c.requires.stream c.requires.idle c.in_ok-number.ensures.fresh)
+    (call_enrolled s kind.Read c.in_ok-number.number c.args.stream at c.args.count range [] c.requires.sound no_whole
+    c.requires.free c.bytes-size.ensures.size.whole around good (λ _. c.requires.short) (λ w. absurd (no_write w))
+    c.requires.stream c.requires.idle c.in_ok-number.ensures.fresh)
 
 pub returns-clause-may : goal.returns-clause-may
 returns-clause-may c =
     let s = state_of c.args.self.now in
-    let is : IsBehind s c.args.stream (call.Read c.args.offset c.args.count) c.in_ok-number.number (state_of c.put_behind.new.self) = search rules in
-    behind_may c.args.stream c.in_ok-number.number (call.Read c.args.offset c.args.count) s (state_of c.put_behind.new.self) is c.requires.sound (returns-clause-sound c)
+    let is : IsBehind s c.args.stream (call.Read c.args.offset c.args.count) c.in_ok-number.number
+    (state_of c.put_behind.new.self) = search rules in
+    behind_may c.args.stream c.in_ok-number.number (call.Read c.args.offset c.args.count) s (state_of c.put_behind.new.self)
+    is c.requires.sound (returns-clause-sound c)
 
 pub returns-clause-sees : goal.returns-clause-sees
 returns-clause-sees c =
     let s = state_of c.args.self.now in
-    let is : IsBehind s c.args.stream (call.Read c.args.offset c.args.count) c.in_ok-number.number (state_of c.put_behind.new.self) = search rules in
-    behind_sees c.args.stream c.in_ok-number.number (call.Read c.args.offset c.args.count) s (state_of c.put_behind.new.self) is c.requires.idle c.requires.sound
+    let is : IsBehind s c.args.stream (call.Read c.args.offset c.args.count) c.in_ok-number.number
+    (state_of c.put_behind.new.self) = search rules in
+    behind_sees c.args.stream c.in_ok-number.number (call.Read c.args.offset c.args.count) s
+    (state_of c.put_behind.new.self) is c.requires.idle c.requires.sound

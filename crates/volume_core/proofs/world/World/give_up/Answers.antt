@@ -10,7 +10,8 @@ returns-clause-sound c =
     let s : State = state_of c.args.self.now in
     let b = c.requires.begun in
     let is : state_of c.push_aborted.new.self ≡ given_up s c.args.stream c.args.target = search rules in
-    subst IsSound (sym (is ∙ ap (given_up s c.args.stream) (sym b.2))) (given_up_kept s c.args.stream b.0 c.requires.sound c.requires.stream b.1)
+    subst IsSound (sym (is ∙ ap (given_up s c.args.stream) (sym b.2)))
+    (given_up_kept s c.args.stream b.0 c.requires.sound c.requires.stream b.1)
 
 pub returns-clause-may : goal.returns-clause-may
 returns-clause-may c =

@@ -11,17 +11,23 @@ use Rattle.volume_core.proofs.world.World.refuse_range.Goals as goal
 pub returns-clause-sound : goal.returns-clause-sound
 returns-clause-sound c =
     let s : State = state_of c.args.self.now in
-    let e : state_of c.push_answer.new.self ≡ answered (with_place s) c.args.stream (length s.book.entries) c.args.call (reply.Refused OutOfRange) = search rules in
-    subst IsSound (sym e) (refused_kept s c.args.stream c.args.call c.requires.sound c.requires.stream c.requires.idle c.requires.free c.requires.range c.requires.refused)
+    let e : state_of c.push_answer.new.self ≡ answered (with_place s) c.args.stream (length s.book.entries) c.args.call
+    (reply.Refused OutOfRange) = search rules in
+    subst IsSound (sym e) (refused_kept s c.args.stream c.args.call c.requires.sound c.requires.stream c.requires.idle
+    c.requires.free c.requires.range c.requires.refused)
 
 pub returns-clause-may : goal.returns-clause-may
 returns-clause-may c =
     let s : State = state_of c.args.self.now in
-    let e : state_of c.push_answer.new.self ≡ answered (with_place s) c.args.stream (length s.book.entries) c.args.call (reply.Refused OutOfRange) = search rules in
-    answered_may c.args.stream s (with_place s) (state_of c.push_answer.new.self) (length s.book.entries) c.args.call (reply.Refused OutOfRange) (nothing_more c.args.stream s) e (returns-clause-sound c)
+    let e : state_of c.push_answer.new.self ≡ answered (with_place s) c.args.stream (length s.book.entries) c.args.call
+    (reply.Refused OutOfRange) = search rules in
+    answered_may c.args.stream s (with_place s) (state_of c.push_answer.new.self) (length s.book.entries) c.args.call
+    (reply.Refused OutOfRange) (nothing_more c.args.stream s) e (returns-clause-sound c)
 
 pub returns-clause-sees : goal.returns-clause-sees
 returns-clause-sees c =
     let s : State = state_of c.args.self.now in
-    let e : state_of c.push_answer.new.self ≡ answered (with_place s) c.args.stream (length s.book.entries) c.args.call (reply.Refused OutOfRange) = search rules in
-    answered_sees c.args.stream s (with_place s) (state_of c.push_answer.new.self) (length s.book.entries) c.args.call (reply.Refused OutOfRange) (nothing_more c.args.stream s) e c.requires.idle
+    let e : state_of c.push_answer.new.self ≡ answered (with_place s) c.args.stream (length s.book.entries) c.args.call
+    (reply.Refused OutOfRange) = search rules in
+    answered_sees c.args.stream s (with_place s) (state_of c.push_answer.new.self) (length s.book.entries) c.args.call
+    (reply.Refused OutOfRange) (nothing_more c.args.stream s) e c.requires.idle

@@ -22,4 +22,5 @@ returns-clause-ready g c =
 
 pub returns-clause-why : goal.returns-clause-why
 returns-clause-why g c =
-    acks_why c.args.self.now.stream c.args.t c.args.replica (state_of c.args.self.now.world) (state_of c.ack.new.self) c.requires.ready.sound c.ack.result c.ack.ensures.err c.ack.ensures.why c.requires.started
+    acks_why c.args.self.now.stream c.args.t c.args.replica (state_of c.args.self.now.world) (state_of c.ack.new.self)
+    c.requires.ready.sound c.ack.result c.ack.ensures.err c.ack.ensures.why c.requires.started

@@ -5,7 +5,8 @@ use Rattle.world_in_hand.proofs.Turns.{turns_admitted}
 use Rattle.world_in_hand.proofs.client.WorldInHandClientSteps.admit.Goals as goal
 
 pub admit-requires-clause-waits : goal.admit-requires-clause-waits
-admit-requires-clause-waits g c = let op = c.requires.waits in waits_at c.args.self.now.stream c.args.t op.0 (state_of c.args.self.now.world) c.requires.ready.sound op.1 op.2
+admit-requires-clause-waits g c = let op = c.requires.waits in
+    waits_at c.args.self.now.stream c.args.t op.0 (state_of c.args.self.now.world) c.requires.ready.sound op.1 op.2
 
 pub returns-clause-ok : goal.returns-clause-ok
 returns-clause-ok g c =
@@ -26,4 +27,5 @@ returns-clause-ready g c =
 pub returns-clause-free : goal.returns-clause-free
 returns-clause-free g c =
     let op = c.requires.waits in
-    never_after c.args.self.now.stream c.args.t op.0 (state_of c.args.self.now.world) (state_of c.admit.new.self) c.admit.result c.requires.ready op.1 c.admit.ensures.ok
+    never_after c.args.self.now.stream c.args.t op.0 (state_of c.args.self.now.world) (state_of c.admit.new.self)
+    c.admit.result c.requires.ready op.1 c.admit.ensures.ok

@@ -11,7 +11,8 @@ returns-clause-ready g c =
     let n = c.args.self.now.stream in
     let s = state_of c.args.self.now.world in
     ready_on n s (state_of c.apply_in_place.new.self) (c.apply_in_place.ensures.may n op.0.call (open_from n c.args.t op.0 s op.1))
-    (turns_placed c.args.t c.args.replica s (state_of c.apply_in_place.new.self) c.apply_in_place.result c.apply_in_place.ensures.ok c.apply_in_place.ensures.err) c.requires.ready
+    (turns_placed c.args.t c.args.replica s (state_of c.apply_in_place.new.self) c.apply_in_place.result
+    c.apply_in_place.ensures.ok c.apply_in_place.ensures.err) c.requires.ready
 
 pub returns-clause-done : goal.returns-clause-done
 returns-clause-done g c =
@@ -23,5 +24,6 @@ returns-clause-done g c =
 pub returns-clause-why : goal.returns-clause-why
 returns-clause-why g c =
     let op = c.requires.writes in
-    takes_why c.args.self.now.stream c.args.t c.args.replica (state_of c.args.self.now.world) (state_of c.apply_in_place.new.self) c.requires.ready.sound c.apply_in_place.result op.0 op.1 op.2
+    takes_why c.args.self.now.stream c.args.t c.args.replica (state_of c.args.self.now.world)
+    (state_of c.apply_in_place.new.self) c.requires.ready.sound c.apply_in_place.result op.0 op.1 op.2
     c.apply_in_place.ensures.err c.apply_in_place.ensures.why

@@ -16,7 +16,8 @@ returns-clause-ready g c =
     let n = c.args.self.now.stream in
     let s = state_of c.args.self.now.world in
     ready_on n s (state_of c.apply_write.new.self) (c.apply_write.ensures.may n op.0.call (open_from n c.args.t op.0 s op.1))
-    (turns_wrote c.args.t c.args.replica s (state_of c.apply_write.new.self) c.apply_write.result c.apply_write.ensures.ok c.apply_write.ensures.err) c.requires.ready
+    (turns_wrote c.args.t c.args.replica s (state_of c.apply_write.new.self) c.apply_write.result c.apply_write.ensures.ok
+    c.apply_write.ensures.err) c.requires.ready
 
 pub returns-clause-ok : goal.returns-clause-ok
 returns-clause-ok g c =
@@ -28,5 +29,6 @@ returns-clause-ok g c =
 pub returns-clause-why : goal.returns-clause-why
 returns-clause-why g c =
     let op = c.requires.writes in
-    takes_why c.args.self.now.stream c.args.t c.args.replica (state_of c.args.self.now.world) (state_of c.apply_write.new.self) c.requires.ready.sound c.apply_write.result op.0 op.1 op.2
+    takes_why c.args.self.now.stream c.args.t c.args.replica (state_of c.args.self.now.world)
+    (state_of c.apply_write.new.self) c.requires.ready.sound c.apply_write.result op.0 op.1 op.2
     c.apply_write.ensures.err c.apply_write.ensures.why

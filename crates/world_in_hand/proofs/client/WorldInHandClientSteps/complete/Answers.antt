@@ -20,8 +20,10 @@ returns-clause-ready g c =
     let n = c.args.self.now.stream in
     let s = state_of c.args.self.now.world in
     ready_on n s (state_of c.complete.new.self) (c.complete.ensures.may n op.0.call (open_from n c.args.t op.0 s op.1))
-    (turns_completed c.args.t s (state_of c.complete.new.self) c.complete.result c.complete.ensures.ok c.complete.ensures.err) c.requires.ready
+    (turns_completed c.args.t s (state_of c.complete.new.self) c.complete.result c.complete.ensures.ok c.complete.ensures.err)
+    c.requires.ready
 
 pub returns-clause-why : goal.returns-clause-why
 returns-clause-why g c =
-    ends_why c.args.self.now.stream c.args.t 0 (state_of c.args.self.now.world) (state_of c.complete.new.self) c.requires.ready.sound c.complete.result c.complete.ensures.err c.complete.ensures.why c.requires.started
+    ends_why c.args.self.now.stream c.args.t 0 (state_of c.args.self.now.world) (state_of c.complete.new.self)
+    c.requires.ready.sound c.complete.result c.complete.ensures.err c.complete.ensures.why c.requires.started

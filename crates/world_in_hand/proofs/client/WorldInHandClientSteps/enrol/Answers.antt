@@ -12,11 +12,13 @@ enrol-requires-clause-free g c = turn_free c.args.self.now.stream (state_of c.ar
 
 pub returns-clause-ok : goal.returns-clause-ok
 returns-clause-ok g c =
-    enrols_mine c.args.self.now.stream c.args.call.now (state_of c.args.self.now.world) (state_of c.enrol.new.self) c.enrol.result c.requires.ready.sound c.requires.idle c.enrol.ensures.may c.enrol.ensures.ok c.enrol.ensures.sees
+    enrols_mine c.args.self.now.stream c.args.call.now (state_of c.args.self.now.world) (state_of c.enrol.new.self)
+    c.enrol.result c.requires.ready.sound c.requires.idle c.enrol.ensures.may c.enrol.ensures.ok c.enrol.ensures.sees
 
 pub returns-clause-ready : goal.returns-clause-ready
 returns-clause-ready g c =
     let n = c.args.self.now.stream in
     let s = state_of c.args.self.now.world in
     let s2 = state_of c.enrol.new.self in
-    ready_on n s s2 c.enrol.ensures.may (turns_enrolled n c.args.call.now s s2 c.enrol.result c.enrol.ensures.ok c.enrol.ensures.err) c.requires.ready
+    ready_on n s s2 c.enrol.ensures.may
+    (turns_enrolled n c.args.call.now s s2 c.enrol.result c.enrol.ensures.ok c.enrol.ensures.err) c.requires.ready

@@ -6,7 +6,8 @@ use Rattle.world_in_hand.proofs.Turns.{turns_withdrawn}
 use Rattle.world_in_hand.proofs.client.WorldInHandClientSteps.withdraw.Goals as goal
 
 pub withdraw-requires-clause-waits : goal.withdraw-requires-clause-waits
-withdraw-requires-clause-waits g c = let op = c.requires.waits in waits_at c.args.self.now.stream c.args.t op.0 (state_of c.args.self.now.world) c.requires.ready.sound op.1 op.2
+withdraw-requires-clause-waits g c = let op = c.requires.waits in
+    waits_at c.args.self.now.stream c.args.t op.0 (state_of c.args.self.now.world) c.requires.ready.sound op.1 op.2
 
 pub returns-clause-gone : goal.returns-clause-gone
 returns-clause-gone g c =
