@@ -182,6 +182,12 @@ class Links(unittest.TestCase):
     def test_each_path_that_is_named_is_there(self):
         self.assertEqual([line for path in documents() for line in lost_paths(path)], [])
 
+    def test_each_file_that_a_shown_command_names_is_there(self):
+        named = [(path, word) for path in documents() for block in blocks(read(TOP, path))
+                 for word in re.findall(r'(?:^|[ /])((?:%s)/[\w./-]+)' % '|'.join(map(re.escape, FOLDERS)), block, re.MULTILINE)]
+        self.assertIn(('README.md', 'examples/side_by_side.script'), named)
+        self.assertEqual([line for line in named if not os.path.exists(os.path.join(TOP, line[1]))], [])
+
     def test_broken_links_are_found(self):
         page = ('# One, two `three`\n\n[good](b.md) [good](b.md#a-b) [good](#one-two-three) [good][l] `[no](link.md)`\n'
                 '[no file](c.md) [no heading](b.md#c) [no heading here](#two) [no label][m] [outside](../a.md) [two\n'
