@@ -1,4 +1,4 @@
-"""Texts of scripts whose streams have to do with each other, made at random: for runs with a worker for each stream."""
+"""Texts of scripts whose streams have to do with each other, made at random."""
 
 PAGE = 1 << 21
 # Where frames read and write: few places, so that ranges of different streams overlap, also over a block's and a page's end.
@@ -25,10 +25,34 @@ def run_text(random, streams=None, most_calls=12):
     return '\n'.join(lines) + '\n'
 
 
+def rebuild_text(random):
+    """One text of four streams in which replicas fall and are rebuilt again and again, while others write all pages."""
+    replicas, pages = random.choice([2, 2, 3, 4]), random.choice([2, 3, 4])
+    lines = ['volume v %dM' % (2 * pages), 'replicas %d' % replicas]
+    for worker in range(4):
+        # Mostly no line to the first replica fails, so that the others can be rebuilt from it.
+        for replica in range(random.randrange(5) > 0, replicas):
+            carries = sorted(random.sample(range(1, 80), random.randint(1, 5)))
+            lines.append(' '.join(['fault worker %d replica %d carries' % (worker, replica), *map(str, carries)]))
+    for stream in 0, 2:
+        lines += ['stream %d frames' % stream, *('  ' + text for text in frames(random, stream, pages, 60))]
+        lines += ['stream %d commands' % (stream + 1), *('  ' + text for text in additions(random, replicas))]
+    return '\n'.join(lines) + '\n'
+
+
+def additions(random, replicas):
+    """The lines of a stream of commands that rebuilds replicas, and has them fail and layers made and taken away between."""
+    for name in random.sample(NAMES, len(NAMES)):
+        make, revert = 'snapshot ' + name, 'revert ' + name
+        yield from random.choice([['fail r%d' % random.randrange(1, replicas)], [make], [revert], [make, revert],
+                                  [make, 'remove ' + name, 'purge'], ['status']])
+        yield from ('add r%d' % replica for replica in random.sample(range(replicas), random.randint(1, replicas)))
+
+
 def frames(random, stream, pages, most_calls):
     """The lines of a stream of frames. Its number is in each byte that it writes, so that what a read gives tells who wrote."""
     for number in range(random.randint(min(4, most_calls), most_calls)):
-        offset, length = random.choice(PLACES), random.choice(LENGTHS)
+        offset, length = random.choice(PLACES) + PAGE * random.randrange(pages), random.choice(LENGTHS)
         kind = random.random()
         if kind < 0.5:
             yield 'write %d fill %02x %d' % (offset, 16 * (stream + 1) + number % 16 & 255, length)

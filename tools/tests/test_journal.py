@@ -11,7 +11,7 @@ import journal
 import picture
 import script
 from findings import find_odd
-from generated_runs import run_text
+from generated_runs import rebuild_text, run_text
 from report import read_report
 from side_by_side import report_of
 
@@ -264,7 +264,7 @@ class Check(unittest.TestCase):
     def test_runs_side_by_side_have_nothing_odd_and_calls_out_of_order_are_odd(self):
         for seed in range(25):
             chance = random.Random(seed)
-            its = asked.read_script(script.make(run_text(chance)))
+            its = asked.read_script(script.make(chance.choice([run_text, rebuild_text])(chance)))
             report = report_of(its, chance)
             self.assertEqual(journal.check(read_report(report), its), '', seed)
             lines = report.splitlines()
