@@ -20,16 +20,3 @@ pub use volume_core::{
 };
 pub use volume_maint::{FoldOrDrop, LayerName, SnapName, WholeOp};
 pub use volume_rebuild::PageRef;
-
-#[cfg(test)]
-mod any_steps;
-#[cfg(test)]
-mod getting_on;
-#[cfg(test)]
-mod judge;
-#[cfg(test)]
-mod tally;
-#[cfg(test)]
-mod tests;
-#[cfg(test)]
-mod while_rebuilt;
