@@ -6,9 +6,6 @@ ghost use Rattle.desk_trial.specs.Books.{notes_in};
 
 mod book;
 mod each;
-mod long;
-#[cfg(test)]
-mod tests;
 mod workers;
 
 use book::Book;
