@@ -1,4 +1,4 @@
-use replica_node::{BlockRange, Blocks, LayerName, Page, ReplicaNode, VolumeSize};
+use replica_node::{BlockRange, Blocks, LayerName, ReplicaNode, VolumeSize};
 use std::alloc::Global;
 use std::test::Fail;
 use vol_units::MOST_LAYERS;
@@ -51,7 +51,5 @@ fn room_and_boxes_are_made(rt: HostRuntime) -> Result<(), Fail> {
     make_room(&mut with_layer(rt.alloc())?, rt.alloc())?;
     let boxes = Blocks::with_count(rt.alloc(), 3)?;
     assert!(rt; boxes.is_full());
-    let page = Page::unmade(rt.alloc()).lent(rt.alloc())?;
-    assert!(rt; page.has_block());
     Ok(())
 }
