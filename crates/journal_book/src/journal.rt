@@ -4,12 +4,12 @@ ghost use Rattle.volume_model.specs.Modes.{mode_of, source_of, HasNoSource, IsSo
 ghost use Rattle.volume_model.specs.Names.{is_used_in, is_live_in};
 ghost use Rattle.journal_book.specs.Book.{modes_of, layers_of, names_of};
 
-use crate::begun::Begun;
 use crate::faults::{LastCount, count_in, follow_faults};
 use crate::layers::layers_after;
 use crate::modes::follow_modes;
 use crate::names::follow_names;
 use crate::opening::Opening;
+use crate::shown::Shown;
 use crate::taken::{NameMap, is_live, is_used};
 use mode_table::ModeTable;
 use std::alloc::{AllocError, Global};
@@ -19,7 +19,7 @@ use volume_model::{Entry, LayerName, Mode};
 /// The entries of a run in their order. Contracts see how it began, the list, and how many places are made beyond it.
 #[derive(Drop)]
 pub struct Journal {
-    opening: Begun,
+    opening: Shown<Opening>,
     entries: Vec<Entry>,
     spare: u64,
     modes: ModeTable,
@@ -49,7 +49,7 @@ impl Journal {
         ensures spare { result.spare ≡ 0 }
     {
         Journal {
-            opening: Begun::with(&opening),
+            opening: Shown::of(&opening),
             entries: Vec::new(alloc),
             spare: 0,
             modes: opening.modes,

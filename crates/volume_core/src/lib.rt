@@ -7,7 +7,6 @@ mod apply;
 mod end;
 mod enrol;
 mod fault;
-mod first;
 mod give_up;
 mod in_place;
 mod job;
@@ -17,10 +16,10 @@ mod world;
 
 pub use admit::Admit;
 pub use enrol::Enrolled;
-pub use first::FirstNode;
 pub use job::Job;
 pub use journal_book::{
-    Bytes, Call, Command, Entry, Journal, Mode, ModeTable, Opening, Refusal, Reply, TakenNames,
+    Bytes, Call, Command, Entry, Journal, Mode, ModeTable, Opening, Refusal, Reply, Shown,
+    TakenNames,
 };
 pub use open_calls::{Buffer, OpenCall, Part, Parts};
 pub use open_rebuild::Rebuilding;

@@ -6,9 +6,8 @@ ghost use Rattle.volume_core.specs.State.{state_of};
 ghost use Rattle.volume_core.specs.Sound.{IsSound};
 ghost use Rattle.volume_core.specs.Opened.{MayOpen, IsOpenedOn, blank_opening};
 
-use crate::first::FirstNode;
 use crate::world::World;
-use journal_book::{Journal, ModeTable, Opening, TakenNames};
+use journal_book::{Journal, ModeTable, Opening, Shown, TakenNames};
 use range_turns::Turns;
 use replica_node::{ReplicaNode, VolumeSize};
 use std::alloc::{AllocError, Global};
@@ -65,7 +64,7 @@ fn opened(
     ensures { IfOk result (λ w. IsOpenedOn size opening nodes.items streams (state_of w)) }
 {
     let source = opening.modes.source().unwrap();
-    let first = FirstNode::of(&nodes[source as usize]);
+    let first = Shown::of(&nodes[source as usize]);
     let indices = vec![in alloc; 0; streams as usize]?;
     let gave_up = vec![in alloc; false; streams as usize]?;
     let mut journal = Journal::new(alloc, opening);

@@ -3,8 +3,7 @@ ghost use Rattle.volume_model.specs.Modes.{mode_of};
 ghost use Rattle.volume_core.specs.State.{state_of, modes_in, index_at};
 ghost use Rattle.volume_core.specs.Steps.{with_place, answered};
 
-use crate::first::FirstNode;
-use journal_book::{Answer, Call, Entry, Journal, Mode, Reply};
+use journal_book::{Answer, Call, Entry, Journal, Mode, Reply, Shown};
 use open_calls::OpenCall;
 use open_rebuild::Rebuilding;
 use range_turns::Turns;
@@ -16,7 +15,8 @@ use whole_calls::{MaintCall, Whole};
 #[derive(Drop)]
 pub struct World {
     pub size: VolumeSize,
-    pub first: FirstNode,
+    /// The replica that showed how the volume began.
+    pub first: Shown<ReplicaNode>,
     pub nodes: Vec<ReplicaNode>,
     pub turns: Turns,
     /// One for each ticket, in the same order.
