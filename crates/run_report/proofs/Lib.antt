@@ -1,5 +1,4 @@
 pub mod Appends
 pub mod ReportLemmas
-mod Walks
 mod HalfDigits
 mod ModeWords

@@ -23,7 +23,7 @@ use denote.Triple.Entry.{alive}
 use denote.Triple.Spec.{Meets, triple_of}
 use denote.Triple.Table.{entered}
 use denote.Triple.Walked.{says, Stays, walk_of, ends_at, walk_Meets}
-use Rattle.run_report.proofs.Walks.{none, none_made}
+use Rattle.bytes.proofs.Walks.{none, none_made}
 use Rattle.run_report.specs.contracts.told.Told as Told
 use Rattle.run_report.specs.contracts.told.Told.new as F
 use Rattle.run_report.specs.contracts.told.Told.new.Key.{name as #self}

@@ -25,7 +25,7 @@ use denote.Triple.Entry.{alive}
 use denote.Triple.Spec.{Meets, triple_of}
 use denote.Triple.Table.{entered}
 use denote.Triple.Walked.{says, Stays, stay_dropped, walk_of, ends_at, walk_Meets, Goes-dropped}
-use Rattle.run_report.proofs.Walks.{none, none_made}
+use Rattle.bytes.proofs.Walks.{none, none_made}
 use Rattle.run_report.specs.contracts.told.Told as Told
 use Rattle.run_report.specs.contracts.told.Piece as Piece
 use Rattle.run_report.specs.contracts.told.Told.then as F
