@@ -157,16 +157,20 @@ class Run:
             return
         self.mark('added', 'r%d' % target, 'r%d' % source, 'sys-%d' % self.replay.head_number)
         yield None
-        for _ in range(self.size // PAGE):
-            for replica in (source, target):
-                if self.replay.unanswered[target] is None:
-                    self.carry(stream, replica)
-                    yield None
+        yield from self.copy(stream, source, target)
         if self.replay.unanswered[target] is None:
             self.mark('promoted', 'r%d' % target)
             yield 'ok'
         else:
             yield 'error aborted %d' % self.replay.unanswered[target].place
+
+    def copy(self, stream, source, target):
+        """The carries of a rebuild, as long as it is not aborted."""
+        for _ in range(self.size // PAGE):
+            for replica in (source, target):
+                if self.replay.unanswered[target] is None:
+                    self.carry(stream, replica)
+                    yield None
 
     def report(self):
         """The report of what was run."""

@@ -1,6 +1,7 @@
 //! Runs in which each stream has a worker of its own.
 
-use super::draft::{Draft, gated_end_of, write};
+use super::runs::end_of;
+use super::script::{Asks, Frame, script};
 use crate::status::Status;
 use outer_real::OpenGate;
 use outer_traits::{Gate, Point};
@@ -76,19 +77,17 @@ impl Gate for Crossing {
     }
 }
 
+/// Two streams of one write each, of two blocks.
+const APART: &[Asks] = &[
+    Asks::Frames(b'a', &[Frame::Write(0, 1)]),
+    Asks::Frames(b'b', &[Frame::Write(4096, 1)]),
+];
+
 #[test]
 fn workers_run_side_by_side(rt: HostRuntime) -> Result<(), Fail> {
-    let mut draft = Draft::new(rt.alloc())?;
-    draft.frames(rt.alloc(), &[write(1, 0, 1)], b'a', b"")?;
-    draft.frames(rt.alloc(), &[write(1, 4096, 1)], b'b', b"")?;
     let gate = Crossing::new();
-    let (status, sink) = gated_end_of(
-        &rt,
-        &["run", "--workers=each"],
-        draft.input()?,
-        70_000,
-        &gate,
-    )?;
+    let input = script(rt.alloc(), "1", APART)?;
+    let (status, sink) = end_of(&rt, &["run", "--workers=each"], input, &gate)?;
     assert!(rt; !gate.ran_out.is_raised());
     assert_eq!(rt; status, Status::Done);
     let lines = "0 0 1 0 write 4096 1 62*1 ok\n1 0 0 0 write 0 1 61*1 ok\n\
@@ -98,30 +97,41 @@ fn workers_run_side_by_side(rt: HostRuntime) -> Result<(), Fail> {
     Ok(())
 }
 
-/// The last lines of two replicas with a block of one byte.
-const HEADS_OF_A: &str = "mode r0 RW\nmode r1 RW\nchain r0 head\nchain r1 head\n\
-    head r0 4a9f57490812dc05ac2f1db013433a0a7fc5341777cc237c4e00a13ffc5d449a\n\
-    head r1 4a9f57490812dc05ac2f1db013433a0a7fc5341777cc237c4e00a13ffc5d449a\n";
+/// Two of one write each, of one block.
+const ON_ONE_BLOCK: &[Asks] = &[
+    Asks::Frames(b'a', &[Frame::Write(0, 4096)]),
+    Asks::Frames(b'b', &[Frame::Write(0, 4096)]),
+];
 
-const HEADS_OF_B: &str = "mode r0 RW\nmode r1 RW\nchain r0 head\nchain r1 head\n\
-    head r0 406e2baf20a39e8f01688f136559a5a68ae22ba71c8f5f91fb45a77921ec62b9\n\
-    head r1 406e2baf20a39e8f01688f136559a5a68ae22ba71c8f5f91fb45a77921ec62b9\n";
+/// How that run begins, and its last lines then, where the second write is the later one.
+const B_LATER: (&str, &str) = (
+    "0 0 0 0 write 0 4096 61*4096 ok\n1 ",
+    "mode r0 RW\nmode r1 RW\nchain r0 head\nchain r1 head\n\
+        head r0 406e2baf20a39e8f01688f136559a5a68ae22ba71c8f5f91fb45a77921ec62b9\n\
+        head r1 406e2baf20a39e8f01688f136559a5a68ae22ba71c8f5f91fb45a77921ec62b9\n",
+);
+
+/// The same where the first is.
+const A_LATER: (&str, &str) = (
+    "0 0 1 0 write 0 4096 62*4096 ok\n1 ",
+    "mode r0 RW\nmode r1 RW\nchain r0 head\nchain r1 head\n\
+        head r0 4a9f57490812dc05ac2f1db013433a0a7fc5341777cc237c4e00a13ffc5d449a\n\
+        head r1 4a9f57490812dc05ac2f1db013433a0a7fc5341777cc237c4e00a13ffc5d449a\n",
+);
 
 #[test]
 fn the_later_of_two_writes_is_read(rt: HostRuntime) -> Result<(), Fail> {
-    for _ in 0..20 {
-        let mut draft = Draft::on(rt.alloc(), "2")?;
-        draft.frames(rt.alloc(), &[write(1, 0, 4096)], b'a', b"")?;
-        draft.frames(rt.alloc(), &[write(1, 0, 4096)], b'b', b"")?;
-        let (status, sink) = gated_end_of(&rt, &["run"], draft.input()?, 70_000, &OpenGate)?;
+    for _ in 0..10 {
+        let input = script(rt.alloc(), "2", ON_ONE_BLOCK)?;
+        let (status, sink) = end_of(&rt, &["run"], input, &OpenGate)?;
         assert_eq!(rt; status, Status::Done);
-        let (first, heads) = if sink.bytes().starts_with(b"0 0 0 ") {
-            ("0 0 0 0 write 0 4096 61*4096 ok\n1 ", HEADS_OF_B)
+        let (first, last) = if sink.bytes().starts_with(b"0 0 0 ") {
+            B_LATER
         } else {
-            ("0 0 1 0 write 0 4096 62*4096 ok\n1 ", HEADS_OF_A)
+            A_LATER
         };
         assert!(rt; sink.bytes().starts_with(first.as_bytes()));
-        assert!(rt; sink.bytes().ends_with(heads.as_bytes()));
+        assert!(rt; sink.bytes().ends_with(last.as_bytes()));
     }
     Ok(())
 }

@@ -1,15 +1,17 @@
 //! Runs in which the source or the sink fails.
 
-use super::draft::{ends, read, script};
+use super::runs::ends;
+use super::script::{Asks, Frame, script};
 use crate::status::Status;
 use outer_memory::{FaultPlan, LimitedSink, MemorySink, MemorySource, NoFaultSource};
+use outer_real::OpenGate;
 use std::alloc::{AllocError, Global};
 use std::process::Abort;
 use std::test::Fail;
 
 /// A script of one read.
 fn input(alloc: Global) -> Result<Vec<u8>, AllocError> {
-    script(alloc, &[read(1, 0, 4096)], 0, b"")
+    script(alloc, "1", &[Asks::Frames(0, &[Frame::Read(0, 4096)])])
 }
 
 /// Compares a status and its code.
@@ -22,7 +24,7 @@ fn is_told(rt: &impl Abort, ended: Status, status: Status, code: u8) {
 fn a_sink_that_fails_holds_a_prefix(rt: HostRuntime) -> Result<(), Fail> {
     let mut source = NoFaultSource::new(input(rt.alloc())?, 4096);
     let mut sink = LimitedSink::new(rt.alloc(), 10);
-    let ended = ends(&rt, &["run", "--workers=one"], &mut source, &mut sink)?;
+    let ended = ends(&rt, &["run"], &mut source, &mut sink, &OpenGate)?;
     is_told(&rt, ended, Status::WriteFault, 5);
     assert_eq!(rt; sink.bytes(), b"0 0 0 0 re".as_slice());
     Ok(())
@@ -33,7 +35,7 @@ fn a_source_that_fails_leaves_the_sink(rt: HostRuntime) -> Result<(), Fail> {
     let second = FaultPlan::new([2].to_vec(rt.alloc())?);
     let mut source = MemorySource::new(input(rt.alloc())?, 10, second);
     let mut sink = MemorySink::new(rt.alloc(), 10, FaultPlan::none(rt.alloc()));
-    let ended = ends(&rt, &["run", "--workers=one"], &mut source, &mut sink)?;
+    let ended = ends(&rt, &["run"], &mut source, &mut sink, &OpenGate)?;
     is_told(&rt, ended, Status::ReadFault, 4);
     assert_eq!(rt; sink.bytes(), b"".as_slice());
     Ok(())

@@ -1,0 +1,48 @@
+//! Runs of the top call.
+ghost use Rattle.std.specs.Prelude.{◌<◌, ◌-◌, ◌^◌};
+
+use crate::status::Status;
+use crate::top::longhorn;
+use fault_lines::PlanWiring;
+use outer_memory::{NoFaultSink, NoFaultSource};
+use outer_traits::{Gate, Sink, Source};
+use std::alloc::{AllocError, Global};
+use std::sync::Wait;
+use std::thread::Threads;
+
+fn owned(alloc: Global, all: &[&str]) -> Result<Vec<String>, AllocError> {
+    let mut words = Vec::new(alloc);
+    for word in all {
+        words.push(String::from_str(alloc, word)?)?;
+    }
+    Ok(words)
+}
+
+/// How the words end over a source and a sink, with this gate.
+pub(crate) fn ends<S: Source, K: Sink, G: Gate + Sync>(
+    rt: &(impl AllocGlobal + Threads + Wait + Sync),
+    words: &[&str],
+    source: &mut S,
+    sink: &mut K,
+    gate: &G,
+) -> Result<Status, AllocError>
+    requires source_count { S.faults source.old < 2 ^ 64 - 1 }
+    requires sink_count { K.faults sink.old < 2 ^ 64 - 1 }
+{
+    let words = owned(rt.alloc(), words)?;
+    let mut wiring = PlanWiring::new(rt.alloc());
+    Ok(longhorn(rt, rt.alloc(), &words, source, sink, &mut wiring, gate))
+}
+
+/// How they end over an input, and the sink then. No outside call fails, and each has 70,000 bytes at most.
+pub(crate) fn end_of<G: Gate + Sync>(
+    rt: &(impl AllocGlobal + Threads + Wait + Sync),
+    words: &[&str],
+    input: Vec<u8>,
+    gate: &G,
+) -> Result<(Status, NoFaultSink), AllocError> {
+    let mut source = NoFaultSource::new(input, 70_000);
+    let mut sink = NoFaultSink::new(rt.alloc(), 70_000);
+    let status = ends(rt, words, &mut source, &mut sink, gate)?;
+    Ok((status, sink))
+}
