@@ -7,8 +7,8 @@ import unittest
 import asked
 import one_worker
 import script
+from built_program import LAUNCHER, ProgramTest
 from generated_runs import run_text
-from test_program import LAUNCHER
 
 SEEDS = 60
 # The third frame is refused, so that nothing is carried for it; nor is for the ping.
@@ -109,12 +109,7 @@ def generated(seed):
                   run_text(random.Random(seed)))
 
 
-class Carries(unittest.TestCase):
-    @classmethod
-    def setUpClass(cls):
-        # The first call builds the program where it is not built, which is not to be a part of a test.
-        subprocess.run([LAUNCHER], stdin=subprocess.DEVNULL, capture_output=True)
-
+class Carries(ProgramTest):
     def compare(self, text):
         """Compares what the program prints of a script with what the slow executor does, and gives it."""
         given = script.make(text)
