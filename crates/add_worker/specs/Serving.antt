@@ -1,8 +1,8 @@
 -- Which commands the worker takes.
 use Rattle.std.specs.Prelude.{◌≡◌, false}
 use Rattle.vol_units.specs.Name.{begins_sys}
-use Rattle.command_text.specs.declared.command.Command.{Command}
-use Rattle.command_text.specs.declared.command.Command.TheVariants as command
+use Rattle.volume_model.specs.declared.command.Command.{Command}
+use Rattle.volume_model.specs.declared.command.Command.TheVariants as command
 
 -- every one, if a snapshot has a name that a user may give
 abbrev pub IsForWorker : Command → Type 0

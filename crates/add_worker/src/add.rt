@@ -1,7 +1,7 @@
 //! An addition, from its call to its answer.
 
 ghost use Rattle.std.specs.Prelude.{◌≡◌, ℕ, ◌≤◌, ◌<◌, [], length, map, true, false, OnOk, OnErr};
-ghost use Rattle.command_text.specs.declared.command.Command.{Command};
+ghost use Rattle.volume_model.specs.declared.command.Command.{Command};
 ghost use Rattle.stream_steps.specs.Mine.{OwnCall, with_running};
 ghost use Rattle.stream_steps.specs.Add.{EndsAborted, HasAdd};
 ghost use Rattle.client_worker.specs.Ends.{KeepsShown};

@@ -8,8 +8,8 @@ use Rattle.volume_model.specs.declared.entry.Entry.TheVariants as entry
 use Rattle.volume_model.specs.declared.mark.Mark.TheVariants as mark
 use Rattle.volume_model.specs.declared.mode.Mode.{Mode}
 use Rattle.volume_model.specs.Modes.{modes_after, modes_after_entry}
-use Rattle.whole_calls.proofs.Forms.{length-forms}
-use Rattle.whole_calls.specs.Maint.{HasNoCommand}
+use Rattle.open_calls.proofs.Forms.{length-forms}
+use Rattle.open_calls.specs.Maint.{HasNoCommand}
 use Rattle.open_calls.specs.Clients.{IsIdle}
 use Rattle.volume_core.specs.State.{State, modes_in, gave_up_at}
 use Rattle.volume_core.specs.Sound.{IsSound}

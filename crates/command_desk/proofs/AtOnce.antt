@@ -3,7 +3,7 @@
 use Rattle.std.proofs.Common.{◌≡◌, ℕ, ⊎_elim, List, [], ◌∷◌, ◌++◌, length, map, Option, None, Some, Result, Ok, OnOk}
 use Rattle.std.proofs.Common.{IfOk, IfErr, sym, refl, ap, ◌∙◌, subst, append-nil, append_assoc}
 use Rattle.std.proofs.Common.{Err as Failed}
-use Rattle.command_text.specs.declared.command.Command.{Command}
+use Rattle.volume_model.specs.declared.command.Command.{Command}
 use Rattle.range_turns.specs.declared.ticket.Ticket.{Ticket}
 use Rattle.volume_model.specs.declared.call.Call.TheVariants as call
 use Rattle.volume_model.specs.declared.call.Reply.{Reply}

@@ -3,7 +3,7 @@ use Rattle.std.proofs.Common.{◌≡◌, ◌≢◌, ℕ, ◌<◌, List, [], ◌�
 use Rattle.std.proofs.Common.{Err as Failed}
 use Rattle.range_turns.specs.declared.ticket.Ticket.{Ticket}
 use Rattle.open_calls.specs.declared.open_call.OpenCall.{OpenCall}
-use Rattle.whole_calls.specs.declared.maint.MaintCall.{MaintCall}
+use Rattle.open_calls.specs.declared.maint.MaintCall.{MaintCall}
 use Rattle.volume_core.specs.State.{State}
 use Rattle.volume_core.specs.Streams.{Origin, MayGo, running, turning}
 use Rattle.desk_lock.specs.Account.{MayLeave}

@@ -3,7 +3,7 @@ use Rattle.std.proofs.Common.{◌≡◌, ℕ, Bool, List, length, Option, Some, 
 use Rattle.std.proofs.Common.{Err as Failed}
 use Rattle.sparse_image.specs.Image.{Table}
 use Rattle.vol_units.specs.declared.page_ref.PageRef.{PageRef}
-use Rattle.command_text.specs.declared.command.Command.{Command}
+use Rattle.volume_model.specs.declared.command.Command.{Command}
 use Rattle.range_turns.specs.declared.turns.MayStart.{MayStart}
 use Rattle.range_turns.specs.declared.turns.MayStart.TheVariants as may_start
 use Rattle.volume_model.specs.declared.call.Reply.{Reply}

@@ -3,8 +3,8 @@ use Rattle.std.proofs.Common.{◌≡◌, ℕ, ◌+◌, ◌<◌, true, false, eqb
 use Rattle.sparse_image.specs.Image.{Table}
 use Rattle.vol_units.specs.declared.page_ref.PageRef.{PageRef}
 use Rattle.range_turns.specs.declared.ticket.Ticket.{Ticket}
-use Rattle.whole_calls.specs.declared.maint.MaintCall.{MaintCall}
-use Rattle.whole_calls.specs.Maint.{command_at}
+use Rattle.open_calls.specs.declared.maint.MaintCall.{MaintCall}
+use Rattle.open_calls.specs.Maint.{command_at}
 use Rattle.open_rebuild.specs.Claim.{with_page}
 use Rattle.volume_core.specs.State.{State}
 use Rattle.volume_core.specs.Sound.{IsSound}

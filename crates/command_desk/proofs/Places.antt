@@ -7,9 +7,9 @@ use Rattle.range_turns.specs.declared.ticket.Ticket.{Ticket}
 use Rattle.range_turns.specs.Order.{ticket_at, StandsAt, Conflict, ConflictBy, AreNumbered}
 use Rattle.open_calls.specs.declared.open_call.OpenCall.{OpenCall}
 use Rattle.open_calls.specs.Calls.{open_at}
-use Rattle.whole_calls.specs.declared.maint.MaintCall.{MaintCall}
-use Rattle.whole_calls.specs.declared.whole.Whole.{Whole}
-use Rattle.whole_calls.specs.Maint.{command_at}
+use Rattle.open_calls.specs.declared.maint.MaintCall.{MaintCall}
+use Rattle.open_calls.specs.declared.whole.Whole.{Whole}
+use Rattle.open_calls.specs.Maint.{command_at}
 use Rattle.volume_core.specs.State.{State}
 use Rattle.volume_core.specs.Sound.{IsSound}
 use Rattle.volume_core.specs.Streams.{MayGo, running, turning}

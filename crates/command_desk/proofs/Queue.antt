@@ -7,8 +7,8 @@ use Rattle.range_turns.specs.declared.ticket.Ticket.{Ticket}
 use Rattle.range_turns.specs.Order.{ticket_at, with_started}
 use Rattle.open_calls.specs.declared.open_call.OpenCall.{OpenCall}
 use Rattle.open_calls.specs.Calls.{open_at}
-use Rattle.whole_calls.specs.declared.maint.MaintCall.{MaintCall}
-use Rattle.whole_calls.specs.Maint.{command_at}
+use Rattle.open_calls.specs.declared.maint.MaintCall.{MaintCall}
+use Rattle.open_calls.specs.Maint.{command_at}
 use Rattle.desk_lock.specs.Account.{Each}
 use Rattle.volume_core.specs.Streams.{calls_in, commands_in}
 use Rattle.volume_core.proofs.CallLemmas.{calls-idle}

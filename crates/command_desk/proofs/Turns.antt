@@ -1,8 +1,8 @@
 -- The steps of the maintenance turn, as the worker of a stream sees them at a desk.
 use Rattle.std.proofs.Common.{◌≡◌, ◌≢◌, ℕ, ◌<◌, true, [], ◌∷◌, length, Result, Ok, OnOk, OnErr, IfOk, refl, sym, ap, subst, ◌∙◌, arith}
 use Rattle.std.proofs.Common.{Err as Failed}
-use Rattle.command_text.specs.declared.command.Command.{Command}
-use Rattle.command_text.specs.declared.command.Command.TheVariants as command
+use Rattle.volume_model.specs.declared.command.Command.{Command}
+use Rattle.volume_model.specs.declared.command.Command.TheVariants as command
 use Rattle.range_turns.specs.declared.turns.MayStart.{MayStart}
 use Rattle.range_turns.specs.declared.turns.MayStart.TheVariants as may_start
 use Rattle.range_turns.specs.declared.ticket.Ticket.{Ticket}
@@ -12,8 +12,8 @@ use Rattle.volume_model.specs.declared.call.Reply.{Reply}
 use Rattle.volume_model.specs.declared.entry.Answer.{Answer}
 use Rattle.volume_model.specs.declared.entry.Entry.TheVariants as entry
 use Rattle.open_calls.specs.Clients.{IsIdle}
-use Rattle.whole_calls.specs.declared.maint.MaintCall.{MaintCall}
-use Rattle.whole_calls.specs.Maint.{command_at}
+use Rattle.open_calls.specs.declared.maint.MaintCall.{MaintCall}
+use Rattle.open_calls.specs.Maint.{command_at}
 use Rattle.volume_core.proofs.CallLemmas.{idle-calls}
 use Rattle.volume_core.specs.State.{State, modes_in, index_at}
 use Rattle.volume_core.specs.Sound.{IsSound}

@@ -8,7 +8,7 @@ use Rattle.std.proofs.lemmas.Bool.{cases_order}
 use Rattle.std.proofs.lemmas.List.{set-get_or}
 use Rattle.sparse_image.specs.Image.{Tables}
 use Rattle.vol_units.specs.Name.{begins_sys}
-use Rattle.command_text.specs.declared.command.Command.{Command}
+use Rattle.volume_model.specs.declared.command.Command.{Command}
 use Rattle.range_turns.specs.declared.ticket.Kind.TheVariants as kind
 use Rattle.range_turns.specs.declared.ticket.Ticket.{Ticket}
 use Rattle.range_turns.specs.Order.{ticket_at, with_started, StandsAt, Conflict, ConflictBy}
@@ -32,10 +32,10 @@ use Rattle.open_calls.specs.declared.whole_op.WholeOp.TheVariants as whole
 use Rattle.open_calls.specs.Parts.{part_at, part_for, IsTaken}
 use Rattle.open_calls.specs.Calls.{open_at, no_call, command_of, whole_call}
 use Rattle.open_calls.proofs.PartLemmas.{part_of}
-use Rattle.whole_calls.specs.declared.maint.MaintCall.{MaintCall}
-use Rattle.whole_calls.specs.declared.whole.Whole.{Whole}
-use Rattle.whole_calls.specs.Whole.{IsWhole, parted, part_acked}
-use Rattle.whole_calls.specs.Maint.{command_at, IsAskedBy, HasTurn as core_turn}
+use Rattle.open_calls.specs.declared.maint.MaintCall.{MaintCall}
+use Rattle.open_calls.specs.declared.whole.Whole.{Whole}
+use Rattle.open_calls.specs.Whole.{IsWhole, parted, part_acked}
+use Rattle.open_calls.specs.Maint.{command_at, IsAskedBy, HasTurn as core_turn}
 use Rattle.volume_core.specs.declared.world.NotThis.{NotThis}
 use Rattle.volume_core.specs.declared.world.NotThis.TheVariants as against
 use Rattle.volume_core.specs.State.{State, told_of, modes_in, index_at}

@@ -3,7 +3,7 @@ use Rattle.std.specs.Prelude.{◌≡◌, ℕ, ◌+◌, true, [], ◌∷◌, Opti
 use Rattle.sparse_image.specs.Image.{Table}
 use Rattle.vol_units.specs.declared.page_ref.PageRef.{PageRef}
 use Rattle.range_turns.specs.declared.ticket.Ticket.{Ticket}
-use Rattle.whole_calls.specs.declared.maint.MaintCall.{MaintCall}
+use Rattle.open_calls.specs.declared.maint.MaintCall.{MaintCall}
 use Rattle.open_rebuild.specs.declared.rebuilding.Rebuilding.{Rebuilding}
 use Rattle.open_rebuild.specs.Pages.{IsPageLeft}
 use Rattle.volume_core.specs.declared.world.EndedRebuild.{EndedRebuild}

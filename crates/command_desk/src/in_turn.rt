@@ -1,7 +1,7 @@
 //! What a turn does in more than one call, on the World in the hands of whoever has the turn.
 ghost use Rattle.std.specs.Prelude.{◌≡◌, ℕ, ◌<◌, List, Some, length, IfOk, OnOk, OnErr};
 ghost use Rattle.open_calls.specs.Clients.{IsIdle};
-ghost use Rattle.whole_calls.specs.Maint.{command_at};
+ghost use Rattle.open_calls.specs.Maint.{command_at};
 ghost use Rattle.volume_core.specs.State.{state_of};
 ghost use Rattle.volume_core.specs.Sound.{IsSound};
 ghost use Rattle.volume_core.specs.Streams.{MayGo};

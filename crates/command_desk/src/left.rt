@@ -2,7 +2,7 @@
 
 ghost use Rattle.std.specs.Prelude.{◌≡◌, ◌<◌, [], ◌∷◌, false, true};
 ghost use Rattle.range_turns.specs.declared.ticket.Ticket.{Ticket};
-ghost use Rattle.whole_calls.specs.declared.maint.MaintCall.{MaintCall};
+ghost use Rattle.open_calls.specs.declared.maint.MaintCall.{MaintCall};
 ghost use Rattle.volume_core.specs.State.{state_of};
 ghost use Rattle.volume_core.specs.Sound.{IsSound};
 ghost use Rattle.volume_core.specs.Streams.{turning};

@@ -8,7 +8,7 @@ ghost use Rattle.volume_model.specs.declared.mark.Mark.TheVariants as mark;
 ghost use Rattle.range_turns.specs.Order.{StandsAt};
 ghost use Rattle.open_calls.specs.declared.whole_op.WholeOp.TheVariants as whole;
 ghost use Rattle.open_calls.specs.Calls.{open_at};
-ghost use Rattle.whole_calls.specs.Maint.{command_at};
+ghost use Rattle.open_calls.specs.Maint.{command_at};
 ghost use Rattle.volume_core.specs.State.{state_of};
 ghost use Rattle.volume_core.specs.Sound.{IsSound};
 ghost use Rattle.volume_core.specs.Streams.{MayGo};

@@ -18,7 +18,7 @@ use Rattle.volume_model.proofs.SpotLemmas.{source_is}
 use Rattle.open_calls.specs.declared.whole_op.WholeOp.{WholeOp}
 use Rattle.open_calls.specs.declared.whole_op.WholeOp.TheVariants as whole
 use Rattle.open_calls.specs.Calls.{command_of}
-use Rattle.command_text.specs.declared.command.Command.{Command}
+use Rattle.volume_model.specs.declared.command.Command.{Command}
 use Rattle.stream_steps.specs.Mine.{Mine, OwnCall, Log, with_entries, with_more, with_running, longer, length_of, log_length, answer_placed}
 use Rattle.stream_steps.specs.Steps.{AreMarks, IsCommandAt, CommandsTo}
 use Rattle.stream_steps.specs.Maint.{HasWhole, StartsWhole, EndsWhole, WholeEnds, IsWholeReply}

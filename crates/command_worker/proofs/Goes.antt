@@ -9,7 +9,7 @@ use Rattle.volume_model.specs.declared.mark.Mark.TheVariants as mark
 use Rattle.stream_steps.specs.Mine.{Mine, OwnCall, with_entries, with_running, fault_placed}
 use Rattle.stream_steps.specs.Steps.{AreMarks, AreAborts, FallsTo}
 use Rattle.stream_steps.specs.Maint.{HasTurn}
-use Rattle.command_text.specs.declared.command.Command.{Command}
+use Rattle.volume_model.specs.declared.command.Command.{Command}
 use Rattle.stream_steps.proofs.MineLemmas.{entries_none, entries_twice}
 use Rattle.command_worker.specs.Purges.{MayComeBefore, AreFalls}
 use Rattle.command_worker.specs.Whole.{Goes, GoesOn}

@@ -4,7 +4,7 @@ use Rattle.std.proofs.Common.{Option, subst, sym, refl, ap, ◌∙◌, append_as
 use Rattle.std.specs.Prelude.{All}
 use Rattle.std.proofs.lemmas.List.{take_more, take-append-drop}
 use Rattle.std.proofs.Math.ListN.{get_or}
-use Rattle.command_text.specs.declared.command.Command.{Command}
+use Rattle.volume_model.specs.declared.command.Command.{Command}
 use Rattle.volume_model.specs.declared.entry.Entry.{Entry}
 use Rattle.stream_steps.specs.Mine.{Mine, Log, with_entries, with_running, longer}
 use Rattle.stream_steps.proofs.MineLemmas.{entries_none, entries_twice, longer_none, longer_twice}

@@ -1,7 +1,7 @@
 -- The answers that a stream's own entries have, entries after entries.
 use Rattle.std.proofs.Common.{◌≡◌, ℕ, zero, suc, arith, List, [], ◌∷◌, ◌++◌, map, Option, sym, refl, ap, ◌∙◌}
 use Rattle.std.specs.Prelude.{All}
-use Rattle.command_text.specs.declared.command.Command.{Command}
+use Rattle.volume_model.specs.declared.command.Command.{Command}
 use Rattle.volume_model.specs.declared.call.Call.TheVariants as call
 use Rattle.volume_model.specs.declared.entry.Answer.{Answer}
 use Rattle.volume_model.specs.declared.entry.Entry.{Entry}

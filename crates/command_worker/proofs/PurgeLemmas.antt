@@ -25,7 +25,7 @@ use Rattle.volume_model.proofs.OnlyServed.{with_source}
 use Rattle.volume_model.proofs.PurgeLemmas.{parts-none, parts-some}
 use Rattle.volume_model.proofs.ServedLemmas.{behind-append}
 use Rattle.volume_model.proofs.SpotLemmas.{no_source, source_is}
-use Rattle.command_text.specs.declared.command.Command.TheVariants as command
+use Rattle.volume_model.specs.declared.command.Command.TheVariants as command
 use Rattle.stream_steps.specs.Mine.{Mine, OwnCall, Log, with_entries, with_more, with_running, longer, length_of, log_length, answer_placed}
 use Rattle.stream_steps.specs.Steps.{AreMarks, IsCommandAt}
 use Rattle.stream_steps.specs.Maint.{AnswersWhole, EndsPart}

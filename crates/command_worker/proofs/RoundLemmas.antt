@@ -7,7 +7,7 @@ use Rattle.volume_model.specs.declared.call.Refusal.TheVariants.{NoReplica}
 use Rattle.volume_model.specs.declared.call.Reply.{Reply}
 use Rattle.volume_model.specs.declared.call.Reply.TheVariants as reply
 use Rattle.volume_model.specs.declared.mark.FoldOrDrop.{FoldOrDrop}
-use Rattle.command_text.specs.declared.command.Command.TheVariants as command
+use Rattle.volume_model.specs.declared.command.Command.TheVariants as command
 use Rattle.open_calls.specs.declared.whole_op.WholeOp.TheVariants as whole
 use Rattle.volume_maint.specs.declared.answers.NextPart.{NextPart}
 use Rattle.volume_maint.specs.declared.answers.NextPart.TheVariants as next

@@ -7,7 +7,7 @@ use Rattle.volume_model.specs.declared.entry.Entry.{Entry}
 use Rattle.volume_model.specs.declared.entry.Entry.TheVariants as entry
 use Rattle.volume_model.specs.declared.mark.Mark.TheVariants as mark
 use Rattle.volume_model.specs.declared.mode.Mode.{Mode}
-use Rattle.command_text.specs.declared.command.Command.{Command}
+use Rattle.volume_model.specs.declared.command.Command.{Command}
 use Rattle.stream_steps.specs.Mine.{Placed, Mine, OwnCall, entries_in, with_entries, with_more, with_running, answer_placed, fault_placed}
 use Rattle.stream_steps.specs.Steps.{FallsTo}
 use Rattle.stream_steps.proofs.MineLemmas.{entries_none}

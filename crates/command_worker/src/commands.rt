@@ -2,7 +2,7 @@
 
 ghost use Rattle.std.specs.Prelude.{◌≡◌, ◌≤◌, List, [], ◌∷◌, length, map, true, false, IfOk, OnOk, OnErr};
 ghost use Rattle.vol_units.specs.Name.{begins_sys};
-ghost use Rattle.command_text.specs.declared.command.Command.{Command};
+ghost use Rattle.volume_model.specs.declared.command.Command.{Command};
 ghost use Rattle.open_calls.specs.declared.whole_op.WholeOp.{WholeOp};
 ghost use Rattle.open_calls.specs.Calls.{command_of};
 ghost use Rattle.stream_steps.specs.Mine.{OwnCall, with_running};

@@ -1,7 +1,7 @@
 //! A purge: part after part, until nothing is left to go.
 
 ghost use Rattle.std.specs.Prelude.{◌≡◌, ◌+◌, ◌<◌, ◌≤◌, [], ◌∷◌, length, map, drop, vec_capacity, IfOk, OnOk, OnErr};
-ghost use Rattle.command_text.specs.declared.command.Command.{Command};
+ghost use Rattle.volume_model.specs.declared.command.Command.{Command};
 ghost use Rattle.frame_wire.specs.Spelling.{header_length};
 ghost use Rattle.stream_steps.specs.Mine.{OwnCall, with_running};
 ghost use Rattle.stream_steps.specs.Maint.{HasTurn, IsNext};

@@ -21,7 +21,7 @@ use Rattle.volume_core.specs.Streams.{origin_of}
 use Rattle.commands_in_hand.specs.Hand.{CanBegin, IsReady}
 use Rattle.commands_in_hand.proofs.Shapes.{shape_of}
 use Rattle.commands_in_hand.proofs.Grown.{Kept, gave_up_of, kept_has}
-use Rattle.rebuild_state.specs.Listed.{flag_at, AreListed, place_of}
+use Rattle.open_rebuild.specs.Listed.{flag_at, AreListed, place_of}
 use Rattle.open_rebuild.specs.declared.rebuilding.Rebuilding.{Rebuilding}
 use Rattle.open_rebuild.specs.Claim.{IsRebuilding, with_page}
 use Rattle.open_rebuild.specs.Pages.{IsFrozenPage, IsPageLeft, HasNoneLeft}

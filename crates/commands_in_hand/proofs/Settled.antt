@@ -21,9 +21,9 @@ use Rattle.volume_core.specs.Streams.{calls_in, commands_in}
 use Rattle.volume_core.specs.Steps.{answered, marked, with_place, faulted, aborted_with, behind_fall}
 use Rattle.volume_core.specs.declared.world.EndedRebuild.{EndedRebuild}
 use Rattle.range_turns.specs.declared.ticket.Ticket.{Ticket}
-use Rattle.whole_calls.specs.declared.maint.MaintCall.{MaintCall}
+use Rattle.open_calls.specs.declared.maint.MaintCall.{MaintCall}
 use Rattle.volume_maint.specs.Steps.{without_command, abandoned_with, turn_abandoned}
-use Rattle.whole_calls.specs.Maint.{command_at}
+use Rattle.open_calls.specs.Maint.{command_at}
 use Rattle.stream_steps.specs.Maint.{IsNoAdd}
 use Rattle.commands_in_hand.specs.Hand.{CanBegin, IsReady}
 use Rattle.commands_in_hand.proofs.Shapes.{no_commands}

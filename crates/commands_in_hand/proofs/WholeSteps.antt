@@ -6,8 +6,8 @@ use Rattle.std.specs.List.{remove}
 use Rattle.std.proofs.lemmas.Bool.{cases_order}
 use Rattle.sparse_image.specs.Image.{Tables}
 use Rattle.vol_units.specs.Name.{begins_sys, sys_name}
-use Rattle.command_text.specs.declared.command.Command.{Command}
-use Rattle.command_text.specs.declared.command.Command.TheVariants as command
+use Rattle.volume_model.specs.declared.command.Command.{Command}
+use Rattle.volume_model.specs.declared.command.Command.TheVariants as command
 use Rattle.range_turns.specs.declared.ticket.Ticket.{Ticket}
 use Rattle.range_turns.specs.Order.{ticket_at, with_started, StandsAt}
 use Rattle.volume_model.specs.declared.call.Call.TheVariants as call
@@ -37,12 +37,12 @@ use Rattle.open_calls.specs.declared.whole_op.WholeOp.TheVariants as whole
 use Rattle.open_calls.specs.Parts.{part_at, part_for, IsTaken}
 use Rattle.open_calls.specs.Calls.{open_at, node_at, command_of, whole_call}
 use Rattle.open_calls.proofs.PartLemmas.{part_of}
-use Rattle.whole_calls.specs.declared.maint.MaintCall.{MaintCall}
-use Rattle.whole_calls.specs.declared.whole.Whole.{Whole}
-use Rattle.whole_calls.specs.Due.{part_on}
-use Rattle.whole_calls.specs.Whole.{IsWhole, parted, part_acked}
-use Rattle.whole_calls.specs.Maint as core
-use Rattle.whole_calls.specs.Maint.{command_at, IsAskedBy}
+use Rattle.open_calls.specs.declared.maint.MaintCall.{MaintCall}
+use Rattle.open_calls.specs.declared.whole.Whole.{Whole}
+use Rattle.open_calls.specs.Due.{part_on}
+use Rattle.open_calls.specs.Whole.{IsWhole, parted, part_acked}
+use Rattle.open_calls.specs.Maint as core
+use Rattle.open_calls.specs.Maint.{command_at, IsAskedBy}
 use Rattle.volume_core.specs.declared.world.NotThis.{NotThis}
 use Rattle.volume_core.specs.declared.world.NotThis.TheVariants as against
 use Rattle.volume_core.specs.State.{State, told_of, modes_in, index_at}

@@ -1,10 +1,10 @@
 -- What a step of the maintenance turn, on the whole volume or of folding asks of a World before it is taken.
 use Rattle.std.specs.Prelude.{ℕ, ◌<◌, ◌*◌, length}
 use Rattle.vol_units.specs.declared.size.TheConstants.{PAGE_BYTES}
-use Rattle.command_text.specs.declared.command.Command.{Command}
+use Rattle.volume_model.specs.declared.command.Command.{Command}
 use Rattle.open_calls.specs.declared.whole_op.WholeOp.{WholeOp}
 use Rattle.open_calls.specs.Clients.{IsIdle}
-use Rattle.whole_calls.specs.Maint.{IsMaint}
+use Rattle.open_calls.specs.Maint.{IsMaint}
 use Rattle.volume_core.specs.State.{State}
 use Rattle.volume_maint.specs.Places.{AwaitsTurn, AwaitsWhole}
 use Rattle.volume_maint.specs.Answers.{MayAsk}

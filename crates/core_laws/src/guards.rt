@@ -1,7 +1,7 @@
 //! Whether a step may be asked for.
 
 ghost use Rattle.std.specs.Prelude.{◌≡◌, ℕ, ◌<◌, length, true, false};
-ghost use Rattle.whole_calls.specs.Maint.{HasNoCommand};
+ghost use Rattle.open_calls.specs.Maint.{HasNoCommand};
 ghost use Rattle.volume_core.specs.Answers.{IsOnRange, IsNow};
 ghost use Rattle.volume_core.specs.State.{state_of};
 ghost use Rattle.core_laws.specs.Guards.{IsFreeStream, MayEnrol, MayAnswer, IsWaiting};

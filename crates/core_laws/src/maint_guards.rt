@@ -1,7 +1,7 @@
 //! Whether a step of the maintenance turn, on the whole volume or of folding may be asked for.
 
 ghost use Rattle.std.specs.Prelude.{◌≡◌, true, false};
-ghost use Rattle.whole_calls.specs.Maint.{IsMaint, HasTurn};
+ghost use Rattle.open_calls.specs.Maint.{IsMaint, HasTurn};
 ghost use Rattle.volume_core.specs.Sound.{IsSound};
 ghost use Rattle.volume_core.specs.State.{state_of};
 ghost use Rattle.volume_maint.specs.Answers.{MayAsk};

@@ -7,3 +7,13 @@ pub mod OneCall
 pub mod Enrolled
 pub mod Started
 pub mod Gone
+pub mod Kept
+pub mod Ops
+pub mod Forms
+pub mod Starts
+pub mod PartSteps
+pub mod Ends
+pub mod Barrier
+pub mod Folds
+pub mod Turns
+pub mod Answered

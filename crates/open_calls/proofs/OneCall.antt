@@ -12,7 +12,7 @@ use Rattle.range_turns.specs.Order.{ticket_at, from_of, until_of}
 use Rattle.replica_node.specs.Node.{Node, blank}
 use Rattle.replica_node.specs.Fold.{snapshots_of}
 use Rattle.replica_node.specs.Room.{put_at, HasRoom}
-use Rattle.replica_state.specs.Volume.{copies_in}
+use Rattle.replica_node.specs.Volume.{copies_in}
 use Rattle.open_calls.specs.declared.parts.Part.{Part}
 use Rattle.open_calls.specs.declared.parts.Part.TheVariants.{Taken, Acked}
 use Rattle.open_calls.specs.declared.open_call.OpenCall.{OpenCall}

@@ -15,7 +15,7 @@ use Rattle.range_turns.specs.Order.{ticket_at, no_ticket, from_of, until_of, IsC
 use Rattle.range_turns.proofs.OrderLemmas.{AreInOrder-with_started}
 use Rattle.replica_node.specs.Node.{Node}
 use Rattle.replica_node.specs.Fold.{snapshots_of}
-use Rattle.replica_state.specs.Volume.{copies_in}
+use Rattle.replica_node.specs.Volume.{copies_in}
 use Rattle.open_calls.specs.declared.open_call.OpenCall.{OpenCall}
 use Rattle.open_calls.specs.Parts.{part_for, part_at, IsTaken}
 use Rattle.open_calls.specs.Calls.{no_call, open_at, node_at, whole_of, begun}

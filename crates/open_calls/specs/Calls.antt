@@ -1,8 +1,8 @@
 -- The calls that were enrolled and have not ended, one for each ticket and in the same order.
 use Rattle.std.specs.Prelude.{ℕ, pos, List, [], ◌++◌, length, map, slice_index_or, slice_set, Option, None, Some}
 use Rattle.vol_units.specs.Bytes.{bytes_at}
-use Rattle.command_text.specs.declared.command.Command.{Command}
-use Rattle.command_text.specs.declared.command.Command.TheVariants as command
+use Rattle.volume_model.specs.declared.command.Command.{Command}
+use Rattle.volume_model.specs.declared.command.Command.TheVariants as command
 use Rattle.volume_model.specs.declared.mode.Mode.{Mode}
 use Rattle.volume_model.specs.declared.call.Call.{Call}
 use Rattle.volume_model.specs.declared.call.Call.TheVariants as call

@@ -16,7 +16,7 @@ use Rattle.range_turns.specs.Order.{ticket_at, from_of, until_of, AreInOrder}
 use Rattle.replica_node.specs.Node.{Node}
 use Rattle.replica_node.specs.Fold.{snapshots_of}
 use Rattle.replica_node.specs.Room.{HasRoom}
-use Rattle.replica_state.specs.Volume.{copies_in}
+use Rattle.replica_node.specs.Volume.{copies_in}
 use Rattle.open_calls.specs.declared.parts.Part.TheVariants.{Apart}
 use Rattle.open_calls.specs.declared.open_call.OpenCall.{OpenCall}
 use Rattle.open_calls.specs.Parts.{part_at, IsTaken}

@@ -1,15 +1,22 @@
-//! The calls that were enrolled and have not ended: what is kept of each, and what the replicas owe those on ranges.
+//! The calls that were enrolled and have not ended, what the replicas owe each, what is done to the whole volume, a part
+//! on each replica, and the turn of the commands that do it.
 #![tactic(auto)]
 
 mod buffer;
+mod maint;
 mod open_call;
 mod parts;
+mod spares;
+mod whole;
 mod whole_op;
 
 pub use buffer::Buffer;
+pub use maint::MaintCall;
 pub use open_call::OpenCall;
 pub use parts::{Part, Parts};
 pub use range_turns::{BlockRange, Kind, Ticket, TicketNumber};
-pub use replica_node::ReplicaNode;
+pub use replica_node::{ReplicaNode, Spare};
+pub use spares::Spares;
 pub use volume_model::{Bytes, Call, Command, FoldOrDrop, LayerName, Mode, Sequence, SnapName};
+pub use whole::{Whole, take_part};
 pub use whole_op::WholeOp;

@@ -18,7 +18,7 @@ use Rattle.std.proofs.lemmas.Map.Lookups.{exact_bytes}
 use Rattle.std.proofs.lemmas.Slice.Eq.{bytes_eq-Decides}
 use Rattle.volume_model.specs.Purge.{is_before}
 use Rattle.volume_model.proofs.PurgeLemmas.{before_itself, before_trans}
-use Rattle.rebuild_state.specs.Listed.{place_of}
+use Rattle.open_rebuild.specs.Listed.{place_of}
 use Rattle.open_rebuild.specs.Frozen.{AreFrozen, IsInByteOrder, AddsName}
 use Rattle.open_rebuild.proofs.PlaceLemmas.{place_at}
 

@@ -1,3 +1,7 @@
+pub mod RebuildLemmas
+pub mod WriteLemmas
+pub mod PromoteLemmas
+pub mod ListedLemmas
 pub mod UnderWay
 pub mod RangeSteps
 pub mod WholeSteps

@@ -15,12 +15,12 @@ use Rattle.open_calls.specs.Calls.{node_at}
 use Rattle.open_calls.specs.Clients.{AreClients}
 use Rattle.open_calls.proofs.ListLemmas.{at_set}
 use Rattle.open_calls.proofs.PartLemmas.{up_in}
-use Rattle.whole_calls.specs.declared.whole.Whole.{Whole}
-use Rattle.whole_calls.specs.Due.{forms}
-use Rattle.rebuild_state.specs.Listed.{AreListed}
-use Rattle.rebuild_state.specs.Rebuild.{IsReplica}
-use Rattle.rebuild_state.proofs.ListedLemmas.{all_listed}
-use Rattle.rebuild_state.proofs.PromoteLemmas.{promoted_agree}
+use Rattle.open_calls.specs.declared.whole.Whole.{Whole}
+use Rattle.open_calls.specs.Due.{forms}
+use Rattle.open_rebuild.specs.Listed.{AreListed}
+use Rattle.open_rebuild.specs.Rebuild.{IsReplica}
+use Rattle.open_rebuild.proofs.ListedLemmas.{all_listed}
+use Rattle.open_rebuild.proofs.PromoteLemmas.{promoted_agree}
 use Rattle.open_rebuild.specs.declared.rebuilding.Rebuilding.{Rebuilding}
 use Rattle.open_rebuild.specs.Claim.{AreRoles, listed_of, IsRebuilding, IsApart}
 use Rattle.open_rebuild.proofs.RangeSteps.{up_rw, up_wo}

@@ -29,15 +29,15 @@ use Rattle.open_calls.specs.declared.whole_op.WholeOp.TheVariants as whole
 use Rattle.open_calls.specs.Calls.{node_at}
 use Rattle.open_calls.specs.Parts.{part_at}
 use Rattle.open_calls.proofs.PartLemmas.{up_in}
-use Rattle.whole_calls.specs.declared.whole.Whole.{Whole}
-use Rattle.whole_calls.specs.Due.{form_part, formed, forms}
-use Rattle.whole_calls.specs.Whole.{MayBeDone, StandsFor, IsStarted}
-use Rattle.whole_calls.proofs.Forms.{length-forms, formed_in}
-use Rattle.rebuild_state.specs.Rebuild.{IsRebuilt, IsFreeBlock, ListsPage, IsReplica}
-use Rattle.rebuild_state.specs.Listed.{place_of}
-use Rattle.rebuild_state.proofs.ListedLemmas.{page_listed}
-use Rattle.rebuild_state.proofs.PromoteLemmas.{replica_snapped_node}
-use Rattle.rebuild_state.proofs.RebuildLemmas.{none_own, page_copied}
+use Rattle.open_calls.specs.declared.whole.Whole.{Whole}
+use Rattle.open_calls.specs.Due.{form_part, formed, forms}
+use Rattle.open_calls.specs.Whole.{MayBeDone, StandsFor, IsStarted}
+use Rattle.open_calls.proofs.Forms.{length-forms, formed_in}
+use Rattle.open_rebuild.specs.Rebuild.{IsRebuilt, IsFreeBlock, ListsPage, IsReplica}
+use Rattle.open_rebuild.specs.Listed.{place_of}
+use Rattle.open_rebuild.proofs.ListedLemmas.{page_listed}
+use Rattle.open_rebuild.proofs.PromoteLemmas.{replica_snapped_node}
+use Rattle.open_rebuild.proofs.RebuildLemmas.{none_own, page_copied}
 use Rattle.open_rebuild.specs.declared.rebuilding.Rebuilding.{Rebuilding}
 use Rattle.open_rebuild.specs.Claim.{listed_of, with_page, IsBesideThese, IsBesideStarted, IsUnderWay, IsRebuilding}
 use Rattle.open_rebuild.proofs.RangeSteps.{up_rw, up_wo}

@@ -5,8 +5,8 @@ use Rattle.std.specs.Prelude.{Contains}
 use Rattle.std.specs.Str.{bytes_eq}
 use Rattle.std.proofs.lemmas.Bool.{cases_lt}
 use Rattle.std.proofs.lemmas.Slice.Eq.{bytes_eq-Decides}
-use Rattle.rebuild_state.specs.Listed.{place_of}
-use Rattle.rebuild_state.proofs.ListedLemmas.{placed}
+use Rattle.open_rebuild.specs.Listed.{place_of}
+use Rattle.open_rebuild.proofs.ListedLemmas.{placed}
 
 -- the first that has the name
 pub place_at : (names : List (List ℕ)) (name : List ℕ) (i : ℕ) → i < length names

@@ -23,12 +23,12 @@ use Rattle.open_calls.specs.Starts.{KeepsNodes}
 use Rattle.open_calls.proofs.FreeLemmas.{free_before, not_both}
 use Rattle.open_calls.proofs.ListLemmas.{at_set, each_set}
 use Rattle.open_calls.proofs.PartLemmas.{up_in, part_was, part_of, part_for_new}
-use Rattle.whole_calls.specs.declared.whole.Whole.{Whole}
-use Rattle.whole_calls.specs.Due.{forms}
-use Rattle.whole_calls.proofs.Forms.{done_part}
-use Rattle.whole_calls.proofs.Kept.{each_push, each_left}
-use Rattle.rebuild_state.specs.Rebuild.{IsFreeBlock, HasPut}
-use Rattle.rebuild_state.proofs.WriteLemmas.{put_inside, put_outside}
+use Rattle.open_calls.specs.declared.whole.Whole.{Whole}
+use Rattle.open_calls.specs.Due.{forms}
+use Rattle.open_calls.proofs.Forms.{done_part}
+use Rattle.open_calls.proofs.Kept.{each_push, each_left}
+use Rattle.open_rebuild.specs.Rebuild.{IsFreeBlock, HasPut}
+use Rattle.open_rebuild.proofs.WriteLemmas.{put_inside, put_outside}
 use Rattle.open_rebuild.specs.declared.rebuilding.Rebuilding.{Rebuilding}
 use Rattle.open_rebuild.specs.Claim.{HasRoles, HasWrite, IsKeptBy, AreWritesKept, IsUnderWay, IsRebuilding}
 use Rattle.open_rebuild.proofs.UnderWay.{each_rebuild, HasLayers, moved, IsOutside, free_outside, other_outside}

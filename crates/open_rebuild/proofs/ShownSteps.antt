@@ -23,7 +23,7 @@ use Rattle.replica_node.specs.Node.{Kept, Node, blank}
 use Rattle.replica_node.specs.Room.{HasRoom, head_block}
 use Rattle.replica_node.specs.Fold.{tree_of, snapshots_of}
 use Rattle.replica_node.specs.Held.{PutsPage, metas_of}
-use Rattle.replica_state.specs.Volume.{copies_in}
+use Rattle.replica_node.specs.Volume.{copies_in}
 use Rattle.open_calls.specs.declared.open_call.OpenCall.{OpenCall}
 use Rattle.open_calls.specs.declared.parts.Part.TheVariants.{Owed}
 use Rattle.open_calls.specs.declared.whole_op.WholeOp.{WholeOp}
@@ -32,12 +32,12 @@ use Rattle.open_calls.specs.Calls.{open_at, node_at, whole_of}
 use Rattle.open_calls.specs.Clients.{AreClients, Fits, HasBytes, byte_of}
 use Rattle.open_calls.specs.Parts.{part_at}
 use Rattle.open_calls.proofs.ListLemmas.{each_set}
-use Rattle.whole_calls.specs.declared.maint.MaintCall.{MaintCall}
-use Rattle.whole_calls.specs.declared.whole.Whole.{Whole}
-use Rattle.whole_calls.specs.Due.{forms}
-use Rattle.whole_calls.specs.Whole.{CanTake, HasSpare, IsFolded, IsWhole, spare_at}
-use Rattle.whole_calls.specs.Maint.{AreMaint, CanStill}
-use Rattle.whole_calls.proofs.Forms.{length-forms}
+use Rattle.open_calls.specs.declared.maint.MaintCall.{MaintCall}
+use Rattle.open_calls.specs.declared.whole.Whole.{Whole}
+use Rattle.open_calls.specs.Due.{forms}
+use Rattle.open_calls.specs.Whole.{CanTake, HasSpare, IsFolded, IsWhole, spare_at}
+use Rattle.open_calls.specs.Maint.{AreMaint, CanStill}
+use Rattle.open_calls.proofs.Forms.{length-forms}
 use Rattle.open_rebuild.specs.declared.rebuilding.Rebuilding.{Rebuilding}
 use Rattle.open_rebuild.specs.Claim.{HasWrite, IsBesideThese, IsBesideStarted, IsRebuilding}
 use Rattle.open_rebuild.proofs.PageSteps.{new_puts, other, same_head, still, target_in, u}

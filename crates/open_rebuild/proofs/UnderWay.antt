@@ -12,9 +12,9 @@ use Rattle.open_calls.specs.declared.open_call.OpenCall.{OpenCall}
 use Rattle.open_calls.specs.Calls.{node_at}
 use Rattle.open_calls.specs.Clients.{IsWriting}
 use Rattle.open_calls.proofs.FreeLemmas.{held_apart}
-use Rattle.whole_calls.specs.declared.whole.Whole.{Whole}
-use Rattle.rebuild_state.specs.Rebuild.{IsFreeBlock}
-use Rattle.rebuild_state.proofs.RebuildLemmas.{head_keeps}
+use Rattle.open_calls.specs.declared.whole.Whole.{Whole}
+use Rattle.open_rebuild.specs.Rebuild.{IsFreeBlock}
+use Rattle.open_rebuild.proofs.RebuildLemmas.{head_keeps}
 use Rattle.open_rebuild.specs.declared.rebuilding.Rebuilding.{Rebuilding}
 use Rattle.open_rebuild.specs.Claim.{HasRoles, AreRoles, listed_of, AreWritesKept, IsUnderWay, IsClaimed, IsClaim, IsRebuilding}
 

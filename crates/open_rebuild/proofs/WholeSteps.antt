@@ -26,16 +26,16 @@ use Rattle.open_calls.specs.Parts.{part_at, part_for, is_pending_at, IsTaken}
 use Rattle.open_calls.proofs.FreeLemmas.{not_both}
 use Rattle.open_calls.proofs.ListLemmas.{at_set}
 use Rattle.open_calls.proofs.PartLemmas.{up_in, part_of}
-use Rattle.whole_calls.specs.declared.whole.Whole.{Whole}
-use Rattle.whole_calls.specs.Due.{part_on, form_part, formed}
-use Rattle.whole_calls.specs.Whole.{parted, part_acked}
-use Rattle.whole_calls.proofs.Ends.{still_left, only_started}
-use Rattle.whole_calls.proofs.Forms.{formed_in, parted_form, acked_form, form_as_is, done_part, part_for_owed}
-use Rattle.whole_calls.proofs.Starts.{IsStill, still_clear, still_unheld}
-use Rattle.rebuild_state.specs.Rebuild.{IsRebuilt, IsFreeBlock}
-use Rattle.rebuild_state.specs.Listed.{is_listed_in}
-use Rattle.rebuild_state.proofs.ListedLemmas.{none_listed}
-use Rattle.rebuild_state.proofs.RebuildLemmas.{head_keeps, rebuild_begins, snapshot_keeps}
+use Rattle.open_calls.specs.declared.whole.Whole.{Whole}
+use Rattle.open_calls.specs.Due.{part_on, form_part, formed}
+use Rattle.open_calls.specs.Whole.{parted, part_acked}
+use Rattle.open_calls.proofs.Ends.{still_left, only_started}
+use Rattle.open_calls.proofs.Forms.{formed_in, parted_form, acked_form, form_as_is, done_part, part_for_owed}
+use Rattle.open_calls.proofs.Starts.{IsStill, still_clear, still_unheld}
+use Rattle.open_rebuild.specs.Rebuild.{IsRebuilt, IsFreeBlock}
+use Rattle.open_rebuild.specs.Listed.{is_listed_in}
+use Rattle.open_rebuild.proofs.ListedLemmas.{none_listed}
+use Rattle.open_rebuild.proofs.RebuildLemmas.{head_keeps, rebuild_begins, snapshot_keeps}
 use Rattle.open_rebuild.specs.declared.rebuilding.Rebuilding.{Rebuilding}
 use Rattle.open_rebuild.specs.Claim.{HasRoles, listed_of, IsBesideThese, IsBeside, IsUnderWay, IsRebuilding, Snaps, IsNew}
 use Rattle.open_rebuild.proofs.UnderWay.{each_rebuild}

@@ -15,10 +15,10 @@ use Rattle.open_calls.specs.declared.whole_op.WholeOp.TheVariants as whole
 use Rattle.open_calls.specs.Calls.{open_at, node_at, whole_of}
 use Rattle.open_calls.specs.Clients.{IsWriting}
 use Rattle.open_calls.specs.Parts.{part_at, IsTaken}
-use Rattle.whole_calls.specs.declared.whole.Whole.{Whole}
-use Rattle.whole_calls.specs.Due.{forms, part_on}
-use Rattle.rebuild_state.specs.Listed.{place_of, is_listed_in}
-use Rattle.rebuild_state.specs.Rebuild.{IsRebuilt, IsFreeBlock, HasPut}
+use Rattle.open_calls.specs.declared.whole.Whole.{Whole}
+use Rattle.open_calls.specs.Due.{forms, part_on}
+use Rattle.open_rebuild.specs.Listed.{place_of, is_listed_in}
+use Rattle.open_rebuild.specs.Rebuild.{IsRebuilt, IsFreeBlock, HasPut}
 use Rattle.open_rebuild.specs.declared.rebuilding.Rebuilding.{Rebuilding}
 use Rattle.open_rebuild.specs.Frozen.{AreFrozen, IsInByteOrder}
 

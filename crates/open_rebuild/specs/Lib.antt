@@ -1,3 +1,5 @@
+pub mod Rebuild
+pub mod Listed
 pub mod Frozen
 pub mod Claim
 pub mod Pages

@@ -1,7 +1,7 @@
 -- The pages that a rebuild has still to copy, in the order of layers and pages.
 use Rattle.std.specs.Prelude.{◌≡◌, ◌⊎◌, ◌+◌, ◌*◌, ◌<◌, false, true, length, Contains}
 use Rattle.vol_units.specs.declared.page_ref.PageRef.{PageRef}
-use Rattle.rebuild_state.specs.Listed.{AreListed, IsFirstLeft, place_of}
+use Rattle.open_rebuild.specs.Listed.{AreListed, IsFirstLeft, place_of}
 use Rattle.open_rebuild.specs.declared.rebuilding.Rebuilding.{Rebuilding}
 use Rattle.open_rebuild.specs.Claim.{listed_of}
 

@@ -1,5 +1,5 @@
 ghost use Rattle.std.specs.Prelude.{◌≡◌, ◌↔◌, ◌+◌, ◌<◌, ◌≤◌, length, Contains, IsTrue, IfOk, OnOk};
-ghost use Rattle.rebuild_state.specs.Listed.{place_of};
+ghost use Rattle.open_rebuild.specs.Listed.{place_of};
 ghost use Rattle.open_rebuild.specs.Frozen.{AreFrozen, IsInByteOrder, AddsName};
 
 use replica_node::LayerName;

@@ -2,10 +2,11 @@
 #![tactic(auto)]
 
 mod frozen_layers;
+mod listed_pages;
 mod rebuilding;
 
 pub use frozen_layers::FrozenLayers;
-pub use rebuild_state::ListedPages;
+pub use listed_pages::ListedPages;
 pub use rebuilding::Rebuilding;
 pub use replica_node::{LayerName, ReplicaNode};
 pub use vol_units::PageRef;

@@ -1,11 +1,11 @@
 ghost use Rattle.std.specs.Prelude.{◌≡◌, ◌↔◌, ◌<◌, ◌+◌, ◌*◌, length, Contains, IsTrue, IfOk, MatchOption};
 ghost use Rattle.vol_units.specs.Name.{sys_name};
-ghost use Rattle.rebuild_state.specs.Listed.{AreListed, place_of};
+ghost use Rattle.open_rebuild.specs.Listed.{AreListed, place_of};
 ghost use Rattle.open_rebuild.specs.Claim.{HasBits, IsNew, with_page};
 ghost use Rattle.open_rebuild.specs.Pages.{IsFrozenPage, IsPageLeft, HasNoneLeft, IsNextLeft};
 
 use crate::frozen_layers::FrozenLayers;
-use rebuild_state::ListedPages;
+use crate::listed_pages::ListedPages;
 use replica_node::{LayerName, ReplicaNode};
 use std::alloc::{AllocError, Global};
 use vol_units::PageRef;

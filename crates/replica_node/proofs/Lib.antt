@@ -18,3 +18,5 @@ pub mod ReadLemmas
 pub mod RoomLemmas
 pub mod TreeOf
 pub mod WriteLemmas
+pub mod VolumeLemmas
+pub mod PurgeLemmas

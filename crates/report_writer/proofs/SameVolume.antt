@@ -10,7 +10,7 @@ use Rattle.volume_model.specs.History.{Spot}
 use Rattle.volume_model.specs.PlainState.{Volume}
 use Rattle.volume_model.specs.Replay.{replay}
 use Rattle.replica_node.specs.Node.{Node}
-use Rattle.replica_state.specs.Volume.{volume_of_node}
+use Rattle.replica_node.specs.Volume.{volume_of_node}
 use Rattle.run_report.specs.Report.{call_lines, mode_lines, source_lines, end_lines, report_of}
 use Rattle.report_writer.specs.Written.{replica_line, replica_lines, end_text, written_text}
 use Rattle.report_writer.specs.declared.end.EndLine.{EndLine}

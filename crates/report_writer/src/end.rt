@@ -1,6 +1,6 @@
 ghost use Rattle.std.specs.Prelude.{◌≡◌, ◌+◌, ◌<◌, ◌++◌, length, map, OnOk};
 ghost use Rattle.run_report.specs.Report.{mode_lines};
-ghost use Rattle.replica_state.specs.Volume.{volume_of_node};
+ghost use Rattle.replica_node.specs.Volume.{volume_of_node};
 ghost use Rattle.report_writer.specs.Written.{end_text, replica_line, replica_lines};
 
 use crate::digests::Digests;

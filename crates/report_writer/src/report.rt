@@ -7,7 +7,7 @@ ghost use Rattle.run_report.specs.Lines.{entry_line, reply_line};
 ghost use Rattle.run_report.specs.Report.{journal_lines, reply_lines, replies_from};
 ghost use Rattle.journal_book.specs.Book.{modes_of};
 ghost use Rattle.volume_model.specs.History.{answers_of};
-ghost use Rattle.replica_state.specs.Volume.{volume_of_node};
+ghost use Rattle.replica_node.specs.Volume.{volume_of_node};
 ghost use Rattle.report_writer.specs.Written.{written_text};
 
 use crate::end::print_end;

@@ -5,7 +5,7 @@ use Rattle.std.specs.List.{flat_map, join_with_byte}
 use Rattle.std.specs.Fmt.{decimal, signed_decimal}
 use Rattle.frame_wire.specs.declared.head.Head.{Head}
 use Rattle.image_runs.specs.Runs.{runs_text}
-use Rattle.command_text.specs.Commands.{command_text}
+use Rattle.volume_model.specs.Commands.{command_text}
 use Rattle.volume_model.specs.declared.call.Call.{Call}
 use Rattle.volume_model.specs.declared.call.Call.TheVariants as call
 use Rattle.volume_model.specs.declared.call.Reply.{Reply}

@@ -1,7 +1,7 @@
 //! Worked rows of the report, computed by the checker: of calls on small disks, and of what a run leaves.
 
 ghost use Rattle.std.specs.Prelude.{◌≡◌, ◌∷◌, [], map, codes, pos, true, false, Some, None};
-ghost use Rattle.command_text.specs.declared.command.Command.TheVariants as command;
+ghost use Rattle.volume_model.specs.declared.command.Command.TheVariants as command;
 ghost use Rattle.volume_model.specs.declared.call.Call.TheVariants as call;
 ghost use Rattle.volume_model.specs.declared.call.Reply.TheVariants as reply;
 ghost use Rattle.volume_model.specs.PlainState.{state_of};

@@ -1,14 +1,14 @@
 -- A member has one value at most.
 use Rattle.std.proofs.Common.{◌≡◌, ◌∙◌, ℕ, List, [], ◌∷◌, Option, Some, None, option_and_then, refl, sym, ap, subst}
 use Rattle.serde_json.specs.Data.{Data, Items, no_items, item}
-use Rattle.command_text.specs.Commands.{IsCommand}
-use Rattle.command_text.specs.declared.command.Command.{Command}
+use Rattle.volume_model.specs.Commands.{IsCommand}
+use Rattle.volume_model.specs.declared.command.Command.{Command}
 use Rattle.script_head.specs.declared.head.StreamHead.{StreamHead}
 use Rattle.script_head.specs.declared.head.StreamHead.TheVariants.{Frames, Control}
 use Rattle.script_head.specs.Values.{AreItems, HasItems}
 use Rattle.script_head.specs.declared.line_plan.LinePlan.{LinePlan}
 use Rattle.script_head.specs.Members.{IsCommandItem, IsStreamItem, IsCarryItem, IsLinePlan, ArePlans}
-use Rattle.command_text.proofs.TextLemmas.{same_text}
+use Rattle.volume_model.proofs.TextLemmas.{same_text}
 
 -- two values of one option
 pub same_value : {A : Type 0} {x y : A} (found : Option A) → found ≡ Some x → found ≡ Some y → x ≡ y

@@ -2,9 +2,9 @@
 use Rattle.std.proofs.Common.{◌≡◌, ℕ, List, length, Some, Result, Ok, Err, inl, inr, sym, subst}
 use Rattle.serde_json.specs.Data.{Data}
 use Rattle.serde_json.specs.Find.{as_str}
-use Rattle.command_text.specs.Commands.{IsCommand, IsNoCommand}
-use Rattle.command_text.specs.declared.command.Command.{Command}
-use Rattle.command_text.proofs.TextLemmas.{same_text}
+use Rattle.volume_model.specs.Commands.{IsCommand, IsNoCommand}
+use Rattle.volume_model.specs.declared.command.Command.{Command}
+use Rattle.volume_model.proofs.TextLemmas.{same_text}
 use Rattle.script_head.specs.declared.error.HeadError.{HeadError}
 use Rattle.script_head.specs.declared.error.HeadError.TheVariants.{Json, BadMember, NoMemory}
 use Rattle.script_head.specs.declared.member.Member.{Member}

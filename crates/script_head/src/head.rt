@@ -10,11 +10,10 @@ use crate::line_plan::LinePlan;
 use crate::lines::lines_in;
 use crate::member::Member;
 use crate::members;
-use command_text::Command;
 use serde_json::Value;
 use std::alloc::Global;
 use vol_units::{PlainName, TimeText, VolumeSize};
-use volume_model::Sequence;
+use volume_model::{Command, Sequence};
 
 /// What the first line says of one stream.
 #[derive(Debug, Drop)]

@@ -10,10 +10,9 @@ mod member;
 mod members;
 mod streams;
 
-pub use command_text::Command;
 pub use error::HeadError;
 pub use head::{ScriptHead, StreamHead, read_head};
 pub use line_plan::{LinePlan, plan_of};
 pub use member::Member;
 pub use vol_units::TimeText;
-pub use volume_model::Sequence;
+pub use volume_model::{Command, Sequence};

@@ -11,10 +11,9 @@ use crate::error::HeadError;
 use crate::head::StreamHead;
 use crate::limits::{MOST_CALLS, MOST_INPUT};
 use crate::member::Member;
-use command_text::Command;
 use serde_json::Value;
 use std::alloc::Global;
-use volume_model::Sequence;
+use volume_model::{Command, Sequence};
 
 const BAD: HeadError = HeadError::BadMember(Member::Streams);
 

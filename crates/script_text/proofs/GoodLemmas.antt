@@ -2,7 +2,7 @@
 use Rattle.std.proofs.Common.{◌≡◌, ℕ, suc, ◌≤◌, ◌==◌, ◌&&◌, Bool, true, false, cond, List, [], ◌∷◌, length, All}
 use Rattle.std.proofs.Common.{Option, Some, None, refl, ap, subst, sym, arith}
 use Rattle.std.proofs.lemmas.List.Elements.{All-nil, All-cons, All-head, All-tail}
-use Rattle.command_text.specs.declared.command.Command.{Command}
+use Rattle.volume_model.specs.declared.command.Command.{Command}
 use Rattle.serde_json.specs.Data.{Data, Items, no_items, item}
 use Rattle.script_head.specs.Limits.{largest_carry}
 use Rattle.script_head.specs.LinePlans.{NoPairTwice, planned}

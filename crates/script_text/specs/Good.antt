@@ -1,7 +1,7 @@
 -- What is good in each script: its commands, its streams, and its plans of lines.
 use Rattle.std.specs.Prelude.{◌≡◌, ℕ, ◌<◌, ◌≤◌, List, length, All}
-use Rattle.command_text.specs.Commands.{HasGoodName}
-use Rattle.command_text.specs.declared.command.Command.{Command}
+use Rattle.volume_model.specs.Commands.{HasGoodName}
+use Rattle.volume_model.specs.declared.command.Command.{Command}
 use Rattle.frame_stream.specs.Asked.{asked_of, call_of}
 use Rattle.frame_stream.specs.declared.asked.Asked.TheVariants as asked
 use Rattle.script_head.specs.Limits.{most_failures, largest_carry}

@@ -1,6 +1,6 @@
 -- What the core's steps of an add say to the stream for which they are taken.
 use Rattle.std.specs.Prelude.{◌≡◌, ◌⊎◌, ℕ, ◌+◌, ◌<◌, List, [], ◌∷◌, ◌++◌, Contains, Some, IfSome}
-use Rattle.command_text.specs.declared.command.Command.TheVariants as command
+use Rattle.volume_model.specs.declared.command.Command.TheVariants as command
 use Rattle.sparse_image.specs.Image.{Table, HasBlock}
 use Rattle.vol_units.specs.declared.page_ref.PageRef.{PageRef}
 use Rattle.volume_model.specs.declared.call.Reply.TheVariants as reply

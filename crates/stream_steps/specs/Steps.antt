@@ -20,8 +20,8 @@ use Rattle.volume_core.specs.declared.admit.Admit.TheVariants as admit
 use Rattle.volume_core.specs.declared.enrol.Enrolled.{Enrolled}
 use Rattle.volume_core.specs.declared.enrol.Enrolled.TheVariants as enrol
 use Rattle.volume_core.specs.declared.job.Job.{Job}
-use Rattle.command_text.specs.declared.command.Command.{Command}
-use Rattle.command_text.specs.declared.command.Command.TheVariants as command
+use Rattle.volume_model.specs.declared.command.Command.{Command}
+use Rattle.volume_model.specs.declared.command.Command.TheVariants as command
 use Rattle.volume_model.specs.declared.entry.Entry.{Entry}
 use Rattle.volume_model.specs.declared.entry.Entry.TheVariants as entry
 use Rattle.volume_model.specs.declared.mark.Mark.{Mark}

@@ -1,4 +1,4 @@
-ghost use Rattle.command_text.specs.declared.command.Command.{Command};
+ghost use Rattle.volume_model.specs.declared.command.Command.{Command};
 ghost use Rattle.open_calls.specs.declared.whole_op.WholeOp.{WholeOp};
 ghost use Rattle.std.specs.Prelude.{◌≡◌, ◌≢◌, ℕ, ◌<◌, List, [], ◌∷◌, false, true, IfOk, IfErr, OnOk, OnErr, IfSome, None, Ok};
 ghost use Rattle.vol_units.specs.Name.{begins_sys};

@@ -11,9 +11,9 @@ use Rattle.volume_model.specs.declared.call.Call.{Call}
 use Rattle.volume_model.specs.declared.entry.Entry.{Entry}
 use Rattle.volume_model.specs.History.{Spot}
 use Rattle.client_worker.specs.Exchanges.{told_in}
-use Rattle.turn_laws.specs.Turns.{IsTurn, TellsOthers}
+use Rattle.stream_turns.specs.Turns.{IsTurn, TellsOthers}
 use Rattle.stream_turns.specs.Turn.{AreNewLines}
-use Rattle.turn_laws.proofs.OneTurn.{noted}
+use Rattle.stream_turns.proofs.OneTurn.{noted}
 
 lined_more : (worker first : ℕ) (es : List Ends) (e : Ends) → AreLinesOf worker first es
     → e ≡ record { worker = worker; replica = first + length es } → AreLinesOf worker first (es ++ e ∷ [])

@@ -1,3 +1,10 @@
+pub mod Own
+pub mod Exchanged
+pub mod Counted
+pub mod Groups
+pub mod Turns
+pub mod Streams
+pub mod OneTurn
 pub mod Replicas
 pub mod Turned
 pub mod Channels

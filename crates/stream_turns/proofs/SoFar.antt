@@ -15,7 +15,7 @@ use Rattle.volume_model.specs.History.{Spot, IsLegal, calls_of}
 use Rattle.volume_model.specs.OneWorker.{served, stream_of}
 use Rattle.journal_book.specs.declared.opening.Opening.{Opening}
 use Rattle.replica_node.specs.Node.{Node, blank}
-use Rattle.replica_state.specs.Volume.{volume_of_node}
+use Rattle.replica_node.specs.Volume.{volume_of_node}
 use Rattle.volume_core.specs.declared.world.World.{World}
 use Rattle.volume_core.specs.Opened.{IsOpenedOn, blank_opening}
 use Rattle.volume_core.specs.State.{State, state_of, opening_of, gave_up_at}
@@ -28,13 +28,13 @@ use Rattle.world_in_hand.specs.Hand.{own_entries}
 use Rattle.stream_turns.specs.declared.serving.Served.{Served}
 use Rattle.stream_turns.specs.Turn.{IsBetween, HasNoEntry, KeepsOrigin, HasTurn, HaveTurns}
 use Rattle.stream_turns.specs.Serving.{IsServed, IsServedInTurn}
-use Rattle.turn_laws.specs.Turns.{IsTurn, AreTurns, TellsOthers}
+use Rattle.stream_turns.specs.Turns.{IsTurn, AreTurns, TellsOthers}
 use Rattle.stream_turns.specs.Volume.{opening_of as begins, stream_calls, heads_of, calls_in}
-use Rattle.turn_laws.proofs.Exchanged.{exchanged}
+use Rattle.stream_turns.proofs.Exchanged.{exchanged}
 use Rattle.stream_turns.proofs.Turned.{same_opening, same_replicas}
 use Rattle.stream_turns.proofs.Replicas.{replicas_are, as_many}
-use Rattle.turn_laws.proofs.Counted.{faults_shown}
-use Rattle.turn_laws.proofs.Streams.{no_turns, more_turns}
+use Rattle.stream_turns.proofs.Counted.{faults_shown}
+use Rattle.stream_turns.proofs.Streams.{no_turns, more_turns}
 
 -- ---- stream after stream
 

@@ -4,7 +4,7 @@ use Rattle.std.proofs.Common.{None, Result, Ok, Err, OnOk, IfOk, sym, ap, subst,
 use Rattle.std.specs.List.{All}
 use Rattle.std.proofs.lemmas.List.{get_or_past}
 use Rattle.std.proofs.lemmas.List.Elements.{All-nil, All-cons}
-use Rattle.command_text.specs.declared.command.Command.{Command}
+use Rattle.volume_model.specs.declared.command.Command.{Command}
 use Rattle.frame_stream.specs.Asked.{call_of}
 use Rattle.frame_stream.specs.declared.frame.Frame.{Frame}
 use Rattle.frame_stream.specs.declared.frame.TheConstants.{READ, WRITE, PING}
@@ -16,8 +16,8 @@ use Rattle.volume_model.specs.Faults.{last_count}
 use Rattle.volume_model.specs.History.{IsLegal}
 use Rattle.volume_model.specs.Names.{names_in}
 use Rattle.volume_model.proofs.OneWorkerLemmas.{length-modes_after}
-use Rattle.replica_state.specs.Volume.{volume_of_node}
-use Rattle.whole_calls.proofs.Forms.{length-forms}
+use Rattle.replica_node.specs.Volume.{volume_of_node}
+use Rattle.open_calls.proofs.Forms.{length-forms}
 use Rattle.volume_core.specs.declared.world.World.{World}
 use Rattle.volume_core.specs.State.{State, state_of, opening_of}
 use Rattle.volume_core.specs.Sound.{IsSound}
@@ -36,7 +36,7 @@ use Rattle.script_text.specs.declared.script.Stream.{Stream}
 use Rattle.script_text.specs.declared.script.Stream.TheVariants as stream
 use Rattle.stream_turns.specs.Volume.{stream_calls}
 use Rattle.stream_turns.specs.Turn.{HasNoEntry, HasTurn}
-use Rattle.turn_laws.proofs.OneTurn.{frames_are, commands_are}
+use Rattle.stream_turns.proofs.OneTurn.{frames_are, commands_are}
 
 pub each_ok : {T E : Type 0} (r : Result T E) {P Q : T → Type 0} → ((x : T) → P x → Q x) → IfOk r P → IfOk r Q
 each_ok (Ok x) f p = f x p

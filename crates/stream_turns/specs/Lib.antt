@@ -1,3 +1,4 @@
+pub mod Turns
 pub mod Volume
 pub mod Turn
 pub mod Serving

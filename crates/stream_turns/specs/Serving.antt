@@ -6,7 +6,7 @@ use Rattle.volume_model.specs.Replay.{replay}
 use Rattle.volume_model.specs.History.{IsHistory}
 use Rattle.volume_model.specs.OneWorker.{served, stream_of}
 use Rattle.journal_book.specs.Book.{modes_of}
-use Rattle.replica_state.specs.Volume.{volume_of_node}
+use Rattle.replica_node.specs.Volume.{volume_of_node}
 use Rattle.open_calls.specs.Calls.{node_at}
 use Rattle.client_worker.specs.Exchanges.{ExchangesShown}
 use Rattle.script_text.specs.declared.script.Script.{Script}

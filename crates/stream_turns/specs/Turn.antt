@@ -12,7 +12,7 @@ use Rattle.volume_core.specs.Streams.{origin_of}
 use Rattle.client_worker.specs.Asks.{IsAsked}
 use Rattle.add_worker.specs.Serving.{IsForWorker}
 use Rattle.world_in_hand.specs.Hand.{own_entries}
-use Rattle.turn_laws.specs.Turns.{IsTurn, AreTurns}
+use Rattle.stream_turns.specs.Turns.{IsTurn, AreTurns}
 
 -- a stream that a worker takes
 abbrev pub IsTaken : Stream → Type 0

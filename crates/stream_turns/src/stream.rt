@@ -3,7 +3,7 @@
 ghost use Rattle.std.specs.Prelude.{◌≡◌, ◌<◌, length, map, OnOk, IfOk, slice_index_or};
 ghost use Rattle.client_worker.specs.Exchanges.{told_in};
 ghost use Rattle.stream_turns.specs.Turn.{IsTaken, IsBetween, HasNoEntry, KeepsOrigin, HasTurn, AreNewLines};
-ghost use Rattle.turn_laws.specs.Turns.{TellsOthers};
+ghost use Rattle.stream_turns.specs.Turns.{TellsOthers};
 ghost use Rattle.stream_turns.specs.Volume.{stream_calls};
 
 use crate::lines::{channels_of, take_back};

@@ -2,7 +2,7 @@
 use Rattle.std.proofs.Common.{◌≡◌, ℕ, false, true, List, [], map, Option, Some, Result, Ok, OnOk, sym, subst, ◌∙◌}
 use Rattle.std.proofs.Common.{Err as Failed}
 use Rattle.std.specs.Prelude.{is_ok}
-use Rattle.command_text.specs.declared.command.Command.{Command}
+use Rattle.volume_model.specs.declared.command.Command.{Command}
 use Rattle.volume_model.specs.declared.call.Call.{Call}
 use Rattle.volume_model.specs.declared.call.Call.TheVariants as call
 use Rattle.desk_lock.specs.declared.seats.Desk.{Desk}

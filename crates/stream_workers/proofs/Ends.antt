@@ -3,7 +3,7 @@ use Rattle.std.proofs.Common.{◌≡◌, ℕ, ◌≤◌, ◌<◌, false, List, [
 use Rattle.std.proofs.Common.{refl, ap, subst, ◌∙◌, arith, slice_index_or}
 use Rattle.std.proofs.lemmas.Bool.{cases_lt}
 use Rattle.std.proofs.lemmas.List.{get_or_past}
-use Rattle.command_text.specs.declared.command.Command.{Command}
+use Rattle.volume_model.specs.declared.command.Command.{Command}
 use Rattle.volume_model.specs.declared.call.Call.{Call}
 use Rattle.volume_model.specs.declared.call.Call.TheVariants as call
 use Rattle.volume_model.specs.Faults.{last_count}
@@ -17,8 +17,8 @@ use Rattle.client_worker.specs.Serving.{IsShown, Grew}
 use Rattle.command_worker.specs.Serving.{Commanded}
 use Rattle.command_worker.proofs.OwnAnswers.{own_calls, own_streams}
 use Rattle.world_in_hand.specs.Hand.{own_entries}
-use Rattle.turn_laws.proofs.Groups.{served_groups, groups_calls}
-use Rattle.turn_laws.proofs.OneTurn.{told_carried}
+use Rattle.stream_turns.proofs.Groups.{served_groups, groups_calls}
+use Rattle.stream_turns.proofs.OneTurn.{told_carried}
 use Rattle.world_desk.specs.Laid.{IsLater}
 use Rattle.client_desk.specs.AtDesk as client
 use Rattle.client_desk.proofs.AtTurn as client_turn

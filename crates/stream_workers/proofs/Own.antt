@@ -1,6 +1,6 @@
 -- A stream's own entries tell which of its calls a journal answers, and which faults of its lines are marked.
 use Rattle.std.proofs.Common.{◌≡◌, ℕ, suc, Bool, true, false, cond, eqb, List, [], ◌∷◌, map, refl, ap, ◌∙◌, eq-eqb}
-use Rattle.command_text.specs.declared.command.Command.{Command}
+use Rattle.volume_model.specs.declared.command.Command.{Command}
 use Rattle.volume_model.specs.declared.call.Call.{Call}
 use Rattle.volume_model.specs.declared.entry.Answer.{Answer}
 use Rattle.volume_model.specs.declared.entry.Entry.{Entry}
@@ -13,7 +13,7 @@ use Rattle.volume_model.specs.Modes.{modes_after_entry}
 use Rattle.stream_steps.specs.Mine.{Placed, entries_in}
 use Rattle.command_worker.specs.OwnAnswers.{answers_in}
 use Rattle.world_in_hand.specs.Hand.{is_own_mark, own_entries}
-use Rattle.turn_laws.proofs.Own.{own_faults}
+use Rattle.stream_turns.proofs.Own.{own_faults}
 
 -- the calls answered, which do not depend on where the answers stand
 abbrev calls_at : ℕ → ℕ → List Entry → List Call

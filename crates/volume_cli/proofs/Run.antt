@@ -7,7 +7,7 @@ use Rattle.std.proofs.KnownBytes.{Consumes-whole}
 use Rattle.frame_wire.specs.declared.head.Head.{Head}
 use Rattle.outer_traits.specs.Passing.{WritesPrefix}
 use Rattle.replica_node.specs.Node.{blank}
-use Rattle.replica_state.specs.Volume.{volume_of_node}
+use Rattle.replica_node.specs.Volume.{volume_of_node}
 use Rattle.report_writer.specs.Written.{written_text}
 use Rattle.report_writer.proofs.SameVolume.{written_is_report}
 use Rattle.run_report.specs.Report.{report_of}

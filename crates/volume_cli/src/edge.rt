@@ -2,7 +2,7 @@ ghost use Rattle.std.specs.Prelude.{◌≡◌, ◌<◌, ◌≤◌, length, map, 
 ghost use Rattle.std.specs.Io.KnownBytes.{Appends, Consumes, IsAtEnd};
 ghost use Rattle.journal_book.specs.Book.{modes_of};
 ghost use Rattle.outer_traits.specs.Passing.{GivesAtMost, WritesPrefix};
-ghost use Rattle.replica_state.specs.Volume.{volume_of_node};
+ghost use Rattle.replica_node.specs.Volume.{volume_of_node};
 ghost use Rattle.report_writer.specs.Written.{written_text};
 ghost use Rattle.volume_cli.specs.Stops.{ReadCounts, WriteCounts};
 

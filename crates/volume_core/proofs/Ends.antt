@@ -4,7 +4,7 @@ use Rattle.std.proofs.Common.{refl, sym, ap, subst, ◌∙◌, pos, arith}
 use Rattle.std.specs.Prelude.{None, Some}
 use Rattle.std.specs.List.{count_by, remove}
 use Rattle.std.proofs.lemmas.List.Sums.{sum_by-remove}
-use Rattle.command_text.specs.declared.command.Command.TheVariants as command
+use Rattle.volume_model.specs.declared.command.Command.TheVariants as command
 use Rattle.volume_model.specs.declared.call.Call.{Call}
 use Rattle.volume_model.specs.declared.call.Call.TheVariants as call
 use Rattle.volume_model.specs.declared.call.Refusal.TheVariants.{NoReplica, OutOfRange}

@@ -3,7 +3,7 @@ use Rattle.std.proofs.Common.{◌≡◌, ◌≢◌, ◌⊎◌, ℕ, ◌+◌, ◌
 use Rattle.std.proofs.Common.{set, length-set, refl, sym, ap, subst, ◌∙◌, arith, ⊎_elim}
 use Rattle.std.specs.Prelude.{Option, None, Some, IfSome}
 use Rattle.std.proofs.lemmas.List.{append_assoc}
-use Rattle.command_text.specs.declared.command.Command.TheVariants as command
+use Rattle.volume_model.specs.declared.command.Command.TheVariants as command
 use Rattle.volume_model.specs.declared.call.Call.{Call}
 use Rattle.volume_model.specs.declared.call.Call.TheVariants as call
 use Rattle.volume_model.specs.declared.call.Reply.TheVariants as reply
@@ -27,10 +27,10 @@ use Rattle.volume_model.proofs.PushLemmas.{modes_after-push}
 use Rattle.volume_model.proofs.StepLemmas.{replay-push}
 use Rattle.open_calls.specs.Clients.{IsIdle}
 use Rattle.open_calls.proofs.PartLemmas.{up_in, rw_before}
-use Rattle.whole_calls.specs.Due.{due, forms}
-use Rattle.whole_calls.specs.Whole.{IsWhole}
-use Rattle.whole_calls.specs.Maint.{HasNoCommand, AreQueued}
-use Rattle.whole_calls.proofs.Kept.{whole_failed, queued_answer, queued_mark, fits_still}
+use Rattle.open_calls.specs.Due.{due, forms}
+use Rattle.open_calls.specs.Whole.{IsWhole}
+use Rattle.open_calls.specs.Maint.{HasNoCommand, AreQueued}
+use Rattle.open_calls.proofs.Kept.{whole_failed, queued_answer, queued_mark, fits_still}
 use Rattle.range_turns.specs.Order.{ticket_at}
 use Rattle.open_calls.specs.Calls.{open_at}
 use Rattle.open_rebuild.specs.declared.rebuilding.Rebuilding.{Rebuilding}

@@ -23,8 +23,8 @@ use Rattle.open_calls.specs.Calls.{open_at}
 use Rattle.open_calls.proofs.Gone.{seen_clients}
 use Rattle.open_calls.proofs.PartLemmas.{up_in, rw_before}
 use Rattle.open_calls.proofs.SeenLemmas.{seen_mark}
-use Rattle.whole_calls.specs.Due.{due, forms}
-use Rattle.whole_calls.proofs.Kept.{whole_failed, queued_mark, fits_still}
+use Rattle.open_calls.specs.Due.{due, forms}
+use Rattle.open_calls.proofs.Kept.{whole_failed, queued_mark, fits_still}
 use Rattle.open_rebuild.specs.declared.rebuilding.Rebuilding.{Rebuilding}
 use Rattle.open_rebuild.specs.Claim.{IsRebuilding}
 use Rattle.open_rebuild.proofs.ModeSteps.{rebuild_given_up}

@@ -42,13 +42,13 @@ use Rattle.replica_node.specs.Held.{IsChained}
 use Rattle.volume_model.specs.Rebuilds.{AreBehindFalls}
 use Rattle.volume_model.proofs.FallLemmas.{behind_falls_answer}
 use Rattle.open_calls.proofs.SeenLemmas.{behind_within}
-use Rattle.whole_calls.specs.declared.maint.MaintCall.{MaintCall}
-use Rattle.whole_calls.specs.declared.whole.Whole.{Whole}
-use Rattle.whole_calls.specs.Due.{due, forms}
-use Rattle.whole_calls.specs.Whole.{IsWhole}
-use Rattle.whole_calls.specs.Maint.{HasNoCommand, FitsMaint, AreMaint}
-use Rattle.whole_calls.proofs.Kept.{none_whole, whole_enrolled, whole_left, each_push, each_left, each_set}
-use Rattle.whole_calls.proofs.Kept.{queued_answer, fits_still, fits_range, range_alone}
+use Rattle.open_calls.specs.declared.maint.MaintCall.{MaintCall}
+use Rattle.open_calls.specs.declared.whole.Whole.{Whole}
+use Rattle.open_calls.specs.Due.{due, forms}
+use Rattle.open_calls.specs.Whole.{IsWhole}
+use Rattle.open_calls.specs.Maint.{HasNoCommand, FitsMaint, AreMaint}
+use Rattle.open_calls.proofs.Kept.{none_whole, whole_enrolled, whole_left, each_push, each_left, each_set}
+use Rattle.open_calls.proofs.Kept.{queued_answer, fits_still, fits_range, range_alone}
 use Rattle.volume_core.specs.State.{State, opening_of, told_of, modes_in, index_at}
 use Rattle.volume_core.specs.Steps.{with_place, answered, enrolled, without_call, started, wrote, has_read, acked, ended}
 use Rattle.volume_core.specs.Sound.{IsSound, IsSoundOn, IsCalm, AreAdds, NoneGaveUp}

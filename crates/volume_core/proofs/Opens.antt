@@ -12,7 +12,7 @@ use Rattle.volume_model.specs.PlainState.{Volume}
 use Rattle.journal_book.specs.declared.opening.Opening.{Opening}
 use Rattle.range_turns.specs.Order.{AreInOrder}
 use Rattle.replica_node.specs.Node.{Node, blank}
-use Rattle.replica_state.specs.Volume.{volume_of_node}
+use Rattle.replica_node.specs.Volume.{volume_of_node}
 use Rattle.open_calls.specs.Clients.{byte_of}
 use Rattle.open_calls.proofs.PartLemmas.{up_in, rw_up}
 use Rattle.volume_core.specs.State.{State}

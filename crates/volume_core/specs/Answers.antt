@@ -1,7 +1,7 @@
 -- What the answers of the steps say.
 use Rattle.std.specs.Prelude.{◌≡◌, ◌≢◌, ℕ, ◌+◌, ◌<◌, ◌≤◌, ◌⊎◌, Bool, List, [], length, Option, None, Some, All, is_some, true, false}
 use Rattle.vol_units.specs.declared.range.BlockRange.{BlockRange}
-use Rattle.command_text.specs.declared.command.Command.TheVariants as command
+use Rattle.volume_model.specs.declared.command.Command.TheVariants as command
 use Rattle.volume_model.specs.declared.call.Call.{Call}
 use Rattle.volume_model.specs.declared.call.Call.TheVariants as call
 use Rattle.volume_model.specs.declared.call.Refusal.TheVariants.{NoReplica, OutOfRange}

@@ -7,7 +7,7 @@ use Rattle.volume_model.specs.PlainState.{PlainState}
 use Rattle.volume_model.specs.Snapshots.{layer_count}
 use Rattle.journal_book.specs.declared.opening.Opening.{Opening}
 use Rattle.replica_node.specs.Node.{Node}
-use Rattle.replica_state.specs.Volume.{volume_of_node}
+use Rattle.replica_node.specs.Volume.{volume_of_node}
 use Rattle.open_calls.specs.Calls.{node_at}
 use Rattle.volume_core.specs.State.{State}
 use Rattle.volume_core.specs.Sound.{largest_number}

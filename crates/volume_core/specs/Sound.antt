@@ -1,7 +1,7 @@
 -- What is true of a World before and after each step: the invariant.
 use Rattle.std.specs.Prelude.{◌≡◌, ℕ, ◌+◌, ◌<◌, ◌≤◌, ◌==◌, List, length, Bool, true, false, count_by, Option, None}
 use Rattle.std.specs.Prelude.{Some, is_some, IfSome, if◌then◌else◌}
-use Rattle.command_text.specs.declared.command.Command.TheVariants as command
+use Rattle.volume_model.specs.declared.command.Command.TheVariants as command
 use Rattle.volume_model.specs.declared.mode.Mode.{Mode}
 use Rattle.volume_model.specs.declared.mode.Mode.TheVariants.{Rw, Wo, Err}
 use Rattle.volume_model.specs.Faults.{CountsRise}
@@ -17,11 +17,11 @@ use Rattle.volume_model.specs.declared.mark.Rebuild.{Rebuild}
 use Rattle.volume_model.specs.declared.mark.Rebuild.TheVariants as rebuild
 use Rattle.replica_node.specs.Node.{Node}
 use Rattle.open_calls.specs.Clients.{AreClients}
-use Rattle.whole_calls.specs.Due.{due, forms}
-use Rattle.whole_calls.specs.Whole.{IsWhole}
+use Rattle.open_calls.specs.Due.{due, forms}
+use Rattle.open_calls.specs.Whole.{IsWhole}
 use Rattle.range_turns.specs.declared.ticket.Ticket.{Ticket}
-use Rattle.whole_calls.specs.declared.maint.MaintCall.{MaintCall}
-use Rattle.whole_calls.specs.Maint.{AreMaint, HasTurn}
+use Rattle.open_calls.specs.declared.maint.MaintCall.{MaintCall}
+use Rattle.open_calls.specs.Maint.{AreMaint, HasTurn}
 use Rattle.open_rebuild.specs.declared.rebuilding.Rebuilding.{Rebuilding}
 use Rattle.open_rebuild.specs.Claim.{IsRebuilding}
 use Rattle.volume_core.specs.declared.world.EndedRebuild.{EndedRebuild}

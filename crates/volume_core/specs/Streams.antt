@@ -12,7 +12,7 @@ use Rattle.range_turns.specs.declared.ticket.Ticket.{Ticket}
 use Rattle.replica_node.specs.Node.{Node}
 use Rattle.open_calls.specs.declared.open_call.OpenCall.{OpenCall}
 use Rattle.open_calls.specs.Calls.{call_asked, whole_of}
-use Rattle.whole_calls.specs.declared.maint.MaintCall.{MaintCall}
+use Rattle.open_calls.specs.declared.maint.MaintCall.{MaintCall}
 use Rattle.volume_core.specs.declared.admit.Admit.{Admit}
 use Rattle.volume_core.specs.declared.admit.Admit.TheVariants as admit
 use Rattle.volume_core.specs.declared.enrol.Enrolled.{Enrolled}

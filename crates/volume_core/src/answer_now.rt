@@ -3,7 +3,7 @@
 ghost use Rattle.std.specs.Prelude.{◌≡◌, ◌<◌, ◌≤◌, length, IfOk, OnErr, IfSome};
 ghost use Rattle.volume_model.specs.PlainStep.{plain_step};
 ghost use Rattle.open_calls.specs.Clients.{IsIdle};
-ghost use Rattle.whole_calls.specs.Maint.{HasNoCommand};
+ghost use Rattle.open_calls.specs.Maint.{HasNoCommand};
 ghost use Rattle.volume_core.specs.State.{state_of, modes_in, told_of};
 ghost use Rattle.volume_core.specs.Steps.{marks_of_fall};
 ghost use Rattle.volume_core.specs.Sound.{IsSound};

@@ -4,7 +4,7 @@ ghost use Rattle.std.specs.Prelude.{◌≡◌, ◌<◌, ◌≤◌, length, false
 ghost use Rattle.volume_model.specs.PlainStep.{longest_call, refusal_of};
 ghost use Rattle.range_turns.specs.Order.{IsFresh};
 ghost use Rattle.open_calls.specs.Clients.{IsIdle};
-ghost use Rattle.whole_calls.specs.Maint.{HasNoCommand};
+ghost use Rattle.open_calls.specs.Maint.{HasNoCommand};
 ghost use Rattle.volume_core.specs.State.{state_of, modes_in, told_of};
 ghost use Rattle.volume_core.specs.Steps.{enrolled};
 ghost use Rattle.volume_core.specs.Sound.{IsSound};

@@ -4,12 +4,11 @@ ghost use Rattle.volume_core.specs.State.{state_of, modes_in, index_at};
 ghost use Rattle.volume_core.specs.Steps.{with_place, answered};
 
 use journal_book::{Answer, Call, Entry, Journal, Mode, Reply, Shown};
-use open_calls::OpenCall;
+use open_calls::{MaintCall, OpenCall, Whole};
 use open_rebuild::Rebuilding;
 use range_turns::Turns;
 use replica_node::{ReplicaNode, VolumeSize};
 use std::alloc::AllocError;
-use whole_calls::{MaintCall, Whole};
 
 /// A volume of several replicas.
 #[derive(Drop)]

@@ -2,8 +2,8 @@
 use Rattle.std.proofs.Common.{◌≡◌, ℕ, Bool, true, false, cond, eqb, List, [], ◌∷◌, ◌++◌, refl, sym, ap, subst, ◌∙◌}
 use Rattle.std.specs.Prelude.{Option, None, Some, IfSome}
 use Rattle.std.proofs.lemmas.Bool.{eq-eqb}
-use Rattle.command_text.specs.declared.command.Command.{Command}
-use Rattle.command_text.specs.declared.command.Command.TheVariants as command
+use Rattle.volume_model.specs.declared.command.Command.{Command}
+use Rattle.volume_model.specs.declared.command.Command.TheVariants as command
 use Rattle.volume_model.specs.declared.call.Call.TheVariants as call
 use Rattle.volume_model.specs.declared.call.Refusal.{Refusal}
 use Rattle.volume_model.specs.declared.call.Reply.TheVariants as reply
@@ -16,8 +16,8 @@ use Rattle.volume_model.specs.History.{IsEnded, EndsAdd}
 use Rattle.volume_model.specs.Rebuilds.{added_by, rebuild_of, rebuild_after_add}
 use Rattle.volume_model.proofs.RebuildLemmas.{rebuild_of-push}
 use Rattle.range_turns.specs.declared.ticket.Ticket.{Ticket}
-use Rattle.whole_calls.specs.declared.maint.MaintCall.{MaintCall}
-use Rattle.whole_calls.specs.Maint.{IsMaint, command_at}
+use Rattle.open_calls.specs.declared.maint.MaintCall.{MaintCall}
+use Rattle.open_calls.specs.Maint.{IsMaint, command_at}
 use Rattle.open_rebuild.specs.declared.rebuilding.Rebuilding.{Rebuilding}
 use Rattle.volume_core.specs.declared.world.EndedRebuild.{EndedRebuild}
 use Rattle.volume_core.specs.State.{State, told_of, modes_in}

@@ -6,10 +6,10 @@ use Rattle.open_calls.specs.declared.whole_op.WholeOp.TheVariants as whole
 use Rattle.open_calls.specs.Calls.{whole_call}
 use Rattle.open_calls.specs.Clients.{IsIdle, behind_last}
 use Rattle.open_calls.proofs.SeenLemmas.{behind_within}
-use Rattle.whole_calls.specs.Due.{due, forms}
-use Rattle.whole_calls.specs.Maint.{HasTurn, CanStill, FitsMaint, command_at}
-use Rattle.whole_calls.proofs.Kept.{whole_enrolled}
-use Rattle.whole_calls.proofs.Turns.{turn_asks, snapshot_asks, maint_enrolled, whole_fits}
+use Rattle.open_calls.specs.Due.{due, forms}
+use Rattle.open_calls.specs.Maint.{HasTurn, CanStill, FitsMaint, command_at}
+use Rattle.open_calls.proofs.Kept.{whole_enrolled}
+use Rattle.open_calls.proofs.Turns.{turn_asks, snapshot_asks, maint_enrolled, whole_fits}
 use Rattle.open_rebuild.proofs.RangeSteps.{call_enrolled}
 use Rattle.volume_core.specs.State.{State, told_of, modes_in}
 use Rattle.volume_core.specs.Sound.{IsSound}
@@ -41,7 +41,7 @@ asked_fits s number stream saw (whole.Purge f) may can =
     (whole_call stream saw (whole.Purge f)) (whole.Purge f) refl refl tt may can
 
 -- its caller saw its stream's last answer, and no more than there is
-turn_saw : (s : State) (stream : ℕ) (c : Rattle.command_text.specs.declared.command.Command.Command) → IsSound s
+turn_saw : (s : State) (stream : ℕ) (c : Rattle.volume_model.specs.declared.command.Command.Command) → IsSound s
     → HasTurn s.maint s.commands stream c
     → (behind_last stream s.book.entries ≤ (command_at s.commands 0).saw) × ((command_at s.commands 0).saw ≤ length s.book.entries)
 turn_saw s stream c ok turn = (
@@ -53,12 +53,12 @@ pub asker_saw : (s : State) (stream : ℕ) (op : WholeOp) → IsSound s → MayA
     → (behind_last stream s.book.entries ≤ seen_by s op) × (seen_by s op ≤ length s.book.entries)
 asker_saw s stream (whole.Snapshot name) ok may = (behind_within stream s.book.entries, at_most (length s.book.entries))
 asker_saw s stream (whole.Remove name) ok may =
-    turn_saw s stream (Rattle.command_text.specs.declared.command.Command.TheVariants.Remove name) ok may
+    turn_saw s stream (Rattle.volume_model.specs.declared.command.Command.TheVariants.Remove name) ok may
 asker_saw s stream (whole.Revert name) ok may =
-    turn_saw s stream (Rattle.command_text.specs.declared.command.Command.TheVariants.Revert name) ok may
-asker_saw s stream (whole.Purge f) ok may = turn_saw s stream Rattle.command_text.specs.declared.command.Command.TheVariants.Purge ok may
+    turn_saw s stream (Rattle.volume_model.specs.declared.command.Command.TheVariants.Revert name) ok may
+asker_saw s stream (whole.Purge f) ok may = turn_saw s stream Rattle.volume_model.specs.declared.command.Command.TheVariants.Purge ok may
 asker_saw s stream (whole.Barrier r) ok may =
-    turn_saw s stream (Rattle.command_text.specs.declared.command.Command.TheVariants.Add r) ok may
+    turn_saw s stream (Rattle.volume_model.specs.declared.command.Command.TheVariants.Add r) ok may
 
 -- the World keeps its invariant
 pub asked_sound : (s : State) (number stream : ℕ) (op : WholeOp) → IsSound s → s.size % 2097152 ≡ 0

@@ -7,7 +7,7 @@ use Rattle.std.proofs.lemmas.Bool.{ltb-true}
 use Rattle.std.proofs.lemmas.List.Sums.{sum_by-set}
 use Rattle.vol_units.specs.Name.{sys_name}
 use Rattle.sparse_image.specs.Image.{Tables}
-use Rattle.command_text.specs.declared.command.Command.TheVariants as command
+use Rattle.volume_model.specs.declared.command.Command.TheVariants as command
 use Rattle.volume_model.specs.declared.entry.Entry.{Entry}
 use Rattle.volume_model.specs.declared.entry.Entry.TheVariants as entry
 use Rattle.volume_model.specs.declared.mark.Mark.{Mark}
@@ -29,16 +29,16 @@ use Rattle.volume_model.proofs.StepLemmas.{replay-push}
 use Rattle.range_turns.specs.declared.ticket.Kind.TheVariants as kind
 use Rattle.range_turns.specs.Order.{ticket_at, with_started, IsClear}
 use Rattle.replica_node.specs.Node.{Node}
-use Rattle.replica_state.specs.Volume.{volume_of_node}
+use Rattle.replica_node.specs.Volume.{volume_of_node}
 use Rattle.open_calls.specs.declared.whole_op.WholeOp.{WholeOp}
 use Rattle.open_calls.specs.declared.whole_op.WholeOp.TheVariants as whole
 use Rattle.open_calls.specs.Calls.{open_at, node_at, command_of}
 use Rattle.open_calls.specs.Clients.{AreClients}
-use Rattle.whole_calls.specs.Due.{formed}
-use Rattle.whole_calls.specs.Whole.{AreSpared, CanSnap}
-use Rattle.whole_calls.specs.Maint.{HasTurn, AreMaint}
-use Rattle.whole_calls.proofs.Barrier as barriers
-use Rattle.whole_calls.proofs.Ops.{IsPlain, can_snap}
+use Rattle.open_calls.specs.Due.{formed}
+use Rattle.open_calls.specs.Whole.{AreSpared, CanSnap}
+use Rattle.open_calls.specs.Maint.{HasTurn, AreMaint}
+use Rattle.open_calls.proofs.Barrier as barriers
+use Rattle.open_calls.proofs.Ops.{IsPlain, can_snap}
 use Rattle.open_rebuild.specs.declared.rebuilding.Rebuilding.{Rebuilding}
 use Rattle.open_rebuild.specs.Claim.{IsRebuilding, IsNew}
 use Rattle.open_rebuild.proofs.WholeSteps.{barrier_snaps, rebuild_begun}
@@ -201,7 +201,7 @@ module _ (s : State) (i : ℕ) (b : Rebuilding) (spares : List (Option Tables)) 
             ap (count_by is_up) modes,
           );
         };
-        whole = subst (λ (x : List Mode). Rattle.whole_calls.specs.Whole.IsStarted (told_of next) x
+        whole = subst (λ (x : List Mode). Rattle.open_calls.specs.Whole.IsStarted (told_of next) x
             (with_started s.tickets i) s.calls (barrier_nodes s b) w) (sym modes)
             (barriers.barrier_is p.volume s.size (length s.indices) s.book.entries m (modes_in s) s.tickets s.calls s.nodes
             i b.target b.source clients h is waits clear in_modes source.read

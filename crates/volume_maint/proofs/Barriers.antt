@@ -6,7 +6,7 @@ use Rattle.std.specs.Option.{option_map}
 use Rattle.vol_units.specs.declared.layer_name.LayerName.{LayerName}
 use Rattle.vol_units.specs.declared.snap_name.SnapName.{SnapName}
 use Rattle.volume_model.specs.declared.mark.FoldOrDrop.{FoldOrDrop}
-use Rattle.command_text.specs.declared.command.Command.TheVariants as command
+use Rattle.volume_model.specs.declared.command.Command.TheVariants as command
 use Rattle.volume_model.specs.declared.call.Call.TheVariants as call
 use Rattle.volume_model.specs.declared.entry.Answer.{Answer}
 use Rattle.volume_model.specs.declared.entry.Entry.{Entry}
@@ -32,12 +32,12 @@ use Rattle.open_calls.specs.Calls.{node_at}
 use Rattle.open_calls.specs.Parts.{part_for}
 use Rattle.range_turns.specs.Order.{ticket_at, with_started}
 use Rattle.open_calls.proofs.PartLemmas.{up_in, rw_up}
-use Rattle.whole_calls.specs.Whole.{AreSpared}
-use Rattle.whole_calls.proofs.Forms.{length-forms}
-use Rattle.whole_calls.proofs.Ops.{IsPlain}
+use Rattle.open_calls.specs.Whole.{AreSpared}
+use Rattle.open_calls.proofs.Forms.{length-forms}
+use Rattle.open_calls.proofs.Ops.{IsPlain}
 use Rattle.open_calls.specs.declared.open_call.OpenCall.{OpenCall}
 use Rattle.open_calls.specs.Clients.{behind_last}
-use Rattle.whole_calls.specs.declared.maint.MaintCall.{MaintCall}
+use Rattle.open_calls.specs.declared.maint.MaintCall.{MaintCall}
 use Rattle.open_rebuild.specs.declared.rebuilding.Rebuilding.{Rebuilding}
 use Rattle.open_rebuild.specs.Claim.{IsRebuilding, IsNew}
 use Rattle.open_rebuild.proofs.WholeSteps as rebuilds

@@ -9,7 +9,7 @@ use Rattle.std.proofs.lemmas.Bool.{ltb-true}
 use Rattle.std.proofs.lemmas.List.Sums.{sum_by-set}
 use Rattle.std.proofs.lemmas.List.Elements.{All-head, All-tail}
 use Rattle.sparse_image.specs.Image.{Tables}
-use Rattle.command_text.specs.declared.command.Command.TheVariants as command
+use Rattle.volume_model.specs.declared.command.Command.TheVariants as command
 use Rattle.volume_model.specs.declared.call.Call.TheVariants as call
 use Rattle.volume_model.specs.declared.call.Refusal.{Refusal}
 use Rattle.volume_model.specs.declared.call.Refusal.TheVariants.{NameUsed, ChainFull, NoSuchSnapshot}
@@ -26,16 +26,16 @@ use Rattle.range_turns.specs.Order.{ticket_at, no_ticket, with_started, IsClear}
 use Rattle.coalesce.specs.Folding.{snapshot_of}
 use Rattle.replica_node.specs.Node.{Kept, layer_names}
 use Rattle.replica_node.specs.Fold.{tree_of}
-use Rattle.replica_state.proofs.VolumeLemmas.{free_of}
-use Rattle.replica_state.specs.Volume.{volume_of_node, copies_in}
+use Rattle.replica_node.proofs.VolumeLemmas.{free_of}
+use Rattle.replica_node.specs.Volume.{volume_of_node, copies_in}
 use Rattle.open_calls.specs.declared.whole_op.WholeOp.{WholeOp}
 use Rattle.open_calls.specs.declared.whole_op.WholeOp.TheVariants as whole
 use Rattle.open_calls.specs.Calls.{open_at, node_at, command_of}
-use Rattle.whole_calls.specs.Whole.{MayBeDone, AreSpared}
+use Rattle.open_calls.specs.Whole.{MayBeDone, AreSpared}
 use Rattle.open_calls.proofs.FreeLemmas.{not_both}
-use Rattle.whole_calls.specs.Maint.{command_at, IsAskedBy, CanStill}
-use Rattle.whole_calls.proofs.Ops.{IsPlain}
-use Rattle.whole_calls.proofs.Starts.{StartsOn, is_volume, still_clear, begun_whole, begun_is, folded_still, maint_started}
+use Rattle.open_calls.specs.Maint.{command_at, IsAskedBy, CanStill}
+use Rattle.open_calls.proofs.Ops.{IsPlain}
+use Rattle.open_calls.proofs.Starts.{StartsOn, is_volume, still_clear, begun_whole, begun_is, folded_still, maint_started}
 use Rattle.volume_core.specs.State.{State, told_of, modes_in}
 use Rattle.volume_core.specs.Sound.{IsSound, IsCalm}
 use Rattle.open_rebuild.specs.declared.rebuilding.Rebuilding.{Rebuilding}

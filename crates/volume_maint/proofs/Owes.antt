@@ -20,10 +20,10 @@ use Rattle.replica_node.specs.Held.{emptied}
 use Rattle.open_calls.specs.declared.whole_op.WholeOp.{WholeOp}
 use Rattle.open_calls.specs.declared.whole_op.WholeOp.TheVariants as whole
 use Rattle.open_calls.specs.Calls.{open_at, node_at, command_of, whole_call, no_call}
-use Rattle.whole_calls.specs.declared.whole.Whole.{Whole}
-use Rattle.whole_calls.specs.Due.{part_on}
-use Rattle.whole_calls.specs.Maint.{IsAskedBy}
-use Rattle.whole_calls.specs.Whole.{parted, part_acked}
+use Rattle.open_calls.specs.declared.whole.Whole.{Whole}
+use Rattle.open_calls.specs.Due.{part_on}
+use Rattle.open_calls.specs.Maint.{IsAskedBy}
+use Rattle.open_calls.specs.Whole.{parted, part_acked}
 use Rattle.open_rebuild.specs.declared.rebuilding.Rebuilding.{Rebuilding}
 use Rattle.volume_core.specs.State.{State, modes_in, index_at, gave_up_at}
 use Rattle.volume_core.specs.Steps.{without_call, answer_entry}

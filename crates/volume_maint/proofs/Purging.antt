@@ -5,7 +5,7 @@ use Rattle.std.specs.Prelude.{◌⊎◌, Option, None, Some}
 use Rattle.std.proofs.lemmas.Bool.{false≢true}
 use Rattle.std.proofs.lemmas.Slice.Eq.{bytes_eq-Decides}
 use Rattle.vol_units.specs.Chain.{is_named}
-use Rattle.command_text.specs.declared.command.Command.TheVariants as command
+use Rattle.volume_model.specs.declared.command.Command.TheVariants as command
 use Rattle.volume_model.specs.declared.mark.FoldOrDrop.{FoldOrDrop}
 use Rattle.volume_model.specs.declared.mark.FoldOrDrop.TheVariants as part
 use Rattle.volume_model.specs.declared.mode.Mode.TheVariants.{Rw, Err}
@@ -24,15 +24,15 @@ use Rattle.open_calls.specs.Calls.{node_at}
 use Rattle.open_calls.specs.Clients.{AreClients, IsIdle}
 use Rattle.open_calls.specs.Parts.{part_at}
 use Rattle.open_calls.proofs.PartLemmas.{rw_up, up_in}
-use Rattle.whole_calls.specs.declared.whole.Whole.{Whole}
-use Rattle.whole_calls.specs.Due.{due, due_of, form_part, formed, forms}
-use Rattle.whole_calls.specs.Whole.{IsWhole, IsStarted, MayBeDone}
-use Rattle.whole_calls.specs.Maint.{command_at}
-use Rattle.whole_calls.proofs.Folds.{IsBeside, IsSnapshot, snapshot_stands, folded_clients, folded_whole, idle_maint, idle_beside}
-use Rattle.whole_calls.proofs.Forms.{formed_at, length-forms}
-use Rattle.whole_calls.proofs.Ends.{snapped_can}
-use Rattle.whole_calls.proofs.Ops.{not_there}
-use Rattle.whole_calls.proofs.PartSteps.{child_there}
+use Rattle.open_calls.specs.declared.whole.Whole.{Whole}
+use Rattle.open_calls.specs.Due.{due, due_of, form_part, formed, forms}
+use Rattle.open_calls.specs.Whole.{IsWhole, IsStarted, MayBeDone}
+use Rattle.open_calls.specs.Maint.{command_at}
+use Rattle.open_calls.proofs.Folds.{IsBeside, IsSnapshot, snapshot_stands, folded_clients, folded_whole, idle_maint, idle_beside}
+use Rattle.open_calls.proofs.Forms.{formed_at, length-forms}
+use Rattle.open_calls.proofs.Ends.{snapped_can}
+use Rattle.open_calls.proofs.Ops.{not_there}
+use Rattle.open_calls.proofs.PartSteps.{child_there}
 use Rattle.volume_maint.proofs.Adds.{no_rebuild, purge_no_add, free_claim}
 use Rattle.volume_core.specs.State.{State, told_of, modes_in}
 use Rattle.volume_core.specs.Sound.{IsSound}

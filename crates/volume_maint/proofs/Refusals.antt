@@ -3,8 +3,8 @@ use Rattle.std.proofs.Common.{◌≡◌, ℕ, ◌<◌, ◌≤◌, true, false, c
 use Rattle.std.specs.Prelude.{Option, None, Some}
 use Rattle.std.specs.Option.{option_or}
 use Rattle.std.proofs.lemmas.Bool.{lt-ltb, le-ltb}
-use Rattle.command_text.specs.declared.command.Command.{Command}
-use Rattle.command_text.specs.declared.command.Command.TheVariants as command
+use Rattle.volume_model.specs.declared.command.Command.{Command}
+use Rattle.volume_model.specs.declared.command.Command.TheVariants as command
 use Rattle.volume_model.specs.declared.call.Call.TheVariants as call
 use Rattle.volume_model.specs.declared.call.Refusal.{Refusal}
 use Rattle.volume_model.specs.declared.call.Refusal.TheVariants.{NameUsed, ChainFull, NoSuchSnapshot}
@@ -26,7 +26,7 @@ use Rattle.volume_model.proofs.PurgeLemmas.{next_left}
 use Rattle.volume_model.proofs.SpotLemmas.{answered_there, has_source}
 use Rattle.volume_model.proofs.StepLemmas.{has_no_source}
 use Rattle.journal_book.specs.Book.{names_of}
-use Rattle.whole_calls.specs.declared.whole.Whole.{Whole}
+use Rattle.open_calls.specs.declared.whole.Whole.{Whole}
 use Rattle.volume_core.specs.State.{State, opening_of, told_of, modes_in}
 use Rattle.volume_core.specs.Sound.{IsSound}
 use Rattle.volume_maint.specs.Places.{IsWholeCommand}

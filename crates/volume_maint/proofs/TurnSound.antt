@@ -5,8 +5,8 @@ use Rattle.std.specs.Prelude.{Option, None, Some, IfSome}
 use Rattle.std.specs.List.{remove, count_by}
 use Rattle.std.proofs.lemmas.List.{length_push}
 use Rattle.std.proofs.lemmas.List.Edits.{length-remove}
-use Rattle.command_text.specs.declared.command.Command.{Command}
-use Rattle.command_text.specs.declared.command.Command.TheVariants as command
+use Rattle.volume_model.specs.declared.command.Command.{Command}
+use Rattle.volume_model.specs.declared.command.Command.TheVariants as command
 use Rattle.volume_model.specs.declared.call.Call.{Call}
 use Rattle.volume_model.specs.declared.call.Call.TheVariants as call
 use Rattle.volume_model.specs.declared.call.Reply.{Reply}
@@ -31,11 +31,11 @@ use Rattle.replica_node.specs.Node.{Node}
 use Rattle.open_calls.specs.Clients.{IsIdle}
 use Rattle.open_calls.proofs.Gone.{seen_clients}
 use Rattle.open_calls.proofs.SeenLemmas.{seen_answer}
-use Rattle.whole_calls.specs.declared.maint.MaintCall.{MaintCall}
-use Rattle.whole_calls.specs.Due.{due, forms}
-use Rattle.whole_calls.specs.Maint.{HasNoCommand, IsMaint, AreMaint, command_at}
-use Rattle.whole_calls.proofs.Turns as turns
-use Rattle.whole_calls.proofs.Answered.{command_answered}
+use Rattle.open_calls.specs.declared.maint.MaintCall.{MaintCall}
+use Rattle.open_calls.specs.Due.{due, forms}
+use Rattle.open_calls.specs.Maint.{HasNoCommand, IsMaint, AreMaint, command_at}
+use Rattle.open_calls.proofs.Turns as turns
+use Rattle.open_calls.proofs.Answered.{command_answered}
 use Rattle.open_rebuild.specs.declared.rebuilding.Rebuilding.{Rebuilding}
 use Rattle.open_rebuild.specs.Claim.{IsRebuilding}
 use Rattle.volume_core.specs.declared.world.EndedRebuild.{EndedRebuild}

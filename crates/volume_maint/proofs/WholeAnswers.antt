@@ -5,7 +5,7 @@ use Rattle.std.specs.Prelude.{None, Some}
 use Rattle.std.specs.List.{count_by, remove}
 use Rattle.std.proofs.lemmas.Bool.{lt-ltb}
 use Rattle.vol_units.specs.Name.{begins_sys}
-use Rattle.command_text.specs.declared.command.Command.TheVariants as command
+use Rattle.volume_model.specs.declared.command.Command.TheVariants as command
 use Rattle.volume_model.specs.declared.call.Call.TheVariants as call
 use Rattle.volume_model.specs.declared.call.Refusal.{Refusal}
 use Rattle.volume_model.specs.declared.call.Refusal.TheVariants.{NoReplica}
@@ -38,13 +38,13 @@ use Rattle.open_calls.specs.Clients.{AreClients}
 use Rattle.open_calls.proofs.Gone.{seen_clients}
 use Rattle.open_calls.proofs.FreeLemmas.{not_both}
 use Rattle.open_calls.proofs.SeenLemmas.{seen_answer, idle_once_gone}
-use Rattle.whole_calls.specs.declared.maint.MaintCall.{MaintCall}
-use Rattle.whole_calls.specs.Due.{due_of}
-use Rattle.whole_calls.specs.Whole.{MayBeDone}
-use Rattle.whole_calls.specs.Maint.{IsAskedBy, FitsMaint, AreMaint}
-use Rattle.whole_calls.proofs.Answered.{turn_of, snapshot_answered, turn_answered}
-use Rattle.whole_calls.proofs.Ops.{IsPlain}
-use Rattle.whole_calls.proofs.PartSteps.{IsOfTurn, asked_there}
+use Rattle.open_calls.specs.declared.maint.MaintCall.{MaintCall}
+use Rattle.open_calls.specs.Due.{due_of}
+use Rattle.open_calls.specs.Whole.{MayBeDone}
+use Rattle.open_calls.specs.Maint.{IsAskedBy, FitsMaint, AreMaint}
+use Rattle.open_calls.proofs.Answered.{turn_of, snapshot_answered, turn_answered}
+use Rattle.open_calls.proofs.Ops.{IsPlain}
+use Rattle.open_calls.proofs.PartSteps.{IsOfTurn, asked_there}
 use Rattle.volume_core.specs.State.{State, opening_of, told_of, modes_in, index_at}
 use Rattle.volume_core.specs.Steps.{answered}
 use Rattle.volume_core.specs.Sound.{IsSound, IsSoundOn, IsTold, AreAdds, is_up, owed_end}

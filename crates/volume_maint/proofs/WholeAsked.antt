@@ -9,8 +9,8 @@ use Rattle.volume_model.proofs.SpotLemmas.{has_source, no_source}
 use Rattle.open_calls.specs.declared.whole_op.WholeOp.{WholeOp}
 use Rattle.open_calls.specs.declared.whole_op.WholeOp.TheVariants as whole
 use Rattle.open_calls.specs.Parts.{part_at, is_pending_at}
-use Rattle.whole_calls.specs.declared.whole.Whole.{Whole}
-use Rattle.whole_calls.proofs.Forms.{length-formed}
+use Rattle.open_calls.specs.declared.whole.Whole.{Whole}
+use Rattle.open_calls.proofs.Forms.{length-formed}
 use Rattle.volume_core.specs.State.{State, modes_in}
 use Rattle.volume_core.specs.Sound.{IsSound}
 use Rattle.volume_maint.specs.Steps.{turn_over}

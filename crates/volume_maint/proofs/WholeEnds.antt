@@ -27,14 +27,14 @@ use Rattle.open_calls.specs.Calls.{open_at, command_of}
 use Rattle.open_calls.specs.Clients.{AreClients}
 use Rattle.open_calls.proofs.Gone.{left_clients, seen_clients}
 use Rattle.open_calls.proofs.SeenLemmas.{seen_mark}
-use Rattle.whole_calls.specs.declared.whole.Whole.{Whole}
-use Rattle.whole_calls.specs.Due.{due_of, formed}
-use Rattle.whole_calls.specs.Whole.{IsWhole, IsStarted, MayBeDone}
-use Rattle.whole_calls.specs.Maint.{FitsMaint, AreMaint}
-use Rattle.whole_calls.proofs.Answered.{marked_maint, unmarked_maint}
-use Rattle.whole_calls.proofs.Ends.{ended_still, done_clients, lost_clients, due_maint, lost_maint}
-use Rattle.whole_calls.proofs.Kept.{whole_left}
-use Rattle.whole_calls.proofs.Ops.{IsPlain}
+use Rattle.open_calls.specs.declared.whole.Whole.{Whole}
+use Rattle.open_calls.specs.Due.{due_of, formed}
+use Rattle.open_calls.specs.Whole.{IsWhole, IsStarted, MayBeDone}
+use Rattle.open_calls.specs.Maint.{FitsMaint, AreMaint}
+use Rattle.open_calls.proofs.Answered.{marked_maint, unmarked_maint}
+use Rattle.open_calls.proofs.Ends.{ended_still, done_clients, lost_clients, due_maint, lost_maint}
+use Rattle.open_calls.proofs.Kept.{whole_left}
+use Rattle.open_calls.proofs.Ops.{IsPlain}
 use Rattle.volume_core.specs.State.{State, opening_of, told_of, modes_in, index_at}
 use Rattle.volume_core.specs.Steps.{with_place}
 use Rattle.volume_core.specs.Sound.{IsSound, IsSoundOn, is_up, owed_end}

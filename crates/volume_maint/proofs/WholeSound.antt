@@ -12,11 +12,11 @@ use Rattle.volume_model.proofs.OwnNames.{entry_raises}
 use Rattle.open_calls.specs.declared.parts.Part.TheVariants.{Owed}
 use Rattle.open_calls.specs.Calls.{node_at}
 use Rattle.open_calls.specs.Parts.{part_at, IsTaken}
-use Rattle.whole_calls.specs.declared.whole.Whole.{Whole}
-use Rattle.whole_calls.specs.Due.{due, due_of, forms, formed}
-use Rattle.whole_calls.specs.Whole.{IsWhole, IsStarted, IsFit, spare_at}
-use Rattle.whole_calls.proofs.Ops.{fits}
-use Rattle.whole_calls.proofs.PartSteps.{part_taken, part_told, parted_clients, told_clients, part_maint, owed_in}
+use Rattle.open_calls.specs.declared.whole.Whole.{Whole}
+use Rattle.open_calls.specs.Due.{due, due_of, forms, formed}
+use Rattle.open_calls.specs.Whole.{IsWhole, IsStarted, IsFit, spare_at}
+use Rattle.open_calls.proofs.Ops.{fits}
+use Rattle.open_calls.proofs.PartSteps.{part_taken, part_told, parted_clients, told_clients, part_maint, owed_in}
 use Rattle.open_rebuild.specs.Claim.{IsRebuilding}
 use Rattle.open_rebuild.proofs.WholeSteps as rebuilds
 use Rattle.volume_core.specs.State.{State, opening_of, told_of, modes_in}

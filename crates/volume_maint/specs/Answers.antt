@@ -2,8 +2,8 @@
 use Rattle.std.specs.Prelude.{◌≡◌, ◌≢◌, ◌⊎◌, ℕ, ◌<◌, ◌≤◌, List, length, Option, None, Some, true, false, All}
 use Rattle.vol_units.specs.Name.{begins_sys}
 use Rattle.sparse_image.specs.Image.{Tables}
-use Rattle.command_text.specs.declared.command.Command.{Command}
-use Rattle.command_text.specs.declared.command.Command.TheVariants as command
+use Rattle.volume_model.specs.declared.command.Command.{Command}
+use Rattle.volume_model.specs.declared.command.Command.TheVariants as command
 use Rattle.volume_model.specs.declared.call.Call.TheVariants as call
 use Rattle.volume_model.specs.declared.call.Refusal.{Refusal}
 use Rattle.volume_model.specs.declared.call.Refusal.TheVariants.{NoReplica}
@@ -28,9 +28,9 @@ use Rattle.open_calls.specs.declared.whole_op.WholeOp.TheVariants as whole
 use Rattle.open_calls.specs.Calls.{open_at, node_at, command_of}
 use Rattle.open_calls.specs.Clients.{IsIdle}
 use Rattle.open_calls.specs.Parts.{part_at, is_pending_at, IsTaken}
-use Rattle.whole_calls.specs.declared.whole.Whole.{Whole}
-use Rattle.whole_calls.specs.Maint.{HasNoCommand, HasTurn, CanGo, command_at}
-use Rattle.whole_calls.specs.Whole.{AreSpared}
+use Rattle.open_calls.specs.declared.whole.Whole.{Whole}
+use Rattle.open_calls.specs.Maint.{HasNoCommand, HasTurn, CanGo, command_at}
+use Rattle.open_calls.specs.Whole.{AreSpared}
 use Rattle.open_rebuild.specs.declared.rebuilding.Rebuilding.{Rebuilding}
 use Rattle.open_rebuild.specs.Claim as claim
 use Rattle.volume_core.specs.declared.world.NotThis.{NotThis}

@@ -1,14 +1,14 @@
 -- Where a command of the maintenance turn stands, and where a ticket for the whole volume does.
 use Rattle.std.specs.Prelude.{◌≡◌, ℕ, ◌<◌, length, Some, true, false}
 use Rattle.vol_units.specs.Name.{begins_sys}
-use Rattle.command_text.specs.declared.command.Command.{Command}
-use Rattle.command_text.specs.declared.command.Command.TheVariants as command
+use Rattle.volume_model.specs.declared.command.Command.{Command}
+use Rattle.volume_model.specs.declared.command.Command.TheVariants as command
 use Rattle.range_turns.specs.declared.ticket.Kind.TheVariants as kind
 use Rattle.range_turns.specs.Order.{ticket_at, StandsAt}
 use Rattle.open_calls.specs.Calls.{open_at}
 use Rattle.open_calls.specs.Clients.{IsIdle}
-use Rattle.whole_calls.specs.declared.whole.Whole.{Whole}
-use Rattle.whole_calls.specs.Maint.{command_at}
+use Rattle.open_calls.specs.declared.whole.Whole.{Whole}
+use Rattle.open_calls.specs.Maint.{command_at}
 use Rattle.volume_core.specs.State.{State}
 
 -- a command waits there for the turn

@@ -13,12 +13,11 @@ ghost use Rattle.volume_core.specs.Sound.{IsSound};
 ghost use Rattle.volume_maint.specs.Steps.{barrier_name, barrier_put, with_places, past_barrier};
 ghost use Rattle.volume_maint.specs.Answers.{MayBegin, MayBeginOf, MayNotBegin, BeginsBarrier};
 
-use open_calls::{LayerName, WholeOp};
+use open_calls::{LayerName, Spares, Whole, WholeOp};
 use open_rebuild::Rebuilding;
 use std::alloc::{AllocError, Global};
 use volume_core::{Entry, Parts, ReplicaNode, World};
 use volume_model::Mark;
-use whole_calls::{Spares, Whole};
 
 /// Whether the operation may begin: of a barrier, no rebuild of the command that has the turn was begun, and its replica
 /// is there.

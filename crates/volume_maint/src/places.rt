@@ -2,7 +2,7 @@
 
 ghost use Rattle.std.specs.Prelude.{◌≡◌, ◌≢◌, ℕ, true, false, MatchOption};
 ghost use Rattle.open_calls.specs.Clients.{IsIdle};
-ghost use Rattle.whole_calls.specs.Maint.{command_at};
+ghost use Rattle.open_calls.specs.Maint.{command_at};
 ghost use Rattle.volume_core.specs.State.{state_of};
 ghost use Rattle.volume_core.specs.Sound.{IsSound};
 ghost use Rattle.volume_maint.specs.Places.{AwaitsTurn, IsFreeTurn, AwaitsWhole, IsWholeOn};

@@ -5,7 +5,7 @@ ghost use Rattle.volume_model.specs.declared.call.Call.TheVariants as call;
 ghost use Rattle.volume_model.specs.declared.call.Reply.TheVariants as reply;
 ghost use Rattle.volume_model.specs.Modes.{mode_of};
 ghost use Rattle.volume_model.specs.PlainStep.{refusal_of, room_refusal, live_refusal, add_refusal};
-ghost use Rattle.whole_calls.specs.Maint.{command_at};
+ghost use Rattle.open_calls.specs.Maint.{command_at};
 ghost use Rattle.volume_core.specs.State.{state_of, told_of, modes_in};
 ghost use Rattle.volume_core.specs.Sound.{IsSound};
 ghost use Rattle.volume_maint.specs.Places.{IsWholeCommand};

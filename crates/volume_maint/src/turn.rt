@@ -3,7 +3,7 @@
 ghost use Rattle.std.specs.Prelude.{◌≡◌, ℕ, ◌<◌, ◌≤◌, length, IfOk, IfErr, OnOk, OnErr};
 ghost use Rattle.range_turns.specs.Order.{IsFresh};
 ghost use Rattle.open_calls.specs.Clients.{IsIdle};
-ghost use Rattle.whole_calls.specs.Maint.{HasNoCommand, IsMaint, command_at};
+ghost use Rattle.open_calls.specs.Maint.{HasNoCommand, IsMaint, command_at};
 ghost use Rattle.volume_core.specs.State.{state_of, index_at};
 ghost use Rattle.volume_core.specs.Sound.{IsSound};
 ghost use Rattle.volume_core.specs.Streams.{MayGo};
@@ -13,10 +13,10 @@ ghost use Rattle.volume_maint.specs.Answers.{TurnsTo, EndsTurn, AgainstEndTurn};
 
 use crate::places::{free_turn_at, waiting_command_at};
 use crate::refusal::may_end;
+use open_calls::MaintCall;
 use range_turns::{BlockRange, Kind, MayStart, TicketNumber};
 use std::alloc::AllocError;
 use volume_core::{Call, Command, NotThis, Reply, World};
-use whole_calls::MaintCall;
 
 /// Puts a command of a stream that has no call open behind those that have the maintenance turn or wait for it. The
 /// place of its answer is made.

@@ -6,9 +6,9 @@ ghost use Rattle.range_turns.specs.Order.{ticket_at, IsFresh, IsClear};
 ghost use Rattle.open_calls.specs.Calls.{open_at, node_at};
 ghost use Rattle.open_calls.specs.Clients.{IsIdle};
 ghost use Rattle.open_calls.specs.Parts.{part_at};
-ghost use Rattle.whole_calls.specs.declared.whole.Whole.{Whole};
-ghost use Rattle.whole_calls.specs.Maint.{CanStill};
-ghost use Rattle.whole_calls.specs.Whole.{IsFit, IsSpared, spare_at};
+ghost use Rattle.open_calls.specs.declared.whole.Whole.{Whole};
+ghost use Rattle.open_calls.specs.Maint.{CanStill};
+ghost use Rattle.open_calls.specs.Whole.{IsFit, IsSpared, spare_at};
 ghost use Rattle.volume_core.specs.State.{state_of, modes_in};
 ghost use Rattle.volume_core.specs.Steps.{with_place, enrolled, without_call};
 ghost use Rattle.volume_core.specs.Sound.{IsSound};
@@ -23,11 +23,10 @@ use crate::fold::can_go;
 use crate::places::waiting_whole_at;
 use crate::refusal::refusal;
 use crate::whole_end::{end_with_answer, take_call};
-use open_calls::{OpenCall, Part, WholeOp};
+use open_calls::{OpenCall, Part, Spares, Whole, WholeOp, take_part};
 use range_turns::{BlockRange, Kind, TicketNumber};
 use std::alloc::{AllocError, Global};
 use volume_core::{Mode, NotThis, Parts, Refusal, Reply, World};
-use whole_calls::{Spares, Whole, take_part};
 
 /// Puts an operation behind all calls: a snapshot of a stream that has none open, or what the command does that has the
 /// turn, one operation at a time. None: a part of a purge that cannot go now.

@@ -7,7 +7,7 @@ use Rattle.std.proofs.lemmas.Bool.{eq-eqb, ne_eqb, true≢false}
 use Rattle.std.proofs.lemmas.Bool.Decides.{nat_tests}
 use Rattle.std.proofs.lemmas.List.{append-nil, append_assoc, length-append, length-set}
 use Rattle.vol_units.specs.Name.{begins_sys, sys_name}
-use Rattle.command_text.specs.declared.command.Command.TheVariants as command
+use Rattle.volume_model.specs.declared.command.Command.TheVariants as command
 use Rattle.volume_model.specs.declared.call.Call.{Call}
 use Rattle.volume_model.specs.declared.call.Call.TheVariants as call
 use Rattle.volume_model.specs.declared.call.Refusal.{Refusal}

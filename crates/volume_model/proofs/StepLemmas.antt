@@ -4,8 +4,8 @@ use Rattle.std.specs.Prelude.{Option, Some, None, ℤ, nat_lt}
 use Rattle.std.specs.Option.{option_or}
 use Rattle.std.proofs.lemmas.Bool.{cases_Bool}
 use Rattle.std.proofs.lemmas.List.{get_or_default}
-use Rattle.command_text.specs.declared.command.Command.{Command}
-use Rattle.command_text.specs.declared.command.Command.TheVariants as command
+use Rattle.volume_model.specs.declared.command.Command.{Command}
+use Rattle.volume_model.specs.declared.command.Command.TheVariants as command
 use Rattle.volume_model.specs.declared.call.Call.{Call}
 use Rattle.volume_model.specs.declared.call.Call.TheVariants as call
 use Rattle.volume_model.specs.declared.call.Refusal.{Refusal}

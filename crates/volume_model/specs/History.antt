@@ -1,6 +1,6 @@
 -- When a journal is one legal history, and in which order its calls stand.
 use Rattle.std.specs.Prelude.{◌≡◌, ℕ, suc, Bool, Option, None, Some, ◌≤◌, List, [], ◌∷◌, ◌++◌, map, if◌then◌else◌, ◌==◌, true, false}
-use Rattle.command_text.specs.declared.command.Command.TheVariants as command
+use Rattle.volume_model.specs.declared.command.Command.TheVariants as command
 use Rattle.volume_model.specs.declared.call.Call.{Call}
 use Rattle.volume_model.specs.declared.call.Call.TheVariants as call
 use Rattle.volume_model.specs.declared.entry.Answer.{Answer}

@@ -1,7 +1,7 @@
 -- Words for worked journals: of which it is shown whether they are legal.
 use Rattle.std.specs.Prelude.{ℕ, List, [], ◌∷◌, pos}
 use Rattle.vol_units.specs.Name.{sys_name}
-use Rattle.command_text.specs.declared.command.Command.TheVariants as command
+use Rattle.volume_model.specs.declared.command.Command.TheVariants as command
 use Rattle.volume_model.specs.declared.call.Call.{Call}
 use Rattle.volume_model.specs.declared.call.Call.TheVariants as call
 use Rattle.volume_model.specs.declared.call.Reply.{Reply}

@@ -1,8 +1,8 @@
 -- What one plain disk with whole copies answers to a call, and what the call leaves.
 use Rattle.std.specs.Prelude.{ℕ, ℤ, List, length, nat_lt, if◌then◌else◌, Option, Some, None}
 use Rattle.std.specs.Option.{option_or}
-use Rattle.command_text.specs.declared.command.Command.{Command}
-use Rattle.command_text.specs.declared.command.Command.TheVariants as command
+use Rattle.volume_model.specs.declared.command.Command.{Command}
+use Rattle.volume_model.specs.declared.command.Command.TheVariants as command
 use Rattle.volume_model.specs.declared.call.Call.{Call}
 use Rattle.volume_model.specs.declared.call.Call.TheVariants as call
 use Rattle.volume_model.specs.declared.call.Refusal.{Refusal}

@@ -2,7 +2,7 @@
 
 ghost use Rattle.std.specs.Prelude.{◌≡◌, ◌∷◌, [], pos};
 ghost use Rattle.vol_units.specs.Name.{sys_name};
-ghost use Rattle.command_text.specs.declared.command.Command.TheVariants as command;
+ghost use Rattle.volume_model.specs.declared.command.Command.TheVariants as command;
 ghost use Rattle.volume_model.specs.declared.call.Call.TheVariants as call;
 ghost use Rattle.volume_model.specs.declared.call.Reply.TheVariants as reply;
 ghost use Rattle.volume_model.specs.declared.call.Refusal.TheVariants.{NoReplica};

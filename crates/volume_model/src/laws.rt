@@ -1,9 +1,11 @@
 //! What follows from the definitions alone. Each law is a contract.
 
 ghost use Rattle.std.specs.Prelude.{◌≡◌, ℕ, ℤ, ◌+◌, ◌≤◌, ◌^◌, List, ◌∷◌, [], length, take, drop, Option, Some, None};
+ghost use Rattle.volume_model.specs.Commands.{IsCommand};
 ghost use Rattle.volume_model.specs.declared.call.Call.{Call};
 ghost use Rattle.volume_model.specs.declared.call.Refusal.{Refusal};
 ghost use Rattle.volume_model.specs.declared.call.Reply.TheVariants as reply;
+ghost use Rattle.volume_model.specs.declared.command.Command.{Command};
 ghost use Rattle.volume_model.specs.declared.entry.Entry.{Entry};
 ghost use Rattle.volume_model.specs.declared.mark.FoldOrDrop.{FoldOrDrop};
 ghost use Rattle.volume_model.specs.declared.mode.Mode.{Mode};
@@ -20,6 +22,11 @@ ghost use Rattle.volume_model.specs.History.{Spot, IsLegal, IsHistory};
 ghost use Rattle.volume_model.specs.OneWorker.{served, after_streams, stream_of, AllProper, call_count, behind_entries};
 ghost use Rattle.volume_model.specs.Copies.{HasCopies};
 ghost use Rattle.volume_model.specs.Names.{AreOwnFree, TellOf, AreNamed, names_after, layers_after};
+
+/// Two commands have two texts.
+pub fn a_text_is_one_command()
+    ensures { (text : List ℕ) (a b : Command) → IsCommand text a → IsCommand text b → a ≡ b }
+{}
 
 /// A write within the disk keeps its size, is read back, and leaves all bytes before and behind it.
 pub fn a_write_puts_its_bytes_and_no_others()

@@ -6,8 +6,8 @@ use Rattle.sparse_image.specs.Image.{Table}
 use Rattle.replica_node.specs.Node.{Node}
 use Rattle.replica_node.specs.Held.{IsPageOf, PutsPage}
 use Rattle.open_calls.specs.Calls.{node_at}
-use Rattle.whole_calls.specs.Due.{due}
-use Rattle.whole_calls.proofs.Forms.{length-forms}
+use Rattle.open_calls.specs.Due.{due}
+use Rattle.open_calls.proofs.Forms.{length-forms}
 use Rattle.open_rebuild.specs.declared.rebuilding.Rebuilding.{Rebuilding}
 use Rattle.open_rebuild.specs.Claim.{IsRebuilding}
 use Rattle.open_rebuild.proofs.PageSteps.{page_kept}

@@ -13,9 +13,9 @@ use Rattle.open_calls.specs.declared.whole_op.WholeOp.TheVariants as whole
 use Rattle.open_calls.specs.Calls.{node_at}
 use Rattle.open_calls.specs.Parts.{part_at}
 use Rattle.open_calls.proofs.PartLemmas.{up_in}
-use Rattle.whole_calls.specs.declared.whole.Whole.{Whole}
-use Rattle.whole_calls.specs.Due.{form_part, forms}
-use Rattle.whole_calls.proofs.Forms.{length-forms, formed_in}
+use Rattle.open_calls.specs.declared.whole.Whole.{Whole}
+use Rattle.open_calls.specs.Due.{form_part, forms}
+use Rattle.open_calls.proofs.Forms.{length-forms, formed_in}
 use Rattle.open_rebuild.specs.declared.rebuilding.Rebuilding.{Rebuilding}
 use Rattle.open_rebuild.specs.Claim.{HasBits, IsBesideThese, IsBesideStarted, IsRebuilding, IsUnderWay}
 use Rattle.open_rebuild.specs.Pages.{IsFrozenPage}

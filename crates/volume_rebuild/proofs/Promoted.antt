@@ -5,7 +5,7 @@ use Rattle.std.specs.Prelude.{Option, None, Some}
 use Rattle.std.specs.List.{count_by}
 use Rattle.std.proofs.lemmas.List.Edits.{length-remove}
 use Rattle.std.proofs.lemmas.List.Sums.{sum_by-set}
-use Rattle.command_text.specs.declared.command.Command.TheVariants as command
+use Rattle.volume_model.specs.declared.command.Command.TheVariants as command
 use Rattle.volume_model.specs.declared.call.Call.{Call}
 use Rattle.volume_model.specs.declared.call.Call.TheVariants as call
 use Rattle.volume_model.specs.declared.call.Reply.TheVariants as reply
@@ -32,16 +32,16 @@ use Rattle.open_calls.proofs.Gone.{seen_clients}
 use Rattle.open_calls.proofs.ListLemmas.{at_set}
 use Rattle.open_calls.proofs.PartLemmas.{up_in}
 use Rattle.open_calls.proofs.SeenLemmas.{seen_mark, seen_answer}
-use Rattle.whole_calls.specs.declared.maint.MaintCall.{MaintCall}
-use Rattle.whole_calls.specs.declared.whole.Whole.{Whole}
-use Rattle.whole_calls.specs.Due.{due, forms}
-use Rattle.whole_calls.specs.Maint.{AreMaint, command_at}
-use Rattle.whole_calls.specs.Whole.{IsWhole}
-use Rattle.whole_calls.proofs.Answered.{command_answered}
-use Rattle.whole_calls.proofs.Folds.{idle_maint}
-use Rattle.whole_calls.proofs.Forms.{length-forms}
-use Rattle.whole_calls.proofs.Kept.{queued_mark}
-use Rattle.rebuild_state.specs.Rebuild.{IsReplica}
+use Rattle.open_calls.specs.declared.maint.MaintCall.{MaintCall}
+use Rattle.open_calls.specs.declared.whole.Whole.{Whole}
+use Rattle.open_calls.specs.Due.{due, forms}
+use Rattle.open_calls.specs.Maint.{AreMaint, command_at}
+use Rattle.open_calls.specs.Whole.{IsWhole}
+use Rattle.open_calls.proofs.Answered.{command_answered}
+use Rattle.open_calls.proofs.Folds.{idle_maint}
+use Rattle.open_calls.proofs.Forms.{length-forms}
+use Rattle.open_calls.proofs.Kept.{queued_mark}
+use Rattle.open_rebuild.specs.Rebuild.{IsReplica}
 use Rattle.open_rebuild.specs.declared.rebuilding.Rebuilding.{Rebuilding}
 use Rattle.open_rebuild.specs.Claim.{IsBesideStarted, IsRebuilding}
 use Rattle.open_rebuild.proofs.ModeSteps.{promoted_clients, promoted_roles}

@@ -6,7 +6,7 @@ use Rattle.replica_node.specs.Node.{Node}
 use Rattle.replica_node.specs.Fold.{HasBlockOf, HasNoBlockOf}
 use Rattle.replica_node.specs.Held.{IsPageOf, PutsPage}
 use Rattle.open_calls.specs.Calls.{node_at}
-use Rattle.rebuild_state.specs.Listed.{AreListed}
+use Rattle.open_rebuild.specs.Listed.{AreListed}
 use Rattle.open_rebuild.specs.declared.rebuilding.Rebuilding.{Rebuilding}
 use Rattle.open_rebuild.specs.Pages.{HasNoneLeft, IsNextLeft}
 use Rattle.volume_core.specs.State.{State}

@@ -7,7 +7,7 @@ ghost use Rattle.replica_node.specs.Node.{layer_names};
 ghost use Rattle.replica_node.specs.Fold.{HasBlockOf, HasNoBlockOf};
 ghost use Rattle.replica_node.specs.Held.{IsPageOf, PutsPage};
 ghost use Rattle.open_calls.specs.Calls.{node_at};
-ghost use Rattle.whole_calls.specs.Maint.{command_at};
+ghost use Rattle.open_calls.specs.Maint.{command_at};
 ghost use Rattle.open_rebuild.specs.declared.rebuilding.Rebuilding.{Rebuilding};
 ghost use Rattle.open_rebuild.specs.Claim.{HasBits, with_page};
 ghost use Rattle.volume_core.specs.State.{state_of};

@@ -2,7 +2,7 @@
 
 ghost use Rattle.std.specs.Prelude.{◌≡◌, ◌+◌, ◌<◌, length, IfOk, IfErr, OnOk, OnErr};
 ghost use Rattle.open_calls.specs.Calls.{node_at};
-ghost use Rattle.rebuild_state.specs.Rebuild.{IsReplica};
+ghost use Rattle.open_rebuild.specs.Rebuild.{IsReplica};
 ghost use Rattle.volume_core.specs.State.{state_of};
 ghost use Rattle.volume_core.specs.Sound.{IsSound};
 ghost use Rattle.volume_core.specs.Streams.{MayGo};

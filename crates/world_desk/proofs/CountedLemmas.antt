@@ -16,8 +16,8 @@ use Rattle.replica_node.specs.Node.{Node, Kept}
 use Rattle.replica_node.specs.Held.{block_named}
 use Rattle.open_calls.specs.Calls.{node_at}
 use Rattle.open_calls.specs.Starts.{KeepsNodes}
-use Rattle.whole_calls.specs.declared.maint.MaintCall.{MaintCall}
-use Rattle.whole_calls.specs.Maint.{command_at}
+use Rattle.open_calls.specs.declared.maint.MaintCall.{MaintCall}
+use Rattle.open_calls.specs.Maint.{command_at}
 use Rattle.open_rebuild.specs.declared.rebuilding.Rebuilding.{Rebuilding}
 use Rattle.volume_core.specs.State.{State, modes_in, told_of}
 use Rattle.volume_core.specs.Sound.{IsSound}

@@ -7,8 +7,8 @@ use Rattle.volume_model.specs.declared.mark.Mark.TheVariants as mark
 use Rattle.range_turns.specs.declared.ticket.Ticket.{Ticket}
 use Rattle.open_calls.specs.declared.open_call.OpenCall.{OpenCall}
 use Rattle.open_calls.specs.declared.parts.Part.{Part}
-use Rattle.whole_calls.specs.declared.maint.MaintCall.{MaintCall}
-use Rattle.whole_calls.specs.declared.whole.Whole.{Whole}
+use Rattle.open_calls.specs.declared.maint.MaintCall.{MaintCall}
+use Rattle.open_calls.specs.declared.whole.Whole.{Whole}
 use Rattle.volume_core.specs.State.{State, state_of, gave_up_at}
 use Rattle.volume_core.specs.Sound.{IsSound}
 use Rattle.volume_core.specs.Streams.{running, turning, Origin, origin_of}

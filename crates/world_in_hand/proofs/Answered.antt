@@ -31,7 +31,7 @@ use Rattle.open_calls.specs.Parts.{part_at, part_for, IsTaken}
 use Rattle.open_calls.specs.Calls.{open_at, call_asked, whole_asked, no_call, begun}
 use Rattle.open_calls.specs.Clients.{Fits}
 use Rattle.open_calls.proofs.PartLemmas.{part_of, part_for_new, up_in, rw_up}
-use Rattle.whole_calls.specs.Due.{forms}
+use Rattle.open_calls.specs.Due.{forms}
 use Rattle.volume_core.specs.State.{State, modes_in, index_at, told_of}
 use Rattle.volume_core.specs.Steps.{acked, wrote, has_read, started, with_place, answered, faulted}
 use Rattle.volume_core.specs.Sound.{IsSound}

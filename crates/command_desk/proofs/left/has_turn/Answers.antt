@@ -1,7 +1,7 @@
 use Rattle.std.proofs.Common.{◌<◌, length, sym, ap, rules}
 use Rattle.std.proofs.lemmas.List.{get_or_read}
-use Rattle.whole_calls.specs.declared.maint.MaintCall.{MaintCall}
-use Rattle.whole_calls.specs.Maint.{no_command}
+use Rattle.open_calls.specs.declared.maint.MaintCall.{MaintCall}
+use Rattle.open_calls.specs.Maint.{no_command}
 use Rattle.volume_core.specs.State.{state_of}
 use Rattle.command_desk.proofs.LeftPages.{not_first}
 use Rattle.command_desk.proofs.left.has_turn.Goals as goal

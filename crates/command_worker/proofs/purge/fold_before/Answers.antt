@@ -1,5 +1,5 @@
 use Rattle.std.proofs.Common.{refl}
-use Rattle.command_text.specs.declared.command.Command.TheVariants as command
+use Rattle.volume_model.specs.declared.command.Command.TheVariants as command
 use Rattle.command_worker.proofs.Goes.{goes_same, turn_kept}
 use Rattle.command_worker.proofs.purge.fold_before.Goals as goal
 

@@ -1,5 +1,5 @@
 use Rattle.std.proofs.Common.{rules, refl}
-use Rattle.command_text.specs.declared.command.Command.TheVariants as command
+use Rattle.volume_model.specs.declared.command.Command.TheVariants as command
 use Rattle.command_worker.proofs.Goes.{goes_same, goes_on, turn_kept}
 use Rattle.command_worker.proofs.purge.fold_pages.Goals as goal
 

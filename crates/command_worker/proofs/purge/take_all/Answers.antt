@@ -1,5 +1,5 @@
 use Rattle.std.proofs.Common.{rules, ◌≡◌, [], ◌∷◌, true, false, refl, subst}
-use Rattle.command_text.specs.declared.command.Command.TheVariants as command
+use Rattle.volume_model.specs.declared.command.Command.TheVariants as command
 use Rattle.command_worker.specs.Purges.{RoundTo}
 use Rattle.command_worker.proofs.PurgeLemmas.{gave_up}
 use Rattle.command_worker.proofs.RoundLemmas.{on_turn, rounds_on, rounds_end, round_waits}

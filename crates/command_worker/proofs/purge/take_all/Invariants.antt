@@ -1,5 +1,5 @@
 use Rattle.std.proofs.Common.{◌≡◌, [], ◌∷◌, length, map}
-use Rattle.command_text.specs.declared.command.Command.TheVariants as command
+use Rattle.volume_model.specs.declared.command.Command.TheVariants as command
 use Rattle.stream_steps.specs.Mine.{OwnCall, with_running}
 use Rattle.stream_steps.specs.Maint.{HasTurn}
 use Rattle.client_worker.specs.Serving.{IsShown}

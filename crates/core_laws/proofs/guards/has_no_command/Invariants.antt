@@ -1,5 +1,5 @@
 use Rattle.std.proofs.Common.{◌≢◌, ℕ, ◌<◌}
-use Rattle.whole_calls.specs.Maint.{command_at}
+use Rattle.open_calls.specs.Maint.{command_at}
 use Rattle.core_laws.proofs.guards.has_no_command.Given as goal
 
 abbrev pub invariant-loop-k : goal.invariant-loop-k

@@ -2,7 +2,7 @@ use Rattle.std.proofs.Common.{◌≡◌, List, ℕ, ◌++◌, map, append_assoc,
 use Rattle.std.proofs.lemmas.Result.{on_ok_weaker}
 use Rattle.run_report.specs.Report.{mode_lines}
 use Rattle.report_writer.specs.declared.end.EndLine.TheVariants.{Chain, Digest}
-use Rattle.replica_state.specs.Volume.{volume_of_node}
+use Rattle.replica_node.specs.Volume.{volume_of_node}
 use Rattle.report_writer.specs.Written.{replica_lines}
 use Rattle.report_writer.proofs.end.print_end.Goals as goal
 

@@ -3,7 +3,7 @@ use Rattle.std.proofs.lemmas.Result.{on_ok_weaker}
 use Rattle.std.specs.Io.KnownBytes.{Appends}
 use Rattle.journal_book.specs.Book.{modes_of}
 use Rattle.run_report.specs.Report.{journal_lines, replies_from}
-use Rattle.replica_state.specs.Volume.{volume_of_node}
+use Rattle.replica_node.specs.Volume.{volume_of_node}
 use Rattle.report_writer.specs.Written.{end_text}
 use Rattle.outer_traits.specs.Passing.{WritesPrefix}
 use Rattle.outer_traits.proofs.Passing.{Passes-trans, WritesPrefix-after, WritesPrefix-passed, Appends-last, WritesPrefix-last}

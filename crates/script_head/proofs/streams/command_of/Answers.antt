@@ -1,7 +1,7 @@
 use Rattle.std.proofs.Common.{◌≡◌, Bool, false, IsTrue, Some, refl, subst, rules}
 use Rattle.serde_json.specs.Find.{as_str}
 use Rattle.serde_json.specs.View.{view}
-use Rattle.command_text.specs.Commands.{IsCommand, IsNoCommand}
+use Rattle.volume_model.specs.Commands.{IsCommand, IsNoCommand}
 use Rattle.script_head.proofs.Readers.{no_text, no_replica}
 use Rattle.script_head.proofs.streams.command_of.Goals as goal
 use Rattle.script_head.proofs.streams.command_of.Goals.{in_default-via-in-Ok+else-names_replica, in_default-via-in_default}

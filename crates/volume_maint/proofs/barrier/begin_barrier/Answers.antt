@@ -7,7 +7,7 @@ use Rattle.replica_node.specs.Node.{Node, blank}
 use Rattle.replica_node.specs.Held.{emptied}
 use Rattle.open_calls.specs.declared.whole_op.WholeOp.TheVariants as whole
 use Rattle.open_calls.specs.Calls.{node_at}
-use Rattle.whole_calls.specs.Whole.{AreSpared}
+use Rattle.open_calls.specs.Whole.{AreSpared}
 use Rattle.open_rebuild.specs.Claim.{IsNew}
 use Rattle.volume_core.specs.State.{State, state_of}
 use Rattle.volume_maint.specs.Steps.{barrier_modes, barrier_put, with_places}

@@ -1,5 +1,5 @@
 use Rattle.std.proofs.Common.{◌≡◌, ℕ, List, sym, subst, rules, arith, refl}
-use Rattle.command_text.specs.declared.command.Command.TheVariants as command
+use Rattle.volume_model.specs.declared.command.Command.TheVariants as command
 use Rattle.volume_model.specs.declared.mark.FoldOrDrop.TheVariants as part
 use Rattle.volume_model.specs.declared.mode.Mode.TheVariants.{Rw}
 use Rattle.volume_model.specs.Modes.{mode_of}
@@ -7,7 +7,7 @@ use Rattle.volume_model.specs.Purge.{CanFold}
 use Rattle.replica_node.specs.Fold.{tree_of}
 use Rattle.open_calls.specs.Calls.{node_at}
 use Rattle.open_calls.specs.Clients.{IsIdle}
-use Rattle.whole_calls.specs.Maint.{command_at}
+use Rattle.open_calls.specs.Maint.{command_at}
 use Rattle.volume_core.specs.State.{State, state_of, modes_in}
 use Rattle.volume_core.specs.Sound.{IsSound}
 use Rattle.volume_maint.specs.Answers.{snapshots_told, IsNew, FoldsPage}

@@ -3,7 +3,7 @@ use Rattle.volume_model.specs.declared.mark.FoldOrDrop.{FoldOrDrop}
 use Rattle.volume_model.specs.Modes.{mode_of}
 use Rattle.open_calls.proofs.PartLemmas.{up_in, rw_up}
 use Rattle.open_calls.specs.Calls.{node_at}
-use Rattle.whole_calls.specs.Whole.{IsFolded}
+use Rattle.open_calls.specs.Whole.{IsFolded}
 use Rattle.volume_core.specs.State.{state_of, modes_in}
 use Rattle.volume_maint.proofs.fold.is_folded.Goals as goal
 

@@ -1,5 +1,5 @@
 use Rattle.std.proofs.Common.{length, sym, ap, ◌∙◌}
-use Rattle.whole_calls.proofs.Forms.{length-forms}
+use Rattle.open_calls.proofs.Forms.{length-forms}
 use Rattle.volume_core.specs.State.{state_of}
 use Rattle.volume_maint.proofs.whole.begin_other.Goals as goal
 

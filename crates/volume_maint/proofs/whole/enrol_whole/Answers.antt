@@ -1,6 +1,6 @@
 use Rattle.std.proofs.Common.{◌≡◌, sym, subst, rules}
 use Rattle.range_turns.specs.Order.{IsFresh}
-use Rattle.whole_calls.specs.Maint.{CanStill}
+use Rattle.open_calls.specs.Maint.{CanStill}
 use Rattle.volume_core.specs.State.{State, state_of, modes_in}
 use Rattle.volume_core.specs.Sound.{IsSound}
 use Rattle.volume_maint.specs.Answers.{seen_by, snapshots_told}

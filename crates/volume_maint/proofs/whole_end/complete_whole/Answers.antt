@@ -1,6 +1,6 @@
 use Rattle.std.proofs.Common.{rules}
 use Rattle.std.specs.Prelude.{IfSome}
-use Rattle.whole_calls.specs.declared.whole.Whole.{Whole}
+use Rattle.open_calls.specs.declared.whole.Whole.{Whole}
 use Rattle.volume_core.specs.State.{State, state_of}
 use Rattle.volume_maint.specs.Places.{IsWholeOn}
 use Rattle.volume_maint.proofs.Owes.{ends_goes}

@@ -1,6 +1,6 @@
 use Rattle.std.proofs.Common.{◌≡◌, sym, subst}
 use Rattle.open_calls.specs.Calls.{open_at}
-use Rattle.whole_calls.specs.Maint.{IsAskedBy}
+use Rattle.open_calls.specs.Maint.{IsAskedBy}
 use Rattle.volume_core.specs.State.{State, state_of}
 use Rattle.volume_core.specs.Steps.{without_call}
 use Rattle.volume_maint.proofs.whole_end.end_with_answer.Goals as goal

@@ -3,7 +3,7 @@ use Rattle.std.specs.Prelude.{Contains}
 use Rattle.vol_units.specs.declared.size.TheConstants.{PAGE_BYTES}
 use Rattle.replica_node.specs.Node.{layer_names}
 use Rattle.open_calls.specs.Calls.{node_at}
-use Rattle.whole_calls.specs.Maint.{command_at}
+use Rattle.open_calls.specs.Maint.{command_at}
 use Rattle.volume_core.specs.State.{State, state_of}
 use Rattle.volume_core.specs.Sound.{IsSound}
 use Rattle.volume_rebuild.specs.Places.{IsToCopy}

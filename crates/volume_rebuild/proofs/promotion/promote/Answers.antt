@@ -3,7 +3,7 @@ use Rattle.volume_core.specs.State.{State, state_of}
 use Rattle.volume_core.specs.Sound.{IsSound}
 use Rattle.volume_core.specs.Streams.{MayGo}
 use Rattle.volume_maint.proofs.TurnStreams.{for_asker}
-use Rattle.rebuild_state.specs.Rebuild.{IsReplica}
+use Rattle.open_rebuild.specs.Rebuild.{IsReplica}
 use Rattle.open_calls.specs.Calls.{node_at}
 use Rattle.volume_rebuild.specs.Answers.{Promotes}
 use Rattle.volume_rebuild.proofs.Promoted.{promoted_kept, promoted_goes}

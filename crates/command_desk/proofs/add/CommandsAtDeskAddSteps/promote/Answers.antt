@@ -1,5 +1,5 @@
 use Rattle.std.proofs.Common.{◌≡◌, ℕ, None, IfSome}
-use Rattle.command_text.specs.declared.command.Command.TheVariants as command
+use Rattle.volume_model.specs.declared.command.Command.TheVariants as command
 use Rattle.volume_core.specs.State.{State, state_of}
 use Rattle.volume_core.specs.Streams.{MayGo}
 use Rattle.world_desk.specs.Laid.{laid}

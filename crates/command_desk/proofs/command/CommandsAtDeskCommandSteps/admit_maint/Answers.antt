@@ -3,7 +3,7 @@ use Rattle.world_desk.specs.Laid.{laid}
 use Rattle.stream_steps.specs.Mine.{Mine, OwnCall}
 use Rattle.command_desk.specs.AtDesk.{mine_at}
 use Rattle.command_desk.proofs.AtTurn.{found_in, may_go, at_desk, over}
-use Rattle.command_text.specs.declared.command.Command.{Command}
+use Rattle.volume_model.specs.declared.command.Command.{Command}
 use Rattle.volume_core.specs.Streams.{MayGo}
 use Rattle.stream_steps.specs.Maint.{AwaitsTurn, TurnsTo}
 use Rattle.command_desk.proofs.Turns.{waiting, waits_owner, admits, admits_parts}

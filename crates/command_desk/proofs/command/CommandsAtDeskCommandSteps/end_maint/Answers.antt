@@ -4,7 +4,7 @@ use Rattle.stream_steps.specs.Mine.{Mine, OwnCall}
 use Rattle.command_desk.specs.AtDesk.{mine_at}
 use Rattle.command_desk.proofs.AtTurn.{found_in, may_go, at_desk, over, unchanged}
 use Rattle.std.proofs.Common.{◌≡◌, OnOk, OnErr}
-use Rattle.command_text.specs.declared.command.Command.TheVariants as command
+use Rattle.volume_model.specs.declared.command.Command.TheVariants as command
 use Rattle.volume_core.specs.Streams.{MayGo}
 use Rattle.stream_steps.specs.Maint.{HasTurn, AnswersWhole}
 use Rattle.command_desk.proofs.Turns.{turn_owner, ends, ends_parts}

@@ -1,4 +1,4 @@
-use Rattle.command_text.specs.declared.command.Command.TheVariants as command
+use Rattle.volume_model.specs.declared.command.Command.TheVariants as command
 use Rattle.volume_core.specs.State.{state_of}
 use Rattle.commands_in_hand.proofs.TurnSteps.{free_turn}
 use Rattle.commands_in_hand.proofs.AddEnds.{leaves_one, leaves_ready, asked_may}

@@ -1,7 +1,7 @@
 use Rattle.std.proofs.Common.{rules, ◌≡◌, length, arith}
 use Rattle.std.proofs.lemmas.Bool.Decides.{nat_tests}
-use Rattle.rebuild_state.specs.Listed.{place_of}
-use Rattle.rebuild_state.proofs.ListedLemmas.{placed}
+use Rattle.open_rebuild.specs.Listed.{place_of}
+use Rattle.open_rebuild.proofs.ListedLemmas.{placed}
 use Rattle.open_rebuild.proofs.FrozenLemmas.{place_there}
 use Rattle.open_rebuild.proofs.frozen_layers.FrozenLayers.has.Goals as goal
 

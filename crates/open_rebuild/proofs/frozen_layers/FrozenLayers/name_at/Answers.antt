@@ -1,6 +1,6 @@
 use Rattle.std.proofs.Common.{rules, ◌≡◌, ◌<◌, [], length, get_or, sym, ap, ◌∙◌}
 use Rattle.std.proofs.lemmas.List.{get_or_read}
-use Rattle.rebuild_state.specs.Listed.{place_of}
+use Rattle.open_rebuild.specs.Listed.{place_of}
 use Rattle.open_rebuild.proofs.FrozenLemmas.{place_in_order}
 use Rattle.open_rebuild.proofs.frozen_layers.FrozenLayers.name_at.Goals as goal
 

@@ -4,7 +4,7 @@ use Rattle.volume_core.specs.Answers.{failed_by, after_fail}
 use Rattle.volume_core.specs.State.{State, state_of, told_of, modes_in}
 use Rattle.volume_core.specs.Steps.{with_place, answered}
 use Rattle.volume_core.specs.Sound.{IsSound}
-use Rattle.whole_calls.specs.Due.{due, forms}
+use Rattle.open_calls.specs.Due.{due, forms}
 use Rattle.volume_core.proofs.Falls.{place_left}
 use Rattle.volume_core.proofs.FallsKept.{now_sound}
 use Rattle.volume_core.specs.Answers.{IsAnsweredNow}

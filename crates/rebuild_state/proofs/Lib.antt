@@ -1,4 +1,0 @@
-pub mod RebuildLemmas
-pub mod WriteLemmas
-pub mod PromoteLemmas
-pub mod ListedLemmas

@@ -1,2 +1,0 @@
-pub mod Rebuild
-pub mod Listed

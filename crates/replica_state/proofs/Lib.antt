@@ -1,2 +1,0 @@
-pub mod VolumeLemmas
-pub mod PurgeLemmas

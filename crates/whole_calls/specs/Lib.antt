@@ -1,3 +1,0 @@
-pub mod Due
-pub mod Whole
-pub mod Maint
