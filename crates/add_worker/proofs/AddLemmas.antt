@@ -23,7 +23,7 @@ use Rattle.volume_model.specs.Rebuilds.{rebuild_of}
 use Rattle.volume_model.proofs.RebuildLemmas.{rebuild_of-push}
 use Rattle.stream_steps.specs.Mine.{Mine, OwnCall, Log, with_entries, with_more, with_running, longer, length_of, log_length, answer_placed}
 use Rattle.stream_steps.specs.Steps.{AreMarks, IsCommandAt}
-use Rattle.open_calls.specs.declared.whole_op.WholeOp.TheVariants as whole
+use Rattle.step_answers.specs.declared.whole_op.WholeOp.TheVariants as whole
 use Rattle.stream_steps.specs.Maint.{HasWhole, StartsBarrier}
 use Rattle.stream_steps.specs.Add.{HasAdd, Promotes, EndsAborted, LeavesAdd}
 use Rattle.stream_steps.proofs.MineLemmas.{entries_none, entries_twice}

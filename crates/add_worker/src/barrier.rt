@@ -1,7 +1,7 @@
 //! The barrier of an add, with which its rebuild begins.
 
 ghost use Rattle.std.specs.Prelude.{◌≡◌, ℕ, ◌≢◌, ◌≤◌, ◌<◌, [], ◌∷◌, length, map, IfOk, OnErr};
-ghost use Rattle.open_calls.specs.declared.whole_op.WholeOp.{WholeOp};
+ghost use Rattle.step_answers.specs.declared.whole_op.WholeOp.{WholeOp};
 ghost use Rattle.stream_steps.specs.Mine.{OwnCall, with_running};
 ghost use Rattle.stream_steps.specs.Maint.{EnrolsUnder};
 ghost use Rattle.stream_steps.specs.Add.{HasAdd};
@@ -13,8 +13,8 @@ use client_worker::{Channel, Line};
 use command_worker::{Rooms, carry_barrier, start};
 use std::alloc::{AllocError, Global};
 use std::sync::Wait;
+use step_answers::WholeOp;
 use stream_steps::{AddSteps, TicketNumber};
-use volume_maint::WholeOp;
 
 /// Takes the add that has the turn past its barrier, and gives the source of its rebuild. None: it is refused, and
 /// answered so. Out of memory leaves it the turn, and nothing begun.

@@ -8,11 +8,11 @@ use Rattle.volume_model.specs.declared.mode.Mode.{Mode}
 use Rattle.volume_model.specs.declared.mode.Mode.TheVariants as mode
 use Rattle.volume_model.specs.Faults.{last_count}
 use Rattle.volume_model.specs.Modes.{mode_of}
-use Rattle.open_calls.specs.declared.parts.Part.{Part}
-use Rattle.open_calls.specs.declared.parts.Part.TheVariants.{Apart, Taken, Acked}
-use Rattle.open_calls.specs.Parts.{part_at, IsTaken}
-use Rattle.volume_core.specs.declared.world.NotThis.{NotThis}
-use Rattle.volume_core.specs.declared.world.NotThis.TheVariants as against
+use Rattle.step_answers.specs.declared.parts.Part.{Part}
+use Rattle.step_answers.specs.declared.parts.Part.TheVariants.{Apart, Taken, Acked}
+use Rattle.step_answers.specs.Parts.{part_at, IsTaken}
+use Rattle.step_answers.specs.declared.answers.NotThis.{NotThis}
+use Rattle.step_answers.specs.declared.answers.NotThis.TheVariants as against
 use Rattle.stream_steps.specs.Mine.{Mine, OwnCall, IsOwn, entries_in}
 use Rattle.stream_steps.specs.Steps.{IsReadCall, AcksTo}
 use Rattle.stream_steps.specs.Against.{RefusesAck, RefusesFault, RefusesEnd}

@@ -4,8 +4,8 @@ use Rattle.volume_model.specs.declared.call.Call.{Call}
 use Rattle.volume_model.specs.declared.call.Call.TheVariants as call
 use Rattle.frame_stream.specs.Asked.{call_of}
 use Rattle.frame_stream.specs.declared.frame.Frame.{Frame}
-use Rattle.volume_core.specs.declared.enrol.Enrolled.{Enrolled}
-use Rattle.volume_core.specs.declared.enrol.Enrolled.TheVariants as enrol
+use Rattle.step_answers.specs.declared.answers.Enrolled.{Enrolled}
+use Rattle.step_answers.specs.declared.answers.Enrolled.TheVariants as enrol
 use Rattle.client_worker.specs.Asks.{IsAsked, IsShort}
 use Rattle.stream_steps.specs.Mine.{Mine}
 use Rattle.stream_steps.specs.Steps.{EnrolsAt, EnrolsTo, AnswersNow}

@@ -5,8 +5,8 @@ use Rattle.std.specs.Prelude.{All}
 use Rattle.std.proofs.lemmas.List.Elements.{All-append}
 use Rattle.volume_model.specs.declared.entry.Entry.TheVariants as entry
 use Rattle.volume_model.specs.declared.mark.Mark.TheVariants as mark
-use Rattle.open_calls.specs.declared.parts.Part.{Part}
-use Rattle.open_calls.specs.declared.parts.Part.TheVariants.{Taken, Acked}
+use Rattle.step_answers.specs.declared.parts.Part.{Part}
+use Rattle.step_answers.specs.declared.parts.Part.TheVariants.{Taken, Acked}
 use Rattle.stream_steps.specs.Mine.{Mine, OwnCall, IsOwn, entries_in, with_more, with_running, fault_placed}
 use Rattle.stream_steps.specs.Steps.{TakesTo, AcksTo, FaultsTo}
 use Rattle.stream_steps.proofs.MineLemmas.{entries-append, more_none, more_twice}

@@ -9,10 +9,10 @@ use Rattle.volume_model.specs.declared.call.Reply.TheVariants as reply
 use Rattle.volume_model.specs.declared.mode.Mode.{Mode}
 use Rattle.volume_model.specs.declared.mode.Mode.TheVariants.{Rw}
 use Rattle.volume_model.specs.Modes.{mode_of}
-use Rattle.open_calls.specs.declared.parts.Part.{Part}
-use Rattle.open_calls.specs.declared.parts.Part.TheVariants.{Taken, Acked}
-use Rattle.open_calls.specs.Parts.{part_at}
-use Rattle.volume_core.specs.declared.job.Job.{Job}
+use Rattle.step_answers.specs.declared.parts.Part.{Part}
+use Rattle.step_answers.specs.declared.parts.Part.TheVariants.{Taken, Acked}
+use Rattle.step_answers.specs.Parts.{part_at}
+use Rattle.step_answers.specs.declared.answers.Job.{Job}
 use Rattle.stream_steps.specs.Mine.{Placed, Mine, OwnCall, IsOwn, with_more, with_running, answer_placed, fault_placed}
 use Rattle.stream_steps.specs.Steps.{IsUncarried, EnrolsAt, AnswersNow, Answers, Refuses, StartsCall, TakesTo, AcksTo, FaultsTo}
 use Rattle.client_worker.specs.Exchanges.{told_in, HasPart, AreAcked, CarriedOf, IsCarried, AreCarried}

@@ -1,8 +1,8 @@
 -- Whether a call starts: what the answer says, behind rounds in which it had to wait.
 use Rattle.std.proofs.Common.{◌≡◌, ℕ, [], ap, subst}
-use Rattle.volume_core.specs.declared.admit.Admit.{Admit}
-use Rattle.volume_core.specs.declared.admit.Admit.TheVariants as admit
-use Rattle.volume_core.specs.declared.job.Job.{Job}
+use Rattle.step_answers.specs.declared.answers.Admit.{Admit}
+use Rattle.step_answers.specs.declared.answers.Admit.TheVariants as admit
+use Rattle.step_answers.specs.declared.answers.Job.{Job}
 use Rattle.stream_steps.specs.Mine.{Mine, OwnCall, IsOwn, with_running}
 use Rattle.stream_steps.specs.Steps.{Refuses, AdmitsTo, StartsCall, HasNotStarted}
 use Rattle.client_worker.specs.Ends.{KeepsShown, BeginsAs}

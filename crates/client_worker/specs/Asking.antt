@@ -3,8 +3,8 @@ use Rattle.std.specs.Prelude.{◌≡◌, ◌≢◌, ℕ, ◌<◌, ◌⊎◌, Lis
 use Rattle.volume_model.specs.declared.mode.Mode.{Mode}
 use Rattle.volume_model.specs.declared.mode.Mode.TheVariants.{Rw, Err}
 use Rattle.volume_model.specs.Modes.{mode_of}
-use Rattle.open_calls.specs.declared.parts.Part.TheVariants.{Acked}
-use Rattle.open_calls.specs.Parts.{part_at, IsTaken}
+use Rattle.step_answers.specs.declared.parts.Part.TheVariants.{Acked}
+use Rattle.step_answers.specs.Parts.{part_at, IsTaken}
 use Rattle.outer_traits.specs.Lines.{TellsMore}
 use Rattle.stream_steps.specs.Mine.{Mine, OwnCall}
 use Rattle.client_worker.specs.Exchanges.{told_in, HasPart}

@@ -4,9 +4,9 @@ use Rattle.volume_model.specs.declared.call.Reply.TheVariants as reply
 use Rattle.volume_model.specs.declared.entry.Answer.{Answer}
 use Rattle.volume_model.specs.declared.mode.Mode.{Mode}
 use Rattle.volume_model.specs.Modes.{HasSource}
-use Rattle.open_calls.specs.declared.parts.Part.TheVariants.{Acked}
-use Rattle.open_calls.specs.Parts.{part_at}
-use Rattle.volume_core.specs.declared.job.Job.{Job}
+use Rattle.step_answers.specs.declared.parts.Part.TheVariants.{Acked}
+use Rattle.step_answers.specs.Parts.{part_at}
+use Rattle.step_answers.specs.declared.answers.Job.{Job}
 use Rattle.stream_steps.specs.Mine.{Mine, OwnCall, Placed, entries_in, with_more, with_running, answer_placed}
 use Rattle.stream_steps.specs.Steps.{StartsCall, Refuses}
 use Rattle.client_worker.specs.Serving.{IsOwnFault, IsShown}

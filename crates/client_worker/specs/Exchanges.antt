@@ -10,8 +10,8 @@ use Rattle.volume_model.specs.declared.entry.Entry.TheVariants as entry
 use Rattle.volume_model.specs.declared.mode.Mode.{Mode}
 use Rattle.volume_model.specs.declared.mode.Mode.TheVariants.{Rw}
 use Rattle.volume_model.specs.Modes.{mode_of, modes_after_entry}
-use Rattle.open_calls.specs.declared.parts.Part.TheVariants.{Acked}
-use Rattle.open_calls.specs.Parts.{part_at}
+use Rattle.step_answers.specs.declared.parts.Part.TheVariants.{Acked}
+use Rattle.step_answers.specs.Parts.{part_at}
 use Rattle.stream_steps.specs.Mine.{OwnCall, Placed}
 use Rattle.stream_steps.specs.Steps.{IsRounded}
 use Rattle.client_worker.specs.Frames.{read_request, read_reply, write_request, write_reply}

@@ -9,7 +9,7 @@ use Rattle.volume_model.specs.declared.mark.Mark.{Mark}
 use Rattle.volume_model.specs.declared.mark.Mark.TheVariants as mark
 use Rattle.volume_model.specs.Faults.{last_count}
 use Rattle.volume_model.specs.Modes.{HasSource}
-use Rattle.open_calls.specs.declared.parts.Part.{Part}
+use Rattle.step_answers.specs.declared.parts.Part.{Part}
 use Rattle.stream_steps.specs.Mine.{Mine, OwnCall, Placed, Log, entries_in, with_more, longer, length_of}
 use Rattle.client_worker.specs.Exchanges.{told_in, AreCarried, AreAcked}
 

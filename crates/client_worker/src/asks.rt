@@ -15,9 +15,11 @@ use crate::frames::{put_header, read_head, read_reply_head, write_head, write_re
 use crate::pass::{pass, reply_with};
 use frame_wire::{HEADER_LENGTH, encode_header};
 use outer_traits::Line;
+use range_turns::TicketNumber;
+use sparse_image::Blocks;
 use std::sync::Wait;
 use stream_steps::ClientSteps;
-use volume_core::{Blocks, Mode, TicketNumber};
+use volume_model::Mode;
 
 /// Asks a replica for its part of the open write, unless it has failed: its request is there but for the header.
 pub(crate) fn ask_write<R: Wait, C: ClientSteps, L: Line + Drop>(

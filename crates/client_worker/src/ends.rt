@@ -5,10 +5,11 @@ ghost use Rattle.stream_steps.specs.Mine.{OwnCall, IsOwn, with_running};
 ghost use Rattle.stream_steps.specs.Steps.{Answers, HasNotStarted, HasStarted, IsReadCall};
 ghost use Rattle.client_worker.specs.Ends.{KeepsShown, NoneAcked, StartsOr};
 
+use range_turns::TicketNumber;
 use std::alloc::{AllocError, Global};
 use std::sync::Wait;
+use step_answers::{Admit, Job};
 use stream_steps::ClientSteps;
-use volume_core::{Admit, Job, TicketNumber};
 
 /// Waits until the open call starts, or is answered that there is no replica. Out of memory takes it back.
 pub(crate) fn start<R: Wait, C: ClientSteps>(

@@ -17,7 +17,6 @@ pub use outer_traits::Line;
 pub use rooms::Rooms;
 pub use script_text::Frames;
 pub use stream::{run_stream, serve_call};
-pub use stream_steps::ClientSteps;
-pub use volume_core::{
-    Admit, BlockRange, Blocks, Call, Enrolled, Job, Mode, NotThis, TicketNumber,
+pub use stream_steps::{
+    Admit, BlockRange, Blocks, Call, ClientSteps, Enrolled, Job, Mode, NotThis, TicketNumber,
 };

@@ -12,9 +12,10 @@ ghost use Rattle.client_worker.specs.Asking.{TellOn, TellsFrame, LacksReply, Has
 
 use crate::channel::{Channel, carry};
 use outer_traits::Line;
+use range_turns::TicketNumber;
 use std::sync::Wait;
 use stream_steps::ClientSteps;
-use volume_core::{Mode, TicketNumber};
+use volume_model::Mode;
 
 /// The line to a replica has failed: the core is told its count.
 fn tell_fault<R: Wait, C: ClientSteps, L: Line + Drop>(

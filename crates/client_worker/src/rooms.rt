@@ -6,9 +6,9 @@ ghost use Rattle.frame_wire.specs.Spelling.{header_length};
 ghost use Rattle.client_worker.specs.Rooms.{AreBoxes, HasWriteRoom, HasReadRoom};
 
 use frame_wire::HEADER_LENGTH;
+use sparse_image::Blocks;
 use std::alloc::{AllocError, Global};
 use vol_units::BLOCK_BYTES;
-use volume_core::Blocks;
 
 /// What the calls of a stream are carried in, one after another. It grows as a call needs, and what it has stays for
 /// the next: a call that needs no more takes no memory.

@@ -16,11 +16,12 @@ use crate::ends::{await_end, finish, start};
 use crate::rooms::{Rooms, fill_request};
 use frame_wire::HEADER_LENGTH;
 use outer_traits::Line;
+use range_turns::TicketNumber;
+use sparse_image::Blocks;
 use std::alloc::{AllocError, Global};
 use std::sync::Wait;
 use stream_steps::ClientSteps;
-use volume_core::{Blocks, Call, TicketNumber};
-use volume_model::Bytes;
+use volume_model::{Bytes, Call};
 
 /// Asks each replica, in rising number, for its part of the open write.
 fn ask_all<R: Wait, C: ClientSteps, L: Line + Drop>(

@@ -1,7 +1,7 @@
 //! A stream's calls, one after another.
 
 ghost use Rattle.std.specs.Prelude.{◌≡◌, ℕ, ◌+◌, ◌<◌, ◌≤◌, [], length, map, All, true, false, OnOk, OnErr};
-ghost use Rattle.volume_core.specs.Answers.{IsNow, IsOnRange};
+ghost use Rattle.step_answers.specs.Asked.{IsNow, IsOnRange};
 ghost use Rattle.frame_stream.specs.Asked.{asked_of, call_of};
 ghost use Rattle.frame_stream.specs.declared.asked.Asked.TheVariants as asked;
 ghost use Rattle.stream_steps.specs.Mine.{OwnCall, IsOwn, with_running};
@@ -15,12 +15,14 @@ use crate::rooms::Rooms;
 use crate::serve::{serve_read, serve_write};
 use frame_stream::{Asked, Frame, of_frame};
 use outer_traits::Line;
+use range_turns::TicketNumber;
 use script_text::Frames;
 use std::alloc::{AllocError, Global};
 use std::sync::Wait;
+use step_answers::Enrolled;
 use stream_steps::ClientSteps;
 use vol_units::LONGEST_CALL;
-use volume_core::{Call, Enrolled, TicketNumber};
+use volume_model::Call;
 
 /// Takes the calls of a stream's frames one after another, and carries each to the replicas. Out of memory leaves
 /// none of them open, and what was done before it stands.

@@ -18,7 +18,8 @@ use Rattle.volume_core.specs.declared.world.EndedRebuild.{EndedRebuild}
 use Rattle.volume_core.specs.State.{State, modes_in}
 use Rattle.volume_core.specs.Sound.{IsSound, AreAdds}
 use Rattle.volume_core.specs.Streams.{MayGo, running, turning}
-use Rattle.volume_maint.specs.Steps.{without_command, turn_abandoned, abandoned_with, gives_up}
+use Rattle.volume_core.specs.Turn.{without_command}
+use Rattle.volume_maint.specs.Steps.{turn_abandoned, abandoned_with, gives_up}
 use Rattle.volume_maint.specs.Answers as world
 use Rattle.volume_rebuild.specs.Answers as again
 use Rattle.volume_rebuild.specs.Steps.{promoted}

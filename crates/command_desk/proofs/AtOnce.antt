@@ -16,8 +16,8 @@ use Rattle.volume_model.specs.declared.mode.Mode.TheVariants.{Rw, Wo, Err}
 use Rattle.volume_model.specs.Modes.{mode_of, modes_after}
 use Rattle.volume_model.specs.PlainStep.{plain_step}
 use Rattle.open_calls.specs.declared.open_call.OpenCall.{OpenCall}
-use Rattle.volume_core.specs.declared.world.NotThis.{NotThis}
-use Rattle.volume_core.specs.declared.world.NotThis.TheVariants as against
+use Rattle.step_answers.specs.declared.answers.NotThis.{NotThis}
+use Rattle.step_answers.specs.declared.answers.NotThis.TheVariants as against
 use Rattle.volume_core.specs.Answers.{IsAnsweredNow, failed_in, after_fail, failed_by}
 use Rattle.volume_core.specs.State.{State, modes_in, told_of, index_at}
 use Rattle.volume_core.specs.Steps.{answered, failed, faulted, marked, with_place}

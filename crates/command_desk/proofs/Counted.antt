@@ -20,8 +20,8 @@ use Rattle.volume_model.proofs.SpotLemmas.{has_source, no_source}
 use Rattle.replica_node.specs.Node.{Node, blank, snapped_node}
 use Rattle.replica_node.specs.Room.{head_block}
 use Rattle.replica_node.specs.Held.{block_named}
-use Rattle.open_calls.specs.declared.whole_op.WholeOp.{WholeOp}
-use Rattle.open_calls.specs.declared.whole_op.WholeOp.TheVariants as whole
+use Rattle.step_answers.specs.declared.whole_op.WholeOp.{WholeOp}
+use Rattle.step_answers.specs.declared.whole_op.WholeOp.TheVariants as whole
 use Rattle.open_calls.specs.Calls.{node_at}
 use Rattle.open_calls.proofs.ListLemmas.{at_set}
 use Rattle.open_calls.proofs.PartLemmas.{up_in}
@@ -36,8 +36,8 @@ use Rattle.volume_core.specs.State.{State, modes_in}
 use Rattle.volume_core.specs.Answers.{IsAnsweredNow}
 use Rattle.volume_core.specs.Steps.{marked, faulted, without_call}
 use Rattle.volume_core.specs.Sound.{IsSound}
-use Rattle.volume_maint.specs.declared.answers.AdmitWhole.{AdmitWhole}
-use Rattle.volume_maint.specs.declared.answers.AdmitWhole.TheVariants as admit
+use Rattle.step_answers.specs.declared.answers.AdmitWhole.{AdmitWhole}
+use Rattle.step_answers.specs.declared.answers.AdmitWhole.TheVariants as admit
 use Rattle.volume_maint.specs.Steps.{maint_enrolled, whole_parted, whole_ended}
 use Rattle.volume_maint.specs.Answers as world
 use Rattle.volume_maint.specs.Answers.{whole_done, whole_lost}

@@ -9,12 +9,12 @@ use Rattle.range_turns.specs.declared.turns.MayStart.TheVariants as may_start
 use Rattle.volume_model.specs.declared.call.Reply.{Reply}
 use Rattle.volume_model.specs.Modes.{source_of}
 use Rattle.volume_model.proofs.SpotLemmas.{has_source, no_source}
-use Rattle.open_calls.specs.declared.whole_op.WholeOp.{WholeOp}
-use Rattle.open_calls.specs.declared.whole_op.WholeOp.TheVariants as whole
+use Rattle.step_answers.specs.declared.whole_op.WholeOp.{WholeOp}
+use Rattle.step_answers.specs.declared.whole_op.WholeOp.TheVariants as whole
 use Rattle.volume_core.specs.State.{State, modes_in, gave_up_at}
 use Rattle.volume_core.specs.Steps.{with_place, without_call}
-use Rattle.volume_maint.specs.declared.answers.AdmitWhole.{AdmitWhole}
-use Rattle.volume_maint.specs.declared.answers.AdmitWhole.TheVariants as admit
+use Rattle.step_answers.specs.declared.answers.AdmitWhole.{AdmitWhole}
+use Rattle.step_answers.specs.declared.answers.AdmitWhole.TheVariants as admit
 use Rattle.volume_maint.specs.Steps.{maint_enrolled, without_whole, turn_over}
 use Rattle.volume_maint.specs.Answers as world
 use Rattle.volume_maint.specs.Answers.{whole_done, whole_lost}

@@ -14,7 +14,8 @@ use Rattle.volume_core.specs.State.{State}
 use Rattle.volume_core.specs.Sound.{IsSound}
 use Rattle.volume_core.specs.Streams.{MayGo, running, turning}
 use Rattle.volume_core.proofs.CallLemmas.{calls-place, calls-one}
-use Rattle.volume_maint.specs.Places.{ForAsker, ForCaller}
+use Rattle.volume_core.specs.Turn.{ForAsker}
+use Rattle.volume_maint.specs.Places.{ForCaller}
 use Rattle.desk_lock.specs.Account.{Each}
 use Rattle.world_desk.specs.Laid.{parts_for, parts_of}
 use Rattle.command_desk.proofs.Queue.{commands-one, commands-place, none_numbered}

@@ -18,10 +18,10 @@ use Rattle.volume_core.proofs.CallLemmas.{idle-calls}
 use Rattle.volume_core.specs.State.{State, modes_in, index_at}
 use Rattle.volume_core.specs.Sound.{IsSound}
 use Rattle.volume_core.specs.Streams.{MayGo, running, turning}
-use Rattle.volume_maint.specs.Steps.{whole_ticket, maint_enrolled, turn_begun, turn_ended, turn_abandoned, without_command}
+use Rattle.volume_core.specs.Turn.{IsFreeTurn, turn_ended, without_command, ForAsker}
+use Rattle.volume_maint.specs.Steps.{whole_ticket, maint_enrolled, turn_begun, turn_abandoned}
 use Rattle.volume_maint.specs.Answers as world
 use Rattle.volume_maint.specs.Places as place
-use Rattle.volume_maint.specs.Places.{ForAsker}
 use Rattle.world_desk.specs.Laid.{parts_of}
 use Rattle.world_desk.proofs.Leaves.{parts_stay}
 use Rattle.stream_steps.specs.Mine.{OwnCall, answer_placed, with_running}
@@ -144,7 +144,7 @@ module _ (n t : ℕ) (s : State) (ok : IsSound s) where
       let one = turn_one c o h in
       ap (λ (x : MaintCall). x.command) (turn_here c o h) ∙ same_command one.p.1.command c (ap (λ (x : OwnCall). x.call) one.is ∙ h.call)
 
-  pub free_turn : (c : Command) (o : OwnCall) → HasTurn t c o (mine_at n s) → place.IsFreeTurn s t
+  pub free_turn : (c : Command) (o : OwnCall) → HasTurn t c o (mine_at n s) → IsFreeTurn s t
   free_turn c o h =
       let one = turn_one c o h in
       let here = its_first c o h in

@@ -25,27 +25,28 @@ use Rattle.volume_model.specs.Modes.{mode_of, source_of}
 use Rattle.volume_model.proofs.SpotLemmas.{has_source, no_source}
 use Rattle.open_rebuild.specs.declared.rebuilding.Rebuilding.{Rebuilding}
 use Rattle.open_calls.specs.declared.open_call.OpenCall.{OpenCall}
-use Rattle.open_calls.specs.declared.parts.Part.{Part}
-use Rattle.open_calls.specs.declared.parts.Part.TheVariants.{Taken, Acked}
-use Rattle.open_calls.specs.declared.whole_op.WholeOp.{WholeOp}
-use Rattle.open_calls.specs.declared.whole_op.WholeOp.TheVariants as whole
-use Rattle.open_calls.specs.Parts.{part_at, part_for, IsTaken}
-use Rattle.open_calls.specs.Calls.{open_at, no_call, command_of, whole_call}
+use Rattle.step_answers.specs.declared.parts.Part.{Part}
+use Rattle.step_answers.specs.declared.parts.Part.TheVariants.{Taken, Acked}
+use Rattle.step_answers.specs.declared.whole_op.WholeOp.{WholeOp}
+use Rattle.step_answers.specs.declared.whole_op.WholeOp.TheVariants as whole
+use Rattle.step_answers.specs.Parts.{part_at, part_for, IsTaken}
+use Rattle.step_answers.specs.Asked.{command_of}
+use Rattle.open_calls.specs.Calls.{open_at, no_call, whole_call}
 use Rattle.open_calls.proofs.PartLemmas.{part_of}
 use Rattle.open_calls.specs.declared.maint.MaintCall.{MaintCall}
 use Rattle.open_calls.specs.declared.whole.Whole.{Whole}
 use Rattle.open_calls.specs.Whole.{IsWhole, parted, part_acked}
 use Rattle.open_calls.specs.Maint.{command_at, IsAskedBy, HasTurn as core_turn}
-use Rattle.volume_core.specs.declared.world.NotThis.{NotThis}
-use Rattle.volume_core.specs.declared.world.NotThis.TheVariants as against
+use Rattle.step_answers.specs.declared.answers.NotThis.{NotThis}
+use Rattle.step_answers.specs.declared.answers.NotThis.TheVariants as against
 use Rattle.volume_core.specs.State.{State, told_of, modes_in, index_at}
 use Rattle.volume_core.specs.Steps.{without_call}
 use Rattle.volume_core.specs.Sound.{IsSound}
 use Rattle.volume_core.specs.Streams.{calls_in, running, turning, MayGo}
 use Rattle.volume_core.proofs.CallLemmas.{calls-push_own, calls-set_own, calls-remove_own, idle-calls}
 use Rattle.volume_core.proofs.Keep.{calm_by}
-use Rattle.volume_maint.specs.declared.answers.AdmitWhole.{AdmitWhole}
-use Rattle.volume_maint.specs.declared.answers.AdmitWhole.TheVariants as admit
+use Rattle.step_answers.specs.declared.answers.AdmitWhole.{AdmitWhole}
+use Rattle.step_answers.specs.declared.answers.AdmitWhole.TheVariants as admit
 use Rattle.volume_maint.specs.Steps.{whole_ticket, whole_enrolled, begun_of, whole_begun, barrier_name, barrier_modes}
 use Rattle.volume_maint.specs.Steps.{barrier_of, barrier_begun, barrier_ended, with_places, whole_ended}
 use Rattle.volume_maint.specs.Steps.{without_whole, turn_over}

@@ -15,9 +15,9 @@ use Rattle.volume_model.specs.Modes.{source_of}
 use Rattle.volume_model.specs.OneWorker.{want_of_replica, refused_at, marks_unless, marks_before, reply_for, entries_at}
 use Rattle.volume_model.specs.PlainStep.{refusal_of}
 use Rattle.volume_model.proofs.SpotLemmas.{source_is}
-use Rattle.open_calls.specs.declared.whole_op.WholeOp.{WholeOp}
-use Rattle.open_calls.specs.declared.whole_op.WholeOp.TheVariants as whole
-use Rattle.open_calls.specs.Calls.{command_of}
+use Rattle.step_answers.specs.declared.whole_op.WholeOp.{WholeOp}
+use Rattle.step_answers.specs.declared.whole_op.WholeOp.TheVariants as whole
+use Rattle.step_answers.specs.Asked.{command_of}
 use Rattle.volume_model.specs.declared.command.Command.{Command}
 use Rattle.stream_steps.specs.Mine.{Mine, OwnCall, Log, with_entries, with_more, with_running, longer, length_of, log_length, answer_placed}
 use Rattle.stream_steps.specs.Steps.{AreMarks, IsCommandAt, CommandsTo}

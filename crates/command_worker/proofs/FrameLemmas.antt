@@ -6,8 +6,8 @@ use Rattle.std.proofs.lemmas.List.{drop-append-le}
 use Rattle.frame_wire.specs.declared.head.Head.{Head}
 use Rattle.frame_wire.specs.Spelling.{header, frame}
 use Rattle.client_worker.proofs.Told.{header_alone}
-use Rattle.open_calls.specs.declared.whole_op.WholeOp.{WholeOp}
-use Rattle.open_calls.specs.declared.whole_op.WholeOp.TheVariants as whole
+use Rattle.step_answers.specs.declared.whole_op.WholeOp.{WholeOp}
+use Rattle.step_answers.specs.declared.whole_op.WholeOp.TheVariants as whole
 use Rattle.command_worker.specs.Frames.{ask_head, ask_request, done_head, done_reply, pair_text, part_text, AsksBy, IsPartText}
 
 -- a request's header is put before its text

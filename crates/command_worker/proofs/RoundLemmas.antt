@@ -8,9 +8,9 @@ use Rattle.volume_model.specs.declared.call.Reply.{Reply}
 use Rattle.volume_model.specs.declared.call.Reply.TheVariants as reply
 use Rattle.volume_model.specs.declared.mark.FoldOrDrop.{FoldOrDrop}
 use Rattle.volume_model.specs.declared.command.Command.TheVariants as command
-use Rattle.open_calls.specs.declared.whole_op.WholeOp.TheVariants as whole
-use Rattle.volume_maint.specs.declared.answers.NextPart.{NextPart}
-use Rattle.volume_maint.specs.declared.answers.NextPart.TheVariants as next
+use Rattle.step_answers.specs.declared.whole_op.WholeOp.TheVariants as whole
+use Rattle.step_answers.specs.declared.answers.NextPart.{NextPart}
+use Rattle.step_answers.specs.declared.answers.NextPart.TheVariants as next
 use Rattle.stream_steps.specs.Mine.{Mine, OwnCall, Log, entries_in, with_entries, with_running, answer_placed}
 use Rattle.stream_steps.specs.Steps.{EnrolsAt}
 use Rattle.stream_steps.specs.Maint.{HasTurn, HasWhole, AnswersWhole, EnrolsUnder, StartsWhole, IsNext}

@@ -3,8 +3,8 @@
 ghost use Rattle.std.specs.Prelude.{◌≡◌, ◌≤◌, List, [], ◌∷◌, length, map, true, false, IfOk, OnOk, OnErr};
 ghost use Rattle.vol_units.specs.Name.{begins_sys};
 ghost use Rattle.volume_model.specs.declared.command.Command.{Command};
-ghost use Rattle.open_calls.specs.declared.whole_op.WholeOp.{WholeOp};
-ghost use Rattle.open_calls.specs.Calls.{command_of};
+ghost use Rattle.step_answers.specs.declared.whole_op.WholeOp.{WholeOp};
+ghost use Rattle.step_answers.specs.Asked.{command_of};
 ghost use Rattle.stream_steps.specs.Mine.{OwnCall, with_running};
 ghost use Rattle.stream_steps.specs.Maint.{AwaitsTurn, EnrolsUnder, HasTurn, HasWhole, IsMaint};
 ghost use Rattle.client_worker.specs.Ends.{KeepsShown};
@@ -16,10 +16,12 @@ ghost use Rattle.command_worker.specs.Whole.{AnswersCall, IsNoPart, IsWhole, Tur
 use crate::parts::{carry_whole, start};
 use crate::rooms::Rooms;
 use client_worker::{Channel, Line};
+use range_turns::{MayStart, TicketNumber};
 use std::alloc::{AllocError, Global};
 use std::sync::Wait;
+use step_answers::WholeOp;
 use stream_steps::{Command, CommandSteps};
-use volume_maint::{MayStart, SnapName, TicketNumber, WholeOp};
+use vol_units::SnapName;
 
 /// Takes a snapshot. Out of memory leaves it untaken.
 pub(crate) fn snapshot<R: Wait, C: CommandSteps, L: Line + Drop>(

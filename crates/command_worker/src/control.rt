@@ -10,8 +10,8 @@ use crate::rooms::Rooms;
 use client_worker::{Channel, Line};
 use std::alloc::{AllocError, Global};
 use std::sync::Wait;
+use step_answers::WholeOp;
 use stream_steps::{Command, CommandSteps};
-use volume_maint::WholeOp;
 
 /// Answers the commands of a stream one after another. Out of memory leaves none of them open, and what was done
 /// before it stands.

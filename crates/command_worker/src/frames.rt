@@ -7,8 +7,9 @@ ghost use Rattle.command_worker.specs.Frames.{AsksBy, ask_head, done_head, fold_
 
 use frame_stream::PING;
 use frame_wire::{HEADER_LENGTH, Head};
-use vol_units::PAGE_BYTES;
-use volume_maint::{FoldOrDrop, LayerName, WholeOp};
+use step_answers::WholeOp;
+use vol_units::{LayerName, PAGE_BYTES};
+use volume_model::FoldOrDrop;
 
 /// The type of a frame that replies, as dataconn numbers it.
 const RESPONSE: u32 = 2;

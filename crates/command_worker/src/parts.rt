@@ -1,7 +1,7 @@
 //! What is done to the whole volume: a replica after another is asked for its part.
 
 ghost use Rattle.std.specs.Prelude.{◌≡◌, ◌⊎◌, ℕ, ◌+◌, ◌<◌, ◌≤◌, List, [], length, map, vec_capacity, true, false, IfOk, OnErr};
-ghost use Rattle.open_calls.specs.declared.whole_op.WholeOp.{WholeOp};
+ghost use Rattle.step_answers.specs.declared.whole_op.WholeOp.{WholeOp};
 ghost use Rattle.volume_model.specs.Modes.{mode_of};
 ghost use Rattle.frame_wire.specs.Spelling.{header_length};
 ghost use Rattle.stream_steps.specs.Mine.{OwnCall, with_running};
@@ -18,10 +18,13 @@ use crate::pass::pass;
 use crate::rooms::Rooms;
 use client_worker::{Channel, Line, next_exchange, put_header};
 use frame_wire::{HEADER_LENGTH, encode_header};
+use range_turns::TicketNumber;
 use std::alloc::{AllocError, Global};
 use std::sync::Wait;
+use step_answers::{AdmitWhole, WholeOp};
 use stream_steps::CommandSteps;
-use volume_maint::{AdmitWhole, LayerName, Mode, TicketNumber, WholeOp};
+use vol_units::LayerName;
+use volume_model::Mode;
 
 /// Waits until the operation starts, or its call is refused, and says whether it has started. Out of memory takes it
 /// back.

@@ -11,7 +11,7 @@ ghost use Rattle.command_worker.specs.Whole.{GoesOn};
 use client_worker::{Channel, Line, carry};
 use std::sync::Wait;
 use stream_steps::CommandSteps;
-use volume_maint::Mode;
+use volume_model::Mode;
 
 /// The line to a replica has failed: the core is told its count.
 fn tell_fault<R: Wait, C: CommandSteps, L: Line + Drop>(

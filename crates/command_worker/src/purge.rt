@@ -19,10 +19,13 @@ use crate::pass::pass;
 use crate::rooms::Rooms;
 use client_worker::{Channel, Line, next_exchange, put_header};
 use frame_wire::{HEADER_LENGTH, encode_header};
+use range_turns::TicketNumber;
 use std::alloc::{AllocError, Global};
 use std::sync::Wait;
+use step_answers::{NextPart, WholeOp};
 use stream_steps::{Command, CommandSteps};
-use volume_maint::{FoldOrDrop, LayerName, NextPart, Refusal, Reply, TicketNumber, WholeOp};
+use vol_units::LayerName;
+use volume_model::{FoldOrDrop, Refusal, Reply};
 
 /// Takes out the layers that can go, one after another. Out of memory leaves those that are left.
 pub(crate) fn purge<R: Wait, C: CommandSteps, L: Line + Drop>(

@@ -25,7 +25,7 @@ use Rattle.volume_core.specs.Sound.{IsSound, AreAdds, how_far}
 use Rattle.volume_core.specs.Streams.{Origin, origin_of, MayGo}
 use Rattle.volume_maint.specs.Steps.{turn_abandoned, abandoned_with, gives_up}
 use Rattle.volume_maint.specs.Answers as world
-use Rattle.volume_maint.specs.Places.{ForAsker}
+use Rattle.volume_core.specs.Turn.{ForAsker}
 use Rattle.volume_rebuild.specs.Answers as again
 use Rattle.volume_rebuild.specs.Steps.{promoted}
 use Rattle.stream_steps.specs.Mine.{OwnCall, answer_placed, with_entries}

@@ -17,7 +17,7 @@ use Rattle.volume_core.specs.Answers.{IsAnsweredNow, failed_in}
 use Rattle.volume_core.specs.State.{State, modes_in, told_of, index_at}
 use Rattle.volume_core.specs.Steps.{answered, with_place}
 use Rattle.volume_core.specs.Streams.{MayGo, IsAnsweredTo, opens}
-use Rattle.volume_maint.specs.Answers.{spot_of}
+use Rattle.volume_core.specs.State.{spot_of}
 use Rattle.stream_steps.specs.Mine.{Placed, answer_placed}
 use Rattle.stream_steps.specs.Steps.{AreMarks, CommandsTo, IsAtOnce}
 use Rattle.world_in_hand.specs.Hand.{own_entries, mine_in}

@@ -8,7 +8,7 @@ use Rattle.volume_model.specs.OneWorker.{behind_entries}
 use Rattle.volume_model.proofs.ServedLemmas.{behind-append}
 use Rattle.replica_node.specs.Volume.{volume_of_node}
 use Rattle.open_calls.specs.declared.open_call.OpenCall.{OpenCall}
-use Rattle.open_calls.specs.declared.whole_op.WholeOp.TheVariants as whole
+use Rattle.step_answers.specs.declared.whole_op.WholeOp.TheVariants as whole
 use Rattle.open_calls.specs.Calls.{open_at}
 use Rattle.open_rebuild.specs.declared.rebuilding.Rebuilding.{Rebuilding}
 use Rattle.open_calls.specs.declared.maint.MaintCall.{MaintCall}
@@ -16,7 +16,8 @@ use Rattle.volume_core.specs.State.{State, opening_of, modes_in, gave_up_at}
 use Rattle.volume_core.specs.Sound.{IsSound}
 use Rattle.volume_core.specs.declared.world.EndedRebuild.{EndedRebuild}
 use Rattle.volume_core.specs.Streams.{Origin, origin_of, MayGo}
-use Rattle.volume_maint.specs.Answers.{spot_of, MayBeginOf}
+use Rattle.volume_core.specs.State.{spot_of}
+use Rattle.volume_maint.specs.Answers.{MayBeginOf}
 use Rattle.stream_steps.specs.Mine.{OwnCall, Placed, Log, with_entries, with_more, with_running, entries_in}
 use Rattle.world_in_hand.specs.Hand.{own_entries}
 use Rattle.world_in_hand.proofs.OwnLemmas.{own-append}

@@ -22,7 +22,8 @@ use Rattle.volume_core.specs.Steps.{answered, marked, with_place, faulted, abort
 use Rattle.volume_core.specs.declared.world.EndedRebuild.{EndedRebuild}
 use Rattle.range_turns.specs.declared.ticket.Ticket.{Ticket}
 use Rattle.open_calls.specs.declared.maint.MaintCall.{MaintCall}
-use Rattle.volume_maint.specs.Steps.{without_command, abandoned_with, turn_abandoned}
+use Rattle.volume_core.specs.Turn.{without_command}
+use Rattle.volume_maint.specs.Steps.{abandoned_with, turn_abandoned}
 use Rattle.open_calls.specs.Maint.{command_at}
 use Rattle.stream_steps.specs.Maint.{IsNoAdd}
 use Rattle.commands_in_hand.specs.Hand.{CanBegin, IsReady}

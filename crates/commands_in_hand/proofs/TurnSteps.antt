@@ -14,8 +14,8 @@ use Rattle.volume_model.specs.declared.entry.Answer.{Answer}
 use Rattle.volume_model.specs.declared.entry.Entry.TheVariants as entry
 use Rattle.volume_model.specs.declared.mark.Mark.TheVariants as mark
 use Rattle.volume_model.specs.declared.mode.Mode.{Mode}
-use Rattle.volume_core.specs.declared.world.NotThis.{NotThis}
-use Rattle.volume_core.specs.declared.world.NotThis.TheVariants as against
+use Rattle.step_answers.specs.declared.answers.NotThis.{NotThis}
+use Rattle.step_answers.specs.declared.answers.NotThis.TheVariants as against
 use Rattle.open_calls.specs.declared.open_call.OpenCall.{OpenCall}
 use Rattle.open_calls.specs.Clients.{IsIdle}
 use Rattle.open_calls.specs.declared.maint.MaintCall.{MaintCall}
@@ -26,7 +26,8 @@ use Rattle.volume_core.specs.Steps.{faulted}
 use Rattle.volume_core.specs.Sound.{IsSound}
 use Rattle.volume_core.specs.Answers.{IsAnsweredNow}
 use Rattle.volume_core.specs.Streams.{origin_of, MayGo, IsAnsweredTo, opens, open_of, running, turning, commands_in}
-use Rattle.volume_maint.specs.Steps.{whole_ticket, maint_enrolled, turn_begun, turn_ended, turn_abandoned, without_command}
+use Rattle.volume_core.specs.Turn.{IsFreeTurn, turn_ended, without_command}
+use Rattle.volume_maint.specs.Steps.{whole_ticket, maint_enrolled, turn_begun, turn_abandoned}
 use Rattle.volume_maint.specs.Answers as world
 use Rattle.volume_maint.specs.Places as place
 use Rattle.stream_steps.specs.Against.{RefusesFault}
@@ -301,7 +302,7 @@ waiting n t s r w =
       },
     )
 
-pub free_turn : (n t : ℕ) (c : Command) (o : OwnCall) (s : State) → IsReady n s → HasTurn t c o (mine_in n s) → place.IsFreeTurn s t
+pub free_turn : (n t : ℕ) (c : Command) (o : OwnCall) (s : State) → IsReady n s → HasTurn t c o (mine_in n s) → IsFreeTurn s t
 free_turn n t c o s r h =
     let one = turn_one n t c o s r h in
     record {

@@ -30,12 +30,13 @@ use Rattle.open_rebuild.specs.declared.rebuilding.Rebuilding.{Rebuilding}
 use Rattle.volume_maint.proofs.Begins.{its_volume}
 use Rattle.volume_model.specs.PlainState.{Volume}
 use Rattle.open_calls.specs.declared.open_call.OpenCall.{OpenCall}
-use Rattle.open_calls.specs.declared.parts.Part.{Part}
-use Rattle.open_calls.specs.declared.parts.Part.TheVariants.{Taken, Acked}
-use Rattle.open_calls.specs.declared.whole_op.WholeOp.{WholeOp}
-use Rattle.open_calls.specs.declared.whole_op.WholeOp.TheVariants as whole
-use Rattle.open_calls.specs.Parts.{part_at, part_for, IsTaken}
-use Rattle.open_calls.specs.Calls.{open_at, node_at, command_of, whole_call}
+use Rattle.step_answers.specs.declared.parts.Part.{Part}
+use Rattle.step_answers.specs.declared.parts.Part.TheVariants.{Taken, Acked}
+use Rattle.step_answers.specs.declared.whole_op.WholeOp.{WholeOp}
+use Rattle.step_answers.specs.declared.whole_op.WholeOp.TheVariants as whole
+use Rattle.step_answers.specs.Parts.{part_at, part_for, IsTaken}
+use Rattle.step_answers.specs.Asked.{command_of}
+use Rattle.open_calls.specs.Calls.{open_at, node_at, whole_call}
 use Rattle.open_calls.proofs.PartLemmas.{part_of}
 use Rattle.open_calls.specs.declared.maint.MaintCall.{MaintCall}
 use Rattle.open_calls.specs.declared.whole.Whole.{Whole}
@@ -43,21 +44,22 @@ use Rattle.open_calls.specs.Due.{part_on}
 use Rattle.open_calls.specs.Whole.{IsWhole, parted, part_acked}
 use Rattle.open_calls.specs.Maint as core
 use Rattle.open_calls.specs.Maint.{command_at, IsAskedBy}
-use Rattle.volume_core.specs.declared.world.NotThis.{NotThis}
-use Rattle.volume_core.specs.declared.world.NotThis.TheVariants as against
+use Rattle.step_answers.specs.declared.answers.NotThis.{NotThis}
+use Rattle.step_answers.specs.declared.answers.NotThis.TheVariants as against
 use Rattle.volume_core.specs.State.{State, told_of, modes_in, index_at}
 use Rattle.volume_core.specs.Steps.{with_place, without_call}
 use Rattle.volume_core.specs.Sound.{IsSound}
 use Rattle.volume_core.specs.Streams.{origin_of}
-use Rattle.volume_maint.specs.declared.answers.AdmitWhole.{AdmitWhole}
-use Rattle.volume_maint.specs.declared.answers.AdmitWhole.TheVariants as admit
-use Rattle.volume_maint.specs.declared.answers.NextPart.{NextPart}
-use Rattle.volume_maint.specs.declared.answers.NextPart.TheVariants as next
+use Rattle.step_answers.specs.declared.answers.AdmitWhole.{AdmitWhole}
+use Rattle.step_answers.specs.declared.answers.AdmitWhole.TheVariants as admit
+use Rattle.step_answers.specs.declared.answers.NextPart.{NextPart}
+use Rattle.step_answers.specs.declared.answers.NextPart.TheVariants as next
 use Rattle.volume_maint.specs.Steps.{whole_ticket, whole_enrolled, begun_of, whole_begun, barrier_name, barrier_modes}
 use Rattle.volume_maint.specs.Steps.{barrier_of, barrier_begun, barrier_ended, with_places, whole_parted, whole_acked}
 use Rattle.volume_maint.specs.Steps.{whole_ended, without_whole, turn_over, folded_on}
 use Rattle.volume_maint.specs.Answers as world
-use Rattle.volume_maint.specs.Answers.{spot_of, refused_in, whole_done, whole_lost, seen_by, MayAsk, MayBegin}
+use Rattle.volume_core.specs.State.{spot_of}
+use Rattle.volume_maint.specs.Answers.{refused_in, whole_done, whole_lost, seen_by, MayAsk, MayBegin}
 use Rattle.volume_maint.specs.Places as place
 use Rattle.stream_steps.specs.Mine.{OwnCall, answer_placed, with_running, with_entries}
 use Rattle.stream_steps.specs.Steps.{EnrolsAt}

@@ -6,15 +6,16 @@ use Rattle.range_turns.specs.declared.ticket.Kind.TheVariants as kind
 use Rattle.range_turns.specs.Order.{ticket_at}
 use Rattle.volume_model.specs.declared.call.Call.TheVariants as call
 use Rattle.open_calls.specs.declared.open_call.OpenCall.{OpenCall}
-use Rattle.open_calls.specs.declared.parts.Part.{Part}
-use Rattle.open_calls.specs.declared.whole_op.WholeOp.TheVariants as whole
+use Rattle.step_answers.specs.declared.parts.Part.{Part}
+use Rattle.step_answers.specs.declared.whole_op.WholeOp.TheVariants as whole
 use Rattle.open_calls.specs.Calls.{open_at}
 use Rattle.open_calls.specs.declared.maint.MaintCall.{MaintCall}
 use Rattle.open_calls.specs.declared.whole.Whole.{Whole}
 use Rattle.volume_core.specs.State.{State, gave_up_at}
 use Rattle.volume_core.specs.Sound.{IsSound}
 use Rattle.volume_core.specs.Streams.{running, turning}
-use Rattle.volume_maint.specs.Answers.{spot_of, MayBeginOf}
+use Rattle.volume_core.specs.State.{spot_of}
+use Rattle.volume_maint.specs.Answers.{MayBeginOf}
 use Rattle.stream_steps.specs.Mine.{Mine, OwnCall}
 use Rattle.world_in_hand.specs.Hand.{own_call, own_entries}
 

@@ -4,7 +4,7 @@ ghost use Rattle.std.specs.Prelude.{◌≡◌, ℕ, Some, true, Contains, IfSome
 ghost use Rattle.volume_model.specs.declared.entry.Entry.TheVariants as entry;
 ghost use Rattle.volume_model.specs.declared.mark.Mark.TheVariants as mark;
 ghost use Rattle.range_turns.specs.Order.{StandsAt};
-ghost use Rattle.open_calls.specs.declared.whole_op.WholeOp.TheVariants as whole;
+ghost use Rattle.step_answers.specs.declared.whole_op.WholeOp.TheVariants as whole;
 ghost use Rattle.open_calls.specs.Calls.{open_at};
 ghost use Rattle.volume_core.specs.State.{state_of};
 ghost use Rattle.volume_core.specs.Sound.{IsSound};

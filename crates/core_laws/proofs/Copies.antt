@@ -3,8 +3,8 @@ use Rattle.std.proofs.Common.{◌≡◌, refl, Result, Ok, Err as Failed, OnOk, 
 use Rattle.vol_units.specs.declared.page_ref.PageRef.{PageRef}
 use Rattle.sparse_image.specs.Image.{Table}
 use Rattle.volume_core.specs.State.{State}
-use Rattle.volume_core.specs.declared.world.NotThis.{NotThis}
-use Rattle.volume_core.specs.declared.world.NotThis.TheVariants as against
+use Rattle.step_answers.specs.declared.answers.NotThis.{NotThis}
+use Rattle.step_answers.specs.declared.answers.NotThis.TheVariants as against
 use Rattle.volume_rebuild.specs.Answers.{IsNoPage, IsOutOfSource, CopiesIn, IsNotLeft}
 use Rattle.core_laws.specs.declared.rebuild_step.RebuildStep.TheVariants as step
 use Rattle.core_laws.specs.RebuildTakes.{MakesRebuild}

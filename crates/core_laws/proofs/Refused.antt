@@ -4,9 +4,9 @@ use Rattle.volume_model.specs.declared.call.Reply.{Reply}
 use Rattle.volume_model.specs.declared.mode.Mode.TheVariants.{Rw, Err}
 use Rattle.volume_model.specs.Modes.{mode_of}
 use Rattle.open_calls.specs.Calls.{open_at}
-use Rattle.open_calls.specs.Parts.{IsTaken, part_at}
-use Rattle.volume_core.specs.declared.world.NotThis.{NotThis}
-use Rattle.volume_core.specs.declared.world.NotThis.TheVariants as against
+use Rattle.step_answers.specs.Parts.{IsTaken, part_at}
+use Rattle.step_answers.specs.declared.answers.NotThis.{NotThis}
+use Rattle.step_answers.specs.declared.answers.NotThis.TheVariants as against
 use Rattle.volume_core.specs.Against.{AgainstWrite, AgainstRead, AgainstAck}
 use Rattle.volume_core.specs.Places.{IsWriteAt, IsReadAt, IsCallAt}
 use Rattle.volume_core.specs.State.{State, modes_in}

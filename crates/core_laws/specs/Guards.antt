@@ -6,7 +6,7 @@ use Rattle.volume_model.specs.Faults.{last_count}
 use Rattle.volume_model.specs.Modes.{mode_of}
 use Rattle.open_calls.specs.Clients.{IsIdle}
 use Rattle.open_calls.specs.Maint.{HasNoCommand}
-use Rattle.volume_core.specs.Answers.{IsOnRange, IsNow}
+use Rattle.step_answers.specs.Asked.{IsOnRange, IsNow}
 use Rattle.volume_core.specs.Places.{IsWaitingAt}
 use Rattle.volume_core.specs.State.{State, modes_in}
 

@@ -2,12 +2,13 @@
 use Rattle.std.specs.Prelude.{◌≡◌, ℕ, ◌⊎◌, length, Option}
 use Rattle.range_turns.specs.declared.turns.MayStart.{MayStart}
 use Rattle.range_turns.specs.Order.{IsFresh}
-use Rattle.volume_core.specs.declared.world.NotThis.{NotThis}
+use Rattle.step_answers.specs.declared.answers.NotThis.{NotThis}
 use Rattle.volume_core.specs.State.{State}
 use Rattle.volume_core.specs.Steps.{without_call}
-use Rattle.volume_maint.specs.declared.answers.AdmitWhole.{AdmitWhole}
-use Rattle.volume_maint.specs.Steps.{maint_enrolled, without_command, turn_abandoned}
-use Rattle.volume_maint.specs.Places.{AwaitsTurn, AwaitsWhole, IsFreeTurn}
+use Rattle.step_answers.specs.declared.answers.AdmitWhole.{AdmitWhole}
+use Rattle.volume_core.specs.Turn.{without_command, IsFreeTurn}
+use Rattle.volume_maint.specs.Steps.{maint_enrolled, turn_abandoned}
+use Rattle.volume_maint.specs.Places.{AwaitsTurn, AwaitsWhole}
 use Rattle.volume_maint.specs.Answers.{TurnsTo, EndsTurn, EnrolsWhole, AdmitsWhole}
 use Rattle.volume_maint.specs.Answers.{TakesPart, AcksPart, EndsWhole, FoldsPage}
 use Rattle.volume_maint.specs.Answers.{AgainstEndTurn, AgainstPart, AgainstAckPart, AgainstEndWhole, AgainstFold}

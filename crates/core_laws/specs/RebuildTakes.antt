@@ -3,7 +3,7 @@ use Rattle.std.specs.Prelude.{◌≡◌, ◌⊎◌, Bool}
 use Rattle.vol_units.specs.declared.page_ref.PageRef.{PageRef}
 use Rattle.sparse_image.specs.Image.{Table}
 use Rattle.volume_core.specs.State.{State}
-use Rattle.volume_core.specs.declared.world.NotThis.{NotThis}
+use Rattle.step_answers.specs.declared.answers.NotThis.{NotThis}
 use Rattle.volume_rebuild.specs.Answers.{CopiesOut, IsNoPage, IsOutOfSource, CopiesIn, IsNotLeft, Promotes, AgainstPromote}
 use Rattle.core_laws.specs.declared.rebuild_step.RebuildStep.{RebuildStep}
 use Rattle.core_laws.specs.declared.rebuild_step.RebuildStep.TheVariants as step

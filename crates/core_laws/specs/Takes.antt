@@ -3,10 +3,10 @@ use Rattle.std.specs.Prelude.{◌≡◌, ◌≢◌, ℕ, ◌<◌, ◌⊎◌, Lis
 use Rattle.volume_model.specs.declared.mode.Mode.TheVariants.{Rw, Err}
 use Rattle.volume_model.specs.Modes.{mode_of}
 use Rattle.open_calls.specs.Calls.{open_at}
-use Rattle.open_calls.specs.Parts.{IsTaken, part_at}
-use Rattle.volume_core.specs.declared.admit.Admit.{Admit}
-use Rattle.volume_core.specs.declared.enrol.Enrolled.{Enrolled}
-use Rattle.volume_core.specs.declared.world.NotThis.{NotThis}
+use Rattle.step_answers.specs.Parts.{IsTaken, part_at}
+use Rattle.step_answers.specs.declared.answers.Admit.{Admit}
+use Rattle.step_answers.specs.declared.answers.Enrolled.{Enrolled}
+use Rattle.step_answers.specs.declared.answers.NotThis.{NotThis}
 use Rattle.volume_core.specs.Against.{AgainstWrite, AgainstRead, AgainstAck, AgainstFault, AgainstEnd}
 use Rattle.volume_core.specs.Answers.{EnrolsAs, IsAnsweredNow, IsAdmit, IsRoomier, Completes}
 use Rattle.volume_core.specs.Places.{IsWriteAt, IsReadAt, IsCallAt, IsWaitingAt}

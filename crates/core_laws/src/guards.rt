@@ -2,13 +2,12 @@
 
 ghost use Rattle.std.specs.Prelude.{◌≡◌, ℕ, ◌<◌, length, true, false};
 ghost use Rattle.open_calls.specs.Maint.{HasNoCommand};
-ghost use Rattle.volume_core.specs.Answers.{IsOnRange, IsNow};
+ghost use Rattle.step_answers.specs.Asked.{IsOnRange, IsNow};
 ghost use Rattle.volume_core.specs.State.{state_of};
 ghost use Rattle.core_laws.specs.Guards.{IsFreeStream, MayEnrol, MayAnswer, IsWaiting};
 
 use vol_units::LONGEST_CALL;
-use volume_core::{Call, Command, Kind, TicketNumber, World};
-use volume_maint::is_idle;
+use volume_core::{Call, Command, Kind, TicketNumber, World, is_idle};
 
 /// Whether the stream may enrol the call.
 pub(crate) fn may_enrol(world: &World, stream: u8, call: &Call) -> bool

@@ -9,8 +9,8 @@ ghost use Rattle.core_laws.specs.MaintGuards.{MayWant, IsAwaitingTurn, MayEnrolW
 
 use crate::guards::{has_no_command, is_free};
 use vol_units::PAGE_BYTES;
-use volume_core::{Command, Kind, TicketNumber, World};
-use volume_maint::{WholeOp, is_idle};
+use volume_core::{Command, Kind, TicketNumber, World, is_idle};
+use volume_maint::WholeOp;
 
 /// Whether the stream may enrol the command.
 pub(crate) fn may_want(world: &World, stream: u8, command: &Command) -> bool

@@ -10,10 +10,10 @@ use crate::maint_guards::{
 };
 use crate::maint_step::MaintStep;
 use std::alloc::{AllocError, Global};
-use volume_core::{Command, Reply, TicketNumber, World};
+use volume_core::{Command, Reply, TicketNumber, World, free_turn_at};
 use volume_maint::{
     LayerName, WholeOp, abandon, ack_whole, admit_maint, admit_whole, complete_whole, end_maint,
-    enrol_maint, enrol_whole, fold_page, free_turn_at, part, withdraw_maint, withdraw_whole,
+    enrol_maint, enrol_whole, fold_page, part, withdraw_maint, withdraw_whole,
 };
 
 /// Takes the step, or skips it.

@@ -27,10 +27,10 @@ use Rattle.replica_node.specs.Held.{emptied, emptied_layer}
 use Rattle.replica_node.specs.Volume.{copies_in, volume_of_node}
 use Rattle.replica_node.proofs.VolumeLemmas.{snap, same_count, free_of}
 use Rattle.open_calls.specs.declared.open_call.OpenCall.{OpenCall}
-use Rattle.open_calls.specs.declared.whole_op.WholeOp.TheVariants as whole
+use Rattle.step_answers.specs.declared.whole_op.WholeOp.TheVariants as whole
 use Rattle.open_calls.specs.Calls.{open_at, node_at}
 use Rattle.open_calls.specs.Clients.{AreClients, Fits, byte_of}
-use Rattle.open_calls.specs.Parts.{part_for}
+use Rattle.step_answers.specs.Parts.{part_for}
 use Rattle.open_calls.proofs.FreeLemmas.{not_both}
 use Rattle.open_calls.proofs.Gone.{seen_clients}
 use Rattle.open_calls.proofs.ListLemmas.{each_set}

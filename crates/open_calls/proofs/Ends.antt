@@ -25,13 +25,13 @@ use Rattle.replica_node.specs.Node.{Node}
 use Rattle.replica_node.specs.Fold.{snapshots_of}
 use Rattle.replica_node.specs.Volume.{copies_in}
 use Rattle.open_calls.specs.declared.open_call.OpenCall.{OpenCall}
-use Rattle.open_calls.specs.declared.parts.Part.{Part}
-use Rattle.open_calls.specs.declared.parts.Part.TheVariants.{Owed, Acked}
-use Rattle.open_calls.specs.declared.whole_op.WholeOp.{WholeOp}
-use Rattle.open_calls.specs.declared.whole_op.WholeOp.TheVariants as whole
+use Rattle.step_answers.specs.declared.parts.Part.{Part}
+use Rattle.step_answers.specs.declared.parts.Part.TheVariants.{Owed, Acked}
+use Rattle.step_answers.specs.declared.whole_op.WholeOp.{WholeOp}
+use Rattle.step_answers.specs.declared.whole_op.WholeOp.TheVariants as whole
 use Rattle.open_calls.specs.Calls.{open_at, no_call, node_at}
 use Rattle.open_calls.specs.Clients.{AreClients, AreSeen, Fits, IsIdle, byte_of}
-use Rattle.open_calls.specs.Parts.{part_at, is_pending_at}
+use Rattle.step_answers.specs.Parts.{part_at, is_pending_at}
 use Rattle.open_calls.proofs.FreeLemmas.{not_both}
 use Rattle.open_calls.proofs.Gone.{left_clients}
 use Rattle.open_calls.proofs.ListLemmas.{skip, skip-in, skip-other, get_or-remove}

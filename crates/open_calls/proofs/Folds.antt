@@ -22,13 +22,13 @@ use Rattle.replica_node.proofs.FoldedNode.{page_folded_tree}
 use Rattle.replica_node.specs.Volume.{copies_in}
 use Rattle.replica_node.proofs.PurgeLemmas.{page_folded_volume}
 use Rattle.open_calls.specs.declared.open_call.OpenCall.{OpenCall}
-use Rattle.open_calls.specs.declared.parts.Part.{Part}
-use Rattle.open_calls.specs.declared.parts.Part.TheVariants.{Apart, Owed, Taken, Acked}
-use Rattle.open_calls.specs.declared.whole_op.WholeOp.{WholeOp}
-use Rattle.open_calls.specs.declared.whole_op.WholeOp.TheVariants as whole
+use Rattle.step_answers.specs.declared.parts.Part.{Part}
+use Rattle.step_answers.specs.declared.parts.Part.TheVariants.{Apart, Owed, Taken, Acked}
+use Rattle.step_answers.specs.declared.whole_op.WholeOp.{WholeOp}
+use Rattle.step_answers.specs.declared.whole_op.WholeOp.TheVariants as whole
 use Rattle.open_calls.specs.Calls.{open_at, node_at}
 use Rattle.open_calls.specs.Clients.{AreClients, Fits, IsIdle, byte_of}
-use Rattle.open_calls.specs.Parts.{part_at}
+use Rattle.step_answers.specs.Parts.{part_at}
 use Rattle.open_calls.proofs.ListLemmas.{each_set}
 use Rattle.open_calls.proofs.PartLemmas.{up_in, rw_up}
 use Rattle.open_calls.specs.declared.maint.MaintCall.{MaintCall}

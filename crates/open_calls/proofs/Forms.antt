@@ -6,11 +6,11 @@ use Rattle.std.proofs.lemmas.List.{get_or_past}
 use Rattle.volume_model.specs.declared.mode.Mode.{Mode}
 use Rattle.volume_model.specs.declared.mode.Mode.TheVariants.{Rw, Wo, Err}
 use Rattle.replica_node.specs.Node.{Node, blank}
-use Rattle.open_calls.specs.declared.parts.Part.{Part}
-use Rattle.open_calls.specs.declared.parts.Part.TheVariants.{Apart, Owed, Taken, Acked}
-use Rattle.open_calls.specs.declared.whole_op.WholeOp.{WholeOp}
+use Rattle.step_answers.specs.declared.parts.Part.{Part}
+use Rattle.step_answers.specs.declared.parts.Part.TheVariants.{Apart, Owed, Taken, Acked}
+use Rattle.step_answers.specs.declared.whole_op.WholeOp.{WholeOp}
 use Rattle.open_calls.specs.Calls.{node_at}
-use Rattle.open_calls.specs.Parts.{part_at, part_for, is_pending_at, IsTaken}
+use Rattle.step_answers.specs.Parts.{part_at, part_for, is_pending_at, IsTaken}
 use Rattle.open_calls.specs.declared.whole.Whole.{Whole}
 use Rattle.open_calls.specs.Due.{part_on, form_part, formed, forms}
 

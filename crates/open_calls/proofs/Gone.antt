@@ -15,7 +15,7 @@ use Rattle.range_turns.specs.Order.{ticket_at, no_ticket, from_of, until_of}
 use Rattle.range_turns.proofs.OrderLemmas.{AreInOrder-remove}
 use Rattle.replica_node.specs.Node.{Node}
 use Rattle.open_calls.specs.declared.open_call.OpenCall.{OpenCall}
-use Rattle.open_calls.specs.Parts.{part_at, is_pending_at}
+use Rattle.step_answers.specs.Parts.{part_at, is_pending_at}
 use Rattle.open_calls.specs.Calls.{no_call, open_at, node_at}
 use Rattle.open_calls.specs.Clients.{AreClients, AreSeen, Fits, WritesOn, ReadsFrom, IsWriting, IsReading, IsUnheld, byte_of}
 use Rattle.open_calls.proofs.ByteLemmas.{length-put, get_or-put_in, get_or-put_out, same_bytes_at}

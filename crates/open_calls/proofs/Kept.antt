@@ -24,8 +24,8 @@ use Rattle.range_turns.specs.Order.{ticket_at, no_ticket, IsFresh, IsClear, Stan
 use Rattle.replica_node.specs.Fold.{IsBare}
 use Rattle.replica_node.specs.Node.{Node, Kept}
 use Rattle.open_calls.specs.declared.open_call.OpenCall.{OpenCall}
-use Rattle.open_calls.specs.declared.whole_op.WholeOp.{WholeOp}
-use Rattle.open_calls.specs.declared.whole_op.WholeOp.TheVariants as whole
+use Rattle.step_answers.specs.declared.whole_op.WholeOp.{WholeOp}
+use Rattle.step_answers.specs.declared.whole_op.WholeOp.TheVariants as whole
 use Rattle.open_calls.specs.Calls.{no_call, open_at, node_at}
 use Rattle.open_calls.specs.Clients.{place_behind}
 use Rattle.open_calls.proofs.FreeLemmas.{not_both}

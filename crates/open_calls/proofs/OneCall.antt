@@ -13,10 +13,10 @@ use Rattle.replica_node.specs.Node.{Node, blank}
 use Rattle.replica_node.specs.Fold.{snapshots_of}
 use Rattle.replica_node.specs.Room.{put_at, HasRoom}
 use Rattle.replica_node.specs.Volume.{copies_in}
-use Rattle.open_calls.specs.declared.parts.Part.{Part}
-use Rattle.open_calls.specs.declared.parts.Part.TheVariants.{Taken, Acked}
+use Rattle.step_answers.specs.declared.parts.Part.{Part}
+use Rattle.step_answers.specs.declared.parts.Part.TheVariants.{Taken, Acked}
 use Rattle.open_calls.specs.declared.open_call.OpenCall.{OpenCall}
-use Rattle.open_calls.specs.Parts.{part_at, IsTaken}
+use Rattle.step_answers.specs.Parts.{part_at, IsTaken}
 use Rattle.open_calls.specs.Calls.{no_call, open_at, node_at, whole_of, with_part_at, read_from}
 use Rattle.open_calls.specs.Clients.{AreClients, WritesOn, ReadsFrom, HasBytes, IsWriting, IsReading, Fits, byte_of}
 use Rattle.open_calls.proofs.ByteLemmas.{length-put, get_or-put_in, get_or-put_out, same_bytes_at, length-bytes_at}

@@ -14,8 +14,8 @@ use Rattle.replica_node.specs.Fold.{tree_of, snapshots_of}
 use Rattle.replica_node.specs.Volume.{volume_of_node}
 use Rattle.replica_node.proofs.VolumeLemmas.{same_count, free_of, reverted_volume, marked_volume}
 use Rattle.replica_node.proofs.PurgeLemmas.{replaced_volume, dropped_volume}
-use Rattle.open_calls.specs.declared.whole_op.WholeOp.{WholeOp}
-use Rattle.open_calls.specs.declared.whole_op.WholeOp.TheVariants as whole
+use Rattle.step_answers.specs.declared.whole_op.WholeOp.{WholeOp}
+use Rattle.step_answers.specs.declared.whole_op.WholeOp.TheVariants as whole
 use Rattle.open_calls.specs.Due.{part_on, due_of}
 use Rattle.open_calls.specs.Whole.{MayBeDone, CanTake, IsFit, CanSnap, StandsFor}
 

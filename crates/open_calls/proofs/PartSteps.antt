@@ -22,13 +22,13 @@ use Rattle.range_turns.specs.Order.{ticket_at}
 use Rattle.replica_node.specs.Node.{Node, blank, snapped_node, has_own}
 use Rattle.replica_node.specs.Fold.{IsBare, own_named}
 use Rattle.open_calls.specs.declared.open_call.OpenCall.{OpenCall}
-use Rattle.open_calls.specs.declared.parts.Part.{Part}
-use Rattle.open_calls.specs.declared.parts.Part.TheVariants.{Apart, Owed, Taken, Acked}
-use Rattle.open_calls.specs.declared.whole_op.WholeOp.{WholeOp}
-use Rattle.open_calls.specs.declared.whole_op.WholeOp.TheVariants as whole
+use Rattle.step_answers.specs.declared.parts.Part.{Part}
+use Rattle.step_answers.specs.declared.parts.Part.TheVariants.{Apart, Owed, Taken, Acked}
+use Rattle.step_answers.specs.declared.whole_op.WholeOp.{WholeOp}
+use Rattle.step_answers.specs.declared.whole_op.WholeOp.TheVariants as whole
 use Rattle.open_calls.specs.Calls.{open_at, node_at}
 use Rattle.open_calls.specs.Clients.{AreClients, AreSeen}
-use Rattle.open_calls.specs.Parts.{part_at, IsTaken}
+use Rattle.step_answers.specs.Parts.{part_at, IsTaken}
 use Rattle.open_calls.proofs.FreeLemmas.{not_both}
 use Rattle.open_calls.proofs.ListLemmas.{at_set}
 use Rattle.open_calls.proofs.PartLemmas.{part_owed, taken_in, taken≢apart, acked≢apart}

@@ -17,7 +17,7 @@ use Rattle.replica_node.specs.Node.{Node}
 use Rattle.replica_node.specs.Fold.{snapshots_of}
 use Rattle.replica_node.specs.Volume.{copies_in}
 use Rattle.open_calls.specs.declared.open_call.OpenCall.{OpenCall}
-use Rattle.open_calls.specs.Parts.{part_for, part_at, IsTaken}
+use Rattle.step_answers.specs.Parts.{part_for, part_at, IsTaken}
 use Rattle.open_calls.specs.Calls.{no_call, open_at, node_at, whole_of, begun}
 use Rattle.open_calls.specs.Clients.{AreClients, Fits, WritesOn, ReadsFrom, IsWriting, IsReading, IsMerged, byte_of}
 use Rattle.open_calls.specs.Starts.{KeepsNodes, HaveRoom, AreEdges}
@@ -140,7 +140,7 @@ module _ (v : Volume) (size streams : ℕ) (entries : List Entry) (modes : List 
       let a = ok.agree in
       let f = ok.fits i h in
       let owed = λ (q : ℕ) (up : mode_of modes q ≢ Err)
-      (e : part_at (map part_for modes) q ≡ Rattle.open_calls.specs.declared.parts.Part.TheVariants.Apart). part_for_up
+      (e : part_at (map part_for modes) q ≡ Rattle.step_answers.specs.declared.parts.Part.TheVariants.Apart). part_for_up
       (mode_of modes q) up (sym (part_of modes q) ∙ e) in
       let new = λ (q : ℕ) (tk : IsTaken (part_at (map part_for modes) q)). part_for_new (mode_of modes q)
       (subst IsTaken (part_of modes q) tk) in

@@ -19,12 +19,12 @@ use Rattle.replica_node.specs.Node.{Node}
 use Rattle.replica_node.specs.Fold.{snapshots_of}
 use Rattle.replica_node.specs.Volume.{volume_of_node}
 use Rattle.open_calls.specs.declared.open_call.OpenCall.{OpenCall}
-use Rattle.open_calls.specs.declared.parts.Part.{Part}
-use Rattle.open_calls.specs.declared.whole_op.WholeOp.{WholeOp}
-use Rattle.open_calls.specs.declared.whole_op.WholeOp.TheVariants as whole
+use Rattle.step_answers.specs.declared.parts.Part.{Part}
+use Rattle.step_answers.specs.declared.whole_op.WholeOp.{WholeOp}
+use Rattle.step_answers.specs.declared.whole_op.WholeOp.TheVariants as whole
 use Rattle.open_calls.specs.Calls.{open_at, node_at}
 use Rattle.open_calls.specs.Clients.{AreClients, Agree, Fits, IsWriting, IsReading, IsUnheld, byte_of}
-use Rattle.open_calls.specs.Parts.{part_at, part_for}
+use Rattle.step_answers.specs.Parts.{part_at, part_for}
 use Rattle.open_calls.proofs.FreeLemmas.{not_both}
 use Rattle.open_calls.proofs.ListLemmas.{at_set}
 use Rattle.open_calls.proofs.PartLemmas.{up_in, rw_up, part_of, part_for_up}

@@ -19,9 +19,10 @@ use Rattle.range_turns.specs.Order.{ticket_at, no_ticket, IsFresh, with_started}
 use Rattle.range_turns.proofs.OrderLemmas.{AreInOrder-push, AreInOrder-with_started, AreInOrder-remove}
 use Rattle.replica_node.specs.Node.{Node}
 use Rattle.open_calls.specs.declared.open_call.OpenCall.{OpenCall}
-use Rattle.open_calls.specs.declared.whole_op.WholeOp.{WholeOp}
-use Rattle.open_calls.specs.declared.whole_op.WholeOp.TheVariants as whole
-use Rattle.open_calls.specs.Calls.{open_at, command_of, whole_call}
+use Rattle.step_answers.specs.declared.whole_op.WholeOp.{WholeOp}
+use Rattle.step_answers.specs.declared.whole_op.WholeOp.TheVariants as whole
+use Rattle.step_answers.specs.Asked.{command_of}
+use Rattle.open_calls.specs.Calls.{open_at, whole_call}
 use Rattle.open_calls.specs.Clients.{Fits, IsIdle, behind_last}
 use Rattle.open_calls.proofs.Enrolled.{enrolled_fits}
 use Rattle.open_calls.proofs.FreeLemmas.{not_both}

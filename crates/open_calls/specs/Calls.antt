@@ -1,20 +1,18 @@
 -- The calls that were enrolled and have not ended, one for each ticket and in the same order.
 use Rattle.std.specs.Prelude.{ℕ, pos, List, [], ◌++◌, length, map, slice_index_or, slice_set, Option, None, Some}
 use Rattle.vol_units.specs.Bytes.{bytes_at}
-use Rattle.volume_model.specs.declared.command.Command.{Command}
-use Rattle.volume_model.specs.declared.command.Command.TheVariants as command
 use Rattle.volume_model.specs.declared.mode.Mode.{Mode}
 use Rattle.volume_model.specs.declared.call.Call.{Call}
 use Rattle.volume_model.specs.declared.call.Call.TheVariants as call
 use Rattle.range_turns.specs.declared.ticket.Kind.{Kind}
 use Rattle.range_turns.specs.declared.ticket.Kind.TheVariants as kind
 use Rattle.replica_node.specs.Node.{Node, blank}
-use Rattle.open_calls.specs.declared.parts.Part.{Part}
-use Rattle.open_calls.specs.declared.parts.Part.TheVariants.{Taken}
+use Rattle.step_answers.specs.declared.parts.Part.{Part}
+use Rattle.step_answers.specs.declared.parts.Part.TheVariants.{Taken}
 use Rattle.open_calls.specs.declared.open_call.OpenCall.{OpenCall}
-use Rattle.open_calls.specs.declared.whole_op.WholeOp.{WholeOp}
-use Rattle.open_calls.specs.declared.whole_op.WholeOp.TheVariants as whole
-use Rattle.open_calls.specs.Parts.{part_for}
+use Rattle.step_answers.specs.declared.whole_op.WholeOp.{WholeOp}
+use Rattle.step_answers.specs.Parts.{part_for}
+use Rattle.step_answers.specs.Asked.{command_of}
 
 -- what stands past the end of the calls
 abbrev pub no_call : OpenCall
@@ -40,14 +38,6 @@ abbrev pub node_at : List Node → ℕ → Node
 node_at nodes r = slice_index_or nodes r (blank 0)
 
 -- ---- what was asked
-
--- the command that asks for what is done to the whole volume
-abbrev pub command_of : WholeOp → Command
-command_of (whole.Snapshot name) = command.Snapshot name
-command_of (whole.Remove name) = command.Remove name
-command_of (whole.Revert name) = command.Revert name
-command_of (whole.Purge part) = command.Purge
-command_of (whole.Barrier r) = command.Add r
 
 abbrev pub whole_asked : Option WholeOp → Call
 whole_asked None = call.Ping

@@ -17,9 +17,9 @@ use Rattle.replica_node.specs.Node.{Node}
 use Rattle.replica_node.specs.Fold.{snapshots_of}
 use Rattle.replica_node.specs.Room.{HasRoom}
 use Rattle.replica_node.specs.Volume.{copies_in}
-use Rattle.open_calls.specs.declared.parts.Part.TheVariants.{Apart}
+use Rattle.step_answers.specs.declared.parts.Part.TheVariants.{Apart}
 use Rattle.open_calls.specs.declared.open_call.OpenCall.{OpenCall}
-use Rattle.open_calls.specs.Parts.{part_at, IsTaken}
+use Rattle.step_answers.specs.Parts.{part_at, IsTaken}
 use Rattle.open_calls.specs.Calls.{open_at, node_at, whole_of}
 
 -- the byte of a disk at a place

@@ -16,11 +16,11 @@ use Rattle.range_turns.specs.declared.ticket.Ticket.{Ticket}
 use Rattle.range_turns.specs.Order.{ticket_at, StandsAt}
 use Rattle.replica_node.specs.Node.{Node, IsFree, IsSpareOf}
 use Rattle.replica_node.specs.Fold.{IsBare, tree_of, snapshots_of}
-use Rattle.open_calls.specs.declared.parts.Part.TheVariants.{Apart, Owed, Taken, Acked}
+use Rattle.step_answers.specs.declared.parts.Part.TheVariants.{Apart, Owed, Taken, Acked}
 use Rattle.open_calls.specs.declared.open_call.OpenCall.{OpenCall}
-use Rattle.open_calls.specs.declared.whole_op.WholeOp.{WholeOp}
-use Rattle.open_calls.specs.declared.whole_op.WholeOp.TheVariants as whole
-use Rattle.open_calls.specs.Parts.{part_at}
+use Rattle.step_answers.specs.declared.whole_op.WholeOp.{WholeOp}
+use Rattle.step_answers.specs.declared.whole_op.WholeOp.TheVariants as whole
+use Rattle.step_answers.specs.Parts.{part_at}
 use Rattle.open_calls.specs.Calls.{open_at, node_at}
 use Rattle.open_calls.specs.declared.whole.Whole.{Whole}
 use Rattle.open_calls.specs.Due.{part_on}

@@ -2,21 +2,18 @@
 //! on each replica, and the turn of the commands that do it.
 #![tactic(auto)]
 
-mod buffer;
 mod maint;
 mod open_call;
-mod parts;
+mod reads;
 mod spares;
 mod whole;
-mod whole_op;
 
-pub use buffer::Buffer;
 pub use maint::MaintCall;
 pub use open_call::OpenCall;
-pub use parts::{Part, Parts};
 pub use range_turns::{BlockRange, Kind, Ticket, TicketNumber};
+pub use reads::{read_into, read_of};
 pub use replica_node::{ReplicaNode, Spare};
 pub use spares::Spares;
+pub use step_answers::{Buffer, Part, Parts, WholeOp};
 pub use volume_model::{Bytes, Call, Command, FoldOrDrop, LayerName, Mode, Sequence, SnapName};
 pub use whole::{Whole, take_part};
-pub use whole_op::WholeOp;

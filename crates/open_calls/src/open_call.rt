@@ -1,11 +1,9 @@
 ghost use Rattle.std.specs.Prelude.{◌≡◌, [], None, Some};
 ghost use Rattle.open_calls.specs.Calls.{call_asked, whole_call};
 
-use crate::buffer::Buffer;
-use crate::parts::Parts;
-use crate::whole_op::WholeOp;
 use range_turns::Kind;
 use std::alloc::Global;
+use step_answers::{Buffer, Parts, WholeOp};
 use volume_model::{Bytes, Call};
 
 /// What is kept of a call from its enrolment to its end, beside its ticket: of a read, a write, or of what is done to the

@@ -3,10 +3,10 @@ ghost use Rattle.volume_model.specs.Modes.{mode_of};
 ghost use Rattle.open_calls.specs.Calls.{node_at};
 ghost use Rattle.open_calls.specs.Whole.{HasSpare, IsSpared, AreSpared, spare_at};
 
-use crate::whole_op::WholeOp;
 use replica_node::{ReplicaNode, Spare};
 use std::alloc::{AllocError, Global};
 use std::marker::Model;
+use step_answers::WholeOp;
 use volume_model::Mode;
 
 /// A spare head, or none where none is wanted or it is used.

@@ -4,11 +4,10 @@ ghost use Rattle.replica_node.specs.Node.{snapped_node, reverted_node};
 ghost use Rattle.open_calls.specs.Due.{part_on, purged_node};
 ghost use Rattle.open_calls.specs.Whole.{IsFit, IsSpared, CanSnap, CanRevert, CanPurge, HasSpare};
 
-use crate::parts::Parts;
 use crate::spares::Spares;
-use crate::whole_op::WholeOp;
 use range_turns::TicketNumber;
 use replica_node::{ReplicaNode, Spare};
+use step_answers::{Parts, WholeOp};
 use volume_model::{FoldOrDrop, LayerName};
 
 /// The call on the whole volume that has started.

@@ -22,12 +22,12 @@ use Rattle.replica_node.specs.Room.{head_block}
 use Rattle.replica_node.specs.Fold.{is_in, tree_of}
 use Rattle.replica_node.specs.Held.{block_named, IsPageOf, PutsPage, metas_of}
 use Rattle.open_calls.specs.declared.open_call.OpenCall.{OpenCall}
-use Rattle.open_calls.specs.declared.parts.Part.{Part}
-use Rattle.open_calls.specs.declared.parts.Part.TheVariants.{Apart, Owed, Taken, Acked}
-use Rattle.open_calls.specs.declared.whole_op.WholeOp.{WholeOp}
-use Rattle.open_calls.specs.declared.whole_op.WholeOp.TheVariants as whole
+use Rattle.step_answers.specs.declared.parts.Part.{Part}
+use Rattle.step_answers.specs.declared.parts.Part.TheVariants.{Apart, Owed, Taken, Acked}
+use Rattle.step_answers.specs.declared.whole_op.WholeOp.{WholeOp}
+use Rattle.step_answers.specs.declared.whole_op.WholeOp.TheVariants as whole
 use Rattle.open_calls.specs.Calls.{node_at}
-use Rattle.open_calls.specs.Parts.{part_at}
+use Rattle.step_answers.specs.Parts.{part_at}
 use Rattle.open_calls.proofs.PartLemmas.{up_in}
 use Rattle.open_calls.specs.declared.whole.Whole.{Whole}
 use Rattle.open_calls.specs.Due.{form_part, formed, forms}

@@ -15,10 +15,10 @@ use Rattle.replica_node.specs.Node.{Node, blank}
 use Rattle.replica_node.specs.Held.{IsChained}
 use Rattle.replica_node.specs.Room.{head_block, put_at}
 use Rattle.open_calls.specs.declared.open_call.OpenCall.{OpenCall}
-use Rattle.open_calls.specs.declared.parts.Part.TheVariants.{Taken}
+use Rattle.step_answers.specs.declared.parts.Part.TheVariants.{Taken}
 use Rattle.open_calls.specs.Calls.{no_call, open_at, node_at, whole_of, with_part_at, begun}
 use Rattle.open_calls.specs.Clients.{AreClients, IsWriting}
-use Rattle.open_calls.specs.Parts.{part_at, is_pending_at, IsTaken}
+use Rattle.step_answers.specs.Parts.{part_at, is_pending_at, IsTaken}
 use Rattle.open_calls.specs.Starts.{KeepsNodes}
 use Rattle.open_calls.proofs.FreeLemmas.{free_before, not_both}
 use Rattle.open_calls.proofs.ListLemmas.{at_set, each_set}

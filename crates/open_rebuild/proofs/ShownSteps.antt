@@ -25,12 +25,12 @@ use Rattle.replica_node.specs.Fold.{tree_of, snapshots_of}
 use Rattle.replica_node.specs.Held.{PutsPage, metas_of}
 use Rattle.replica_node.specs.Volume.{copies_in}
 use Rattle.open_calls.specs.declared.open_call.OpenCall.{OpenCall}
-use Rattle.open_calls.specs.declared.parts.Part.TheVariants.{Owed}
-use Rattle.open_calls.specs.declared.whole_op.WholeOp.{WholeOp}
-use Rattle.open_calls.specs.declared.whole_op.WholeOp.TheVariants as whole
+use Rattle.step_answers.specs.declared.parts.Part.TheVariants.{Owed}
+use Rattle.step_answers.specs.declared.whole_op.WholeOp.{WholeOp}
+use Rattle.step_answers.specs.declared.whole_op.WholeOp.TheVariants as whole
 use Rattle.open_calls.specs.Calls.{open_at, node_at, whole_of}
 use Rattle.open_calls.specs.Clients.{AreClients, Fits, HasBytes, byte_of}
-use Rattle.open_calls.specs.Parts.{part_at}
+use Rattle.step_answers.specs.Parts.{part_at}
 use Rattle.open_calls.proofs.ListLemmas.{each_set}
 use Rattle.open_calls.specs.declared.maint.MaintCall.{MaintCall}
 use Rattle.open_calls.specs.declared.whole.Whole.{Whole}

@@ -16,13 +16,13 @@ use Rattle.range_turns.specs.Order.{ticket_at, no_ticket, AreInOrder, IsClear, w
 use Rattle.replica_node.specs.Node.{Node, blank, layer_names, snapped_node}
 use Rattle.replica_node.specs.Held.{emptied}
 use Rattle.open_calls.specs.declared.open_call.OpenCall.{OpenCall}
-use Rattle.open_calls.specs.declared.parts.Part.{Part}
-use Rattle.open_calls.specs.declared.parts.Part.TheVariants.{Apart, Owed, Acked}
-use Rattle.open_calls.specs.declared.whole_op.WholeOp.{WholeOp}
-use Rattle.open_calls.specs.declared.whole_op.WholeOp.TheVariants as whole
+use Rattle.step_answers.specs.declared.parts.Part.{Part}
+use Rattle.step_answers.specs.declared.parts.Part.TheVariants.{Apart, Owed, Acked}
+use Rattle.step_answers.specs.declared.whole_op.WholeOp.{WholeOp}
+use Rattle.step_answers.specs.declared.whole_op.WholeOp.TheVariants as whole
 use Rattle.open_calls.specs.Calls.{node_at}
 use Rattle.open_calls.specs.Clients.{IsWriting}
-use Rattle.open_calls.specs.Parts.{part_at, part_for, is_pending_at, IsTaken}
+use Rattle.step_answers.specs.Parts.{part_at, part_for, is_pending_at, IsTaken}
 use Rattle.open_calls.proofs.FreeLemmas.{not_both}
 use Rattle.open_calls.proofs.ListLemmas.{at_set}
 use Rattle.open_calls.proofs.PartLemmas.{up_in, part_of}

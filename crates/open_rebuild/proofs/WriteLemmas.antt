@@ -10,7 +10,7 @@ use Rattle.open_calls.proofs.ByteLemmas.{length-put, get_or-put_in, get_or-put_o
 use Rattle.replica_node.specs.Node.{Node, has_own}
 use Rattle.replica_node.specs.Room.{head_block, put_at, own_with, is_among}
 use Rattle.replica_node.specs.Held.{block_of, IsChained}
-use Rattle.replica_node.proofs.ListedLemmas.{listed-at, listed-past}
+use Rattle.sparse_image.proofs.ListedLemmas.{listed-at, listed-past}
 use Rattle.open_rebuild.specs.Rebuild.{HasPut}
 
 -- ---- bytes

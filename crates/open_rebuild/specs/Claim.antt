@@ -10,11 +10,11 @@ use Rattle.range_turns.specs.declared.ticket.Ticket.{Ticket}
 use Rattle.range_turns.specs.Order.{ticket_at}
 use Rattle.replica_node.specs.Node.{Node, layer_names, snapped_node}
 use Rattle.open_calls.specs.declared.open_call.OpenCall.{OpenCall}
-use Rattle.open_calls.specs.declared.whole_op.WholeOp.{WholeOp}
-use Rattle.open_calls.specs.declared.whole_op.WholeOp.TheVariants as whole
+use Rattle.step_answers.specs.declared.whole_op.WholeOp.{WholeOp}
+use Rattle.step_answers.specs.declared.whole_op.WholeOp.TheVariants as whole
 use Rattle.open_calls.specs.Calls.{open_at, node_at, whole_of}
 use Rattle.open_calls.specs.Clients.{IsWriting}
-use Rattle.open_calls.specs.Parts.{part_at, IsTaken}
+use Rattle.step_answers.specs.Parts.{part_at, IsTaken}
 use Rattle.open_calls.specs.declared.whole.Whole.{Whole}
 use Rattle.open_calls.specs.Due.{forms, part_on}
 use Rattle.open_rebuild.specs.Listed.{place_of, is_listed_in}

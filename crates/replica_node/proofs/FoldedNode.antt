@@ -13,7 +13,7 @@ use Rattle.replica_node.specs.Node.{Kept, Node, disk_named, has_own}
 use Rattle.replica_node.specs.Fold.{tree_of, own_named, is_in, own_without_page, with_page, without_page}
 use Rattle.replica_node.specs.Fold.{page_folded_in, page_folded, layers_without, put_down, replaced_node}
 use Rattle.replica_node.specs.Fold.{dropped_node}
-use Rattle.replica_node.proofs.ListedLemmas.{listed-at, listed-past}
+use Rattle.sparse_image.proofs.ListedLemmas.{listed-at, listed-past}
 
 abbrev told : List Kept → List Snapshot
 told ks = map (λ (k : Kept). snapshot_of k.meta) ks

@@ -10,7 +10,7 @@ use Rattle.layer_chain.specs.declared.layer.Layer.{Layer}
 use Rattle.coalesce.proofs.ChildLemmas.{other_name}
 use Rattle.replica_node.specs.Node.{Node, node_of, kept_in, has_own, own_in, IsImageOf, IsNode}
 use Rattle.replica_node.specs.Fold.{own_named, HasBlockOf, HasNoBlockOf, HasBlockIn, HasNoBlockIn, IsBare}
-use Rattle.replica_node.proofs.ListedLemmas.{listed-past}
+use Rattle.sparse_image.proofs.ListedLemmas.{listed-past}
 use Rattle.replica_node.proofs.OwnLemmas.{own_at, own_of}
 use Rattle.replica_node.proofs.ReadLemmas.{length-node}
 

@@ -30,7 +30,7 @@ use Rattle.replica_node.specs.Held.{block_of, own_block, block_named, read_below
 use Rattle.replica_node.specs.Held.{IsPageOf, put_block, PutsPage}
 use Rattle.replica_node.proofs.CutLemmas.{place_reads, cut_reads}
 use Rattle.replica_node.proofs.MadeLemmas.{made_put}
-use Rattle.replica_node.proofs.ListedLemmas.{listed-past}
+use Rattle.sparse_image.proofs.ListedLemmas.{listed-past}
 use Rattle.replica_node.proofs.NodeLemmas.{HasPages, length-none, length-own_in, named_there}
 use Rattle.replica_node.proofs.OwnLemmas.{own_at, is_in-same, is_in-other}
 use Rattle.replica_node.proofs.ReadLemmas.{joined-block}

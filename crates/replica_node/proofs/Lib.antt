@@ -2,13 +2,11 @@ pub mod AllFolded
 pub mod ChainLemmas
 pub mod CutLemmas
 pub mod EmptiedNode
-pub mod FillLemmas
 pub mod FoldLemmas
 pub mod FoldedNode
 pub mod GoneLemmas
 pub mod HasLemmas
 pub mod HeldLemmas
-pub mod ListedLemmas
 pub mod MadeLemmas
 pub mod NodeLemmas
 pub mod OverLemmas

@@ -23,7 +23,7 @@ use Rattle.layer_chain.specs.Changes as change
 use Rattle.layer_chain.specs.Tree.{Tree, name_of, reads, head_reads, layer_at, IsNew, IsThere, IsLayers, IsAt}
 use Rattle.layer_chain.proofs.ChangeLemmas.{snapped_reads, snapped_others, snapped_head, reverted_head, mark_keeps}
 use Rattle.layer_chain.proofs.ReadLaws.{cases_named}
-use Rattle.replica_node.proofs.ListedLemmas.{length-listed, listed-all}
+use Rattle.sparse_image.proofs.ListedLemmas.{length-listed, listed-all}
 use Rattle.replica_node.proofs.MadeLemmas.{made_empty}
 use Rattle.replica_node.specs.Node.{Kept, Node, node_of, kept_in, disk_in, head_disk, own_in, made_in, layer_names}
 use Rattle.replica_node.specs.Node.{disk_named, IsImageOf, IsNode, IsKept, IsFree, IsSpareOf, no_room, no_own, blank}

@@ -8,9 +8,10 @@ use Rattle.std.proofs.lemmas.List.{drop_all, get_or_past, length-take-le}
 use Rattle.std.proofs.Math.Seq.{take-append_seam, drop-append_seam}
 use Rattle.vol_units.specs.Bytes.{bytes_at, with_bytes_at}
 use Rattle.vol_units.proofs.BytesLemmas.{with_bytes_at-append, length-with_bytes_at}
-use Rattle.replica_node.specs.Node.{Node, has_own, listed}
+use Rattle.sparse_image.specs.Listed.{listed}
+use Rattle.replica_node.specs.Node.{Node, has_own}
 use Rattle.replica_node.specs.Room.{put_at, is_among, own_with}
-use Rattle.replica_node.proofs.ListedLemmas.{length-listed, listed-at, listed-same}
+use Rattle.sparse_image.proofs.ListedLemmas.{length-listed, listed-at, listed-same}
 
 -- ---- bytes that are written where bytes were written
 

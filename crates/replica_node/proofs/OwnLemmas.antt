@@ -12,9 +12,10 @@ use Rattle.layer_chain.proofs.TreeLemmas.{there_at}
 use Rattle.layer_chain.proofs.TreeShape.{apart}
 use Rattle.layer_chain.specs.Tree.{parent_of}
 use Rattle.coalesce.proofs.ChildLemmas.{same_name, other_name}
-use Rattle.replica_node.specs.Node.{kept_in, has_own, listed, own_in}
+use Rattle.sparse_image.specs.Listed.{listed}
+use Rattle.replica_node.specs.Node.{kept_in, has_own, own_in}
 use Rattle.replica_node.specs.Fold.{own_named, is_in, own_with_page, own_without_page}
-use Rattle.replica_node.proofs.ListedLemmas.{listed-at, listed-same}
+use Rattle.sparse_image.proofs.ListedLemmas.{listed-at, listed-same}
 use Rattle.replica_node.proofs.NodeLemmas.{length-own_in}
 
 pub is_in-same : (page block : ℕ) → block / 512 ≡ page → is_in page block ≡ true

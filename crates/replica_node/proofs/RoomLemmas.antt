@@ -13,9 +13,10 @@ use Rattle.sparse_image.specs.Image.{Tables, block_at, has_page, is_page_of, Mak
 use Rattle.sparse_image.proofs.DiskLemmas.{joined-same}
 use Rattle.layer_chain.specs.Changes.{with_head}
 use Rattle.layer_chain.specs.Tree.{Tree, reads, head_reads}
-use Rattle.replica_node.specs.Node.{Node, node_of, kept_in, head_disk, own_in, made_in, has_own, listed, IsNode}
+use Rattle.sparse_image.specs.Listed.{listed}
+use Rattle.replica_node.specs.Node.{Node, node_of, kept_in, head_disk, own_in, made_in, has_own, IsNode}
 use Rattle.replica_node.specs.Room.{HasRoom, KeepsRoom, room_with, with_room, with_room_of, HasPages}
-use Rattle.replica_node.proofs.ListedLemmas.{listed-at, listed-same}
+use Rattle.sparse_image.proofs.ListedLemmas.{listed-at, listed-same}
 use Rattle.replica_node.proofs.NodeLemmas.{length-made_in, same_parts}
 use Rattle.replica_node.proofs.ReadLemmas.{length-node}
 

@@ -1,5 +1,5 @@
 -- Blocks that are put into the head of a replica.
-use Rattle.std.proofs.Common.{◌≡◌, ◌≢◌, ⊎_elim, ℕ, suc, ◌+◌, ◌*◌, ◌/◌, ◌<◌, ◌≤◌, Bool, true, false, cond, ◌||◌, List}
+use Rattle.std.proofs.Common.{◌≡◌, ◌≢◌, ⊎_elim, ℕ, ◌+◌, ◌*◌, ◌/◌, ◌<◌, ◌≤◌, Bool, true, false, cond, ◌||◌, List}
 use Rattle.std.proofs.Common.{[], ◌∷◌, ◌++◌, length, take, drop, get_or, map, Option, None, Some, is_some, refl, sym}
 use Rattle.std.proofs.Common.{ap, subst, ◌∙◌, arith, append-nil, add-one, length-append, lit<}
 use Rattle.std.proofs.lemmas.Bool.{false≢true, cases_eq}
@@ -7,7 +7,7 @@ use Rattle.std.proofs.lemmas.Bool.Decides.{nat_tests}
 use Rattle.std.specs.List.{All, flat_map}
 use Rattle.std.specs.Option.{option_or, option_map}
 use Rattle.std.proofs.lemmas.Grind.{flat_map-append}
-use Rattle.std.proofs.Math.Seq.{take-suc, drop-cons}
+use Rattle.std.proofs.Math.Seq.{take-suc}
 use Rattle.std.proofs.lemmas.List.{take-append-drop, length-take-le}
 use Rattle.vol_units.specs.Bytes.{bytes_at, with_bytes_at}
 use Rattle.vol_units.proofs.BytesLemmas.{with_bytes_at-append, length-with_bytes_at}
@@ -16,9 +16,10 @@ use Rattle.sparse_image.specs.Disk.{bytes_of}
 use Rattle.sparse_image.proofs.DiskLemmas.{joined-changed, length-joined}
 use Rattle.layer_chain.specs.Tree.{Tree, reads, head_reads}
 use Rattle.layer_chain.specs.Changes.{with_head}
-use Rattle.replica_node.specs.Node.{Node, node_of, head_disk, listed, has_own, own_in, made_in, kept_in, IsNode}
-use Rattle.replica_node.specs.Room.{PutsBlocks, put_at, bytes_in, is_among, own_with, head_block, head_blocks}
-use Rattle.replica_node.proofs.ListedLemmas.{listed-at, listed-same}
+use Rattle.sparse_image.specs.Listed.{listed, bytes_in}
+use Rattle.replica_node.specs.Node.{Node, node_of, head_disk, has_own, own_in, made_in, kept_in, IsNode}
+use Rattle.replica_node.specs.Room.{PutsBlocks, put_at, is_among, own_with, head_block, head_blocks}
+use Rattle.sparse_image.proofs.ListedLemmas.{listed-at, listed-same}
 use Rattle.replica_node.proofs.MadeLemmas.{made_changed, made_there}
 use Rattle.replica_node.proofs.NodeLemmas.{HasPages, length-own_in, same_parts}
 use Rattle.replica_node.proofs.OwnLemmas.{own_at}
@@ -193,23 +194,6 @@ put_blocks old new count node first blocks view n p =
     put_own old.head new.head count first (length blocks) p.own ∙ ap (own_with (own_in old.head count) first) (sym many) in
     same_parts kept (on_same old new p.rest) (ap (λ t. t.number) p.rest) disk (same_room old.head new.head count p.pages) own
     ∙ ap (λ x. put_at x first (bytes_in blocks)) view
-
-abbrev head_or : {X : Type 0} → X → List X → X
-head_or d [] = d
-head_or d (x ∷ xs) = x
-
-abbrev tail_of : {X : Type 0} → List X → List X
-tail_of [] = []
-tail_of (x ∷ xs) = xs
-
--- lists that end alike from a place on have the same there, and end alike from the next
-pub same_at : {X : Type 0} (a b : List X) (i : ℕ) (d : X) → i < length a → length a ≡ length b → drop i a ≡ drop i b
-    → (get_or a i d ≡ get_or b i d) × (drop (suc i) a ≡ drop (suc i) b)
-same_at {X = X} a b i d inside long rest =
-    heads (sym (drop-cons a i d inside) ∙ rest ∙ drop-cons b i d (omega (arith, long)))
-  where
-    heads : {x y : X} {l m : List X} → x ∷ l ≡ y ∷ m → (x ≡ y) × (l ≡ m)
-    heads {x = x} {l = l} e = (ap (λ zs. head_or x zs) e, ap tail_of e)
 
 -- ---- a part of a block that the head has
 

@@ -12,7 +12,8 @@ use Rattle.volume_model.specs.Purge.{parent_in}
 use Rattle.layer_chain.specs.Tree.{Tree}
 use Rattle.coalesce.specs.declared.change.FoldPlaces.{FoldPlaces}
 use Rattle.coalesce.specs.Folding.{snapshot_of, CanFoldAt}
-use Rattle.replica_node.specs.Node.{Kept, Node, node_of, IsNode, disk_named, has_own, listed}
+use Rattle.sparse_image.specs.Listed.{listed}
+use Rattle.replica_node.specs.Node.{Kept, Node, node_of, IsNode, disk_named, has_own}
 
 -- the layers of a replica as snapshots, the newest first
 abbrev pub tree_of : Node → List Snapshot

@@ -1,5 +1,5 @@
 -- One replica as those above it see it: what its head and each of its layers read as.
-use Rattle.std.specs.Prelude.{◌≡◌, ℕ, zero, suc, ◌+◌, ◌*◌, ◌/◌, Bool, true, false, List, [], ◌∷◌, ◌++◌, length, map}
+use Rattle.std.specs.Prelude.{◌≡◌, ℕ, ◌+◌, ◌*◌, ◌/◌, Bool, true, false, List, [], ◌∷◌, length, map}
 use Rattle.std.specs.Prelude.{replicate, Option, Some, None, is_some, if◌then◌else◌, Contains, All, ◌≢◌}
 use Rattle.std.specs.Prelude.{slice_index_or}
 use Rattle.std.specs.Str.{bytes_eq}
@@ -8,6 +8,7 @@ use Rattle.vol_units.specs.declared.size.TheConstants.{BLOCK_BYTES}
 use Rattle.sparse_image.specs.declared.block.TheConstants.{PAGE_BLOCKS}
 use Rattle.sparse_image.specs.Image.{Tables, IsEmpty, block_at, has_page}
 use Rattle.sparse_image.specs.Disk.{bytes_of, joined}
+use Rattle.sparse_image.specs.Listed.{listed}
 use Rattle.layer_chain.specs.declared.layer.LayerMeta.{LayerMeta}
 use Rattle.layer_chain.specs.declared.layer.Layer.{Layer}
 use Rattle.snapshot_ops.specs.Ops.{fresh}
@@ -47,11 +48,6 @@ head_disk t count = joined (λ block. bytes_of (head_reads t block)) count
 abbrev pub block_in : Tree → Option (List ℕ) → ℕ → Option (List ℕ)
 block_in t None block = head_reads t block
 block_in t (Some name) block = reads t.layers (Some name) block
-
--- the answers for the numbers below so many
-unfoldable pub listed : {X : Type 0} → (ℕ → X) → ℕ → List X
-listed answer zero = []
-listed answer (suc count) = listed answer count ++ answer count ∷ []
 
 -- of each block whether the image has it
 abbrev pub own_in : Tables → ℕ → List Bool

@@ -1,16 +1,15 @@
 -- The places that writes find made in the head of a replica, and what a write puts there.
 use Rattle.std.specs.Prelude.{◌≡◌, ℕ, ◌+◌, ◌*◌, ◌/◌, Bool, true, false, ◌&&◌, ◌||◌, nat_le, nat_lt, List, Option}
 use Rattle.std.specs.Prelude.{None, Some, is_some, length, slice_index_or, if◌then◌else◌}
-use Rattle.std.specs.List.{flat_map}
 use Rattle.vol_units.specs.Bytes.{bytes_at, with_bytes_at}
 use Rattle.vol_units.specs.declared.range.BlockRange.{BlockRange}
 use Rattle.vol_units.specs.Range.{HasBlock}
 use Rattle.sparse_image.specs.declared.block.TheConstants.{BLOCK_BYTES, PAGE_BLOCKS}
-use Rattle.sparse_image.specs.Disk.{bytes_of}
+use Rattle.sparse_image.specs.Listed.{bytes_in, listed}
 use Rattle.sparse_image.specs.Image.{Tables, block_at, has_page, is_page_of}
 use Rattle.layer_chain.specs.Tree.{Tree}
 use Rattle.layer_chain.specs.Changes.{with_head}
-use Rattle.replica_node.specs.Node.{Node, IsNode, head_disk, has_own, listed}
+use Rattle.replica_node.specs.Node.{Node, IsNode, head_disk, has_own}
 
 -- a write of the range finds its places
 abbrev pub HasRoom : Node → BlockRange → Type 0
@@ -36,14 +35,6 @@ KeepsRoom old new = (block : ℕ) → slice_index_or old.room block false ≡ tr
 -- so many blocks from the first on
 abbrev pub blocks_from : ℕ → ℕ → BlockRange
 blocks_from first count = record { first = first; end = first + count }
-
--- the bytes of blocks, one after another
-abbrev pub bytes_in : List (Option (List ℕ)) → List ℕ
-bytes_in blocks = flat_map bytes_of blocks
-
--- the bytes cut into so many blocks
-abbrev pub blocks_of : List ℕ → ℕ → List (Option (List ℕ))
-blocks_of bytes count = listed (λ i. Some (bytes_at bytes (i * BLOCK_BYTES) BLOCK_BYTES)) count
 
 -- what the head itself has at a block: its bytes, or none
 abbrev pub head_block : Node → ℕ → Option (List ℕ)

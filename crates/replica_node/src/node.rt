@@ -5,7 +5,8 @@ ghost use Rattle.vol_units.specs.declared.size.TheConstants.{LARGEST_SIZE, PAGE_
 ghost use Rattle.sparse_image.specs.Disk.{bytes_of};
 ghost use Rattle.sparse_image.specs.Image.{IsLent};
 ghost use Rattle.layer_chain.specs.Tree.{IsAt, IsThere, IsWholeTree};
-ghost use Rattle.replica_node.specs.Room.{HasRoom, KeepsRoom, with_room, with_room_of, put_at, bytes_in, head_blocks};
+ghost use Rattle.sparse_image.specs.Listed.{bytes_in};
+ghost use Rattle.replica_node.specs.Room.{HasRoom, KeepsRoom, with_room, with_room_of, put_at, head_blocks};
 ghost use Rattle.volume_model.specs.Names.{NamesOnce};
 ghost use Rattle.volume_model.specs.Purge.{CanFold, CanDrop, next_in};
 ghost use Rattle.volume_model.specs.Snapshots.{is_live, chain_of};
@@ -14,13 +15,13 @@ ghost use Rattle.replica_node.specs.Node.{Kept, blank, snapped_node, reverted_no
 ghost use Rattle.replica_node.specs.Fold.{tree_of, snapshots_of, own_named, HasBlockOf, HasNoBlockOf, IsBare, page_folded, replaced_node, folded_away, dropped_node};
 ghost use Rattle.replica_node.specs.Held.{IsChained, IsPageOf, PutsPage, emptied};
 
-use crate::blocks::Blocks;
 use crate::fold::fold_pages;
 use crate::names::names_in;
 use crate::own::{has_block, has_block_of};
+use crate::swap::swap_into;
 use layer_chain::LayerTree;
 use snapshot_ops::Spare;
-use sparse_image::{BLOCK_BYTES, Block, Page};
+use sparse_image::{BLOCK_BYTES, Block, Blocks, Page};
 use std::alloc::{AllocError, Global};
 use std::marker::Model;
 use vol_units::{BlockRange, LayerName, MOST_LAYERS, VolumeSize};
@@ -222,7 +223,7 @@ impl ReplicaNode {
         ensures back { blocks.new ≡ head_blocks self.old range.first (length blocks.old) }
         ensures count { length blocks.new ≡ length blocks.old }
     {
-        blocks.swap_into(&mut self.tree, range.first);
+        swap_into(&mut self.tree, range.first, blocks);
     }
 
     /// Writes over part of a block that the head itself has, and is false where it has none. It takes no memory.
@@ -360,10 +361,11 @@ impl ReplicaNode {
     }
 
     /// Reads what a layer, or the head where none is named, reads as from a place on.
-    pub fn read_bytes(&self, layer: Option<LayerName>, at: usize, into: &mut [u8])
-        requires kept { IsKept self.now layer }
-        requires inside { at + length into.old ≤ length self.now.disk }
-        ensures { into.new ≡ bytes_at (disk_of_layer self.now layer) at (length into.old) }
+    pub fn read_bytes(&mut self, layer: Option<LayerName>, at: usize, into: &mut [u8])
+        requires kept { IsKept self.old layer }
+        requires inside { at + length into.old ≤ length self.old.disk }
+        ensures bytes { into.new ≡ bytes_at (disk_of_layer self.old layer) at (length into.old) }
+        ensures same { self.new ≡ self.old }
     {
         // What the largest size is, a proof learns here.
         let _size = self.size();

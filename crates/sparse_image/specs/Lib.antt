@@ -1,3 +1,4 @@
 pub mod Disk
 pub mod Image
 pub mod Whole
+pub mod Listed

@@ -5,10 +5,10 @@ ghost use Rattle.vol_units.specs.Bytes.{with_bytes_at};
 use crate::block::{BLOCK_BYTES, Block, learn_length};
 use std::marker::Model;
 
-/// A block, or none.
+/// A block in its box, or none. A contract sees its bytes.
 #[derive(Drop)]
-pub(crate) struct Place {
-    block: Option<Box<Block>>,
+pub struct Place {
+    pub block: Option<Box<Block>>,
 }
 
 impl Model for Place {

@@ -21,17 +21,17 @@ use Rattle.volume_model.specs.OneWorker.{refused_at}
 use Rattle.volume_model.specs.Purge.{next_of}
 use Rattle.range_turns.specs.declared.turns.MayStart.{MayStart}
 use Rattle.range_turns.specs.declared.turns.MayStart.TheVariants as may
-use Rattle.open_calls.specs.declared.parts.Part.TheVariants.{Owed, Taken, Acked}
-use Rattle.open_calls.specs.declared.whole_op.WholeOp.{WholeOp}
-use Rattle.open_calls.specs.declared.whole_op.WholeOp.TheVariants as whole
-use Rattle.open_calls.specs.Calls.{command_of}
-use Rattle.open_calls.specs.Parts.{part_at, IsTaken}
-use Rattle.volume_core.specs.declared.world.NotThis.{NotThis}
-use Rattle.volume_core.specs.declared.world.NotThis.TheVariants as against
-use Rattle.volume_maint.specs.declared.answers.AdmitWhole.{AdmitWhole}
-use Rattle.volume_maint.specs.declared.answers.AdmitWhole.TheVariants as admit
-use Rattle.volume_maint.specs.declared.answers.NextPart.{NextPart}
-use Rattle.volume_maint.specs.declared.answers.NextPart.TheVariants as next
+use Rattle.step_answers.specs.declared.parts.Part.TheVariants.{Owed, Taken, Acked}
+use Rattle.step_answers.specs.declared.whole_op.WholeOp.{WholeOp}
+use Rattle.step_answers.specs.declared.whole_op.WholeOp.TheVariants as whole
+use Rattle.step_answers.specs.Asked.{command_of}
+use Rattle.step_answers.specs.Parts.{part_at, IsTaken}
+use Rattle.step_answers.specs.declared.answers.NotThis.{NotThis}
+use Rattle.step_answers.specs.declared.answers.NotThis.TheVariants as against
+use Rattle.step_answers.specs.declared.answers.AdmitWhole.{AdmitWhole}
+use Rattle.step_answers.specs.declared.answers.AdmitWhole.TheVariants as admit
+use Rattle.step_answers.specs.declared.answers.NextPart.{NextPart}
+use Rattle.step_answers.specs.declared.answers.NextPart.TheVariants as next
 use Rattle.stream_steps.specs.Mine.{Mine, OwnCall, Log, with_entries, with_more, with_running, answer_placed}
 
 -- ---- the maintenance turn

@@ -10,8 +10,8 @@ use Rattle.volume_model.specs.declared.mark.Mark.TheVariants as mark
 use Rattle.volume_model.specs.declared.mode.Mode.{Mode}
 use Rattle.volume_model.specs.History.{Spot}
 use Rattle.volume_model.specs.OneWorker.{behind_entries}
-use Rattle.open_calls.specs.declared.parts.Part.{Part}
-use Rattle.open_calls.specs.declared.whole_op.WholeOp.{WholeOp}
+use Rattle.step_answers.specs.declared.parts.Part.{Part}
+use Rattle.step_answers.specs.declared.whole_op.WholeOp.{WholeOp}
 
 -- an entry of the stream, with the mode of each replica before it
 pub record Placed : Type 0 where

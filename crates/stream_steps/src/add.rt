@@ -1,16 +1,16 @@
 ghost use Rattle.std.specs.Prelude.{◌≡◌, ◌⊎◌, ℕ, ◌+◌, ◌≤◌, List, None, true, IfSome, Contains};
 ghost use Rattle.sparse_image.specs.Image.{IsLent};
-ghost use Rattle.open_calls.specs.declared.whole_op.WholeOp.{WholeOp};
+ghost use Rattle.step_answers.specs.declared.whole_op.WholeOp.{WholeOp};
 ghost use Rattle.stream_steps.specs.Mine.{Mine, OwnCall};
 ghost use Rattle.stream_steps.specs.Steps.{FallsTo};
 ghost use Rattle.stream_steps.specs.Maint.{HasWhole};
 ghost use Rattle.stream_steps.specs.Add.{AreKept, EndsAborted, HasAdd, IsAddedBy, LeavesAdd, Promotes, PutsIn, TakesNext, TakesOut};
 
 use crate::command::CommandSteps;
-use replica_node::Page;
+use range_turns::TicketNumber;
+use sparse_image::Page;
 use std::sync::Wait;
 use vol_units::{LayerName, PageRef};
-use volume_core::TicketNumber;
 
 /// What a rebuild copies next.
 #[derive(Clone, Copy, Debug, PartialEq, Eq)]

@@ -1,14 +1,18 @@
 ghost use Rattle.std.specs.Prelude.{◌≡◌, ℕ, ◌*◌, ◌<◌, ◌≤◌, [], length, true, false, Ok, OnOk, OnErr, IfOk, IfErr, IfSome, MatchOption};
 ghost use Rattle.vol_units.specs.declared.size.TheConstants.{BLOCK_BYTES, LARGEST_SIZE};
 ghost use Rattle.volume_model.specs.Modes.{mode_of, IsSource, HasNoSource};
-ghost use Rattle.volume_core.specs.Answers.{IsNow, IsOnRange};
+ghost use Rattle.step_answers.specs.Asked.{IsNow, IsOnRange};
 ghost use Rattle.stream_steps.specs.Mine.{Mine, OwnCall, IsOwn, with_running};
 ghost use Rattle.stream_steps.specs.Against.{AgainstTake, AgainstGive, RefusesAck, RefusesFault, RefusesEnd};
 ghost use Rattle.stream_steps.specs.Steps.{HasNotStarted, HasStarted, IsStartedWrite, IsStartedRead, IsFrameCall, IsOnBlocks, EnrolsTo, AnswersNow, Answers, AdmitsTo, IsNotAfter, AreBlocksOfCall, TakesTo, AcksTo, FaultsTo};
 
+use range_turns::TicketNumber;
+use sparse_image::Blocks;
 use std::alloc::{AllocError, Global};
 use std::sync::Wait;
-use volume_core::{Admit, BlockRange, Blocks, Call, Enrolled, Mode, NotThis, TicketNumber};
+use step_answers::{Admit, Enrolled, NotThis};
+use vol_units::BlockRange;
+use volume_model::{Call, Mode};
 
 /// The core's steps for one stream, each whole by itself. What others do between two of them is not said.
 pub trait ClientSteps {

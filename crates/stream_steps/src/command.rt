@@ -1,20 +1,22 @@
 ghost use Rattle.volume_model.specs.declared.command.Command.{Command};
-ghost use Rattle.open_calls.specs.declared.whole_op.WholeOp.{WholeOp};
+ghost use Rattle.step_answers.specs.declared.whole_op.WholeOp.{WholeOp};
 ghost use Rattle.std.specs.Prelude.{◌≡◌, ◌≢◌, ℕ, ◌<◌, List, [], ◌∷◌, false, true, IfOk, IfErr, OnOk, OnErr, IfSome, None, Ok};
 ghost use Rattle.vol_units.specs.Name.{begins_sys};
 ghost use Rattle.volume_model.specs.declared.call.Call.TheVariants as call;
 ghost use Rattle.volume_model.specs.declared.call.Reply.{Reply};
 ghost use Rattle.volume_model.specs.Modes.{mode_of};
-ghost use Rattle.open_calls.specs.Calls.{command_of};
+ghost use Rattle.step_answers.specs.Asked.{command_of};
 ghost use Rattle.stream_steps.specs.Mine.{Mine, OwnCall, with_running};
 ghost use Rattle.stream_steps.specs.Against.{RefusesFault};
 ghost use Rattle.stream_steps.specs.Steps.{CommandsTo, EnrolsAt, FallsTo, IsAtOnce};
 ghost use Rattle.stream_steps.specs.Maint.{IsMaint, IsNoAdd, HasTurn, AwaitsTurn, TurnsTo, IsYes, HasWhole, EnrolsWhole, EnrolsUnder, AnswersWhole, AdmitsWhole, IsNotLater, PartsTo, AcksWhole, AgainstPart, AgainstAckWhole, WholeEnds, IsNext};
 
+use range_turns::{MayStart, TicketNumber};
 use std::alloc::{AllocError, Global};
 use std::sync::Wait;
-use volume_core::{Command, Mode, NotThis, Reply, TicketNumber};
-use volume_maint::{AdmitWhole, LayerName, MayStart, NextPart, WholeOp};
+use step_answers::{AdmitWhole, NextPart, NotThis, WholeOp};
+use vol_units::LayerName;
+use volume_model::{Command, Mode, Reply};
 
 /// The core's steps for one stream whose commands are carried to the replicas, each whole by itself. What others do
 /// between two of them is not said.

@@ -8,8 +8,7 @@ mod command;
 pub use add::{AddSteps, Added, NextPage, PageIn, PageOut};
 pub use client::ClientSteps;
 pub use command::CommandSteps;
-pub use replica_node::Page;
-pub use vol_units::{LayerName, PageRef};
-pub use volume_core::{
-    Admit, BlockRange, Blocks, Call, Command, Enrolled, Job, Mode, NotThis, TicketNumber,
-};
+pub use sparse_image::{Blocks, Page};
+pub use step_answers::{Admit, Enrolled, Job, NotThis, TicketNumber};
+pub use vol_units::{BlockRange, LayerName, PageRef};
+pub use volume_model::{Call, Command, Mode};

@@ -29,8 +29,8 @@ use Rattle.range_turns.specs.declared.ticket.Ticket.{Ticket}
 use Rattle.range_turns.specs.Order.{ticket_at, no_ticket}
 use Rattle.replica_node.specs.Node.{Node}
 use Rattle.open_calls.specs.declared.open_call.OpenCall.{OpenCall}
-use Rattle.open_calls.specs.declared.parts.Part.TheVariants.{Acked}
-use Rattle.open_calls.specs.Parts.{part_at, IsTaken}
+use Rattle.step_answers.specs.declared.parts.Part.TheVariants.{Acked}
+use Rattle.step_answers.specs.Parts.{part_at, IsTaken}
 use Rattle.open_calls.specs.Calls.{open_at, call_asked}
 use Rattle.open_calls.specs.Clients.{AreClients, IsWriting, IsReading, IsIdle, behind_last}
 use Rattle.open_calls.proofs.FreeLemmas.{not_both, write_no_read, write_no_whole, read_no_whole}
@@ -39,7 +39,8 @@ use Rattle.open_calls.proofs.SeenLemmas.{seen_answer, idle_once_gone, behind_wit
 use Rattle.volume_core.specs.State.{State, opening_of, told_of, modes_in, index_at}
 use Rattle.volume_core.specs.Steps.{with_place, answered, ended}
 use Rattle.volume_core.specs.Sound.{IsSoundOn, IsCalm, is_up, owed_end}
-use Rattle.volume_core.specs.Answers.{EndsWrite, IsOnRange}
+use Rattle.step_answers.specs.Asked.{IsOnRange}
+use Rattle.volume_core.specs.Answers.{EndsWrite}
 use Rattle.volume_core.proofs.Answered.{no_command, no_add, asks_one, write_free, read_free, refused_plainly, done_plainly, none_answered}
 use Rattle.volume_core.proofs.Rows.{counts, place_sound}
 use Rattle.volume_core.proofs.Told.{answer_told}

@@ -41,7 +41,8 @@ use Rattle.volume_core.specs.declared.world.EndedRebuild.{EndedRebuild}
 use Rattle.volume_core.specs.State.{State, opening_of, told_of, modes_in, index_at}
 use Rattle.volume_core.specs.Steps.{with_place, answered, marked, aborted, faulted, failed}
 use Rattle.volume_core.specs.Sound.{IsSound, IsSoundOn, AreAdds, HasAdd, NoneGaveUp, how_far}
-use Rattle.volume_core.specs.Answers.{IsNow, failed_by, failed_in, after_fail}
+use Rattle.step_answers.specs.Asked.{IsNow}
+use Rattle.volume_core.specs.Answers.{failed_by, failed_in, after_fail}
 use Rattle.volume_core.proofs.Ends.{its_answer}
 use Rattle.volume_core.proofs.Falls.{fault_on, fault_over}
 use Rattle.volume_core.proofs.FarLemmas.{begun_of, GoesOn, Aborts, behind}

@@ -28,9 +28,9 @@ use Rattle.range_turns.specs.Order.{ticket_at, with_started, IsFresh, IsClear}
 use Rattle.replica_node.specs.Node.{Node}
 use Rattle.replica_node.specs.Room.{put_at}
 use Rattle.open_calls.specs.declared.open_call.OpenCall.{OpenCall}
-use Rattle.open_calls.specs.Parts.{part_at, IsTaken}
+use Rattle.step_answers.specs.Parts.{part_at, IsTaken}
 use Rattle.open_calls.specs.Calls.{open_at, node_at, call_asked, begun, with_part_at, read_from}
-use Rattle.open_calls.specs.declared.parts.Part.TheVariants.{Acked}
+use Rattle.step_answers.specs.declared.parts.Part.TheVariants.{Acked}
 use Rattle.open_calls.specs.Clients.{IsWriting, IsReading, IsIdle}
 use Rattle.open_calls.specs.Starts.{KeepsNodes}
 use Rattle.open_calls.proofs.Enrolled.{enrolled_fits}
@@ -53,7 +53,8 @@ use Rattle.volume_core.specs.State.{State, opening_of, told_of, modes_in, index_
 use Rattle.volume_core.specs.Steps.{with_place, answered, enrolled, without_call, started, wrote, has_read, acked, ended}
 use Rattle.volume_core.specs.Sound.{IsSound, IsSoundOn, IsCalm, AreAdds, NoneGaveUp}
 use Rattle.volume_core.proofs.RebuildKept.{roomed}
-use Rattle.volume_core.specs.Answers.{IsRoomier, IsOnRange, BeginsBy, EndsWrite}
+use Rattle.step_answers.specs.Asked.{IsOnRange}
+use Rattle.volume_core.specs.Answers.{IsRoomier, BeginsBy, EndsWrite}
 use Rattle.volume_core.proofs.Ends as ends
 use Rattle.volume_core.proofs.Rows as rows
 
@@ -468,7 +469,7 @@ write_kept s i ok h w r end =
     (ends.write_sound s i calm h w r end)
 
 pub read_kept : (s : State) (i : ℕ) → IsSound s → i < length s.tickets → IsReading (ticket_at s.tickets i) → (r : ℕ)
-    → part_at (open_at s.calls i).parts r ≡ Rattle.open_calls.specs.declared.parts.Part.TheVariants.Acked
+    → part_at (open_at s.calls i).parts r ≡ Rattle.step_answers.specs.declared.parts.Part.TheVariants.Acked
     → IsSound (ended s i (reply.Read (open_at s.calls i).buffer))
 read_kept s i ok h w r acked =
     let range = read_no_whole (ticket_at s.tickets i).kind w.reads in

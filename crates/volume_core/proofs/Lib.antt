@@ -13,3 +13,4 @@ pub mod GivenUp
 pub mod CallLemmas
 pub mod Appends
 pub mod Moves
+pub mod TurnLemmas

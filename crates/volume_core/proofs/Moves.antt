@@ -12,7 +12,7 @@ use Rattle.range_turns.specs.Order.{ticket_at, no_ticket, StandsAt}
 use Rattle.replica_node.specs.Node.{Node}
 use Rattle.open_calls.specs.declared.open_call.OpenCall.{OpenCall}
 use Rattle.open_calls.specs.Calls.{open_at, call_asked, whole_of, begun, with_part_at, read_from}
-use Rattle.open_calls.specs.declared.parts.Part.{Part}
+use Rattle.step_answers.specs.declared.parts.Part.{Part}
 use Rattle.open_calls.specs.Clients.{IsIdle}
 use Rattle.volume_core.specs.State.{State, modes_in, index_at, gave_up_at}
 use Rattle.volume_core.specs.Steps.{with_place, ended, without_call, started, answer_entry}

@@ -22,7 +22,8 @@ use Rattle.open_calls.proofs.SeenLemmas.{behind_within}
 use Rattle.volume_core.specs.State.{State, opening_of, told_of, modes_in}
 use Rattle.volume_core.specs.Steps.{with_place, answered}
 use Rattle.volume_core.specs.Sound.{IsSound, IsSoundOn}
-use Rattle.volume_core.specs.Answers.{IsNow, failed_by, failed_in, after_fail}
+use Rattle.step_answers.specs.Asked.{IsNow}
+use Rattle.volume_core.specs.Answers.{failed_by, failed_in, after_fail}
 use Rattle.volume_core.proofs.Answered.{plainly}
 use Rattle.volume_core.proofs.Ends.{its_answer, answered_on}
 use Rattle.volume_core.proofs.Falls.{fails_on}

@@ -12,7 +12,7 @@ use Rattle.range_turns.specs.declared.ticket.Kind.TheVariants as kind
 use Rattle.range_turns.specs.Order.{ticket_at, no_ticket, with_started, IsFresh, IsClear}
 use Rattle.replica_node.specs.Node.{Node}
 use Rattle.open_calls.specs.declared.open_call.OpenCall.{OpenCall}
-use Rattle.open_calls.specs.Parts.{part_at, IsTaken}
+use Rattle.step_answers.specs.Parts.{part_at, IsTaken}
 use Rattle.open_calls.specs.Calls.{open_at, begun}
 use Rattle.open_calls.specs.Clients.{AreClients, IsWriting, IsReading, Fits, IsIdle, behind_last}
 use Rattle.open_calls.proofs.Enrolled.{enrolled_clients}

@@ -3,11 +3,11 @@ use Rattle.std.specs.Prelude.{◌≡◌, ◌≢◌, ℕ, ◌≤◌, ◌⊎◌, t
 use Rattle.volume_model.specs.declared.mode.Mode.TheVariants.{Rw, Err}
 use Rattle.volume_model.specs.Faults.{last_count}
 use Rattle.volume_model.specs.Modes.{mode_of}
-use Rattle.open_calls.specs.declared.parts.Part.TheVariants.{Acked}
-use Rattle.open_calls.specs.Parts.{part_at, is_pending_at, IsTaken}
+use Rattle.step_answers.specs.declared.parts.Part.TheVariants.{Acked}
+use Rattle.step_answers.specs.Parts.{part_at, is_pending_at, IsTaken}
 use Rattle.open_calls.specs.Calls.{open_at}
-use Rattle.volume_core.specs.declared.world.NotThis.{NotThis}
-use Rattle.volume_core.specs.declared.world.NotThis.TheVariants as against
+use Rattle.step_answers.specs.declared.answers.NotThis.{NotThis}
+use Rattle.step_answers.specs.declared.answers.NotThis.TheVariants as against
 use Rattle.volume_core.specs.Places.{IsWriteAt, IsReadAt, IsCallAt}
 use Rattle.volume_core.specs.State.{State, modes_in}
 

@@ -10,34 +10,28 @@ use Rattle.volume_model.specs.declared.call.Reply.TheVariants as reply
 use Rattle.volume_model.specs.declared.mode.Mode.{Mode}
 use Rattle.volume_model.specs.declared.mode.Mode.TheVariants.{Err}
 use Rattle.volume_model.specs.Modes.{mode_of, HasSource, HasNoSource, IsSource}
-use Rattle.volume_model.specs.PlainStep.{longest_call, refusal_of, plain_step}
+use Rattle.volume_model.specs.PlainStep.{refusal_of, plain_step}
 use Rattle.range_turns.specs.declared.ticket.Kind.{Kind}
 use Rattle.range_turns.specs.declared.ticket.Kind.TheVariants as kind
 use Rattle.range_turns.specs.declared.ticket.Ticket.{Ticket}
 use Rattle.range_turns.specs.Order.{ticket_at, from_of, until_of, IsFresh, IsClear, IsFirstInWay}
 use Rattle.replica_node.specs.Node.{Node, has_own}
-use Rattle.replica_node.specs.Room.{bytes_in}
+use Rattle.sparse_image.specs.Listed.{bytes_in}
 use Rattle.open_calls.specs.declared.open_call.OpenCall.{OpenCall}
-use Rattle.open_calls.specs.declared.parts.Part.TheVariants.{Acked}
-use Rattle.open_calls.specs.Parts.{part_at, is_pending_at}
+use Rattle.step_answers.specs.declared.parts.Part.TheVariants.{Acked}
+use Rattle.step_answers.specs.Parts.{part_at, is_pending_at}
 use Rattle.open_calls.specs.Calls.{open_at, node_at, call_asked, whole_of}
 use Rattle.open_calls.specs.Starts.{KeepsNodes, HaveRoom, AreEdges}
-use Rattle.volume_core.specs.declared.admit.Admit.{Admit}
-use Rattle.volume_core.specs.declared.admit.Admit.TheVariants as admit
-use Rattle.volume_core.specs.declared.enrol.Enrolled.{Enrolled}
-use Rattle.volume_core.specs.declared.enrol.Enrolled.TheVariants as enrol
-use Rattle.volume_core.specs.declared.job.Job.{Job}
+use Rattle.step_answers.specs.declared.answers.Admit.{Admit}
+use Rattle.step_answers.specs.declared.answers.Admit.TheVariants as admit
+use Rattle.step_answers.specs.declared.answers.Enrolled.{Enrolled}
+use Rattle.step_answers.specs.declared.answers.Enrolled.TheVariants as enrol
+use Rattle.step_answers.specs.declared.answers.Job.{Job}
 use Rattle.volume_core.specs.Places.{IsWriteAt, IsReadAt, IsWaitingAt}
 use Rattle.volume_core.specs.State.{State, modes_in, told_of}
 use Rattle.volume_core.specs.Steps.{with_place, answered, failed, enrolled, started, wrote, ended}
 
 -- ---- enrolled
-
--- a read or a write of no more bytes than one call may have
-abbrev pub IsOnRange : Call → Type 0
-IsOnRange (call.Read offset n) = n ≤ longest_call
-IsOnRange (call.Write offset bytes) = length bytes ≤ longest_call
-IsOnRange c = ⊥
 
 -- the call of that stream stands behind all others, under a number that none of them has
 pub record IsBehind (s : State) (stream : ℕ) (c : Call) (number : ℕ) (s2 : State) : Type 0 where
@@ -163,15 +157,6 @@ Completes s t s2 = (i : ℕ) × (answer : Reply) × (s2 ≡ ended s i answer)
     × ((IsWriteAt s t i × EndsWrite s i answer) ⊎ (IsReadAt s t i × EndsRead s i answer))
 
 -- ---- answered at once
-
--- a call that asks nothing of a replica's blocks
-abbrev pub IsNow : Call → Type 0
-IsNow (call.Read offset n) = longest_call < n
-IsNow call.Ping = Unit {0}
-IsNow (call.Other kind) = Unit {0}
-IsNow (call.Command (command.Fail r)) = Unit {0}
-IsNow (call.Command command.Status) = Unit {0}
-IsNow c = ⊥
 
 -- the replica that the call lets fail, if it does
 abbrev pub failed_by : Call → Option ℕ

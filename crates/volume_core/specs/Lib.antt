@@ -6,3 +6,4 @@ pub mod Places
 pub mod Answers
 pub mod Against
 pub mod Streams
+pub mod Turn

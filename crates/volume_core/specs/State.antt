@@ -67,6 +67,10 @@ told_of s = replay (opening_of s).state s.book.entries
 abbrev pub modes_in : State → List Mode
 modes_in s = modes_of s.book
 
+-- where the World stands
+abbrev pub spot_of : State → Spot
+spot_of s = record { state = told_of s; modes = modes_in s }
+
 -- how many calls of the stream were answered
 abbrev pub index_at : List ℕ → ℕ → ℕ
 index_at indices stream = slice_index_or indices stream 0

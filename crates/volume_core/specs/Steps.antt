@@ -13,7 +13,7 @@ use Rattle.range_turns.specs.Order.{ticket_at, with_started}
 use Rattle.replica_node.specs.Node.{Node}
 use Rattle.replica_node.specs.Room.{put_at}
 use Rattle.open_calls.specs.declared.open_call.OpenCall.{OpenCall}
-use Rattle.open_calls.specs.declared.parts.Part.TheVariants.{Taken, Acked}
+use Rattle.step_answers.specs.declared.parts.Part.TheVariants.{Taken, Acked}
 use Rattle.open_calls.specs.Calls.{open_at, node_at, call_asked, whole_of, with_part_at, read_from, begun}
 use Rattle.open_rebuild.specs.declared.rebuilding.Rebuilding.{Rebuilding}
 use Rattle.volume_core.specs.State.{State, modes_in, index_at}

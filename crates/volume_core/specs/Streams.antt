@@ -13,10 +13,10 @@ use Rattle.replica_node.specs.Node.{Node}
 use Rattle.open_calls.specs.declared.open_call.OpenCall.{OpenCall}
 use Rattle.open_calls.specs.Calls.{call_asked, whole_of}
 use Rattle.open_calls.specs.declared.maint.MaintCall.{MaintCall}
-use Rattle.volume_core.specs.declared.admit.Admit.{Admit}
-use Rattle.volume_core.specs.declared.admit.Admit.TheVariants as admit
-use Rattle.volume_core.specs.declared.enrol.Enrolled.{Enrolled}
-use Rattle.volume_core.specs.declared.enrol.Enrolled.TheVariants as enrol
+use Rattle.step_answers.specs.declared.answers.Admit.{Admit}
+use Rattle.step_answers.specs.declared.answers.Admit.TheVariants as admit
+use Rattle.step_answers.specs.declared.answers.Enrolled.{Enrolled}
+use Rattle.step_answers.specs.declared.answers.Enrolled.TheVariants as enrol
 use Rattle.volume_core.specs.State.{State, gave_up_at}
 use Rattle.volume_core.specs.Sound.{IsSound}
 

@@ -10,27 +10,16 @@ ghost use Rattle.volume_core.specs.State.{state_of, modes_in};
 ghost use Rattle.volume_core.specs.Steps.{started};
 ghost use Rattle.volume_core.specs.Sound.{IsSound, IsCalm};
 ghost use Rattle.volume_core.specs.Places.{IsWaitingAt};
-ghost use Rattle.volume_core.specs.Answers.{IsAdmit, IsRoomier, IsJobOf, Begins, BeginsRead, BeginsWrite, HasEdges};
+ghost use Rattle.volume_core.specs.Answers.{IsAdmit, IsRoomier, IsJobOf, Begins, BeginsRead, BeginsWrite};
 ghost use Rattle.volume_core.specs.Streams.{ForOwner, MayGo, Stays, SeesAdmit};
 
-use crate::job::Job;
 use crate::world::World;
 use journal_book::{Mode, Refusal, Reply};
-use open_calls::{Buffer, Parts};
+use open_calls::{Buffer, Parts, read_of};
 use range_turns::{BlockRange, Kind, TicketNumber};
 use replica_node::{BLOCK_BYTES, ReplicaNode};
 use std::alloc::{AllocError, Global};
-
-/// What asking to start comes to.
-#[derive(Debug, Drop)]
-pub enum Admit {
-    /// The call has started.
-    Go(Job),
-    /// It has to wait for that ticket.
-    After(TicketNumber),
-    /// No replica is read and written: the answer stands at that place.
-    NoReplica(u64),
-}
+use step_answers::{Admit, Job};
 
 impl World {
     /// Starts a read or a write that waits, if nothing earlier is in its way. It takes all memory that the call
@@ -100,25 +89,13 @@ impl World {
         ensures job { IfOk result (IsJobOf (state_of self.new) i) }
         ensures err { OnErr result (IsRoomier (state_of self.old) (state_of self.new)) }
     {
-        let (front, back) = self.edges_at(alloc, i, source)?;
-        let (front_copy, back_copy) = (front.copied(alloc)?, back.copied(alloc)?);
         let range = self.turns.ticket(i).range;
+        let (at, count) = (self.calls[i].at as usize, self.calls[i].length as usize);
+        let (front, back) = edges_in(alloc, &mut self.nodes, source, range, at, count)?;
+        let (front_copy, back_copy) = (front.copied(alloc)?, back.copied(alloc)?);
         make_rooms(alloc, &mut self.nodes, self.journal.modes(), range)?;
         self.start_at(i, front, back, Buffer::none(alloc));
         Ok(self.job_of(i, front_copy, back_copy))
-    }
-
-    /// What stays of a replica in the first and the last block of the write at i.
-    fn edges_at(&self, alloc: Global, i: usize, source: u8) -> Result<(Buffer, Buffer), AllocError>
-        requires calm { IsCalm (state_of self.now) }
-        requires place { i < length self.now.turns.tickets }
-        requires kind { (ticket_at self.now.turns.tickets i).kind ≡ Kind.Write }
-        requires source { mode_of (modes_in (state_of self.now)) source ≡ Mode.Rw }
-        ensures { IfOk result (λ e. HasEdges (state_of self.now) i source e.0 e.1) }
-    {
-        let range = self.turns.ticket(i).range;
-        let (at, count) = (self.calls[i].at as usize, self.calls[i].length as usize);
-        edges(alloc, &self.nodes[source as usize], range, at, count)
     }
 
     fn start_at(&mut self, i: usize, front: Buffer, back: Buffer, buffer: Buffer)
@@ -154,21 +131,44 @@ impl World {
     }
 }
 
-/// What stays before and behind so many bytes from a place on, in the blocks of a range.
-fn edges(
+/// What stays of one of the replicas in the blocks of a range, before and behind so many bytes from a place on.
+fn edges_in(
     alloc: Global,
-    node: &ReplicaNode,
+    nodes: &mut Vec<ReplicaNode>,
+    source: u8,
     range: BlockRange,
     at: usize,
     count: usize,
 ) -> Result<(Buffer, Buffer), AllocError>
-    requires inside { range.end * BLOCK_BYTES ≤ length node.now.disk }
+    requires there { source < length nodes.old.items }
+    requires inside { range.end * BLOCK_BYTES ≤ length (node_at nodes.old.items source).disk }
     requires covers { (k : ℕ) → at ≤ k → k < at + count
         → (range.first * BLOCK_BYTES ≤ k) × (k < range.end * BLOCK_BYTES) }
     requires empty { count ≡ 0 → range.first * BLOCK_BYTES ≡ range.end * BLOCK_BYTES }
-    requires good { at + count ≤ length node.now.disk }
-    ensures { IfOk result (λ e. AreEdges (range.first * BLOCK_BYTES) (range.end * BLOCK_BYTES) at count
-        node.now.disk e.0 e.1) }
+    requires good { at + count ≤ length (node_at nodes.old.items source).disk }
+    ensures edges { IfOk result (λ e. AreEdges (range.first * BLOCK_BYTES) (range.end * BLOCK_BYTES) at count
+        (node_at nodes.old.items source).disk e.0 e.1) }
+    ensures same { nodes.new.items ≡ nodes.old.items }
+{
+    edges(alloc, &mut nodes[source as usize], range, at, count)
+}
+
+/// The same of that replica.
+fn edges(
+    alloc: Global,
+    node: &mut ReplicaNode,
+    range: BlockRange,
+    at: usize,
+    count: usize,
+) -> Result<(Buffer, Buffer), AllocError>
+    requires inside { range.end * BLOCK_BYTES ≤ length node.old.disk }
+    requires covers { (k : ℕ) → at ≤ k → k < at + count
+        → (range.first * BLOCK_BYTES ≤ k) × (k < range.end * BLOCK_BYTES) }
+    requires empty { count ≡ 0 → range.first * BLOCK_BYTES ≡ range.end * BLOCK_BYTES }
+    requires good { at + count ≤ length node.old.disk }
+    ensures edges { IfOk result (λ e. AreEdges (range.first * BLOCK_BYTES) (range.end * BLOCK_BYTES) at count
+        node.old.disk e.0 e.1) }
+    ensures same { node.new ≡ node.old }
 {
     // What the largest size is, a proof learns here.
     let _size = node.size();
@@ -177,8 +177,8 @@ fn edges(
     }
     let from = range.first as usize * BLOCK_BYTES;
     let until = range.end as usize * BLOCK_BYTES;
-    let front = Buffer::read_of(alloc, node, from, at - from)?;
-    let back = Buffer::read_of(alloc, node, at + count, until - at - count)?;
+    let front = read_of(alloc, node, from, at - from)?;
+    let back = read_of(alloc, node, at + count, until - at - count)?;
     Ok((front, back))
 }
 

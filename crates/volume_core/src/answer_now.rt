@@ -8,7 +8,8 @@ ghost use Rattle.volume_core.specs.State.{state_of, modes_in, told_of};
 ghost use Rattle.volume_core.specs.Steps.{marks_of_fall};
 ghost use Rattle.volume_core.specs.Sound.{IsSound};
 ghost use Rattle.volume_core.specs.Streams.{MayGo, Stays, IsAnsweredTo};
-ghost use Rattle.volume_core.specs.Answers.{IsNow, IsAnsweredNow, failed_by, after_fail};
+ghost use Rattle.step_answers.specs.Asked.{IsNow};
+ghost use Rattle.volume_core.specs.Answers.{IsAnsweredNow, failed_by, after_fail};
 
 use crate::world::World;
 use journal_book::{Call, Command, Entry, Mark, Mode, Refusal, Reply, Sequence};

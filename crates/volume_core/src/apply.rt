@@ -7,7 +7,7 @@ ghost use Rattle.volume_model.specs.Modes.{mode_of};
 ghost use Rattle.range_turns.specs.Order.{ticket_at};
 ghost use Rattle.replica_node.specs.Held.{IsChained};
 ghost use Rattle.replica_node.specs.Room.{HasRoom, head_blocks};
-ghost use Rattle.open_calls.specs.Parts.{IsTaken, part_at};
+ghost use Rattle.step_answers.specs.Parts.{IsTaken, part_at};
 ghost use Rattle.open_calls.specs.Calls.{open_at, node_at};
 ghost use Rattle.volume_core.specs.State.{state_of, modes_in};
 ghost use Rattle.volume_core.specs.Steps.{wrote, has_read, acked};
@@ -17,11 +17,12 @@ ghost use Rattle.volume_core.specs.Answers.{AreBlocksOfWrite};
 ghost use Rattle.volume_core.specs.Streams.{ForOwner, MayGo, Stays};
 ghost use Rattle.volume_core.specs.Against.{AgainstWrite, AgainstRead, AgainstAck};
 
-use crate::world::{NotThis, World};
+use crate::world::World;
 use journal_book::Mode;
-use open_calls::Part;
+use open_calls::{Part, read_into};
 use range_turns::TicketNumber;
 use replica_node::Blocks;
+use step_answers::NotThis;
 
 impl World {
     /// A replica takes the blocks of a started write, which are swapped with those that its head had. It takes no
@@ -118,8 +119,11 @@ impl World {
         ensures { state_of self.new ≡ has_read (state_of self.old) i replica }
     {
         let call = &mut self.calls[i];
-        call.buffer
-            .read(&self.nodes[replica as usize], call.at as usize);
+        read_into(
+            &mut call.buffer,
+            &mut self.nodes[replica as usize],
+            call.at as usize,
+        );
         call.parts.set(replica, Part::Taken);
     }
 

@@ -13,9 +13,10 @@ ghost use Rattle.volume_core.specs.Answers.{EndsWrite, EndsRead, Completes};
 ghost use Rattle.volume_core.specs.Streams.{ForOwner, MayGo, Stays, IsAnsweredTo, IsTakenBack};
 ghost use Rattle.volume_core.specs.Against.{AgainstEnd, IsPendingWrite, IsPendingRead};
 
-use crate::world::{NotThis, World};
+use crate::world::World;
 use journal_book::{Call, Refusal, Reply};
 use range_turns::TicketNumber;
+use step_answers::NotThis;
 
 impl World {
     /// Ends a started read or write, and gives the place of its answer: a read once a replica has acknowledged it, a

@@ -8,7 +8,8 @@ ghost use Rattle.open_calls.specs.Maint.{HasNoCommand};
 ghost use Rattle.volume_core.specs.State.{state_of, modes_in, told_of};
 ghost use Rattle.volume_core.specs.Steps.{enrolled};
 ghost use Rattle.volume_core.specs.Sound.{IsSound};
-ghost use Rattle.volume_core.specs.Answers.{IsOnRange, EnrolsAs};
+ghost use Rattle.step_answers.specs.Asked.{IsOnRange};
+ghost use Rattle.volume_core.specs.Answers.{EnrolsAs};
 ghost use Rattle.volume_core.specs.Streams.{MayGo, Stays, SeesEnrolled};
 
 use crate::world::World;
@@ -16,15 +17,8 @@ use journal_book::{Bytes, Call, Refusal, Reply};
 use open_calls::OpenCall;
 use range_turns::{BlockRange, Kind, TicketNumber};
 use std::alloc::{AllocError, Global};
+use step_answers::Enrolled;
 use vol_units::place_within;
-
-/// What an enrolment comes to.
-#[derive(Clone, Copy, Debug)]
-pub enum Enrolled {
-    Ticket(TicketNumber),
-    /// The range is not good: the answer stands at that place.
-    OutOfRange(u64),
-}
 
 impl World {
     /// Enrols a read or a write of a stream that has no call open, behind all others. One whose range is not good is

@@ -9,8 +9,9 @@ ghost use Rattle.volume_core.specs.Sound.{IsSound};
 ghost use Rattle.volume_core.specs.Streams.{MayGo, Stays, HasFault};
 ghost use Rattle.volume_core.specs.Against.{AgainstFault};
 
-use crate::world::{EndedRebuild, NotThis, World};
+use crate::world::{EndedRebuild, World};
 use journal_book::{Entry, Mark, Mode};
+use step_answers::NotThis;
 
 impl World {
     /// The line of a stream to a replica has failed, so the replica does: the line's count of faults. Where it is the

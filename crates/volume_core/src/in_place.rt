@@ -13,10 +13,11 @@ ghost use Rattle.volume_core.specs.Answers.{TakesInPlace};
 ghost use Rattle.volume_core.specs.Streams.{ForOwner, MayGo, Stays};
 ghost use Rattle.volume_core.specs.Against.{AgainstWrite};
 
-use crate::world::{NotThis, World};
+use crate::world::World;
 use journal_book::Mode;
 use open_calls::Part;
 use range_turns::TicketNumber;
+use step_answers::NotThis;
 
 impl World {
     /// A replica takes a started write of one block that its head itself has, over which the bytes are written. Where

@@ -9,14 +9,11 @@ mod enrol;
 mod fault;
 mod give_up;
 mod in_place;
-mod job;
 mod open;
 mod places;
+mod turn;
 mod world;
 
-pub use admit::Admit;
-pub use enrol::Enrolled;
-pub use job::Job;
 pub use journal_book::{
     Bytes, Call, Command, Entry, Journal, Mode, ModeTable, Opening, Refusal, Reply, Shown,
     TakenNames,
@@ -25,4 +22,6 @@ pub use open_calls::{Buffer, OpenCall, Part, Parts};
 pub use open_rebuild::Rebuilding;
 pub use range_turns::{BlockRange, Kind, TicketNumber, Turns};
 pub use replica_node::{Blocks, ReplicaNode, VolumeSize};
-pub use world::{EndedRebuild, NotThis, World};
+pub use step_answers::{Admit, Enrolled, Job, NotThis};
+pub use turn::{end_first, free_turn_at, is_idle, take_command};
+pub use world::{EndedRebuild, World};

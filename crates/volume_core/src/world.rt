@@ -44,21 +44,6 @@ pub struct EndedRebuild {
     pub place: u64,
 }
 
-/// What stood against a step: it changed nothing.
-#[derive(Clone, Copy, Debug, PartialEq, Eq)]
-pub enum NotThis {
-    /// The ticket is not in the state that the step needs.
-    Ticket,
-    /// The replica has that mode.
-    Mode(Mode),
-    /// The page is not one of a frozen layer, or is listed already, or may not be copied yet.
-    Page,
-    /// That replica has still to acknowledge.
-    Pending(u8),
-    /// The line's last count, which is not below the given one.
-    Count(u64),
-}
-
 impl World {
     /// The entry at a place, once it is there.
     pub fn after(&self, place: u64) -> Option<&Entry>

@@ -14,9 +14,9 @@ use Rattle.range_turns.specs.declared.ticket.Ticket.{Ticket}
 use Rattle.range_turns.specs.Order.{ticket_at, no_ticket, with_started}
 use Rattle.replica_node.specs.Node.{Node}
 use Rattle.open_calls.specs.declared.open_call.OpenCall.{OpenCall}
-use Rattle.open_calls.specs.declared.whole_op.WholeOp.{WholeOp}
-use Rattle.open_calls.specs.declared.whole_op.WholeOp.TheVariants as whole
-use Rattle.open_calls.specs.Calls.{command_of}
+use Rattle.step_answers.specs.declared.whole_op.WholeOp.{WholeOp}
+use Rattle.step_answers.specs.declared.whole_op.WholeOp.TheVariants as whole
+use Rattle.step_answers.specs.Asked.{command_of}
 use Rattle.open_calls.proofs.FreeLemmas.{not_both}
 use Rattle.open_calls.specs.declared.maint.MaintCall.{MaintCall}
 use Rattle.open_calls.specs.declared.whole.Whole.{Whole}
@@ -93,13 +93,6 @@ pub no_rebuild : (maint : List Ticket) (commands : List MaintCall) (b : Option R
 no_rebuild maint commands None None adds other = (refl, refl)
 no_rebuild maint commands (Some b) g adds other = absurd (other b.target adds.of_begun.turn.command)
 no_rebuild maint commands None (Some g) adds other = absurd (other g.target adds.of_ended.turn.command)
-
--- and then whichever commands there are
-pub none_adds : (maint : List Ticket) (commands : List MaintCall) (b : Option Rebuilding) (g : Option EndedRebuild)
-    → (b ≡ None) × (g ≡ None) → AreAdds maint commands b g
-none_adds maint commands b g none =
-    subst (λ (x : Option EndedRebuild). AreAdds maint commands b x) (sym none.1)
-    (subst (λ (x : Option Rebuilding). AreAdds maint commands x None) (sym none.0) (record { of_begun = tt; of_ended = tt; one = tt }))
 
 -- the command of an operation that is no barrier is no add
 other_command : (op : WholeOp) (c : Command) (r : ℕ) → IsPlain op → c ≡ command_of op → c ≢ command.Add r

@@ -1,8 +1,8 @@
 -- An operation is enrolled.
 use Rattle.std.proofs.Common.{◌≡◌, ℕ, ◌%◌, ◌<◌, ◌≤◌, length, refl, subst, arith}
 use Rattle.range_turns.specs.Order.{IsFresh}
-use Rattle.open_calls.specs.declared.whole_op.WholeOp.{WholeOp}
-use Rattle.open_calls.specs.declared.whole_op.WholeOp.TheVariants as whole
+use Rattle.step_answers.specs.declared.whole_op.WholeOp.{WholeOp}
+use Rattle.step_answers.specs.declared.whole_op.WholeOp.TheVariants as whole
 use Rattle.open_calls.specs.Calls.{whole_call}
 use Rattle.open_calls.specs.Clients.{IsIdle, behind_last}
 use Rattle.open_calls.proofs.SeenLemmas.{behind_within}

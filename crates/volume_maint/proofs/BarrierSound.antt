@@ -30,9 +30,10 @@ use Rattle.range_turns.specs.declared.ticket.Kind.TheVariants as kind
 use Rattle.range_turns.specs.Order.{ticket_at, with_started, IsClear}
 use Rattle.replica_node.specs.Node.{Node}
 use Rattle.replica_node.specs.Volume.{volume_of_node}
-use Rattle.open_calls.specs.declared.whole_op.WholeOp.{WholeOp}
-use Rattle.open_calls.specs.declared.whole_op.WholeOp.TheVariants as whole
-use Rattle.open_calls.specs.Calls.{open_at, node_at, command_of}
+use Rattle.step_answers.specs.declared.whole_op.WholeOp.{WholeOp}
+use Rattle.step_answers.specs.declared.whole_op.WholeOp.TheVariants as whole
+use Rattle.step_answers.specs.Asked.{command_of}
+use Rattle.open_calls.specs.Calls.{open_at, node_at}
 use Rattle.open_calls.specs.Clients.{AreClients}
 use Rattle.open_calls.specs.Due.{formed}
 use Rattle.open_calls.specs.Whole.{AreSpared, CanSnap}
@@ -52,7 +53,8 @@ use Rattle.volume_maint.specs.Answers.{refused_in, IsWaiting, IsLongSource, MayB
 use Rattle.volume_maint.specs.Answers.{MayBegin as MayBeginOp}
 use Rattle.volume_maint.specs.Steps.{barrier_name, barrier_modes, barrier_nodes, barrier_of, barrier_begun}
 use Rattle.volume_maint.proofs.Begins.{nothing, has_room, none, calm, its_volume, started_room, asked_op, still_op, begun_sound}
-use Rattle.volume_maint.proofs.WholeSound.{told_named, number_fits}
+use Rattle.volume_core.proofs.TurnLemmas.{told_named}
+use Rattle.volume_maint.proofs.WholeSound.{number_fits}
 
 -- nothing stands against an add where its replica has failed and there is room
 free_add : (m : Mode) (v : Volume) → add_refusal m v ≡ None → (m ≡ Err) × (layer_count v.snapshots < 250)

@@ -26,10 +26,10 @@ use Rattle.range_turns.specs.declared.ticket.Ticket.{Ticket}
 use Rattle.replica_node.specs.Node.{Node}
 use Rattle.replica_node.specs.Held.{emptied}
 use Rattle.sparse_image.specs.Image.{Tables}
-use Rattle.open_calls.specs.declared.whole_op.WholeOp.{WholeOp}
-use Rattle.open_calls.specs.declared.whole_op.WholeOp.TheVariants as whole
+use Rattle.step_answers.specs.declared.whole_op.WholeOp.{WholeOp}
+use Rattle.step_answers.specs.declared.whole_op.WholeOp.TheVariants as whole
 use Rattle.open_calls.specs.Calls.{node_at}
-use Rattle.open_calls.specs.Parts.{part_for}
+use Rattle.step_answers.specs.Parts.{part_for}
 use Rattle.range_turns.specs.Order.{ticket_at, with_started}
 use Rattle.open_calls.proofs.PartLemmas.{up_in, rw_up}
 use Rattle.open_calls.specs.Whole.{AreSpared}

@@ -28,9 +28,10 @@ use Rattle.replica_node.specs.Node.{Kept, layer_names}
 use Rattle.replica_node.specs.Fold.{tree_of}
 use Rattle.replica_node.proofs.VolumeLemmas.{free_of}
 use Rattle.replica_node.specs.Volume.{volume_of_node, copies_in}
-use Rattle.open_calls.specs.declared.whole_op.WholeOp.{WholeOp}
-use Rattle.open_calls.specs.declared.whole_op.WholeOp.TheVariants as whole
-use Rattle.open_calls.specs.Calls.{open_at, node_at, command_of}
+use Rattle.step_answers.specs.declared.whole_op.WholeOp.{WholeOp}
+use Rattle.step_answers.specs.declared.whole_op.WholeOp.TheVariants as whole
+use Rattle.step_answers.specs.Asked.{command_of}
+use Rattle.open_calls.specs.Calls.{open_at, node_at}
 use Rattle.open_calls.specs.Whole.{MayBeDone, AreSpared}
 use Rattle.open_calls.proofs.FreeLemmas.{not_both}
 use Rattle.open_calls.specs.Maint.{command_at, IsAskedBy, CanStill}
@@ -46,7 +47,7 @@ use Rattle.volume_core.proofs.Rows.{counts_not}
 use Rattle.volume_maint.specs.Answers.{refused_in, snapshots_told, IsLongSource}
 use Rattle.volume_maint.specs.Steps as steps
 use Rattle.volume_maint.proofs.Adds.{no_rebuild, turn_no_add, settled}
-use Rattle.volume_maint.proofs.WholeSound.{told_named}
+use Rattle.volume_core.proofs.TurnLemmas.{told_named}
 
 -- ---- what stands against nothing can be done
 

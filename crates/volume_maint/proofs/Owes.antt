@@ -17,9 +17,10 @@ use Rattle.sparse_image.specs.Image.{Tables}
 use Rattle.replica_node.specs.Fold.{page_folded}
 use Rattle.replica_node.specs.Node.{Node}
 use Rattle.replica_node.specs.Held.{emptied}
-use Rattle.open_calls.specs.declared.whole_op.WholeOp.{WholeOp}
-use Rattle.open_calls.specs.declared.whole_op.WholeOp.TheVariants as whole
-use Rattle.open_calls.specs.Calls.{open_at, node_at, command_of, whole_call, no_call}
+use Rattle.step_answers.specs.declared.whole_op.WholeOp.{WholeOp}
+use Rattle.step_answers.specs.declared.whole_op.WholeOp.TheVariants as whole
+use Rattle.step_answers.specs.Asked.{command_of}
+use Rattle.open_calls.specs.Calls.{open_at, node_at, whole_call, no_call}
 use Rattle.open_calls.specs.declared.whole.Whole.{Whole}
 use Rattle.open_calls.specs.Due.{part_on}
 use Rattle.open_calls.specs.Maint.{IsAskedBy}
@@ -35,7 +36,7 @@ use Rattle.volume_maint.specs.Steps.{without_whole, whole_ended, whole_marked, t
 use Rattle.volume_maint.specs.Steps.{barrier_ended, folded_on}
 use Rattle.volume_maint.specs.Places.{ForCaller, IsWholeOn}
 use Rattle.volume_maint.specs.Answers.{whole_done, whole_lost, BeginsWhole, EndsWhole}
-use Rattle.volume_maint.proofs.TurnStreams.{commands-remove_other}
+use Rattle.volume_core.proofs.TurnLemmas.{commands-remove_other}
 use Rattle.volume_maint.proofs.WholeAsked.{over_book}
 use Rattle.volume_maint.proofs.WholeSound.{is_started, place_is}
 use Rattle.volume_maint.proofs.Begins.{asked_op}

@@ -16,13 +16,13 @@ use Rattle.volume_model.specs.Snapshots.{Snapshot, Snapshots, with_snapshot}
 use Rattle.volume_model.proofs.PurgeLemmas.{any_cases}
 use Rattle.replica_node.specs.Node.{Node}
 use Rattle.replica_node.specs.Fold.{tree_of, snapshots_of}
-use Rattle.open_calls.specs.declared.parts.Part.{Part}
-use Rattle.open_calls.specs.declared.parts.Part.TheVariants.{Apart, Owed, Taken, Acked}
-use Rattle.open_calls.specs.declared.whole_op.WholeOp.{WholeOp}
-use Rattle.open_calls.specs.declared.whole_op.WholeOp.TheVariants as whole
+use Rattle.step_answers.specs.declared.parts.Part.{Part}
+use Rattle.step_answers.specs.declared.parts.Part.TheVariants.{Apart, Owed, Taken, Acked}
+use Rattle.step_answers.specs.declared.whole_op.WholeOp.{WholeOp}
+use Rattle.step_answers.specs.declared.whole_op.WholeOp.TheVariants as whole
 use Rattle.open_calls.specs.Calls.{node_at}
 use Rattle.open_calls.specs.Clients.{AreClients, IsIdle}
-use Rattle.open_calls.specs.Parts.{part_at}
+use Rattle.step_answers.specs.Parts.{part_at}
 use Rattle.open_calls.proofs.PartLemmas.{rw_up, up_in}
 use Rattle.open_calls.specs.declared.whole.Whole.{Whole}
 use Rattle.open_calls.specs.Due.{due, due_of, form_part, formed, forms}
@@ -38,7 +38,7 @@ use Rattle.volume_core.specs.State.{State, told_of, modes_in}
 use Rattle.volume_core.specs.Sound.{IsSound}
 use Rattle.volume_maint.specs.Answers.{snapshots_told, IsOntoNew}
 use Rattle.volume_maint.specs.Steps.{folded_on}
-use Rattle.volume_maint.proofs.WholeSound.{told_named}
+use Rattle.volume_core.proofs.TurnLemmas.{told_named}
 
 -- ---- what can be done of the replica's can be of the volume
 

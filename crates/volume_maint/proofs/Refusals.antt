@@ -30,9 +30,10 @@ use Rattle.open_calls.specs.declared.whole.Whole.{Whole}
 use Rattle.volume_core.specs.State.{State, opening_of, told_of, modes_in}
 use Rattle.volume_core.specs.Sound.{IsSound}
 use Rattle.volume_maint.specs.Places.{IsWholeCommand}
-use Rattle.volume_maint.specs.declared.answers.NextPart.{NextPart}
-use Rattle.volume_maint.specs.declared.answers.NextPart.TheVariants as next
-use Rattle.volume_maint.specs.Answers.{spot_of, snapshots_told, refused_in, IsNextPart, MayEnd}
+use Rattle.step_answers.specs.declared.answers.NextPart.{NextPart}
+use Rattle.step_answers.specs.declared.answers.NextPart.TheVariants as next
+use Rattle.volume_core.specs.State.{spot_of}
+use Rattle.volume_maint.specs.Answers.{snapshots_told, refused_in, IsNextPart, MayEnd}
 
 -- ---- what the journal tells
 

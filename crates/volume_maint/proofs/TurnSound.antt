@@ -46,11 +46,13 @@ use Rattle.volume_core.proofs.Ends.{its_answer, same_clients}
 use Rattle.volume_core.proofs.GivenUp.{given_up_kept}
 use Rattle.volume_core.proofs.Keep.{same_whole, same_maint, on_same}
 use Rattle.volume_core.proofs.Told.{answer_ordered_to}
-use Rattle.volume_maint.specs.Steps.{whole_ticket, maint_enrolled, turn_begun, turn_ended, without_command, gives_up}
+use Rattle.volume_core.specs.Turn.{turn_ended, without_command, IsFreeTurn}
+use Rattle.volume_maint.specs.Steps.{whole_ticket, maint_enrolled, turn_begun, gives_up}
 use Rattle.volume_maint.specs.Steps.{ends_aborted, gives_back, abandoned_with, turn_abandoned}
-use Rattle.volume_maint.specs.Places.{AwaitsTurn, IsFreeTurn}
+use Rattle.volume_maint.specs.Places.{AwaitsTurn}
 use Rattle.volume_maint.specs.Answers.{MayEnd}
-use Rattle.volume_maint.proofs.Adds.{adds_still, add_pushed, add_started, add_left, no_rebuild, none_adds, purge_no_add}
+use Rattle.volume_core.proofs.TurnLemmas.{none_adds}
+use Rattle.volume_maint.proofs.Adds.{adds_still, add_pushed, add_started, add_left, no_rebuild, purge_no_add}
 use Rattle.volume_maint.proofs.AddEnds.{cleared, unbegun, none_beside, aborted_far, done_ends, refused_ends}
 
 -- ---- a command is enrolled

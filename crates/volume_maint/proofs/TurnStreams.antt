@@ -1,7 +1,6 @@
 -- What the other streams see of the steps of the maintenance turn.
-use Rattle.std.proofs.Common.{◌≡◌, ◌≢◌, ℕ, zero, suc, ◌+◌, ◌<◌, Bool, true, cond, eqb, List, [], ◌∷◌, ◌++◌, length}
-use Rattle.std.proofs.Common.{length-set, set, sym, refl, ap, subst, ◌∙◌, arith, ne_eqb, append-nil, append_assoc}
-use Rattle.std.specs.List.{remove}
+use Rattle.std.proofs.Common.{◌≡◌, ◌≢◌, ℕ, zero, suc, ◌+◌, ◌<◌, true, cond, eqb, List, [], ◌∷◌, ◌++◌, length}
+use Rattle.std.proofs.Common.{length-set, set, sym, refl, ap, ◌∙◌, arith, append-nil, append_assoc}
 use Rattle.std.specs.Prelude.{Option, None, Some}
 use Rattle.volume_model.specs.declared.call.Call.TheVariants as call
 use Rattle.volume_model.specs.declared.call.Reply.{Reply}
@@ -9,7 +8,7 @@ use Rattle.volume_model.specs.declared.call.Reply.TheVariants as reply
 use Rattle.volume_model.specs.declared.entry.Entry.{Entry}
 use Rattle.volume_model.specs.declared.entry.Entry.TheVariants as entry
 use Rattle.range_turns.specs.declared.ticket.Ticket.{Ticket}
-use Rattle.range_turns.specs.Order.{ticket_at, StandsAt}
+use Rattle.range_turns.specs.Order.{ticket_at}
 use Rattle.open_calls.specs.declared.maint.MaintCall.{MaintCall}
 use Rattle.open_calls.specs.Maint.{command_at}
 use Rattle.open_rebuild.specs.declared.rebuilding.Rebuilding.{Rebuilding}
@@ -18,18 +17,15 @@ use Rattle.volume_core.specs.State.{State, index_at, gave_up_at}
 use Rattle.volume_core.specs.Steps.{answer_entry, given_up}
 use Rattle.volume_core.specs.Sound.{IsSound}
 use Rattle.volume_core.specs.Streams.{running, commands_in, turning, MayAppend, MayGo, origin_of}
-use Rattle.volume_maint.specs.Steps.{whole_ticket, maint_enrolled, turn_begun, turn_ended, without_command, abandoned_with, turn_abandoned}
+use Rattle.volume_core.specs.Turn.{turn_ended, without_command}
+use Rattle.volume_maint.specs.Steps.{whole_ticket, maint_enrolled, turn_begun, abandoned_with, turn_abandoned}
+use Rattle.volume_core.proofs.TurnLemmas.{commands-remove_other, without_head}
 use Rattle.volume_core.proofs.GivenUp.{given_up_kept, given_up_may}
-use Rattle.volume_maint.specs.Places.{ForAsker}
 
 -- ---- the commands of a stream
 
 abbrev Pairs : Type 0
 Pairs = List (Ticket × MaintCall)
-
-without_head : (n : ℕ) (t : Ticket) (c : MaintCall) (ts : List Ticket) (cs : List MaintCall) → c.stream ≢ n
-    → commands_in n (t ∷ ts) (c ∷ cs) ≡ commands_in n ts cs
-without_head n t c ts cs e = ap (λ (b : Bool). cond b ((t, c) ∷ commands_in n ts cs) (commands_in n ts cs)) (ne_eqb c.stream n e)
 
 no_commands : (n : ℕ) (ts : List Ticket) → commands_in n ts [] ≡ []
 no_commands n [] = refl
@@ -52,17 +48,6 @@ commands-start_other n (u ∷ ts) [] k t b = no_commands n (set (u ∷ ts) k t)
 commands-start_other n (u ∷ ts) (d ∷ cs) zero t b = without_head n t d ts cs b ∙ sym (without_head n u d ts cs b)
 commands-start_other n (u ∷ ts) (d ∷ cs) (suc k) t b =
     ap (λ (ps : Pairs). cond (eqb d.stream n) ((u, d) ∷ ps) ps) (commands-start_other n ts cs k t b)
-
--- it is gone
-pub commands-remove_other : (n : ℕ) (ts : List Ticket) (cs : List MaintCall) (k : ℕ) → length cs ≡ length ts
-    → (command_at cs k).stream ≢ n → commands_in n (remove ts k) (remove cs k) ≡ commands_in n ts cs
-commands-remove_other n [] [] zero e b = refl
-commands-remove_other n [] [] (suc k) e b = refl
-commands-remove_other n [] (d ∷ cs) k e b = absurd (omega arith)
-commands-remove_other n (u ∷ ts) [] k e b = absurd (omega arith)
-commands-remove_other n (u ∷ ts) (d ∷ cs) zero e b = sym (without_head n u d ts cs b)
-commands-remove_other n (u ∷ ts) (d ∷ cs) (suc k) e b =
-    ap (λ (ps : Pairs). cond (eqb d.stream n) ((u, d) ∷ ps) ps) (commands-remove_other n ts cs k (omega arith) b)
 
 -- ---- the steps
 
@@ -156,8 +141,3 @@ abandoned_goes s s2 ok ok2 some is = by s.rebuild s.ended refl is
         (ended_goes (given_up s stream b.target) s2 mid ok2 (reply.Aborted (length s.book.entries)) is)
     by None (Some e) begun is = ended_goes s s2 ok ok2 (reply.Aborted e.place) is
     by None None begun is = less_goes s s2 ok ok2 0 is
-
--- ---- for the stream whose command has that ticket
-
-pub for_asker : (s : State) (t k : ℕ) (fact : ℕ → Type 0) → StandsAt s.maint t k → fact (command_at s.commands k).stream → ForAsker s t fact
-for_asker s t k fact at is = λ j stands. subst (λ n. fact (command_at s.commands n).stream) (stands.only k at.within at.is) is

@@ -31,9 +31,10 @@ use Rattle.volume_model.proofs.StepLemmas.{replay-push}
 use Rattle.range_turns.specs.declared.ticket.Kind.TheVariants as kind
 use Rattle.range_turns.specs.declared.ticket.Ticket.{Ticket}
 use Rattle.range_turns.specs.Order.{ticket_at}
-use Rattle.open_calls.specs.declared.whole_op.WholeOp.{WholeOp}
-use Rattle.open_calls.specs.declared.whole_op.WholeOp.TheVariants as whole
-use Rattle.open_calls.specs.Calls.{open_at, command_of}
+use Rattle.step_answers.specs.declared.whole_op.WholeOp.{WholeOp}
+use Rattle.step_answers.specs.declared.whole_op.WholeOp.TheVariants as whole
+use Rattle.step_answers.specs.Asked.{command_of}
+use Rattle.open_calls.specs.Calls.{open_at}
 use Rattle.open_calls.specs.Clients.{AreClients}
 use Rattle.open_calls.proofs.Gone.{seen_clients}
 use Rattle.open_calls.proofs.FreeLemmas.{not_both}
@@ -53,8 +54,10 @@ use Rattle.volume_core.proofs.Keep.{of_calm}
 use Rattle.open_rebuild.specs.Claim.{IsRebuilding}
 use Rattle.volume_core.proofs.Told.{answer_told}
 use Rattle.volume_maint.specs.Steps.{whole_ended}
-use Rattle.volume_maint.specs.Answers.{spot_of, refused_in}
-use Rattle.volume_maint.proofs.Adds.{no_rebuild, none_adds, turn_no_add}
+use Rattle.volume_core.specs.State.{spot_of}
+use Rattle.volume_maint.specs.Answers.{refused_in}
+use Rattle.volume_core.proofs.TurnLemmas.{none_adds}
+use Rattle.volume_maint.proofs.Adds.{no_rebuild, turn_no_add}
 use Rattle.volume_maint.proofs.Barriers.{refused_add_told}
 
 -- ---- the answer

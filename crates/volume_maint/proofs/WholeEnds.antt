@@ -21,9 +21,10 @@ use Rattle.volume_model.proofs.StepLemmas.{replay-push}
 use Rattle.range_turns.specs.declared.ticket.Kind.TheVariants as kind
 use Rattle.range_turns.specs.declared.ticket.Ticket.{Ticket}
 use Rattle.range_turns.specs.Order.{ticket_at, no_ticket, IsClear}
-use Rattle.open_calls.specs.declared.whole_op.WholeOp.{WholeOp}
-use Rattle.open_calls.specs.declared.whole_op.WholeOp.TheVariants as whole
-use Rattle.open_calls.specs.Calls.{open_at, command_of}
+use Rattle.step_answers.specs.declared.whole_op.WholeOp.{WholeOp}
+use Rattle.step_answers.specs.declared.whole_op.WholeOp.TheVariants as whole
+use Rattle.step_answers.specs.Asked.{command_of}
+use Rattle.open_calls.specs.Calls.{open_at}
 use Rattle.open_calls.specs.Clients.{AreClients}
 use Rattle.open_calls.proofs.Gone.{left_clients, seen_clients}
 use Rattle.open_calls.proofs.SeenLemmas.{seen_mark}
@@ -50,7 +51,8 @@ use Rattle.volume_maint.specs.Places.{IsWholeOn}
 use Rattle.volume_maint.specs.Answers.{refused_in, MayBegin, whole_done, whole_lost, AreDone}
 use Rattle.volume_maint.proofs.Adds.{none_read, settled, free_claim}
 use Rattle.volume_maint.proofs.Barriers.{past_told, past_owed, past_adds, past_rebuilding}
-use Rattle.volume_maint.proofs.WholeSound.{told_named, is_started, on_due, its_rebuild, place_is}
+use Rattle.volume_core.proofs.TurnLemmas.{told_named}
+use Rattle.volume_maint.proofs.WholeSound.{is_started, on_due, its_rebuild, place_is}
 use Rattle.volume_maint.proofs.WholeAnswers.{IsPart, EndsSo, answer_at, after_done, done_answered, lost_answered}
 use Rattle.volume_maint.proofs.WholeAnswers.{refused_answered, ends_other, ends_kept}
 

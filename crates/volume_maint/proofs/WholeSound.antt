@@ -4,14 +4,12 @@ use Rattle.std.specs.Prelude.{Option, Some, IfSome}
 use Rattle.volume_model.specs.declared.entry.Entry.{Entry}
 use Rattle.volume_model.specs.Modes.{mode_of}
 use Rattle.volume_model.specs.declared.mode.Mode.TheVariants.{Err}
-use Rattle.volume_model.specs.Names.{AreNamed}
 use Rattle.volume_model.specs.PlainState.{PlainState}
 use Rattle.volume_model.specs.Replay.{replay, after_entry}
-use Rattle.volume_model.proofs.NamesLemmas.{stay_named}
 use Rattle.volume_model.proofs.OwnNames.{entry_raises}
-use Rattle.open_calls.specs.declared.parts.Part.TheVariants.{Owed}
+use Rattle.step_answers.specs.declared.parts.Part.TheVariants.{Owed}
 use Rattle.open_calls.specs.Calls.{node_at}
-use Rattle.open_calls.specs.Parts.{part_at, IsTaken}
+use Rattle.step_answers.specs.Parts.{part_at, IsTaken}
 use Rattle.open_calls.specs.declared.whole.Whole.{Whole}
 use Rattle.open_calls.specs.Due.{due, due_of, forms, formed}
 use Rattle.open_calls.specs.Whole.{IsWhole, IsStarted, IsFit, spare_at}
@@ -21,14 +19,12 @@ use Rattle.open_rebuild.specs.Claim.{IsRebuilding}
 use Rattle.open_rebuild.proofs.WholeSteps as rebuilds
 use Rattle.volume_core.specs.State.{State, opening_of, told_of, modes_in}
 use Rattle.volume_core.specs.Sound.{IsSound, IsSoundOn}
+use Rattle.volume_core.proofs.TurnLemmas.{told_named}
 use Rattle.volume_maint.specs.Steps.{whole_parted, whole_acked}
 use Rattle.volume_maint.specs.Places.{IsWholeOn}
 use Rattle.volume_maint.specs.Answers.{AcksPart}
 
 -- ---- what the journal tells
-
-pub told_named : (s : State) → IsSound s → AreNamed (told_of s)
-told_named s ok = stay_named (opening_of s) s.book.entries ok.on.told.legal ok.on.opened.named
 
 -- each entry raises the head's number by one at most
 replay_raises : (p : PlainState) (es : List Entry) → (replay p es).volume.snapshots.number ≤ p.volume.snapshots.number + length es

@@ -12,7 +12,6 @@ use Rattle.volume_model.specs.declared.call.Reply.TheVariants as reply
 use Rattle.volume_model.specs.declared.mark.FoldOrDrop.{FoldOrDrop}
 use Rattle.volume_model.specs.declared.mark.FoldOrDrop.TheVariants as part
 use Rattle.volume_model.specs.declared.mode.Mode.TheVariants.{Rw, Err}
-use Rattle.volume_model.specs.History.{Spot}
 use Rattle.volume_model.specs.Modes.{mode_of, HasSource, HasNoSource, IsSource}
 use Rattle.volume_model.specs.OneWorker.{refused_at}
 use Rattle.volume_model.specs.Purge.{CanFold, next_of}
@@ -22,33 +21,31 @@ use Rattle.range_turns.specs.declared.turns.MayStart.TheVariants as may
 use Rattle.range_turns.specs.Order.{ticket_at, IsFresh, IsClear, IsFirstInWay}
 use Rattle.replica_node.specs.Node.{Node, Kept}
 use Rattle.replica_node.specs.Fold.{tree_of, HasBlockOf}
-use Rattle.open_calls.specs.declared.parts.Part.TheVariants.{Owed}
-use Rattle.open_calls.specs.declared.whole_op.WholeOp.{WholeOp}
-use Rattle.open_calls.specs.declared.whole_op.WholeOp.TheVariants as whole
-use Rattle.open_calls.specs.Calls.{open_at, node_at, command_of}
+use Rattle.step_answers.specs.declared.parts.Part.TheVariants.{Owed}
+use Rattle.step_answers.specs.declared.whole_op.WholeOp.{WholeOp}
+use Rattle.step_answers.specs.declared.whole_op.WholeOp.TheVariants as whole
+use Rattle.step_answers.specs.Asked.{command_of}
+use Rattle.open_calls.specs.Calls.{open_at, node_at}
 use Rattle.open_calls.specs.Clients.{IsIdle}
-use Rattle.open_calls.specs.Parts.{part_at, is_pending_at, IsTaken}
+use Rattle.step_answers.specs.Parts.{part_at, is_pending_at, IsTaken}
 use Rattle.open_calls.specs.declared.whole.Whole.{Whole}
 use Rattle.open_calls.specs.Maint.{HasNoCommand, HasTurn, CanGo, command_at}
 use Rattle.open_calls.specs.Whole.{AreSpared}
 use Rattle.open_rebuild.specs.declared.rebuilding.Rebuilding.{Rebuilding}
 use Rattle.open_rebuild.specs.Claim as claim
-use Rattle.volume_core.specs.declared.world.NotThis.{NotThis}
-use Rattle.volume_core.specs.declared.world.NotThis.TheVariants as against
-use Rattle.volume_core.specs.State.{State, told_of, modes_in}
+use Rattle.step_answers.specs.declared.answers.NotThis.{NotThis}
+use Rattle.step_answers.specs.declared.answers.NotThis.TheVariants as against
+use Rattle.volume_core.specs.State.{State, told_of, modes_in, spot_of}
 use Rattle.volume_core.specs.Steps.{with_place}
-use Rattle.volume_maint.specs.declared.answers.AdmitWhole.{AdmitWhole}
-use Rattle.volume_maint.specs.declared.answers.AdmitWhole.TheVariants as admit
-use Rattle.volume_maint.specs.declared.answers.NextPart.{NextPart}
-use Rattle.volume_maint.specs.declared.answers.NextPart.TheVariants as next
-use Rattle.volume_maint.specs.Steps.{turn_begun, turn_ended, whole_enrolled, whole_begun, whole_parted, whole_acked}
+use Rattle.step_answers.specs.declared.answers.AdmitWhole.{AdmitWhole}
+use Rattle.step_answers.specs.declared.answers.AdmitWhole.TheVariants as admit
+use Rattle.step_answers.specs.declared.answers.NextPart.{NextPart}
+use Rattle.step_answers.specs.declared.answers.NextPart.TheVariants as next
+use Rattle.volume_core.specs.Turn.{turn_ended, IsFreeTurn}
+use Rattle.volume_maint.specs.Steps.{turn_begun, whole_enrolled, whole_begun, whole_parted, whole_acked}
 use Rattle.volume_maint.specs.Steps.{whole_ended, whole_marked, without_whole, barrier_name, barrier_modes}
 use Rattle.volume_maint.specs.Steps.{barrier_nodes, barrier_begun, barrier_ended, folded_on}
-use Rattle.volume_maint.specs.Places.{AwaitsTurn, IsFreeTurn, IsTurnOf, AwaitsWhole, IsWholeOn}
-
--- where the World stands
-abbrev pub spot_of : State → Spot
-spot_of s = record { state = told_of s; modes = modes_in s }
+use Rattle.volume_maint.specs.Places.{AwaitsTurn, IsTurnOf, AwaitsWhole, IsWholeOn}
 
 -- the snapshots as the journal tells them
 abbrev pub snapshots_told : State → Snapshots

@@ -6,7 +6,6 @@ use Rattle.volume_model.specs.declared.command.Command.TheVariants as command
 use Rattle.range_turns.specs.declared.ticket.Kind.TheVariants as kind
 use Rattle.range_turns.specs.Order.{ticket_at, StandsAt}
 use Rattle.open_calls.specs.Calls.{open_at}
-use Rattle.open_calls.specs.Clients.{IsIdle}
 use Rattle.open_calls.specs.declared.whole.Whole.{Whole}
 use Rattle.open_calls.specs.Maint.{command_at}
 use Rattle.volume_core.specs.State.{State}
@@ -15,16 +14,6 @@ use Rattle.volume_core.specs.State.{State}
 pub record AwaitsTurn (s : State) (t k : ℕ) : Type 0 where
   pub stands : StandsAt s.maint t k
   pub waits : (ticket_at s.maint k).started ≡ false
-
--- the command of that ticket has the turn, and nothing enrolled for the whole volume
-pub record IsFreeTurn (s : State) (t : ℕ) : Type 0 where
-  pub stands : StandsAt s.maint t 0
-  pub started : (ticket_at s.maint 0).started ≡ true
-  pub idle : IsIdle (command_at s.commands 0).stream s.calls
-
--- so for the stream whose command has that ticket
-abbrev pub ForAsker : State → ℕ → (ℕ → Type 0) → Type 0
-ForAsker s t fact = (k : ℕ) → StandsAt s.maint t k → fact (command_at s.commands k).stream
 
 -- that command has the turn, whatever it has enrolled
 pub record IsTurnOf (s : State) (c : Command) : Type 0 where

@@ -1,5 +1,5 @@
 -- What the steps on the whole volume, of the maintenance turn and of folding make of a World.
-use Rattle.std.specs.Prelude.{ℕ, ◌+◌, List, [], ◌∷◌, ◌++◌, length, true, false, map, slice_set, remove, Option, None, Some}
+use Rattle.std.specs.Prelude.{ℕ, ◌+◌, List, [], ◌∷◌, ◌++◌, length, true, false, map, slice_set, Option, None, Some}
 use Rattle.std.specs.Option.{option_map}
 use Rattle.vol_units.specs.Name.{sys_name}
 use Rattle.sparse_image.specs.Image.{Tables}
@@ -17,10 +17,11 @@ use Rattle.range_turns.specs.Order.{ticket_at, with_started}
 use Rattle.replica_node.specs.Node.{Node}
 use Rattle.replica_node.specs.Fold.{page_folded}
 use Rattle.replica_node.specs.Held.{emptied}
-use Rattle.open_calls.specs.declared.whole_op.WholeOp.{WholeOp}
-use Rattle.open_calls.specs.declared.whole_op.WholeOp.TheVariants as whole
-use Rattle.open_calls.specs.Calls.{open_at, node_at, command_of, whole_call}
-use Rattle.open_calls.specs.Parts.{part_for}
+use Rattle.step_answers.specs.declared.whole_op.WholeOp.{WholeOp}
+use Rattle.step_answers.specs.declared.whole_op.WholeOp.TheVariants as whole
+use Rattle.step_answers.specs.Asked.{command_of}
+use Rattle.open_calls.specs.Calls.{open_at, node_at, whole_call}
+use Rattle.step_answers.specs.Parts.{part_for}
 use Rattle.open_calls.specs.declared.maint.MaintCall.{MaintCall}
 use Rattle.open_calls.specs.declared.whole.Whole.{Whole}
 use Rattle.open_calls.specs.Due.{part_on}
@@ -29,6 +30,7 @@ use Rattle.open_calls.specs.Maint.{command_at}
 use Rattle.open_rebuild.specs.declared.rebuilding.Rebuilding.{Rebuilding}
 use Rattle.volume_core.specs.declared.world.EndedRebuild.{EndedRebuild}
 use Rattle.volume_core.specs.State.{State, modes_in}
+use Rattle.volume_core.specs.Turn.{turn_ended, without_command}
 use Rattle.volume_core.specs.Steps.{with_place, with_entry, answered, given_up, enrolled, without_call}
 
 -- ---- the maintenance turn
@@ -52,15 +54,6 @@ maint_enrolled s number c = record (with_place s) {
 -- the first has the turn
 abbrev pub turn_begun : State → State
 turn_begun s = record s { maint = with_started s.maint 0 }
-
--- the command at k is gone
-abbrev pub without_command : State → ℕ → State
-without_command s k = record s { maint = remove s.maint k; commands = remove s.commands k }
-
--- the first ends with that reply, and what is known of a rebuild of it that was aborted goes
-abbrev pub turn_ended : State → Reply → State
-turn_ended s r = record (answered (without_command s 0) (command_at s.commands 0).stream
-    (command_at s.commands 0).saw (call.Command (command_at s.commands 0).command) r) { ended = None }
 
 -- it is abandoned for want of memory: where its rebuild is open, that is given up, and the mark told in its answer
 abbrev pub gives_up : State → ℕ → State

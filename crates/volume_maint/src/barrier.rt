@@ -6,7 +6,7 @@ ghost use Rattle.volume_model.specs.declared.entry.Entry.TheVariants as entry;
 ghost use Rattle.volume_model.specs.declared.mark.Mark.TheVariants as mark;
 ghost use Rattle.volume_model.specs.Modes.{IsSource};
 ghost use Rattle.range_turns.specs.Order.{ticket_at, with_started, IsClear};
-ghost use Rattle.open_calls.specs.Parts.{part_for};
+ghost use Rattle.step_answers.specs.Parts.{part_for};
 ghost use Rattle.volume_core.specs.State.{state_of, modes_in};
 ghost use Rattle.volume_core.specs.Steps.{with_entry};
 ghost use Rattle.volume_core.specs.Sound.{IsSound};

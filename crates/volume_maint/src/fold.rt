@@ -16,10 +16,9 @@ ghost use Rattle.volume_maint.specs.Steps.{folded_on};
 ghost use Rattle.volume_maint.specs.Places.{IsTurnOf};
 ghost use Rattle.volume_maint.specs.Answers.{snapshots_told, IsNew, IsOntoNew, HasNoChild, child_of, IsNextPart, WantsFold, FoldsPage, AgainstFold};
 
-use crate::answers::NextPart;
-use crate::places::is_idle;
 use open_calls::{FoldOrDrop, LayerName, WholeOp};
-use volume_core::{Command, Mode, NotThis, World};
+use step_answers::NextPart;
+use volume_core::{Command, Mode, NotThis, World, is_idle};
 
 /// What a purge does next, as the first replica that is read tells it.
 pub fn fold_next(world: &World) -> NextPart

@@ -1,7 +1,6 @@
 //! The steps of calls on the whole volume, of the maintenance turn, and of folding.
 #![tactic(auto)]
 
-mod answers;
 mod barrier;
 mod fold;
 mod places;
@@ -10,12 +9,11 @@ mod turn;
 mod whole;
 mod whole_end;
 
-pub use answers::{AdmitWhole, NextPart};
 pub use fold::{fold_next, fold_page, fold_wanted};
 pub use open_calls::{FoldOrDrop, LayerName, SnapName, WholeOp};
-pub use places::{free_turn_at, is_idle};
 pub use range_turns::{MayStart, TicketNumber};
-pub use turn::{abandon, admit_maint, end_first, end_maint, enrol_maint, withdraw_maint};
+pub use step_answers::{AdmitWhole, NextPart};
+pub use turn::{abandon, admit_maint, end_maint, enrol_maint, withdraw_maint};
 pub use volume_core::{Command, Mode, NotThis, Refusal, Reply, World};
 pub use whole::{admit_whole, enrol_whole, part, withdraw_whole};
 pub use whole_end::{ack_whole, complete_whole};

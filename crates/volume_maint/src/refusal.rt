@@ -11,8 +11,8 @@ ghost use Rattle.volume_core.specs.Sound.{IsSound};
 ghost use Rattle.volume_maint.specs.Places.{IsWholeCommand};
 ghost use Rattle.volume_maint.specs.Answers.{refused_in, HasNoRebuild, MayEnd};
 
-use crate::answers::NextPart;
 use crate::fold::fold_next;
+use step_answers::NextPart;
 use vol_units::{LayerName, MOST_LAYERS};
 use volume_core::{Command, EndedRebuild, Mode, Refusal, Reply, World};
 

@@ -1,22 +1,23 @@
 //! The maintenance turn.
 
-ghost use Rattle.std.specs.Prelude.{◌≡◌, ℕ, ◌<◌, ◌≤◌, length, IfOk, IfErr, OnOk, OnErr};
+ghost use Rattle.std.specs.Prelude.{◌≡◌, ℕ, ◌<◌, length, IfOk, IfErr, OnOk, OnErr};
 ghost use Rattle.range_turns.specs.Order.{IsFresh};
 ghost use Rattle.open_calls.specs.Clients.{IsIdle};
-ghost use Rattle.open_calls.specs.Maint.{HasNoCommand, IsMaint, command_at};
-ghost use Rattle.volume_core.specs.State.{state_of, index_at};
+ghost use Rattle.open_calls.specs.Maint.{HasNoCommand, IsMaint};
+ghost use Rattle.volume_core.specs.State.{state_of};
 ghost use Rattle.volume_core.specs.Sound.{IsSound};
 ghost use Rattle.volume_core.specs.Streams.{MayGo};
-ghost use Rattle.volume_maint.specs.Steps.{maint_enrolled, turn_ended, turn_abandoned, without_command};
-ghost use Rattle.volume_maint.specs.Places.{AwaitsTurn, IsFreeTurn, ForAsker};
+ghost use Rattle.volume_core.specs.Turn.{without_command, IsFreeTurn, ForAsker};
+ghost use Rattle.volume_maint.specs.Steps.{maint_enrolled, turn_abandoned};
+ghost use Rattle.volume_maint.specs.Places.{AwaitsTurn};
 ghost use Rattle.volume_maint.specs.Answers.{TurnsTo, EndsTurn, AgainstEndTurn};
 
-use crate::places::{free_turn_at, waiting_command_at};
+use crate::places::waiting_command_at;
 use crate::refusal::may_end;
 use open_calls::MaintCall;
 use range_turns::{BlockRange, Kind, MayStart, TicketNumber};
 use std::alloc::AllocError;
-use volume_core::{Call, Command, NotThis, Reply, World};
+use volume_core::{Call, Command, NotThis, Reply, World, end_first, free_turn_at, take_command};
 
 /// Puts a command of a stream that has no call open behind those that have the maintenance turn or wait for it. The
 /// place of its answer is made.
@@ -97,23 +98,6 @@ pub fn end_maint(world: &mut World, t: TicketNumber, reply: Reply) -> Result<u64
     Ok(end_first(world, reply))
 }
 
-/// Ends the first command with that reply, in a place that was made before, and gives the place of its answer. It is a
-/// part of a step, and not a step: whether the command may be answered so, its caller knows. It takes no memory.
-pub fn end_first(world: &mut World, reply: Reply) -> u64
-    requires ticket { 0 < length world.old.maint.tickets }
-    requires command { 0 < length world.old.commands.items }
-    requires stream { (command_at world.old.commands.items 0).stream < length world.old.indices.items }
-    requires few { index_at world.old.indices.items (command_at world.old.commands.items 0).stream
-        ≤ length world.old.journal.entries }
-    requires spare { 0 < world.old.journal.spare }
-    ensures place { result ≡ length world.old.journal.entries }
-    ensures state { state_of world.new ≡ turn_ended (state_of world.old) reply }
-{
-    let call = take_command(world, 0);
-    world.ended = None;
-    world.push_answer(call.stream, call.saw, Call::Command(call.command), reply)
-}
-
 /// Gives the turn back, once memory ran out: without an answer, but where a rebuild of its command was begun. One that is
 /// open is given up, and its command answered so; one that was aborted is answered. It takes no memory.
 pub fn abandon(world: &mut World, t: TicketNumber)
@@ -133,15 +117,4 @@ pub fn abandon(world: &mut World, t: TicketNumber)
     } else {
         take_command(world, 0);
     }
-}
-
-/// Takes the command at k out.
-pub(crate) fn take_command(world: &mut World, k: usize) -> MaintCall
-    requires ticket { k < length world.old.maint.tickets }
-    requires command { k < length world.old.commands.items }
-    ensures value { result ≡ command_at world.old.commands.items k }
-    ensures gone { state_of world.new ≡ without_command (state_of world.old) k }
-{
-    world.maint.end_at(k);
-    world.commands.remove(k)
 }

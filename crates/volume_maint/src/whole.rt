@@ -5,7 +5,7 @@ ghost use Rattle.volume_model.specs.Modes.{HasSource, IsSource};
 ghost use Rattle.range_turns.specs.Order.{ticket_at, IsFresh, IsClear};
 ghost use Rattle.open_calls.specs.Calls.{open_at, node_at};
 ghost use Rattle.open_calls.specs.Clients.{IsIdle};
-ghost use Rattle.open_calls.specs.Parts.{part_at};
+ghost use Rattle.step_answers.specs.Parts.{part_at};
 ghost use Rattle.open_calls.specs.declared.whole.Whole.{Whole};
 ghost use Rattle.open_calls.specs.Maint.{CanStill};
 ghost use Rattle.open_calls.specs.Whole.{IsFit, IsSpared, spare_at};
@@ -17,7 +17,6 @@ ghost use Rattle.volume_maint.specs.Steps.{whole_ticket, whole_parted, whole_end
 ghost use Rattle.volume_maint.specs.Places.{AwaitsWhole, ForCaller, IsWholeOn};
 ghost use Rattle.volume_maint.specs.Answers.{snapshots_told, IsLongSource, MayAsk, seen_by, EnrolsWhole, CannotGo, AdmitsWhole, MayBegin, BeginsWhole, BeginsWith, TakesPart, AgainstPart};
 
-use crate::answers::AdmitWhole;
 use crate::barrier::{begin_barrier, may_begin};
 use crate::fold::can_go;
 use crate::places::waiting_whole_at;
@@ -26,6 +25,7 @@ use crate::whole_end::{end_with_answer, take_call};
 use open_calls::{OpenCall, Part, Spares, Whole, WholeOp, take_part};
 use range_turns::{BlockRange, Kind, TicketNumber};
 use std::alloc::{AllocError, Global};
+use step_answers::AdmitWhole;
 use volume_core::{Mode, NotThis, Parts, Refusal, Reply, World};
 
 /// Puts an operation behind all calls: a snapshot of a stream that has none open, or what the command does that has the

@@ -6,7 +6,7 @@ ghost use Rattle.volume_model.specs.declared.entry.Entry.TheVariants as entry;
 ghost use Rattle.volume_model.specs.declared.mark.Mark.TheVariants as mark;
 ghost use Rattle.volume_model.specs.Modes.{mode_of, HasSource, HasNoSource};
 ghost use Rattle.open_calls.specs.Calls.{open_at};
-ghost use Rattle.open_calls.specs.Parts.{part_at, is_pending_at};
+ghost use Rattle.step_answers.specs.Parts.{part_at, is_pending_at};
 ghost use Rattle.open_calls.specs.declared.whole.Whole.{Whole};
 ghost use Rattle.open_calls.specs.Maint.{IsAskedBy};
 ghost use Rattle.volume_core.specs.State.{state_of, modes_in, index_at};
@@ -19,10 +19,9 @@ ghost use Rattle.volume_maint.specs.Answers.{AcksPart, AgainstAckPart};
 ghost use Rattle.volume_maint.specs.Answers.{EndsWhole, AgainstEndWhole, whole_done, whole_lost};
 
 use crate::barrier::pass_barrier;
-use crate::turn::take_command;
 use open_calls::{FoldOrDrop, Part, WholeOp};
 use range_turns::TicketNumber;
-use volume_core::{Call, Entry, NotThis, Refusal, Reply, World};
+use volume_core::{Call, Entry, NotThis, Refusal, Reply, World, take_command};
 use volume_model::Mark;
 
 /// A replica, which took its part of the started operation, has acknowledged it. It takes no memory.

@@ -54,10 +54,8 @@ use Rattle.volume_core.specs.Streams.{running, turning, MayGo, origin_of}
 use Rattle.volume_core.proofs.Ends.{its_answer, same_clients}
 use Rattle.volume_core.proofs.FarLemmas.{begun_of}
 use Rattle.volume_core.proofs.Keep.{same_whole, same_maint, on_same}
-use Rattle.volume_maint.specs.Places.{IsFreeTurn}
-use Rattle.volume_maint.proofs.Adds.{none_adds}
-use Rattle.volume_maint.proofs.TurnStreams.{commands-remove_other}
-use Rattle.volume_maint.proofs.WholeSound.{told_named}
+use Rattle.volume_core.specs.Turn.{IsFreeTurn}
+use Rattle.volume_core.proofs.TurnLemmas.{none_adds, commands-remove_other, told_named}
 use Rattle.volume_rebuild.specs.Answers.{IsAllListed}
 use Rattle.volume_rebuild.specs.Places.{IsPast}
 use Rattle.volume_rebuild.specs.Steps.{promoted}

@@ -10,9 +10,9 @@ use Rattle.open_rebuild.specs.Listed.{AreListed}
 use Rattle.open_rebuild.specs.declared.rebuilding.Rebuilding.{Rebuilding}
 use Rattle.open_rebuild.specs.Pages.{HasNoneLeft, IsNextLeft}
 use Rattle.volume_core.specs.State.{State}
-use Rattle.volume_maint.specs.Places.{IsFreeTurn}
-use Rattle.volume_core.specs.declared.world.NotThis.{NotThis}
-use Rattle.volume_core.specs.declared.world.NotThis.TheVariants as against
+use Rattle.volume_core.specs.Turn.{IsFreeTurn}
+use Rattle.step_answers.specs.declared.answers.NotThis.{NotThis}
+use Rattle.step_answers.specs.declared.answers.NotThis.TheVariants as against
 use Rattle.volume_rebuild.specs.Places.{IsPast, IsCopied, IsToCopy}
 use Rattle.volume_rebuild.specs.Steps.{copied_to, promoted}
 

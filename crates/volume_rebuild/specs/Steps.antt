@@ -8,7 +8,7 @@ use Rattle.open_rebuild.specs.declared.rebuilding.Rebuilding.{Rebuilding}
 use Rattle.open_rebuild.specs.Claim.{with_page}
 use Rattle.volume_core.specs.State.{State}
 use Rattle.volume_core.specs.Steps.{marked}
-use Rattle.volume_maint.specs.Steps.{turn_ended}
+use Rattle.volume_core.specs.Turn.{turn_ended}
 
 -- the target is that now, and the page is listed
 abbrev pub copied_to : State → Rebuilding → PageRef → Node → State

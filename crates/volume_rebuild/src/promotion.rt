@@ -6,13 +6,12 @@ ghost use Rattle.open_rebuild.specs.Rebuild.{IsReplica};
 ghost use Rattle.volume_core.specs.State.{state_of};
 ghost use Rattle.volume_core.specs.Sound.{IsSound};
 ghost use Rattle.volume_core.specs.Streams.{MayGo};
-ghost use Rattle.volume_maint.specs.Places.{ForAsker};
+ghost use Rattle.volume_core.specs.Turn.{ForAsker};
 ghost use Rattle.volume_rebuild.specs.Answers.{Promotes, AgainstPromote};
 ghost use Rattle.volume_rebuild.specs.Steps.{closed};
 
 use range_turns::TicketNumber;
-use volume_core::{Entry, NotThis, Reply, World};
-use volume_maint::{end_first, free_turn_at};
+use volume_core::{Entry, NotThis, Reply, World, end_first, free_turn_at};
 use volume_model::Mark;
 
 /// Promotes the target of the rebuild of the command that has the turn, once each page is listed: it is read as well from

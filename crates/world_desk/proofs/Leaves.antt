@@ -6,7 +6,7 @@ use Rattle.volume_model.specs.declared.mark.Mark.{Mark}
 use Rattle.volume_model.specs.declared.mark.Mark.TheVariants as mark
 use Rattle.range_turns.specs.declared.ticket.Ticket.{Ticket}
 use Rattle.open_calls.specs.declared.open_call.OpenCall.{OpenCall}
-use Rattle.open_calls.specs.declared.parts.Part.{Part}
+use Rattle.step_answers.specs.declared.parts.Part.{Part}
 use Rattle.open_calls.specs.declared.maint.MaintCall.{MaintCall}
 use Rattle.open_calls.specs.declared.whole.Whole.{Whole}
 use Rattle.volume_core.specs.State.{State, gave_up_at}

@@ -6,7 +6,7 @@ use Rattle.volume_model.specs.declared.mark.Mark.{Mark}
 use Rattle.volume_model.specs.declared.mark.Mark.TheVariants as mark
 use Rattle.range_turns.specs.declared.ticket.Ticket.{Ticket}
 use Rattle.open_calls.specs.declared.open_call.OpenCall.{OpenCall}
-use Rattle.open_calls.specs.declared.parts.Part.{Part}
+use Rattle.step_answers.specs.declared.parts.Part.{Part}
 use Rattle.open_calls.specs.declared.maint.MaintCall.{MaintCall}
 use Rattle.open_calls.specs.declared.whole.Whole.{Whole}
 use Rattle.volume_core.specs.State.{State, state_of, gave_up_at}
@@ -74,7 +74,7 @@ may_count_later (Call t c parts) s s2 s3 first next = tt
 
 -- the World on a desk, as lists
 abbrev pub laid : WorldOnDesk → State
-laid w = state_of w.world
+laid w = state_of w.world.value
 
 -- its journal, its streams with what each has open and what that counts on, and how the volume began
 abbrev pub world_account : Account WorldOnDesk Entry Running Origin

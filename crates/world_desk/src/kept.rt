@@ -4,7 +4,7 @@ use volume_core::World;
 /// A World that lies on a desk, or is in the hands of whoever has the turn.
 #[derive(Drop)]
 pub struct WorldOnDesk {
-    pub world: World,
+    pub world: Box<World>,
 }
 
 impl Kept for WorldOnDesk {

@@ -15,13 +15,14 @@ use volume_core::World;
 /// A desk with a World on which nothing has happened yet, and its first seat. A seat for each stream may be split off it.
 pub fn lay_down(
     alloc: Global,
-    world: World,
+    world: Box<World>,
 ) -> Result<(Desk<WorldOnDesk>, Seat<WorldOnDesk>), AllocError>
-    requires sound { IsSound (state_of world) }
-    requires blank { (world.journal.entries ≡ []) × (world.turns.tickets ≡ []) × (world.maint.tickets ≡ []) }
-    requires given_up { NoneGaveUp world.gave_up.items }
-    requires streams { 1 ≤ length world.indices.items }
-    ensures desk { IfOk result (λ r. (seats_of r.0 ≡ length world.indices.items) × IsSeatOf r.0 r.1) }
+    requires sound { IsSound (state_of world.value) }
+    requires blank { (world.value.journal.entries ≡ []) × (world.value.turns.tickets ≡ [])
+        × (world.value.maint.tickets ≡ []) }
+    requires given_up { NoneGaveUp world.value.gave_up.items }
+    requires streams { 1 ≤ length world.value.indices.items }
+    ensures desk { IfOk result (λ r. (seats_of r.0 ≡ length world.value.indices.items) × IsSeatOf r.0 r.1) }
     ensures seat { IfOk result (λ r. known r.1 ≡ known_with None (record { world = world }) Idle 0 []) }
 {
     let seats = world.indices.len() as u64;
@@ -30,7 +31,7 @@ pub fn lay_down(
 }
 
 /// The World, once each seat that was split off was joined.
-pub fn take_up(desk: Desk<WorldOnDesk>, seat: Seat<WorldOnDesk>) -> World
+pub fn take_up(desk: Desk<WorldOnDesk>, seat: Seat<WorldOnDesk>) -> Box<World>
     requires seat { IsSeatOf desk seat × (number_of seat ≡ None) }
     requires all { HasAll seat }
     ensures { Fits world_account (record { world = result }) (known seat) }

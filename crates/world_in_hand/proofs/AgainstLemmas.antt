@@ -10,13 +10,13 @@ use Rattle.volume_model.specs.declared.mode.Mode.{Mode}
 use Rattle.volume_model.specs.declared.mode.Mode.TheVariants.{Rw}
 use Rattle.volume_model.specs.Modes.{mode_of}
 use Rattle.open_calls.specs.declared.open_call.OpenCall.{OpenCall}
-use Rattle.open_calls.specs.declared.parts.Part.{Part}
-use Rattle.open_calls.specs.declared.parts.Part.TheVariants.{Acked}
-use Rattle.open_calls.specs.Parts.{part_at, is_pending_at, IsTaken}
-use Rattle.open_calls.specs.declared.whole_op.WholeOp.{WholeOp}
+use Rattle.step_answers.specs.declared.parts.Part.{Part}
+use Rattle.step_answers.specs.declared.parts.Part.TheVariants.{Acked}
+use Rattle.step_answers.specs.Parts.{part_at, is_pending_at, IsTaken}
+use Rattle.step_answers.specs.declared.whole_op.WholeOp.{WholeOp}
 use Rattle.open_calls.specs.Calls.{open_at, call_asked, whole_asked}
-use Rattle.volume_core.specs.declared.world.NotThis.{NotThis}
-use Rattle.volume_core.specs.declared.world.NotThis.TheVariants as against
+use Rattle.step_answers.specs.declared.answers.NotThis.{NotThis}
+use Rattle.step_answers.specs.declared.answers.NotThis.TheVariants as against
 use Rattle.volume_core.specs.Against as core
 use Rattle.volume_core.specs.Places.{IsWriteAt, IsReadAt, IsCallAt}
 use Rattle.volume_core.specs.State.{State, modes_in}

@@ -25,9 +25,9 @@ use Rattle.volume_model.specs.Modes.{mode_of, HasSource, IsSource}
 use Rattle.volume_model.specs.PlainState.{PlainState}
 use Rattle.replica_node.specs.Node.{Node}
 use Rattle.open_calls.specs.declared.open_call.OpenCall.{OpenCall}
-use Rattle.open_calls.specs.declared.parts.Part.TheVariants.{Acked}
-use Rattle.open_calls.specs.declared.whole_op.WholeOp.{WholeOp}
-use Rattle.open_calls.specs.Parts.{part_at, part_for, IsTaken}
+use Rattle.step_answers.specs.declared.parts.Part.TheVariants.{Acked}
+use Rattle.step_answers.specs.declared.whole_op.WholeOp.{WholeOp}
+use Rattle.step_answers.specs.Parts.{part_at, part_for, IsTaken}
 use Rattle.open_calls.specs.Calls.{open_at, call_asked, whole_asked, no_call, begun}
 use Rattle.open_calls.specs.Clients.{Fits}
 use Rattle.open_calls.proofs.PartLemmas.{part_of, part_for_new, up_in, rw_up}
@@ -37,16 +37,16 @@ use Rattle.volume_core.specs.Steps.{acked, wrote, has_read, started, with_place,
 use Rattle.volume_core.specs.Sound.{IsSound}
 use Rattle.volume_core.specs.Places.{IsWriteAt, IsReadAt, IsCallAt, IsWaitingAt}
 use Rattle.volume_model.specs.PlainStep.{plain_step, longest_call}
-use Rattle.volume_core.specs.declared.admit.Admit.{Admit}
-use Rattle.volume_core.specs.declared.admit.Admit.TheVariants as admit
-use Rattle.volume_core.specs.declared.enrol.Enrolled.{Enrolled}
-use Rattle.volume_core.specs.declared.enrol.Enrolled.TheVariants as enrol
-use Rattle.volume_core.specs.declared.job.Job.{Job}
+use Rattle.step_answers.specs.declared.answers.Admit.{Admit}
+use Rattle.step_answers.specs.declared.answers.Admit.TheVariants as admit
+use Rattle.step_answers.specs.declared.answers.Enrolled.{Enrolled}
+use Rattle.step_answers.specs.declared.answers.Enrolled.TheVariants as enrol
+use Rattle.step_answers.specs.declared.answers.Job.{Job}
 use Rattle.volume_core.specs.Answers.{EnrolsAs, IsAdmit, BeginsBy, IsJobOf, IsAnsweredNow, AreBlocksOfWrite}
 use Rattle.volume_core.specs.Answers.{TakesInPlace, failed_by, after_fail}
 use Rattle.volume_core.specs.Streams.{running, MayGo, IsAnsweredTo, SeesEnrolled, SeesAdmit, ForOwner}
 use Rattle.volume_core.proofs.CallLemmas.{calls-none, calls-set_own, calls-push_own, calls-idle}
-use Rattle.volume_core.specs.Answers.{IsNow}
+use Rattle.step_answers.specs.Asked.{IsNow}
 use Rattle.stream_steps.specs.Mine.{OwnCall, IsOwn, answer_placed}
 use Rattle.stream_steps.specs.Steps.{IsFrameCall, AnswersNow, IsUncarried, EnrolsTo, AdmitsTo, IsNotAfter, StartsCall}
 use Rattle.stream_steps.specs.Steps.{IsStarted, IsJobFor, TakesTo, AcksTo, FaultsTo, HasNotStarted, IsOnBlocks}

@@ -22,7 +22,7 @@ use Rattle.volume_core.specs.Sound.{IsSound, NoneGaveUp}
 use Rattle.volume_core.specs.Streams.{running, open_of, IsOpen, MayGo, Origin}
 use Rattle.volume_core.proofs.CallLemmas.{idle-calls, calls-none, calls-place, calls-one}
 use Rattle.volume_core.proofs.Moves.{IsOwnAt, own_at}
-use Rattle.volume_maint.specs.Answers.{spot_of}
+use Rattle.volume_core.specs.State.{spot_of}
 use Rattle.stream_steps.specs.Mine.{OwnCall, Placed, Log, IsOwn, entries_in, with_entries, with_more, with_running}
 use Rattle.stream_steps.specs.Mine.{answer_placed, fault_placed}
 use Rattle.world_in_hand.specs.Hand.{own_call, is_own, own_entries, mine_in, IsReady}

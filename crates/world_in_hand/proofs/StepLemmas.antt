@@ -24,9 +24,9 @@ use Rattle.open_rebuild.specs.declared.rebuilding.Rebuilding.{Rebuilding}
 use Rattle.volume_core.proofs.FarLemmas.{GoesOn, Aborts, behind}
 use Rattle.replica_node.specs.Node.{Node}
 use Rattle.open_calls.specs.declared.open_call.OpenCall.{OpenCall}
-use Rattle.open_calls.specs.declared.parts.Part.{Part}
-use Rattle.open_calls.specs.declared.parts.Part.TheVariants.{Apart, Owed, Taken, Acked}
-use Rattle.open_calls.specs.Parts.{part_at, is_awaited, is_pending_at, IsTaken}
+use Rattle.step_answers.specs.declared.parts.Part.{Part}
+use Rattle.step_answers.specs.declared.parts.Part.TheVariants.{Apart, Owed, Taken, Acked}
+use Rattle.step_answers.specs.Parts.{part_at, is_awaited, is_pending_at, IsTaken}
 use Rattle.open_calls.specs.Calls.{open_at, node_at, call_asked, whole_asked, no_call, with_part_at, read_from}
 use Rattle.open_calls.specs.Clients.{IsReading}
 use Rattle.open_calls.proofs.FreeLemmas.{write_no_whole, read_no_whole}

@@ -12,7 +12,7 @@ use Rattle.open_calls.specs.Calls.{call_asked, whole_of}
 use Rattle.volume_core.specs.State.{State}
 use Rattle.volume_core.specs.Sound.{IsSound, NoneGaveUp}
 use Rattle.volume_core.specs.Streams.{running}
-use Rattle.volume_maint.specs.Answers.{spot_of}
+use Rattle.volume_core.specs.State.{spot_of}
 use Rattle.stream_steps.specs.Mine.{Mine, OwnCall, Placed}
 
 -- a ticket and its call, as their stream's worker sees them

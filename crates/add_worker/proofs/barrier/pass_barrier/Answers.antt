@@ -1,5 +1,5 @@
 use Rattle.std.proofs.Common.{rules, ◌≡◌, ◌∙◌, [], ◌∷◌, map, true, false, refl, subst, sym, ap}
-use Rattle.open_calls.specs.declared.whole_op.WholeOp.TheVariants as whole
+use Rattle.step_answers.specs.declared.whole_op.WholeOp.TheVariants as whole
 use Rattle.stream_steps.specs.Mine.{Mine, with_running}
 use Rattle.stream_steps.specs.Maint.{HasWhole, StartsBarrier}
 use Rattle.command_worker.specs.Whole.{StartsOr, EndsBehind}

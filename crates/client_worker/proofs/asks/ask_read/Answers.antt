@@ -1,6 +1,6 @@
 use Rattle.std.proofs.Common.{rules, arith, ◌≡◌, length, map, slice_set, is_err, refl, ap, sym, subst, ◌∙◌, true, false}
 use Rattle.frame_wire.specs.Spelling.{frame}
-use Rattle.open_calls.specs.declared.parts.Part.TheVariants.{Taken}
+use Rattle.step_answers.specs.declared.parts.Part.TheVariants.{Taken}
 use Rattle.stream_steps.specs.Mine.{IsOwn}
 use Rattle.stream_steps.specs.Steps.{TakesTo, IsOnBlocks}
 use Rattle.client_worker.specs.Exchanges.{told_in}

@@ -1,5 +1,5 @@
 use Rattle.std.proofs.Common.{rules, ◌≡◌, map, slice_set, refl, ap, sym, subst, ◌∙◌, true}
-use Rattle.open_calls.specs.declared.parts.Part.TheVariants.{Taken}
+use Rattle.step_answers.specs.declared.parts.Part.TheVariants.{Taken}
 use Rattle.stream_steps.specs.Mine.{IsOwn}
 use Rattle.stream_steps.specs.Steps.{TakesTo}
 use Rattle.client_worker.specs.Exchanges.{told_in}

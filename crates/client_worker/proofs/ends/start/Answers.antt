@@ -1,5 +1,5 @@
 use Rattle.std.proofs.Common.{rules, ◌≡◌}
-use Rattle.volume_core.specs.declared.admit.Admit.TheVariants as admit
+use Rattle.step_answers.specs.declared.answers.Admit.TheVariants as admit
 use Rattle.client_worker.proofs.Starting.{starts, refused, waits, starts_shown, refused_shown}
 use Rattle.client_worker.proofs.ends.start.Goals as goal
 

@@ -1,5 +1,5 @@
 use Rattle.std.proofs.Common.{rules, ◌≡◌, map}
-use Rattle.volume_core.specs.declared.enrol.Enrolled.TheVariants as enrol
+use Rattle.step_answers.specs.declared.answers.Enrolled.TheVariants as enrol
 use Rattle.stream_steps.specs.Steps.{EnrolsAt}
 use Rattle.client_worker.proofs.Calls.{enrol_begun, enrol_refused}
 use Rattle.client_worker.proofs.Shown.{shown_now, shown_enrolled}

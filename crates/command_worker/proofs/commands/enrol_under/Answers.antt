@@ -1,5 +1,5 @@
 use Rattle.std.proofs.Common.{sym, subst, ◌∙◌}
-use Rattle.open_calls.specs.Calls.{command_of}
+use Rattle.step_answers.specs.Asked.{command_of}
 use Rattle.stream_steps.specs.Maint.{HasTurn}
 use Rattle.command_worker.proofs.CommandLemmas.{no_add}
 use Rattle.command_worker.proofs.commands.enrol_under.Goals as goal

@@ -1,6 +1,6 @@
 use Rattle.std.proofs.Common.{[], ◌∷◌, map}
 use Rattle.volume_model.specs.declared.command.Command.TheVariants as command
-use Rattle.open_calls.specs.declared.whole_op.WholeOp.TheVariants as whole
+use Rattle.step_answers.specs.declared.whole_op.WholeOp.TheVariants as whole
 use Rattle.command_worker.proofs.CommandLemmas.{enrolled_waits, shown_open, shown_closed, done_closed, snapshot_grew, snapshot_left}
 use Rattle.command_worker.proofs.commands.snapshot.Goals as goal
 

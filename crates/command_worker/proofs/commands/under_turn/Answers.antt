@@ -1,5 +1,5 @@
 use Rattle.std.proofs.Common.{rules, ◌≡◌, ◌∙◌, [], ◌∷◌, map, is_ok, true, false, subst, sym, refl, ap}
-use Rattle.open_calls.specs.Calls.{command_of}
+use Rattle.step_answers.specs.Asked.{command_of}
 use Rattle.volume_model.specs.declared.call.Call.TheVariants as call
 use Rattle.stream_steps.specs.Mine.{Mine, with_running}
 use Rattle.stream_steps.specs.Steps.{EnrolsAt}

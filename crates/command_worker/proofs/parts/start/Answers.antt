@@ -1,5 +1,5 @@
 use Rattle.std.proofs.Common.{rules, ◌≡◌}
-use Rattle.volume_maint.specs.declared.answers.AdmitWhole.TheVariants as admit
+use Rattle.step_answers.specs.declared.answers.AdmitWhole.TheVariants as admit
 use Rattle.command_worker.proofs.PartLemmas.{starts, refused, waits, may_not, admits_shown}
 use Rattle.command_worker.proofs.parts.start.Goals as goal
 

@@ -1,7 +1,7 @@
 use Rattle.std.proofs.Common.{rules, ◌≡◌, map, subst, sym}
 use Rattle.volume_model.specs.declared.call.Refusal.TheVariants.{NoReplica}
 use Rattle.volume_model.specs.declared.call.Reply.TheVariants as reply
-use Rattle.volume_maint.specs.declared.answers.NextPart.TheVariants as next
+use Rattle.step_answers.specs.declared.answers.NextPart.TheVariants as next
 use Rattle.command_worker.specs.Purges.{RoundTo}
 use Rattle.command_worker.proofs.RoundLemmas.{round_ends, round_shown, round_waits, next_done, next_refused}
 use Rattle.command_worker.proofs.purge.round.Goals as goal

@@ -1,6 +1,6 @@
 use Rattle.std.proofs.Common.{rules, ◌≡◌, [], ◌∷◌, map, true, false, subst, Ok, None}
 use Rattle.volume_model.specs.declared.command.Command.TheVariants as command
-use Rattle.open_calls.specs.declared.whole_op.WholeOp.TheVariants as whole
+use Rattle.step_answers.specs.declared.whole_op.WholeOp.TheVariants as whole
 use Rattle.stream_steps.specs.Mine.{OwnCall}
 use Rattle.stream_steps.specs.Maint.{HasTurn, EnrolsUnder}
 use Rattle.command_worker.specs.Whole.{StartsOr}

@@ -5,7 +5,7 @@ use Rattle.volume_model.specs.declared.mode.Mode.{Mode}
 use Rattle.volume_model.specs.declared.mode.Mode.TheVariants.{Wo}
 use Rattle.replica_node.specs.Node.{Node, blank}
 use Rattle.replica_node.specs.Held.{emptied}
-use Rattle.open_calls.specs.declared.whole_op.WholeOp.TheVariants as whole
+use Rattle.step_answers.specs.declared.whole_op.WholeOp.TheVariants as whole
 use Rattle.open_calls.specs.Calls.{node_at}
 use Rattle.open_calls.specs.Whole.{AreSpared}
 use Rattle.open_rebuild.specs.Claim.{IsNew}

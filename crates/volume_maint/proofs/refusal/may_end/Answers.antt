@@ -7,7 +7,7 @@ use Rattle.volume_model.specs.declared.call.Reply.TheVariants as reply
 use Rattle.open_calls.specs.declared.maint.MaintCall.{MaintCall}
 use Rattle.open_calls.specs.Maint.{command_at}
 use Rattle.volume_core.specs.State.{State, state_of}
-use Rattle.volume_maint.specs.declared.answers.NextPart.TheVariants as next
+use Rattle.step_answers.specs.declared.answers.NextPart.TheVariants as next
 use Rattle.volume_maint.specs.Answers.{MayEnd, IsNextPart}
 use Rattle.volume_maint.proofs.Refusals.{may_be_done, done_is_next}
 use Rattle.volume_maint.proofs.refusal.may_end.Goals as goal

@@ -4,7 +4,8 @@ use Rattle.volume_core.specs.Sound.{IsSound}
 use Rattle.volume_core.specs.Streams.{MayGo}
 use Rattle.volume_maint.specs.Steps.{turn_abandoned}
 use Rattle.volume_maint.proofs.TurnSound.{abandoned_kept}
-use Rattle.volume_maint.proofs.TurnStreams.{abandoned_goes, for_asker}
+use Rattle.volume_core.proofs.TurnLemmas.{for_asker}
+use Rattle.volume_maint.proofs.TurnStreams.{abandoned_goes}
 use Rattle.volume_maint.proofs.turn.abandon.Goals as goal
 
 -- the rebuild is given up

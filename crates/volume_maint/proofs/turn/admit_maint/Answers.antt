@@ -6,7 +6,8 @@ use Rattle.volume_core.specs.Sound.{IsSound}
 use Rattle.volume_core.specs.Streams.{MayGo}
 use Rattle.volume_maint.specs.Steps.{turn_begun}
 use Rattle.volume_maint.proofs.TurnSound.{begun_kept}
-use Rattle.volume_maint.proofs.TurnStreams.{begun_goes, for_asker}
+use Rattle.volume_core.proofs.TurnLemmas.{for_asker}
+use Rattle.volume_maint.proofs.TurnStreams.{begun_goes}
 use Rattle.volume_maint.proofs.turn.admit_maint.Goals as goal
 
 pub returns-clause-may : goal.returns-clause-may

@@ -3,11 +3,11 @@ use Rattle.open_calls.specs.Maint.{command_at}
 use Rattle.volume_core.specs.State.{State, state_of}
 use Rattle.volume_core.specs.Sound.{IsSound}
 use Rattle.volume_core.specs.Streams.{MayGo}
-use Rattle.volume_maint.specs.Steps.{turn_ended}
-use Rattle.volume_maint.specs.Places.{IsFreeTurn}
+use Rattle.volume_core.specs.Turn.{turn_ended, IsFreeTurn}
 use Rattle.volume_maint.specs.Answers.{MayEnd}
 use Rattle.volume_maint.proofs.TurnSound.{ended_kept}
-use Rattle.volume_maint.proofs.TurnStreams.{ended_goes, for_asker}
+use Rattle.volume_core.proofs.TurnLemmas.{for_asker}
+use Rattle.volume_maint.proofs.TurnStreams.{ended_goes}
 use Rattle.volume_maint.proofs.turn.end_maint.Goals as goal
 
 pub returns-clause-sound : goal.returns-clause-sound

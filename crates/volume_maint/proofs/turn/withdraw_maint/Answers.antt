@@ -3,7 +3,8 @@ use Rattle.volume_core.specs.State.{state_of}
 use Rattle.volume_core.specs.Sound.{IsSound}
 use Rattle.volume_core.specs.Streams.{MayGo}
 use Rattle.volume_maint.proofs.TurnSound.{withdrawn_kept}
-use Rattle.volume_maint.proofs.TurnStreams.{less_goes, for_asker}
+use Rattle.volume_core.proofs.TurnLemmas.{for_asker}
+use Rattle.volume_maint.proofs.TurnStreams.{less_goes}
 use Rattle.volume_maint.proofs.turn.withdraw_maint.Goals as goal
 
 pub returns-clause-sound : goal.returns-clause-sound

@@ -3,8 +3,9 @@ use Rattle.std.specs.Prelude.{None, Some}
 use Rattle.volume_model.specs.declared.call.Reply.TheVariants as reply
 use Rattle.volume_model.proofs.SpotLemmas.{has_source}
 use Rattle.range_turns.specs.Order.{IsClear}
-use Rattle.open_calls.specs.declared.whole_op.WholeOp.{WholeOp}
-use Rattle.open_calls.specs.Calls.{open_at, command_of}
+use Rattle.step_answers.specs.declared.whole_op.WholeOp.{WholeOp}
+use Rattle.step_answers.specs.Asked.{command_of}
+use Rattle.open_calls.specs.Calls.{open_at}
 use Rattle.volume_core.specs.State.{State, state_of, modes_in}
 use Rattle.volume_core.specs.Steps.{with_place}
 use Rattle.volume_core.specs.Sound.{IsSound}

@@ -1,4 +1,4 @@
-use Rattle.open_calls.specs.declared.whole_op.WholeOp.{WholeOp}
+use Rattle.step_answers.specs.declared.whole_op.WholeOp.{WholeOp}
 use Rattle.volume_core.specs.State.{State, state_of}
 use Rattle.volume_maint.specs.Answers.{BeginsWith, BeginsWhole}
 use Rattle.volume_maint.proofs.Barriers.{begins_plain, plain_of, ok_to}

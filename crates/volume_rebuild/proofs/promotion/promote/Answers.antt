@@ -2,7 +2,7 @@ use Rattle.std.proofs.Common.{sym, subst, rules}
 use Rattle.volume_core.specs.State.{State, state_of}
 use Rattle.volume_core.specs.Sound.{IsSound}
 use Rattle.volume_core.specs.Streams.{MayGo}
-use Rattle.volume_maint.proofs.TurnStreams.{for_asker}
+use Rattle.volume_core.proofs.TurnLemmas.{for_asker}
 use Rattle.open_rebuild.specs.Rebuild.{IsReplica}
 use Rattle.open_calls.specs.Calls.{node_at}
 use Rattle.volume_rebuild.specs.Answers.{Promotes}

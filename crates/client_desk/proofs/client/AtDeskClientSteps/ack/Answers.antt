@@ -1,6 +1,6 @@
 use Rattle.std.proofs.Common.{◌≡◌, OnOk, OnErr, IfErr}
 use Rattle.volume_core.specs.State.{State, state_of, modes_in}
-use Rattle.volume_core.specs.declared.world.NotThis.{NotThis}
+use Rattle.step_answers.specs.declared.answers.NotThis.{NotThis}
 use Rattle.world_desk.specs.Laid.{laid}
 use Rattle.stream_steps.specs.Mine.{Mine, OwnCall, IsOwn}
 use Rattle.stream_steps.specs.Against.{RefusesAck}

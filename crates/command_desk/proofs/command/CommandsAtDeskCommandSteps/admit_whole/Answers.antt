@@ -4,7 +4,7 @@ use Rattle.stream_steps.specs.Mine.{Mine, OwnCall}
 use Rattle.command_desk.specs.AtDesk.{mine_at}
 use Rattle.command_desk.proofs.AtTurn.{found_in, may_go, at_desk, over, unchanged}
 use Rattle.std.proofs.Common.{◌≡◌, List, false, IfOk, OnErr}
-use Rattle.open_calls.specs.declared.whole_op.WholeOp.{WholeOp}
+use Rattle.step_answers.specs.declared.whole_op.WholeOp.{WholeOp}
 use Rattle.volume_core.specs.Streams.{MayGo}
 use Rattle.stream_steps.specs.Maint.{HasWhole, AdmitsWhole}
 use Rattle.command_desk.proofs.Wholes.{whole_waits, whole_owner, admit_mine, admit_parts}

@@ -5,7 +5,7 @@ use Rattle.command_desk.specs.AtDesk.{mine_at}
 use Rattle.command_desk.proofs.AtTurn.{found_in, may_go, at_desk, over, unchanged}
 use Rattle.std.proofs.Common.{◌≡◌, [], IfOk, OnErr}
 use Rattle.volume_model.specs.declared.call.Call.TheVariants as call
-use Rattle.open_calls.specs.Calls.{command_of}
+use Rattle.step_answers.specs.Asked.{command_of}
 use Rattle.stream_steps.specs.Maint.{EnrolsWhole}
 use Rattle.stream_steps.specs.Steps.{EnrolsAt}
 use Rattle.command_desk.proofs.Shapes.{idle_calls}

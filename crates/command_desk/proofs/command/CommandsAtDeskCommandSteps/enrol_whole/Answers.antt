@@ -4,7 +4,7 @@ use Rattle.stream_steps.specs.Mine.{Mine, OwnCall}
 use Rattle.command_desk.specs.AtDesk.{mine_at}
 use Rattle.command_desk.proofs.AtTurn.{found_in, may_go, at_desk, over, unchanged}
 use Rattle.std.proofs.Common.{◌≡◌, IfOk, IfSome, OnErr, Ok, None}
-use Rattle.open_calls.specs.Calls.{command_of}
+use Rattle.step_answers.specs.Asked.{command_of}
 use Rattle.stream_steps.specs.Maint.{HasTurn, EnrolsUnder}
 use Rattle.command_desk.proofs.Wholes.{turn_idle, turn_asks, parts_enrolled, under_mine, under_none}
 use Rattle.command_desk.proofs.Counted.{counted_turn_of}

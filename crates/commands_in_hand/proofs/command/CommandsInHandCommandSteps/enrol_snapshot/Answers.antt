@@ -1,7 +1,7 @@
 use Rattle.volume_core.specs.State.{state_of}
 use Rattle.std.proofs.Common.{[]}
 use Rattle.volume_model.specs.declared.call.Call.TheVariants as call
-use Rattle.open_calls.specs.Calls.{command_of}
+use Rattle.step_answers.specs.Asked.{command_of}
 use Rattle.stream_steps.specs.Maint.{EnrolsWhole}
 use Rattle.stream_steps.specs.Steps.{EnrolsAt}
 use Rattle.commands_in_hand.specs.Hand.{mine_in}

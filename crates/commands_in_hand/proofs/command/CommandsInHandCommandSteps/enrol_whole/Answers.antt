@@ -2,7 +2,7 @@ use Rattle.volume_core.specs.State.{state_of}
 use Rattle.commands_in_hand.proofs.Grown.{home_same}
 use Rattle.commands_in_hand.proofs.TurnSteps.{turn_one, turn_idle}
 use Rattle.commands_in_hand.proofs.WholeSteps.{turn_asks, under_mine, under_none, under_kept}
-use Rattle.open_calls.specs.Calls.{command_of}
+use Rattle.step_answers.specs.Asked.{command_of}
 use Rattle.commands_in_hand.proofs.command.CommandsInHandCommandSteps.enrol_whole.Goals as goal
 
 pub enrol_whole-requires-clause-idle : goal.enrol_whole-requires-clause-idle

@@ -1,5 +1,5 @@
 use Rattle.std.proofs.Common.{◌/◌, length, ap, ◌∙◌, arith}
-use Rattle.replica_node.proofs.ListedLemmas.{length-listed}
+use Rattle.sparse_image.proofs.ListedLemmas.{length-listed}
 use Rattle.replica_node.proofs.RoomLemmas.{end_within, has_pages}
 use Rattle.replica_node.proofs.WriteLemmas.{put_blocks, head_blocks_are}
 use Rattle.replica_node.proofs.node.ReplicaNode.write_blocks.Goals as goal

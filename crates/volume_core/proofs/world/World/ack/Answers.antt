@@ -1,9 +1,9 @@
 use Rattle.std.proofs.Common.{◌≡◌, refl, sym, subst, rules, arith}
 use Rattle.std.proofs.lemmas.Grind.{elements}
 use Rattle.open_calls.specs.declared.open_call.OpenCall.{OpenCall}
-use Rattle.open_calls.specs.Parts.{part_at, IsTaken}
+use Rattle.step_answers.specs.Parts.{part_at, IsTaken}
 use Rattle.open_calls.specs.Calls.{open_at, with_part_at}
-use Rattle.open_calls.specs.declared.parts.Part.TheVariants.{Acked}
+use Rattle.step_answers.specs.declared.parts.Part.TheVariants.{Acked}
 use Rattle.volume_core.specs.State.{state_of}
 use Rattle.volume_core.specs.Sound.{IsSound}
 use Rattle.volume_core.proofs.Keep.{acked_kept}

@@ -5,7 +5,7 @@ use Rattle.range_turns.specs.Order.{ticket_at}
 use Rattle.replica_node.specs.Held.{IsChained}
 use Rattle.replica_node.specs.Node.{Node}
 use Rattle.replica_node.specs.Room.{put_at}
-use Rattle.open_calls.specs.declared.parts.Part.TheVariants.{Taken}
+use Rattle.step_answers.specs.declared.parts.Part.TheVariants.{Taken}
 use Rattle.open_calls.specs.Calls.{open_at, node_at, with_part_at, whole_of}
 use Rattle.open_calls.proofs.FreeLemmas.{write_no_whole}
 use Rattle.volume_core.specs.Answers.{TakesInPlace}

@@ -7,7 +7,7 @@ use Rattle.volume_core.specs.Sound.{IsSound}
 use Rattle.volume_core.proofs.Keep.{wrote_kept}
 use Rattle.std.proofs.Common.{refl, length-set}
 use Rattle.range_turns.specs.Order.{ticket_at}
-use Rattle.open_calls.specs.declared.parts.Part.TheVariants.{Taken}
+use Rattle.step_answers.specs.declared.parts.Part.TheVariants.{Taken}
 use Rattle.open_calls.specs.Calls.{open_at, node_at, with_part_at, whole_of}
 use Rattle.replica_node.specs.Node.{Node}
 use Rattle.replica_node.specs.Room.{put_at}

@@ -1,8 +1,8 @@
 use Rattle.std.proofs.Common.{◌≡◌, sym, subst, arith}
 use Rattle.std.proofs.lemmas.Grind.{elements}
 use Rattle.open_calls.specs.declared.open_call.OpenCall.{OpenCall}
-use Rattle.open_calls.specs.declared.parts.Part.TheVariants.{Acked}
-use Rattle.open_calls.specs.Parts.{part_at}
+use Rattle.step_answers.specs.declared.parts.Part.TheVariants.{Acked}
+use Rattle.step_answers.specs.Parts.{part_at}
 use Rattle.open_calls.specs.Calls.{open_at}
 use Rattle.volume_core.specs.State.{state_of}
 use Rattle.volume_core.specs.Sound.{IsSound}

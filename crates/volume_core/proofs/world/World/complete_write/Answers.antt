@@ -7,7 +7,7 @@ use Rattle.volume_model.specs.Modes.{mode_of}
 use Rattle.volume_model.proofs.SpotLemmas.{has_source}
 use Rattle.open_calls.specs.declared.open_call.OpenCall.{OpenCall}
 use Rattle.open_calls.specs.Calls.{open_at}
-use Rattle.open_calls.specs.Parts.{part_at, is_pending_at}
+use Rattle.step_answers.specs.Parts.{part_at, is_pending_at}
 use Rattle.volume_core.specs.State.{State, state_of, modes_in}
 use Rattle.volume_core.specs.Sound.{IsSound}
 use Rattle.volume_core.proofs.Keep.{write_kept}

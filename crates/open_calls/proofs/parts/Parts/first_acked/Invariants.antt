@@ -1,7 +1,0 @@
-use Rattle.std.proofs.Common.{◌≢◌, ℕ, ◌<◌}
-use Rattle.open_calls.specs.declared.parts.Part.TheVariants.{Acked}
-use Rattle.open_calls.specs.Parts.{part_at}
-use Rattle.open_calls.proofs.parts.Parts.first_acked.Given as goal
-
-abbrev pub invariant-loop-r : goal.invariant-loop-r
-invariant-loop-r l = (k : ℕ) → k < l.r → part_at l.self k ≢ Acked

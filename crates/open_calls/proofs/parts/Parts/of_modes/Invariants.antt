@@ -1,9 +1,0 @@
-use Rattle.std.proofs.Common.{◌≡◌, map, take, length}
-use Rattle.open_calls.specs.Parts.{part_for}
-use Rattle.open_calls.proofs.parts.Parts.of_modes.Given as goal
-
-abbrev pub invariant-loop-r : goal.invariant-loop-r
-invariant-loop-r l = record {
-  count : length l.parts ≡ 8;
-  done : take l.r l.parts ≡ map part_for (take l.r l.modes);
-}
