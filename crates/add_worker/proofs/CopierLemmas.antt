@@ -126,20 +126,22 @@ pub carries_to : (side : CopySide) (source target : ℕ) → source ≢ target
     → ((h : Head) (body : List ℕ) → IsHead h → before ≡ frame h body
     → get_or begun2 (replica_for side source target) 0 ≡ number_after (get_or begun (replica_for side source target) 0)
     h.kind)
-    → ((q : ℕ) → q ≢ replica_for side source target → get_or begun2 q 0 ≡ get_or begun q 0)
+    → ((q : ℕ) → q ≢ replica_for side source target → get_or begun2 q 0 ≡ get_or begun q 0) → left2 ≡ left
     → CarriesTo side carried.Whole aborted before after (work_of left hand read told begun source target)
     (work_of left2 hand2 read2 told2 begun2 source target)
 carries_to Source source target apart left left2 hand hand2 read read2 told told2 begun begun2 before after aborted tells
-    others spelled number same = (
+    others spelled number same as_many = (
       record { told = tells; spelled = spelled; number = number },
       quiet_now (told_in told target) (told_in told2 target) (get_or begun target 0) (get_or begun2 target 0)
           (others target (λ e. apart (sym e))) (same target (λ e. apart (sym e))),
+      as_many,
     )
 carries_to Target source target apart left left2 hand hand2 read read2 told told2 begun begun2 before after aborted tells
-    others spelled number same = (
+    others spelled number same as_many = (
       record { told = tells; spelled = spelled; number = number },
       quiet_now (told_in told source) (told_in told2 source) (get_or begun source 0) (get_or begun2 source 0)
           (others source apart) (same source apart),
+      as_many,
     )
 
 pub add_at : (t r : ℕ) (o : OwnCall) (a b : Mine) → b ≡ a → HasAdd t r o a → HasAdd t r o b
@@ -187,6 +189,7 @@ came told seq xs i x d side source target is within apart left hand read before 
     (λ h body e. spelled h body e ∙ ap (λ n. frame (numbered n h) body) (sym now))
     (λ h body fits e. now ∙ number h body fits e ∙ ap (λ n. number_after n h.kind) (sym was))
     (λ q other. ap (λ l. get_or l q 0) (map-set seq xs i x) ∙ get_or-set_other (map seq xs) i q (seq x) 0 (λ e. other (e ∙ is)))
+    refl
 
 -- ---- the line failed
 

@@ -40,9 +40,9 @@ pub record AreKept (aborted aborted_still : ℕ → Type 0) (is_text is_text_sti
   pub ended : (place : ℕ) → aborted place → aborted_still place
   pub texts : (page : PageRef) (text : List ℕ) → is_text page text → is_text_still page text
 
--- the list and what is in hand are as they were
-pub record KeepsPages (old new : Copying) : Type 0 where
-  pub left : new.left ≡ old.left
+-- what is in hand is as it was, and no more pages are left
+pub record KeepsHand (old new : Copying) : Type 0 where
+  pub fewer : new.left ≤ old.left
   pub hand : new.hand ≡ old.hand
   pub read : new.read ≡ old.read
 
@@ -109,10 +109,10 @@ pub record CarriesOn (old new : OnLine) (before after : List ℕ) : Type 0 where
   pub spelled : (h : Head) (body : List ℕ) → before ≡ frame h body → after ≡ frame (numbered new.seq h) body
   pub number : (h : Head) (body : List ℕ) → IsHead h → before ≡ frame h body → new.seq ≡ number_after old.seq h.kind
 
--- a frame came through to that replica; or the line failed, and so the rebuild
+-- a frame came through to that replica, and as many pages are left; or the line failed, and so the rebuild
 abbrev pub CarriesTo : CopySide → Carried → (ℕ → Type 0) → List ℕ → List ℕ → Copying → Copying → Type 0
 CarriesTo Source carried.Whole aborted before after old new =
-    CarriesOn old.source new.source before after × IsQuiet old.target new.target
+    CarriesOn old.source new.source before after × IsQuiet old.target new.target × (new.left ≡ old.left)
 CarriesTo Target carried.Whole aborted before after old new =
-    CarriesOn old.target new.target before after × IsQuiet old.source new.source
+    CarriesOn old.target new.target before after × IsQuiet old.source new.source × (new.left ≡ old.left)
 CarriesTo side (carried.Ended place) aborted before after old new = aborted place

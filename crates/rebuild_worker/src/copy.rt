@@ -1,6 +1,6 @@
 ghost use Rattle.std.specs.Prelude.{◌≡◌, ◌≢◌, ◌≤◌, [], None, Some, Ok, true, length, IfOk, OnErr};
 ghost use Rattle.rebuild_worker.specs.declared.steps.Carried.TheVariants as carried;
-ghost use Rattle.rebuild_worker.specs.Copying.{AreKept, AreQuiet, IsFrame, KeepsPages};
+ghost use Rattle.rebuild_worker.specs.Copying.{AreKept, AreQuiet, IsFrame, KeepsHand};
 ghost use Rattle.rebuild_worker.specs.Frames.{source_request};
 ghost use Rattle.rebuild_worker.specs.Rooms.{HasPlace, HasRoom, text_in};
 ghost use Rattle.rebuild_worker.specs.Told.{CopiesPage, CopyEnds, IfEnded, IsUntold, Lists, SendsPage, TakesPage};
@@ -141,7 +141,8 @@ fn take_page<R: Wait, C: CopySteps>(
     ensures home { C.home steps.new ≡ C.home steps.old }
     ensures kept { AreKept (C.is_aborted steps.old) (C.is_aborted steps.new) (C.is_text steps.old) (C.is_text steps.new) }
     ensures stays { (f : C.Fact) → C.stays steps.old f → C.stays steps.new f }
-    ensures same { KeepsPages (C.copying steps.old) (C.copying steps.new) }
+    ensures same { KeepsHand (C.copying steps.old) (C.copying steps.new) }
+    ensures left { result ≡ Ok carried.Whole → (C.copying steps.new).left ≡ (C.copying steps.old).left }
     ensures ended { IfOk result (λ c. IfEnded c (C.is_aborted steps.new)) }
     ensures takes { result ≡ Ok carried.Whole → TakesPage page.now (text_in frame.old)
         (C.copying steps.old).source (C.copying steps.new).source }

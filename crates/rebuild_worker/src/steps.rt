@@ -1,5 +1,5 @@
-ghost use Rattle.std.specs.Prelude.{◌≡◌, ◌≤◌, None, Some, true, IfOk, OnErr, IfSome, vec_capacity};
-ghost use Rattle.rebuild_worker.specs.Copying.{AreQuiet, AreKept, CarriesTo, IsFrame, KeepsPages, ReadsTo, PutsTo, TakesTo};
+ghost use Rattle.std.specs.Prelude.{◌≡◌, ◌≤◌, None, Some, true, IfOk, OnErr, MatchOption, vec_capacity};
+ghost use Rattle.rebuild_worker.specs.Copying.{AreQuiet, AreKept, CarriesTo, IsFrame, KeepsHand, ReadsTo, PutsTo, TakesTo};
 
 use std::alloc::{AllocError, Global};
 use std::sync::Wait;
@@ -109,7 +109,7 @@ pub trait CopySteps {
         ensures home { home self.new ≡ home self.old }
         ensures kept { AreKept (is_aborted self.old) (is_aborted self.new) (is_text self.old) (is_text self.new) }
         ensures stays { (f : Fact) → stays self.old f → stays self.new f }
-        ensures same { KeepsPages (copying self.old) (copying self.new) }
+        ensures same { KeepsHand (copying self.old) (copying self.new) }
         ensures ok { IfOk result (λ c. CarriesTo side c (is_aborted self.new) frame.old frame.new
             (copying self.old) (copying self.new)) };
 
@@ -155,6 +155,6 @@ pub trait CopySteps {
         ensures kept { AreKept (is_aborted self.old) (is_aborted self.new) (is_text self.old) (is_text self.new) }
         ensures stays { (f : Fact) → stays self.old f → stays self.new f }
         ensures quiet { AreQuiet (copying self.old) (copying self.new) }
-        ensures same { KeepsPages (copying self.old) (copying self.new) }
-        ensures is { IfSome result (is_aborted self.new) };
+        ensures same { KeepsHand (copying self.old) (copying self.new) }
+        ensures is { MatchOption result ((copying self.new).left ≡ (copying self.old).left) (is_aborted self.new) };
 }

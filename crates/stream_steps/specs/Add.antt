@@ -37,17 +37,18 @@ pub record AreKept (aborted aborted_still : ℕ → Type 0) (is_page is_page_sti
   pub ended : (place : ℕ) → aborted place → aborted_still place
   pub pages : (page : PageRef) (table : Table) → is_page page table → is_page_still page table
 
--- a page that waits to be copied; none, where none is left; or the rebuild's aborted mark stands there
-abbrev pub TakesNext : NextPage → (PageRef → Type 0) → (ℕ → Type 0) → ℕ → Type 0
-TakesNext (next.Page page) awaits aborted left = awaits page × (0 < left)
-TakesNext next.All awaits aborted left = left ≡ 0
-TakesNext (next.Ended place) awaits aborted left = aborted place
+-- a page that waits to be copied, of as many as before; none, where none was left; or the rebuild's aborted mark stands
+-- there
+abbrev pub TakesNext : NextPage → (PageRef → Type 0) → (ℕ → Type 0) → ℕ → ℕ → Type 0
+TakesNext (next.Page page) awaits aborted before left = awaits page × (0 < left) × (left ≡ before)
+TakesNext next.All awaits aborted before left = (left ≡ 0) × (left ≡ before)
+TakesNext (next.Ended place) awaits aborted before left = aborted place
 
--- what the source itself has of the page: no block, or these
-abbrev pub TakesOut : PageOut → PageRef → Table → (PageRef → Table → Type 0) → (ℕ → Type 0) → Type 0
-TakesOut out.Empty page table is_page aborted = is_page page []
-TakesOut out.Blocks page table is_page aborted = is_page page table × HasBlock table
-TakesOut (out.Ended place) page table is_page aborted = aborted place
+-- what the source itself has of the page, of as many as before: no block, or these
+abbrev pub TakesOut : PageOut → PageRef → Table → (PageRef → Table → Type 0) → (ℕ → Type 0) → ℕ → ℕ → Type 0
+TakesOut out.Empty page table is_page aborted before left = is_page page [] × (left ≡ before)
+TakesOut out.Blocks page table is_page aborted before left = is_page page table × HasBlock table × (left ≡ before)
+TakesOut (out.Ended place) page table is_page aborted before left = aborted place
 
 -- one page fewer is left
 abbrev pub PutsIn : PageIn → (ℕ → Type 0) → ℕ → ℕ → Type 0

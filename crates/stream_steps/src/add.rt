@@ -1,4 +1,4 @@
-ghost use Rattle.std.specs.Prelude.{◌≡◌, ◌⊎◌, ℕ, ◌+◌, ◌≤◌, List, None, true, IfSome, Contains};
+ghost use Rattle.std.specs.Prelude.{◌≡◌, ◌⊎◌, ℕ, ◌+◌, ◌≤◌, List, None, true, IfSome, MatchOption, Contains};
 ghost use Rattle.sparse_image.specs.Image.{IsLent};
 ghost use Rattle.step_answers.specs.declared.whole_op.WholeOp.{WholeOp};
 ghost use Rattle.stream_steps.specs.Mine.{Mine, OwnCall};
@@ -57,7 +57,7 @@ pub trait AddSteps: CommandSteps {
     ghost use Rattle.sparse_image.specs.Image.{Table};
     ghost use Rattle.vol_units.specs.declared.page_ref.PageRef.{PageRef};
 
-    // How many pages of frozen layers are not listed as copied, as it was seen last.
+    // How many pages of frozen layers are not listed as copied, as it was seen last; none where no rebuild is open.
     ghost left: { Self → ℕ };
 
     // The page is of a frozen layer and not listed, or the rebuild has ended.
@@ -90,8 +90,8 @@ pub trait AddSteps: CommandSteps {
         ensures home { Self.home self.new ≡ Self.home self.old }
         ensures same { Self.mine self.new ≡ Self.mine self.old }
         ensures kept { AreKept (is_aborted self.old) (is_aborted self.new) (is_page self.old) (is_page self.new) }
-        ensures left { left self.new ≡ left self.old }
-        ensures takes { TakesNext result (awaits self.new) (is_aborted self.new) (left self.new) };
+        ensures fewer { left self.new ≤ left self.old }
+        ensures takes { TakesNext result (awaits self.new) (is_aborted self.new) (left self.old) (left self.new) };
 
     /// Copies what the source itself has of the page into a page that is lent, which stays as it is where that is
     /// nothing. It takes no memory.
@@ -111,8 +111,9 @@ pub trait AddSteps: CommandSteps {
         ensures same { Self.mine self.new ≡ Self.mine self.old }
         ensures kept { AreKept (is_aborted self.old) (is_aborted self.new) (is_page self.old) (is_page self.new) }
         ensures awaits { (p : PageRef) → awaits self.old p → awaits self.new p }
-        ensures left { left self.new ≡ left self.old }
-        ensures takes { TakesOut result page.now into.new (is_page self.new) (is_aborted self.new) };
+        ensures fewer { left self.new ≤ left self.old }
+        ensures takes { TakesOut result page.now into.new (is_page self.new) (is_aborted self.new)
+            (left self.old) (left self.new) };
 
     /// Puts a page, which went out of the source, into the replica that is rebuilt, whose own comes back, and lists it. It
     /// takes no memory.
@@ -143,8 +144,8 @@ pub trait AddSteps: CommandSteps {
         ensures same { Self.mine self.new ≡ Self.mine self.old }
         ensures kept { AreKept (is_aborted self.old) (is_aborted self.new) (is_page self.old) (is_page self.new) }
         ensures awaits { (p : PageRef) → awaits self.old p → awaits self.new p }
-        ensures left { left self.new ≡ left self.old }
-        ensures is { IfSome result (is_aborted self.new) };
+        ensures fewer { left self.new ≤ left self.old }
+        ensures is { MatchOption result (left self.new ≡ left self.old) (is_aborted self.new) };
 
     /// The stream's line to the source or to the replica that is rebuilt has failed, and so that replica: thereby the
     /// rebuild is aborted, unless it was before, and its mark's place is told.
@@ -157,7 +158,7 @@ pub trait AddSteps: CommandSteps {
             ⊎ (Self.mine self.new ≡ Self.mine self.old) }
         ensures kept { AreKept (is_aborted self.old) (is_aborted self.new) (is_page self.old) (is_page self.new) }
         ensures awaits { (p : PageRef) → awaits self.old p → awaits self.new p }
-        ensures left { left self.new ≡ left self.old }
+        ensures fewer { left self.new ≤ left self.old }
         ensures is { is_aborted self.new result };
 
     // ---- its end
