@@ -1,0 +1,4 @@
+pub mod Counted
+pub mod Laid
+pub mod View
+pub mod Rests
