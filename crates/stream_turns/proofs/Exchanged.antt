@@ -7,7 +7,7 @@ use Rattle.volume_model.specs.declared.mode.Mode.{Mode}
 use Rattle.volume_model.specs.Modes.{modes_after_entry}
 use Rattle.stream_steps.specs.Mine.{Placed}
 use Rattle.client_worker.specs.Exchanges.{IsCarried, AreCarried, CarriedHere, ExchangesShown}
-use Rattle.world_in_hand.specs.Hand.{is_own, own_entries}
+use Rattle.world_holder.specs.View.{is_own, own_entries}
 
 module _ (replicas : ℕ) (carried : ℕ → ℕ → Option (List (List ℕ))) where
   abbrev Each : List Mode → List Entry → Type 0

@@ -27,9 +27,9 @@ use Rattle.stream_steps.specs.Steps.{IsFrameCall}
 use Rattle.client_worker.specs.Exchanges.{CarriedOf, IsCarried, AreCarried, HasRead, HasWrite}
 use Rattle.client_worker.specs.Serving.{AreServed}
 use Rattle.command_worker.specs.Serving.{AreCommanded}
-use Rattle.world_in_hand.specs.Hand.{is_own_mark, is_own, own_entries}
+use Rattle.world_holder.specs.View.{is_own_mark, is_own, own_entries}
 use Rattle.stream_turns.specs.Turns.{AreWell, IsTurn}
-use Rattle.stream_turns.proofs.Own.{own_faults}
+use Rattle.world_holder.proofs.Entries.{own_counts}
 use Rattle.stream_turns.proofs.Counted.{none_counted}
 use Rattle.stream_turns.proofs.Groups.{served_groups, commanded_groups, groups_own, groups_calls}
 use Rattle.stream_turns.proofs.Turns.{log_at, frames_turn, commands_turn, back_none}
@@ -139,7 +139,7 @@ module _ (opening : Spot) (replicas w : ℕ) (before added after : List Entry) (
       (counted : (r : ℕ) → last_count w r (entries_in (own_entries w opening.modes after)) ≤ counts r)
       (carried : AreCarried replicas told (own_entries w opening.modes after)) where
     shown : (r : ℕ) → last_count w r after ≤ counts r
-    shown r = subst (λ l. last_in 0 l ≤ counts r) (own_faults w r opening.modes after) (counted r)
+    shown r = subst (λ l. last_in 0 l ≤ counts r) (own_counts w r opening.modes after) (counted r)
 
     no_count : AreWell replicas counts → (r : ℕ) → last_count w r after ≤ 0
     no_count well r = elim (cases_lt r replicas) [

@@ -1,6 +1,5 @@
 -- What a stream adds to a journal, other streams do not see: neither answers, nor faults, nor entries of their own.
-use Rattle.std.proofs.Common.{◌≡◌, ◌≢◌, ℕ, suc, Bool, true, false, cond, eqb, ◌&&◌, List, [], ◌∷◌, ◌++◌, refl, sym, ap, ◌∙◌, ne_eqb}
-use Rattle.volume_model.specs.declared.entry.Answer.{Answer}
+use Rattle.std.proofs.Common.{◌≡◌, ◌≢◌, ℕ, suc, Bool, false, cond, eqb, ◌&&◌, List, [], ◌∷◌, refl, sym, ap, ◌∙◌, ne_eqb}
 use Rattle.volume_model.specs.declared.entry.Entry.{Entry}
 use Rattle.volume_model.specs.declared.entry.Entry.TheVariants as entry
 use Rattle.volume_model.specs.declared.mark.Mark.{Mark}
@@ -8,10 +7,9 @@ use Rattle.volume_model.specs.declared.mark.Mark.TheVariants as mark
 use Rattle.volume_model.specs.declared.mode.Mode.{Mode}
 use Rattle.volume_model.specs.Faults.{count_first, fault_counts}
 use Rattle.volume_model.specs.History.{answers_from}
-use Rattle.volume_model.specs.Modes.{modes_after_entry, modes_after}
-use Rattle.stream_steps.specs.Mine.{Placed, entries_in}
+use Rattle.volume_model.specs.Modes.{modes_after_entry}
 use Rattle.volume_core.specs.Streams.{MayAppend, MayAppendMark}
-use Rattle.world_in_hand.specs.Hand.{is_own_mark, is_own, own_entries}
+use Rattle.world_holder.specs.View.{is_own_mark, own_entries}
 
 -- ---- of another stream
 
@@ -65,46 +63,3 @@ none_own w v modes (entry.Mark m ∷ es) apart own =
     let more = own_entries v after es in
     cond_false (is_own_mark v m) (record { modes = modes; entry = entry.Mark m } ∷ more) more
     (not_own_mark w v m apart own.0) ∙ none_own w v after es apart own.1
-
--- ---- of the stream itself
-
-pub own-append : (n : ℕ) (modes : List Mode) (xs ys : List Entry) → own_entries n modes (xs ++ ys) ≡ own_entries n modes xs
-    ++ own_entries n (modes_after modes xs) ys
-own-append n modes [] ys = refl
-own-append n modes (x ∷ xs) ys = by (is_own n x) (record { modes = modes; entry = x }) _ _ _
-    (own-append n (modes_after_entry modes x) xs ys)
-  where
-    by : (b : Bool) (p : Placed) (all front back : List Placed) → all ≡ front ++ back
-        → cond b (p ∷ all) all ≡ cond b (p ∷ front) front ++ back
-    by true p all front back e = ap (λ l. p ∷ l) e
-    by false p all front back e = e
-
--- its own entries tell all faults of its lines
-counted_own : (w r : ℕ) (b : Bool) (p : Placed) (more : List Placed) (m : Mark) → p.entry ≡ entry.Mark m
-    → (b ≡ false → (ns : List ℕ) → count_first w r m ns ≡ ns)
-    → fault_counts w r (entries_in (cond b (p ∷ more) more)) ≡ count_first w r m (fault_counts w r (entries_in more))
-counted_own w r true p more m is other = ap (λ e. fault_counts w r (e ∷ entries_in more)) is
-counted_own w r false p more m is other = sym (other refl (fault_counts w r (entries_in more)))
-
-unmarked : (w r : ℕ) (m : Mark) → is_own_mark w m ≡ false → (ns : List ℕ) → count_first w r m ns ≡ ns
-unmarked w r (mark.Purged part) none ns = refl
-unmarked w r (mark.Fault s q n) none ns = cond_false (eqb s w && eqb q r) (n ∷ ns) ns (ap (λ b. b && eqb q r) none)
-unmarked w r (mark.Failed q) none ns = refl
-unmarked w r (mark.Added q source name) none ns = refl
-unmarked w r (mark.Promoted q) none ns = refl
-unmarked w r (mark.Aborted q) none ns = refl
-
-either : (w r : ℕ) (b : Bool) (p : Placed) (more : List Placed) (a : Answer) → p.entry ≡ entry.Answer a
-    → fault_counts w r (entries_in (cond b (p ∷ more) more)) ≡ fault_counts w r (entries_in more)
-either w r true p more a is = ap (λ e. fault_counts w r (e ∷ entries_in more)) is
-either w r false p more a is = refl
-
-pub own_faults : (w r : ℕ) (modes : List Mode) (es : List Entry)
-    → fault_counts w r (entries_in (own_entries w modes es)) ≡ fault_counts w r es
-own_faults w r modes [] = refl
-own_faults w r modes (entry.Answer a ∷ es) =
-    either w r (eqb a.stream w) (record { modes = modes; entry = entry.Answer a }) (own_entries w modes es) a refl ∙ own_faults w r modes es
-own_faults w r modes (entry.Mark m ∷ es) =
-    let after = modes_after_entry modes (entry.Mark m) in
-    counted_own w r (is_own_mark w m) (record { modes = modes; entry = entry.Mark m }) (own_entries w after es) m refl (unmarked w r m)
-    ∙ ap (count_first w r m) (own_faults w r after es)

@@ -24,7 +24,7 @@ use Rattle.volume_core.specs.Streams.{Origin}
 use Rattle.client_worker.specs.Exchanges.{AreCarried, ExchangesShown}
 use Rattle.script_text.specs.declared.script.Script.{Script}
 use Rattle.script_text.specs.declared.script.Stream.{Stream}
-use Rattle.world_in_hand.specs.Hand.{own_entries}
+use Rattle.world_holder.specs.View.{own_entries}
 use Rattle.stream_turns.specs.declared.serving.Served.{Served}
 use Rattle.stream_turns.specs.Turn.{IsBetween, HasNoEntry, KeepsOrigin, HasTurn, HaveTurns}
 use Rattle.stream_turns.specs.Serving.{IsServed, IsServedInTurn}

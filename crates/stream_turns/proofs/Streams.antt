@@ -15,9 +15,10 @@ use Rattle.volume_model.proofs.FaultLemmas.{last_count-append}
 use Rattle.volume_model.proofs.LegalLemmas.{answers_from-append}
 use Rattle.volume_model.proofs.ServedLemmas.{behind-streams, served_streams-push}
 use Rattle.client_worker.specs.Exchanges.{AreCarried}
-use Rattle.world_in_hand.specs.Hand.{own_entries}
+use Rattle.world_holder.specs.View.{own_entries}
 use Rattle.stream_turns.specs.Turns.{AreWell, IsTurn, AreTurns}
-use Rattle.stream_turns.proofs.Own.{no_faults, no_answers, none_own, own-append}
+use Rattle.world_holder.proofs.Entries.{own-append}
+use Rattle.stream_turns.proofs.Own.{no_faults, no_answers, none_own}
 use Rattle.std.proofs.lemmas.List.Elements.{All-nil}
 use Rattle.stream_steps.specs.Mine.{Placed}
 use Rattle.client_worker.specs.Exchanges.{IsCarried}

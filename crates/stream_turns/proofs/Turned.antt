@@ -20,22 +20,18 @@ use Rattle.replica_node.specs.Volume.{volume_of_node}
 use Rattle.open_calls.proofs.Forms.{length-forms}
 use Rattle.volume_core.specs.declared.world.World.{World}
 use Rattle.volume_core.specs.State.{State, state_of, opening_of}
-use Rattle.volume_core.specs.Sound.{IsSound}
+use Rattle.volume_core.specs.Sound.{IsSound, NoneGaveUp}
 use Rattle.volume_core.specs.Streams.{Origin, origin_of}
 use Rattle.stream_steps.specs.Mine.{Mine, Log, entries_in}
 use Rattle.stream_steps.specs.Steps.{IsFrameCall}
 use Rattle.client_worker.specs.Exchanges.{told_in, AreCarried}
 use Rattle.client_worker.specs.Serving.{IsShown, Grew}
 use Rattle.command_worker.specs.Serving.{Commanded}
-use Rattle.world_in_hand.specs.declared.hand.WorldInHand.{WorldInHand}
-use Rattle.world_in_hand.specs.Hand as hand
-use Rattle.world_in_hand.specs.Hand.{own_entries}
-use Rattle.commands_in_hand.specs.declared.hand.CommandsInHand.{CommandsInHand}
-use Rattle.commands_in_hand.specs.Hand as commands
+use Rattle.world_holder.specs.View.{own_entries, view}
 use Rattle.script_text.specs.declared.script.Stream.{Stream}
 use Rattle.script_text.specs.declared.script.Stream.TheVariants as stream
 use Rattle.stream_turns.specs.Volume.{stream_calls}
-use Rattle.stream_turns.specs.Turn.{HasNoEntry, HasTurn}
+use Rattle.stream_turns.specs.Turn.{IsBetween, HasNoEntry, HasTurn}
 use Rattle.stream_turns.proofs.OneTurn.{frames_are, commands_are}
 
 pub each_ok : {T E : Type 0} (r : Result T E) {P Q : T → Type 0} → ((x : T) → P x → Q x) → IfOk r P → IfOk r Q
@@ -116,8 +112,8 @@ module _ (n m : ℕ) (w w2 : World) (sound : IsSound (state_of w2)) (origin : or
       subst (λ k. AreCarried k (told_in told) (own_entries n (opening_of s).modes s2.book.entries)) (same_replicas s s2 origin)
       (subst (AreCarried (length s2.nodes) (told_in told)) own_now shown)
 
-  pub frames_turned : (frames : List Frame) → IsShown (hand.mine_in m s2) counts told
-      → Grew (map call_of frames) (hand.mine_in n s) (hand.mine_in m s2)
+  pub frames_turned : (frames : List Frame) → IsShown (view true m s2) counts told
+      → Grew (map call_of frames) (view true n s) (view true m s2)
       → HasTurn (map call_of frames) n w w2 (λ r. slice_index_or counts r 0) (told_in told)
   frames_turned frames shown grew =
       frames_are (opening_of s) (length w.nodes.items) n s.book.entries (entries_in grew.added) s2.book.entries
@@ -126,8 +122,8 @@ module _ (n m : ℕ) (w w2 : World) (sound : IsSound (state_of w2)) (origin : or
       (counted shown.counted) (carried shown.answered)
       (map call_of frames) (frame_calls frames) grew.served
 
-  pub commands_turned : (cs : List Command) → IsShown (commands.mine_in m s2) counts told
-      → Commanded cs (commands.mine_in n s) (commands.mine_in m s2)
+  pub commands_turned : (cs : List Command) → IsShown (view true m s2) counts told
+      → Commanded cs (view true n s) (view true m s2)
       → HasTurn (map call.Command cs) n w w2 (λ r. slice_index_or counts r 0) (told_in told)
   commands_turned cs shown grew =
       commands_are (opening_of s) (length w.nodes.items) n s.book.entries grew.all s2.book.entries
@@ -136,46 +132,49 @@ module _ (n m : ℕ) (w w2 : World) (sound : IsSound (state_of w2)) (origin : or
       (counted shown.counted) (carried shown.answered)
       cs grew.done
 
--- ---- a World that was given to a worker's hands and taken back
+-- ---- a World that was given to a worker's hands as x, and taken back as x2
 
-at_home : (k n : ℕ) (v w v2 w2 : World) (asked : List Call) (counts : ℕ → ℕ) (told : ℕ → Option (List (List ℕ))) → v ≡ w
-    → k ≡ n → w2 ≡ v2 → HasTurn asked k v v2 counts told → HasTurn asked n w w2 counts told
-at_home k n v w v2 w2 asked counts told e f g turn =
-    subst (λ x. HasTurn asked n w x counts told) (sym g)
-    (subst (λ x. HasTurn asked n x v2 counts told) e
-    (subst (λ x. HasTurn asked x v v2 counts told) f turn))
+-- it is between two streams again
+pub between_again : (w v out : World) (x x2 : State) → out ≡ v → IsSound (state_of v) → v.turns.tickets ≡ [] → v.commands.items ≡ []
+    → NoneGaveUp v.gave_up.items → x ≡ state_of w → state_of v ≡ x2 → origin_of x2 ≡ origin_of x → length w.nodes.items ≤ 8
+    → IsBetween out
+between_again w v out x x2 same sound rest turns gave_up given back origin few =
+    let kept : origin_of (state_of v) ≡ origin_of (state_of w) = ap origin_of back ∙ origin ∙ ap origin_of given in
+    subst IsBetween (sym same) (record {
+      sound = sound;
+      rest = rest;
+      turns = turns;
+      gave_up = gave_up;
+      few = omega (arith, few, same_replicas (state_of w) (state_of v) kept);
+    })
 
--- the stream had no entry, and there was a count for each replica
-none_at : (k n : ℕ) (v w : World) → v ≡ w → k ≡ n → HasNoEntry n w → HasNoEntry k v
-none_at k n v w e f none = subst (λ x. HasNoEntry k x) (sym e) (subst (λ x. HasNoEntry x w) (sym f) none)
+module _ (n : ℕ) (w after out : World) (st : Stream) (counts : List ℕ) (told : List (Option (List (List ℕ)))) (same : out ≡ after)
+    (none : HasNoEntry n w) (many : length counts ≡ length w.nodes.items) (sound : IsSound (state_of after))
+    (m : ℕ) (x x2 : State) (given : x ≡ state_of w) (back : state_of after ≡ x2) (origin : origin_of x2 ≡ origin_of x) (own : m ≡ n)
+    (shown : IsShown (view true m x2) counts told) where
+  abbrev Turned : List Call → World → Type 0
+  Turned asked z = HasTurn asked n w z (λ r. slice_index_or counts r 0) (told_in told)
 
-many_at : (v w : World) (counts : List ℕ) → v ≡ w → length counts ≡ length w.nodes.items → length counts ≡ length v.nodes.items
-many_at v w counts e many = many ∙ sym (ap (λ (x : World). length x.nodes.items) e)
+  same_origin : origin_of (state_of after) ≡ origin_of (state_of w)
+  same_origin = ap origin_of back ∙ origin ∙ ap origin_of given
 
-module _ (n : ℕ) (w after : World) (st : Stream) (counts : List ℕ) (told : List (Option (List (List ℕ))))
-    (none : HasNoEntry n w) (many : length counts ≡ length w.nodes.items) (sound : IsSound (state_of after)) where
-  pub stream_of_frames : (h h2 : WorldInHand) (frames : List Frame) → st ≡ stream.Frames frames → h.world ≡ w → h.stream ≡ n
-      → after ≡ h2.world
-      → origin_of (state_of h2.world) ≡ origin_of (state_of h.world) → h2.stream ≡ h.stream
-      → IsShown (hand.mine_in h2.stream (state_of h2.world)) counts told
-      → Grew (map call_of frames) (hand.mine_in h.stream (state_of h.world)) (hand.mine_in h2.stream (state_of h2.world))
-      → HasTurn (stream_calls st) n w after (λ r. slice_index_or counts r 0) (told_in told)
-  stream_of_frames h h2 frames is world number back origin own shown grew =
-      subst (λ x. HasTurn (stream_calls x) n w after (λ r. slice_index_or counts r 0) (told_in told)) (sym is)
-      (at_home h.stream n h.world w h2.world after (map call_of frames) (λ r. slice_index_or counts r 0) (told_in told) world number back
-      (frames_turned h.stream h2.stream h.world h2.world (subst (λ x. IsSound (state_of x)) back sound) origin own counts told
-      (none_at h.stream n h.world w world number none) (many_at h.world w counts world many) frames shown grew))
+  shown_back : IsShown (view true m (state_of after)) counts told
+  shown_back = subst (λ z. IsShown (view true m z) counts told) (sym back) shown
 
-  pub stream_of_commands : (h h2 : CommandsInHand) (cs asked : List Command) → st ≡ stream.Control cs → asked ≡ cs
-      → h.world ≡ w → h.stream ≡ n → after ≡ h2.world
-      → origin_of (state_of h2.world) ≡ origin_of (state_of h.world) → h2.stream ≡ h.stream
-      → IsShown (commands.mine_in h2.stream (state_of h2.world)) counts told
-      → Commanded asked (commands.mine_in h.stream (state_of h.world)) (commands.mine_in h2.stream (state_of h2.world))
-      → HasTurn (stream_calls st) n w after (λ r. slice_index_or counts r 0) (told_in told)
-  stream_of_commands h h2 cs asked is same world number back origin own shown grew =
-      subst (λ x. HasTurn (stream_calls x) n w after (λ r. slice_index_or counts r 0) (told_in told))
-      (sym (is ∙ ap stream.Control (sym same)))
-      (at_home h.stream n h.world w h2.world after (map call.Command asked) (λ r. slice_index_or counts r 0) (told_in told)
-      world number back
-      (commands_turned h.stream h2.stream h.world h2.world (subst (λ x. IsSound (state_of x)) back sound) origin own counts told
-      (none_at h.stream n h.world w world number none) (many_at h.world w counts world many) asked shown grew))
+  pub stream_of_frames : (frames : List Frame) → st ≡ stream.Frames frames
+      → Grew (map call_of frames) (view true n x) (view true m x2) → Turned (stream_calls st) out
+  stream_of_frames frames is grew =
+      let grew_back = subst (λ z. Grew (map call_of frames) (view true n (state_of w)) (view true m z)) (sym back)
+      (subst (λ z. Grew (map call_of frames) (view true n z) (view true m x2)) given grew) in
+      subst (λ z. Turned (stream_calls z) out) (sym is)
+      (subst (Turned (map call_of frames)) (sym same)
+      (frames_turned n m w after sound same_origin own counts told none many frames shown_back grew_back))
+
+  pub stream_of_commands : (cs asked : List Command) → st ≡ stream.Control cs → asked ≡ cs
+      → Commanded asked (view true n x) (view true m x2) → Turned (stream_calls st) out
+  stream_of_commands cs asked is as_asked grew =
+      let grew_back = subst (λ z. Commanded asked (view true n (state_of w)) (view true m z)) (sym back)
+      (subst (λ z. Commanded asked (view true n z) (view true m x2)) given grew) in
+      subst (λ z. Turned (stream_calls z) out) (sym (is ∙ ap stream.Control (sym as_asked)))
+      (subst (Turned (map call.Command asked)) (sym same)
+      (commands_turned n m w after sound same_origin own counts told none many asked shown_back grew_back))

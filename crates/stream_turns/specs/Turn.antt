@@ -11,7 +11,7 @@ use Rattle.volume_core.specs.State.{state_of, opening_of}
 use Rattle.volume_core.specs.Streams.{origin_of}
 use Rattle.client_worker.specs.Asks.{IsAsked}
 use Rattle.add_worker.specs.Serving.{IsForWorker}
-use Rattle.world_in_hand.specs.Hand.{own_entries}
+use Rattle.world_holder.specs.View.{own_entries}
 use Rattle.stream_turns.specs.Turns.{IsTurn, AreTurns}
 
 -- a stream that a worker takes

@@ -7,7 +7,7 @@ use Rattle.volume_model.specs.History.{Spot, calls_of}
 use Rattle.volume_model.specs.OneWorker.{behind_entries, served_from, served, stream_of}
 use Rattle.volume_core.specs.Streams.{MayAppend}
 use Rattle.client_worker.specs.Exchanges.{AreCarried}
-use Rattle.world_in_hand.specs.Hand.{own_entries}
+use Rattle.world_holder.specs.View.{own_entries}
 
 -- the stream's lines to the replicas have not failed
 abbrev pub AreWell : ℕ → (ℕ → ℕ) → Type 0

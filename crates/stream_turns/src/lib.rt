@@ -9,4 +9,4 @@ pub use frame_wire::Head;
 pub use outer_traits::Wiring;
 pub use script_text::{Script, Sequence};
 pub use serving::{Served, heads_in, serve};
-pub use world_in_hand::World;
+pub use world_holder::World;

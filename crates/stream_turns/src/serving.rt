@@ -9,7 +9,7 @@ use outer_traits::Wiring;
 use script_text::{LinePlan, Script, Sequence, Stream};
 use std::alloc::{AllocError, Global};
 use std::sync::Wait;
-use world_in_hand::World;
+use world_holder::World;
 
 /// What the serving of streams has made.
 #[derive(Drop)]

@@ -9,12 +9,12 @@ ghost use Rattle.stream_turns.specs.Volume.{stream_calls};
 use crate::lines::{channels_of, take_back};
 use add_worker::run_commands;
 use client_worker::{Channel, run_stream};
-use commands_in_hand::CommandsInHand;
 use outer_traits::{Line, Wiring};
 use script_text::{LinePlan, Stream};
 use std::alloc::{AllocError, Global};
 use std::sync::Wait;
-use world_in_hand::{World, WorldInHand};
+use world_holder::{Hand, World};
+use world_steps::{NoGate, Steps};
 
 /// Serves one stream on lines of its own. The lines go back also where memory runs out.
 pub(crate) fn serve_stream<R: Wait, W: Wiring>(
@@ -67,16 +67,27 @@ fn run<R: Wait, L: Line + Drop>(
         (λ r. slice_index_or (map (λ c. L.count c.line) channels.new) r 0)
         (told_in (map (λ c. L.carried c.line) channels.new))) }
 {
+    let held = Box::new(alloc, world)?;
     match stream {
         Stream::Frames(frames) => {
-            let mut hand = WorldInHand::of(world, number);
-            run_stream(rt, alloc, &mut hand, channels, frames)?;
-            Ok(hand.into_world())
+            let mut steps = Steps {
+                holder: Hand::of(held, number),
+                stream: number,
+                gate: NoGate,
+                ended: 0,
+            };
+            run_stream(rt, alloc, &mut steps, channels, frames)?;
+            Ok(Box::into_inner(steps.holder.into_world(steps.stream)))
         }
         Stream::Control(commands) => {
-            let mut hand = CommandsInHand::of(world, number);
-            run_commands(rt, alloc, &mut hand, channels, commands.as_slice())?;
-            Ok(hand.into_world())
+            let mut steps = Steps {
+                holder: Hand::of(held, number),
+                stream: number,
+                gate: NoGate,
+                ended: 0,
+            };
+            run_commands(rt, alloc, &mut steps, channels, commands.as_slice())?;
+            Ok(Box::into_inner(steps.holder.into_world(steps.stream)))
         }
     }
 }

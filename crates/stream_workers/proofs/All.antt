@@ -1,8 +1,9 @@
 -- Once all seats are back, each stream has ended in the World that is taken up, and nothing is open of it.
-use Rattle.std.proofs.Common.{◌≡◌, ℕ, ◌<◌, ◌≤◌, List, [], ◌∷◌, length, map, Option, Some, None, inl, inr, sym, ap}
+use Rattle.std.proofs.Common.{◌≡◌, ℕ, false, ◌<◌, ◌≤◌, List, [], ◌∷◌, length, map, Option, Some, None, inl, inr, sym, ap}
 use Rattle.std.proofs.Common.{subst, ◌∙◌, arith, get_or, slice_index_or}
 use Rattle.std.proofs.lemmas.List.{length-map}
 use Rattle.std.specs.List.{All}
+use Rattle.std.proofs.lemmas.Bool.{false≢true}
 use Rattle.volume_model.specs.declared.call.Call.{Call}
 use Rattle.volume_model.specs.OneWorker.{stream_of}
 use Rattle.volume_core.specs.declared.world.World.{World}
@@ -18,10 +19,11 @@ use Rattle.desk_lock.specs.declared.views.Known.{Known}
 use Rattle.desk_lock.specs.Seats.{last_of}
 use Rattle.outer_traits.specs.declared.ends.Ends.{Ends}
 use Rattle.script_text.specs.declared.script.Stream.{Stream}
-use Rattle.world_desk.specs.declared.kept.WorldOnDesk.{WorldOnDesk}
-use Rattle.world_desk.specs.Laid.{laid, world_account}
-use Rattle.world_desk.proofs.Found.{found_later}
-use Rattle.client_desk.proofs.AtTurn.{silent_none}
+use Rattle.world_holder.specs.declared.kept.WorldOnDesk.{WorldOnDesk}
+use Rattle.world_holder.specs.Laid.{laid, world_account}
+use Rattle.world_holder.specs.View.{IsFound}
+use Rattle.world_holder.proofs.Found.{found_later}
+use Rattle.world_holder.proofs.Rests.{seat_none}
 use Rattle.stream_turns.specs.Volume.{stream_calls}
 use Rattle.stream_turns.specs.Turn.{IsBetween}
 use Rattle.stream_workers.specs.declared.task.Task.{Task}
@@ -65,19 +67,21 @@ module _ {L : Type 0} (ends : L → Ends) (count : L → ℕ) (told : L → Opti
 
   -- the task at a place has ended
   one_ended : (j : Task L) → IsBack ends count told d j → IsIn count told v.joined counts carried j
-      → HasEnded j.number (stream_calls j.stream) (counts j.number) (carried j.number) (laid w)
-  one_ended j b i =
+      → j.number < length (laid w).indices → HasEnded j.number (stream_calls j.stream) (counts j.number) (carried j.number) (laid w)
+  one_ended j b i there =
       let same : i.seat ≡ b.seat = some_same i.seat b.seat j.seat i.has b.has in
       let finds = pair_finds w v.joined j.number (last_of b.seat) fits.joined
       (subst (λ (x : Seat WorldOnDesk). HasPair j.number (last_of x) v.joined) same i.pair) in
       let later = found_later j.number w (last_of b.seat) finds in
+      let found : IsFound false j.number (laid (last_of b.seat)) (laid w) =
+      record { sound = fits.sound; there = there; later = later; same = λ e. absurd (false≢true e) } in
       let ended = b.ended in
       let nodes : length (laid w).nodes ≡ length j.channels.items = ap (λ (o : Origin). o.replicas) later.origin ∙ sym b.many in
       ended_noted j.number (length j.channels.items) (stream_calls j.stream) (counts_in count j.channels.items)
       (carried_in told j.channels.items) (counts j.number) (carried j.number) (laid w) fits.sound nodes
       (length-map j.channels.items (λ c. count c.line)) i.counted i.noted
       (ended_later j.number (stream_calls j.stream) (λ r. slice_index_or (counts_in count j.channels.items) r 0)
-      (told_in (carried_in told j.channels.items)) (laid (last_of b.seat)) (laid w) later ended)
+      (told_in (carried_in told j.channels.items)) (laid (last_of b.seat)) (laid w) found ended)
 
   module _ (streams : List Stream) (are : map (λ (j : Task L). j.stream) tasks ≡ streams) (made : v.made ≡ length streams)
       (many : length (laid w).indices ≡ length streams) where
@@ -94,7 +98,8 @@ module _ {L : Type 0} (ends : L → Ends) (count : L → ℕ) (told : L → Opti
         let here : stream_of (map stream_calls streams) n ≡ stream_calls j.stream =
         map_at stream_calls streams n j.stream [] (omega (arith, there, as_many))
         ∙ ap stream_calls (ap (λ l. get_or l n j.stream) (sym are) ∙ map_at (λ (j : Task L). j.stream) tasks n x j.stream there) in
-        let ended = one_ended j (back n x there) (joined n x there) in
+        let inside : j.number < length (laid w).indices = omega (arith, at, low, many, length-map streams stream_calls) in
+        let ended = one_ended j (back n x there) (joined n x there) inside in
         subst (λ css. HasEnded n css (counts n) (carried n) (laid w)) (sym here)
         (subst (λ m. HasEnded m (stream_calls j.stream) (counts m) (carried m) (laid w)) at ended)
 
@@ -102,7 +107,7 @@ module _ {L : Type 0} (ends : L → Ends) (count : L → ℕ) (told : L → Opti
     have_ended = record {
       many = many ∙ sym (length-map streams stream_calls);
       each = each_ended;
-      none = λ n past. silent_none n w (fits.rest first n (omega (arith, past, made, length-map streams stream_calls)));
+      none = λ n past. seat_none n w (fits.rest first n (omega (arith, past, made, length-map streams stream_calls)));
     }
 
 -- ---- nothing is open

@@ -9,9 +9,10 @@ use Rattle.desk_lock.specs.declared.seats.Seat.{Seat}
 use Rattle.desk_lock.specs.Seats.{last_of}
 use Rattle.outer_traits.specs.declared.ends.Ends.{Ends}
 use Rattle.script_text.specs.declared.script.Stream.{Stream}
-use Rattle.world_desk.specs.declared.kept.WorldOnDesk.{WorldOnDesk}
-use Rattle.world_desk.specs.Laid.{laid}
-use Rattle.client_desk.specs.AtDesk.{mine_at, IsAtWork}
+use Rattle.world_holder.specs.declared.kept.WorldOnDesk.{WorldOnDesk}
+use Rattle.world_holder.specs.Laid.{laid}
+use Rattle.world_holder.specs.View.{view, IsFree}
+use Rattle.world_holder.specs.Rests.{IsSeated}
 use Rattle.stream_turns.specs.Turn.{IsTaken, AreNewLines}
 use Rattle.stream_turns.specs.Volume.{heads_of}
 use Rattle.stream_workers.specs.declared.task.Task.{Task}
@@ -43,17 +44,19 @@ module _ {L : Type 0} (ends : L → Ends) (count : L → ℕ) (told : L → Opti
 
   -- a stream with a seat that has just been split off, and new lines
   pub is_task : (j : Task L) (seat : Seat WorldOnDesk) (w : WorldOnDesk) (k : ℕ) → j.seat ≡ Some seat
-      → IsAtWork d seat j.number → last_of seat ≡ w → (mine_at j.number (laid w)).running ≡ []
-      → (mine_at j.number (laid w)).entries ≡ [] → IsTaken j.stream → k ≡ length (laid w).nodes → k ≤ 8
+      → IsSeated d seat j.number → IsFree j.number (laid (last_of seat)) → last_of seat ≡ w
+      → (view false j.number (laid w)).running ≡ [] → (view false j.number (laid w)).entries ≡ []
+      → IsTaken j.stream → k ≡ length (laid w).nodes → k ≤ 8
       → AreNewLines j.number k (ends_in ends j.channels.items) (counts_in count j.channels.items)
       (carried_in told j.channels.items) → IsTask ends count told d j
-  is_task j seat w k has work last idle none taken many few lines = record {
+  is_task j seat w k has rests free last idle none taken many few lines = record {
     seat = seat;
     has = has;
     begins = record {
-      work = work;
-      idle = subst (λ (x : WorldOnDesk). (mine_at j.number (laid x)).running ≡ []) (sym last) idle;
-      none = subst (λ (x : WorldOnDesk). (mine_at j.number (laid x)).entries ≡ []) (sym last) none;
+      rests = rests;
+      free = free;
+      idle = subst (λ (x : WorldOnDesk). (view false j.number (laid x)).running ≡ []) (sym last) idle;
+      none = subst (λ (x : WorldOnDesk). (view false j.number (laid x)).entries ≡ []) (sym last) none;
     };
     taken = taken;
     few = subst (λ n. n ≤ 8) replicas few;

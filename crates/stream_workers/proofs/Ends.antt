@@ -1,6 +1,6 @@
 -- What a worker leaves of its stream at a desk, and that it stays so whatever others do.
-use Rattle.std.proofs.Common.{◌≡◌, ℕ, ◌≤◌, ◌<◌, false, List, [], ◌∷◌, ◌++◌, length, map, Option, None, inl, inr, sym}
-use Rattle.std.proofs.Common.{refl, ap, subst, ◌∙◌, arith, slice_index_or}
+use Rattle.std.proofs.Common.{◌≡◌, ℕ, ◌≤◌, ◌<◌, false, List, [], ◌++◌, length, map, Option, None, inl, inr, sym}
+use Rattle.std.proofs.Common.{ap, subst, ◌∙◌, arith, slice_index_or}
 use Rattle.std.proofs.lemmas.Bool.{cases_lt}
 use Rattle.std.proofs.lemmas.List.{get_or_past}
 use Rattle.volume_model.specs.declared.command.Command.{Command}
@@ -10,27 +10,21 @@ use Rattle.volume_model.specs.Faults.{last_count}
 use Rattle.volume_model.specs.History.{calls_of}
 use Rattle.volume_core.specs.State.{State, gave_up_at}
 use Rattle.volume_core.specs.Sound.{IsSound}
-use Rattle.volume_core.specs.Streams.{running, turning}
+use Rattle.volume_core.specs.Streams.{turning}
 use Rattle.stream_steps.specs.Mine.{Mine, Placed, entries_in}
 use Rattle.client_worker.specs.Exchanges.{told_in, AreCarried}
 use Rattle.client_worker.specs.Serving.{IsShown, Grew}
 use Rattle.command_worker.specs.Serving.{Commanded}
 use Rattle.command_worker.proofs.OwnAnswers.{own_calls, own_streams}
-use Rattle.world_in_hand.specs.Hand.{own_entries}
+use Rattle.world_holder.specs.View.{own_entries, view, IsFound}
 use Rattle.stream_turns.proofs.Groups.{served_groups, groups_calls}
 use Rattle.stream_turns.proofs.OneTurn.{told_carried}
-use Rattle.world_desk.specs.Laid.{IsLater}
-use Rattle.client_desk.specs.AtDesk as client
-use Rattle.client_desk.proofs.AtTurn as client_turn
-use Rattle.command_desk.specs.AtDesk as commands
-use Rattle.command_desk.proofs.Shapes.{has_none}
+use Rattle.world_holder.proofs.Grow.{found_same}
+use Rattle.world_holder.proofs.Open.{has_none}
 use Rattle.stream_turns.proofs.Turned.{modes_many}
 use Rattle.stream_workers.specs.Ended.{HasEnded}
-use Rattle.stream_workers.proofs.Own.{own_asked, own_last, answered}
-
-map_none : {A B : Type 0} (f : A → B) (xs : List A) → map f xs ≡ [] → xs ≡ []
-map_none f [] e = refl
-map_none f (x ∷ xs) e = absurd cc
+use Rattle.world_holder.proofs.Entries.{own_last}
+use Rattle.stream_workers.proofs.Own.{own_asked, answered}
 
 -- ---- once it has served its stream
 
@@ -42,14 +36,14 @@ module _ (n : ℕ) (s s2 : State) (counts : List ℕ) (told : List (Option (List
       → last_count n r s2.book.entries ≤ slice_index_or counts r 0
   counted shown r = subst (λ k. k ≤ slice_index_or counts r 0) (own_last n r s2.book.opening.modes s2.book.entries) (shown r)
 
-  pub frames_ended : (cs : List Call) → turning s2 n ≡ [] → (client.mine_at n s).entries ≡ []
-      → IsShown (client.mine_at n s2) counts told → Grew cs (client.mine_at n s) (client.mine_at n s2)
+  pub frames_ended : (cs : List Call) → turning s2 n ≡ [] → (view false n s).entries ≡ []
+      → IsShown (view false n s2) counts told → Grew cs (view false n s) (view false n s2)
       → HasEnded n cs (λ r. slice_index_or counts r 0) (told_in told) s2
   frames_ended cs turns none shown grew =
       let is : own ≡ grew.added = ap (λ (m : Mine). m.entries) grew.is ∙ ap (λ l. l ++ grew.added) none in
       record {
         turns = turns;
-        calls = map_none _ (running s2 n) (ap (λ (m : Mine). m.running) grew.is);
+        calls = (has_none n s2 (ap (λ (m : Mine). m.running) grew.is)).calls;
         gave_up = gave_up;
         asked = sym (own_asked n s2.book.opening.modes s2.book.entries) ∙ ap (λ ps. calls_of n (entries_in ps)) is
             ∙ groups_calls n 0 cs (entries_in grew.added) (served_groups n None cs (entries_in grew.added) grew.served);
@@ -57,8 +51,8 @@ module _ (n : ℕ) (s s2 : State) (counts : List ℕ) (told : List (Option (List
         carried = shown.answered;
       }
 
-  pub commands_ended : (cs : List Command) → (commands.mine_at n s).entries ≡ []
-      → IsShown (commands.mine_at n s2) counts told → Commanded cs (commands.mine_at n s) (commands.mine_at n s2)
+  pub commands_ended : (cs : List Command) → (view false n s).entries ≡ []
+      → IsShown (view false n s2) counts told → Commanded cs (view false n s) (view false n s2)
       → HasEnded n (map call.Command cs) (λ r. slice_index_or counts r 0) (told_in told) s2
   commands_ended cs none shown grew =
       let is : own ≡ grew.own = ap (λ (m : Mine). m.entries) grew.is ∙ ap (λ l. l ++ grew.own) none in
@@ -68,22 +62,22 @@ module _ (n : ℕ) (s s2 : State) (counts : List ℕ) (told : List (Option (List
         calls = idle.calls;
         gave_up = gave_up;
         asked = sym (own_asked n s2.book.opening.modes s2.book.entries) ∙ ap (λ ps. calls_of n (entries_in ps)) is
-            ∙ answered n (entries_in grew.own) cs (own_streams cs (commands.mine_at n s) (commands.mine_at n s2) grew)
-            ∙ own_calls cs (commands.mine_at n s) (commands.mine_at n s2) grew;
+            ∙ answered n (entries_in grew.own) cs (own_streams cs (view false n s) (view false n s2) grew)
+            ∙ own_calls cs (view false n s) (view false n s2) grew;
         counted = counted shown.counted;
         carried = shown.answered;
       }
 
 -- ---- it stays so
 
--- of a later World
+-- of a World that the stream finds
 pub ended_later : (n : ℕ) (cs : List Call) (counts : ℕ → ℕ) (told : ℕ → Option (List (List ℕ))) (s t : State)
-    → IsLater n s t → HasEnded n cs counts told s
+    → IsFound false n s t → HasEnded n cs counts told s
     → HasEnded n cs counts told t
-ended_later n cs counts told s t later ended = record {
-  turns = later.turns ∙ ended.turns;
-  calls = later.calls ∙ ended.calls;
-  gave_up = later.gave_up ∙ ended.gave_up;
+ended_later n cs counts told s t found ended = record {
+  turns = found.later.turns ∙ ended.turns;
+  calls = found.later.calls ∙ ended.calls;
+  gave_up = found.later.gave_up ∙ ended.gave_up;
   asked = sym (own_asked n t.book.opening.modes t.book.entries) ∙ ap (λ ps. calls_of n (entries_in ps)) own
       ∙ own_asked n s.book.opening.modes s.book.entries ∙ ended.asked;
   counted = λ r. subst (λ k. k ≤ counts r)
@@ -92,8 +86,8 @@ ended_later n cs counts told s t later ended = record {
   carried = subst (λ (m : Mine). AreCarried m.replicas told m.entries) (sym same) ended.carried;
 }
   where
-    same : client.mine_at n t ≡ client.mine_at n s
-    same = client_turn.later_same n s t later
+    same : view false n t ≡ view false n s
+    same = found_same false n s t found
 
     own : own_entries n t.book.opening.modes t.book.entries ≡ own_entries n s.book.opening.modes s.book.entries
     own = ap (λ (m : Mine). m.entries) same

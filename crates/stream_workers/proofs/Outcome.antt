@@ -18,14 +18,15 @@ use Rattle.stream_steps.specs.Mine.{Placed, entries_in}
 use Rattle.client_worker.specs.Exchanges.{IsCarried, AreCarried}
 use Rattle.script_text.specs.declared.script.Script.{Script}
 use Rattle.script_text.specs.declared.script.Stream.{Stream}
-use Rattle.world_in_hand.specs.Hand.{own_entries}
+use Rattle.world_holder.specs.View.{own_entries}
 use Rattle.stream_turns.specs.declared.serving.Served.{Served}
 use Rattle.stream_turns.specs.Serving.{IsServed}
 use Rattle.stream_turns.specs.Turn.{IsBetween, KeepsOrigin}
 use Rattle.stream_turns.specs.Volume.{stream_calls, heads_of}
 use Rattle.stream_turns.proofs.SoFar.{served_is}
 use Rattle.stream_workers.specs.Ended.{HaveEnded}
-use Rattle.stream_workers.proofs.Own.{own_asked, own_last}
+use Rattle.world_holder.proofs.Entries.{own_last}
+use Rattle.stream_workers.proofs.Own.{own_asked}
 
 module _ (css : List (List Call)) (counts : ℕ → ℕ → ℕ) (told : ℕ → ℕ → Option (List (List ℕ))) (w w2 : World)
     (origin : KeepsOrigin w w2) (ended : HaveEnded css counts told (state_of w2)) where

@@ -7,13 +7,11 @@ use Rattle.volume_model.specs.declared.entry.Entry.{Entry}
 use Rattle.volume_model.specs.declared.entry.Entry.TheVariants as entry
 use Rattle.volume_model.specs.declared.mark.Mark.{Mark}
 use Rattle.volume_model.specs.declared.mode.Mode.{Mode}
-use Rattle.volume_model.specs.Faults.{last_in, last_count}
 use Rattle.volume_model.specs.History.{answers_from, calls_of}
 use Rattle.volume_model.specs.Modes.{modes_after_entry}
 use Rattle.stream_steps.specs.Mine.{Placed, entries_in}
 use Rattle.command_worker.specs.OwnAnswers.{answers_in}
-use Rattle.world_in_hand.specs.Hand.{is_own_mark, own_entries}
-use Rattle.stream_turns.proofs.Own.{own_faults}
+use Rattle.world_holder.specs.View.{is_own_mark, own_entries}
 
 -- the calls answered, which do not depend on where the answers stand
 abbrev calls_at : ℕ → ℕ → List Entry → List Call
@@ -47,9 +45,6 @@ own_calls n p q modes (entry.Mark m ∷ es) =
 
 pub own_asked : (n : ℕ) (modes : List Mode) (es : List Entry) → calls_of n (entries_in (own_entries n modes es)) ≡ calls_of n es
 own_asked n modes es = own_calls n 0 0 modes es
-
-pub own_last : (n r : ℕ) (modes : List Mode) (es : List Entry) → last_count n r (entries_in (own_entries n modes es)) ≡ last_count n r es
-own_last n r modes es = ap (last_in 0) (own_faults n r modes es)
 
 -- ---- of answers that all are the stream's
 

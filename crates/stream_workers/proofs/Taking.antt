@@ -6,7 +6,7 @@ use Rattle.std.proofs.lemmas.List.{length-map}
 use Rattle.desk_lock.specs.declared.views.Known.{Known}
 use Rattle.desk_lock.specs.Seats.{last_of}
 use Rattle.outer_traits.specs.Lines.{RecordsOf}
-use Rattle.world_desk.specs.declared.kept.WorldOnDesk.{WorldOnDesk}
+use Rattle.world_holder.specs.declared.kept.WorldOnDesk.{WorldOnDesk}
 use Rattle.stream_workers.specs.declared.task.Task.{Task}
 use Rattle.stream_workers.specs.Tasks.{HasPair, IsIn, IsJoinedIn, counts_in, carried_in}
 use Rattle.stream_workers.proofs.Lists.{each_snoc}

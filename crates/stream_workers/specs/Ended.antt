@@ -7,7 +7,7 @@ use Rattle.volume_model.specs.OneWorker.{stream_of}
 use Rattle.volume_core.specs.State.{State, gave_up_at}
 use Rattle.volume_core.specs.Streams.{running, turning}
 use Rattle.client_worker.specs.Exchanges.{AreCarried}
-use Rattle.world_in_hand.specs.Hand.{own_entries}
+use Rattle.world_holder.specs.View.{own_entries}
 
 -- The stream has nothing open, and gave no rebuild up. It has these calls answered, each once and in order, and its lines
 -- tell all faults that are marked, and the exchanges of what was answered.

@@ -1,5 +1,5 @@
 -- What a worker is given, what it leaves, and what is taken in of it.
-use Rattle.std.specs.Prelude.{◌≡◌, ◌⊎◌, ℕ, ◌<◌, ◌≤◌, true, List, [], ◌∷◌, length, map, slice_index_or, Option, Some}
+use Rattle.std.specs.Prelude.{◌≡◌, ◌⊎◌, ℕ, ◌<◌, ◌≤◌, true, false, List, [], ◌∷◌, length, map, slice_index_or, Option, Some}
 use Rattle.desk_lock.specs.declared.seats.Desk.{Desk}
 use Rattle.desk_lock.specs.declared.seats.Seat.{Seat}
 use Rattle.desk_lock.specs.declared.views.Known.{Known}
@@ -9,9 +9,10 @@ use Rattle.outer_traits.specs.declared.ends.Ends.{Ends}
 use Rattle.outer_traits.specs.Lines.{AreLinesOf}
 use Rattle.client_worker.specs.declared.channel.Channel.{Channel}
 use Rattle.client_worker.specs.Exchanges.{told_in}
-use Rattle.world_desk.specs.declared.kept.WorldOnDesk.{WorldOnDesk}
-use Rattle.world_desk.specs.Laid.{laid}
-use Rattle.client_desk.specs.AtDesk.{mine_at, IsAtWork}
+use Rattle.world_holder.specs.declared.kept.WorldOnDesk.{WorldOnDesk}
+use Rattle.world_holder.specs.Laid.{laid}
+use Rattle.world_holder.specs.View.{view, IsFree}
+use Rattle.world_holder.specs.Rests.{IsSeated}
 use Rattle.stream_turns.specs.Turn.{IsTaken, AreNewLines}
 use Rattle.stream_turns.specs.Volume.{stream_calls}
 use Rattle.stream_workers.specs.declared.task.Task.{Task}
@@ -19,9 +20,10 @@ use Rattle.stream_workers.specs.Ended.{HasEnded}
 
 -- the seat is the stream's, which has done nothing yet
 pub record Begins (d : Desk WorldOnDesk) (s : Seat WorldOnDesk) (n : ℕ) : Type 0 where
-  pub work : IsAtWork d s n
-  pub idle : (mine_at n (laid (last_of s))).running ≡ []
-  pub none : (mine_at n (laid (last_of s))).entries ≡ []
+  pub rests : IsSeated d s n
+  pub free : IsFree n (laid (last_of s))
+  pub idle : (view false n (laid (last_of s))).running ≡ []
+  pub none : (view false n (laid (last_of s))).entries ≡ []
 
 -- the number was joined with that state
 abbrev pub HasPair : ℕ → WorldOnDesk → List (ℕ × WorldOnDesk) → Type 0

@@ -13,7 +13,7 @@ use std::alloc::{AllocError, Global};
 use std::sync::Wait;
 use std::thread::Threads;
 use stream_turns::{Served, World};
-use world_desk::{lay_down, take_up};
+use world_holder::{lay_down, take_up};
 
 /// Serves the streams of a script on its replicas side by side, a worker in a thread for each. The lines come from the
 /// wiring before the first worker begins, and go back to it once all have ended. Each worker passes the gate before and
@@ -73,9 +73,10 @@ fn serve_streams<R: Threads + Wait + Sync, W: Wiring, V: Wrapping<W>, G: Gate + 
         (W.counts wiring.new) (W.carried wiring.new) (state_of served.world)) }
     ensures heads { IfOk result (λ served. served.heads.items ≡ map heads_of streams.items) }
 {
+    let held = Box::new(alloc, world)?;
     let mut tasks = Vec::with_capacity(alloc, streams.len())?;
     let mut heads = Vec::with_capacity(alloc, streams.len())?;
-    let (desk, mut first) = lay_down(alloc, world)?;
+    let (desk, mut first) = lay_down(alloc, held)?;
     let dealt = deal(
         alloc, plans, replicas, streams, &desk, &mut first, wiring, wrapping, gate, &mut tasks,
     );
@@ -91,7 +92,7 @@ fn serve_streams<R: Threads + Wait + Sync, W: Wiring, V: Wrapping<W>, G: Gate + 
     if take_all_in(
         alloc, &desk, &mut first, wiring, wrapping, tasks, &mut heads,
     ) {
-        let world = take_up(desk, first);
+        let world = Box::into_inner(take_up(desk, first));
         Ok(Served { heads, world })
     } else {
         Err(AllocError)

@@ -2,7 +2,7 @@
 
 ghost use Rattle.std.specs.Prelude.{◌≡◌, ◌≤◌, true, length, map, Some, All, slice_index_or};
 ghost use Rattle.desk_lock.specs.Seats.{number_of, last_of, IsSeatOf};
-ghost use Rattle.world_desk.specs.Laid.{laid};
+ghost use Rattle.world_holder.specs.Laid.{laid};
 ghost use Rattle.client_worker.specs.Asks.{IsAsked};
 ghost use Rattle.client_worker.specs.Exchanges.{told_in};
 ghost use Rattle.add_worker.specs.Serving.{IsForWorker};
@@ -14,14 +14,13 @@ ghost use Rattle.stream_workers.specs.Ended.{HasEnded};
 ghost use Rattle.stream_workers.specs.Tasks.{Begins, IsTask, IsDone};
 
 use add_worker::run_commands;
-use client_desk::AtDesk;
 use client_worker::{Channel, Frames, run_stream};
-use command_desk::CommandsAtDesk;
 use outer_traits::{Gate, Line};
 use script_text::{Command, Stream};
 use std::alloc::Global;
 use std::sync::Wait;
-use world_desk::{Desk, Seat, WorldOnDesk};
+use world_holder::{AtSeat, Desk, Seat, WorldOnDesk};
+use world_steps::{SharedGate, Steps};
 
 /// A stream, and what its worker has: a seat, and a line to each replica.
 #[derive(Drop)]
@@ -133,15 +132,14 @@ fn serve_frames<R: Wait, L: Line + Drop, G: Gate>(
         (λ r. slice_index_or (map (λ c. L.count c.line) channels.new) r 0)
         (told_in (map (λ c. L.carried c.line) channels.new)) (laid (last_of result.0)) }
 {
-    let mut steps = AtDesk {
-        desk,
-        seat,
+    let mut steps = Steps {
+        holder: AtSeat { desk, seat },
         stream: number,
-        gate,
+        gate: SharedGate { gate },
         ended: 0,
     };
     let served = run_stream(rt, alloc, &mut steps, channels, frames).is_ok();
-    (steps.seat, served)
+    (steps.holder.seat, served)
 }
 
 /// The same of a stream of commands.
@@ -170,13 +168,12 @@ fn serve_commands<R: Wait, L: Line + Drop, G: Gate>(
         (λ r. slice_index_or (map (λ c. L.count c.line) channels.new) r 0)
         (told_in (map (λ c. L.carried c.line) channels.new)) (laid (last_of result.0)) }
 {
-    let mut steps = CommandsAtDesk::of(AtDesk {
-        desk,
-        seat,
+    let mut steps = Steps {
+        holder: AtSeat { desk, seat },
         stream: number,
-        gate,
+        gate: SharedGate { gate },
         ended: 0,
-    });
+    };
     let served = run_commands(rt, alloc, &mut steps, channels, commands).is_ok();
-    (steps.seat, served)
+    (steps.holder.seat, served)
 }

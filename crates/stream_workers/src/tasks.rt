@@ -6,13 +6,12 @@ ghost use Rattle.desk_lock.specs.Seats.{known, number_of, made_of, last_of, seat
 ghost use Rattle.outer_traits.specs.Lines.{RecordsOf};
 ghost use Rattle.stream_turns.specs.Turn.{IsTaken};
 ghost use Rattle.stream_turns.specs.Volume.{heads_of};
-ghost use Rattle.world_desk.specs.Laid.{laid};
+ghost use Rattle.world_holder.specs.Laid.{laid};
 ghost use Rattle.stream_workers.specs.Tasks.{IsTask, IsBack, IsDone, IsIn, IsJoinedIn, AreNumbered, AreDone};
 
 use crate::gated::Wrapping;
 use crate::lines::{give_lines_back, wrapped_channels};
 use crate::task::{Task, work};
-use client_desk::AtDesk;
 use outer_traits::{Gate, Line, Wiring};
 use script_text::{LinePlan, Stream};
 use std::alloc::{AllocError, Global};
@@ -20,7 +19,7 @@ use std::sync::Wait;
 use std::thread;
 use std::thread::Threads;
 use stream_turns::{Head, Sequence, heads_in};
-use world_desk::{Desk, Seat, WorldOnDesk};
+use world_holder::{AtSeat, Desk, Seat, WorldOnDesk};
 
 /// Gives each stream its seat, and its lines. Out of memory leaves the tasks of the streams before.
 pub(crate) fn deal<W: Wiring, V: Wrapping<W>, G: Gate>(
@@ -54,7 +53,7 @@ pub(crate) fn deal<W: Wiring, V: Wrapping<W>, G: Gate>(
     let mut number = 0;
     for stream in streams {
         let channels = wrapped_channels(alloc, plans, number, replicas, wiring, wrapping)?;
-        let at = AtDesk::split_off(desk, first, number, gate);
+        let at = AtSeat::split_off(desk, first, number);
         tasks.push(Task {
             number,
             stream,

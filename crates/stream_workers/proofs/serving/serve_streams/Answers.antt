@@ -1,11 +1,15 @@
-use Rattle.std.proofs.Common.{rules, ◌≡◌, true, false, length, map, All, ap, subst, ◌∙◌, arith}
+use Rattle.std.proofs.Common.{rules, ◌≡◌, true, false, length, map, All, sym, ap, subst, ◌∙◌, arith}
 use Rattle.std.specs.Prelude.{is_err}
 use Rattle.std.proofs.lemmas.List.{length-map}
 use Rattle.desk_lock.specs.Seats.{known, made_of}
+use Rattle.volume_core.specs.declared.world.World.{World}
+use Rattle.volume_core.specs.State.{state_of}
+use Rattle.volume_core.specs.Sound.{IsSound}
 use Rattle.volume_core.specs.Streams.{Origin}
-use Rattle.world_desk.specs.Laid.{laid}
-use Rattle.world_desk.specs.declared.kept.WorldOnDesk.{WorldOnDesk}
+use Rattle.world_holder.specs.Laid.{laid}
+use Rattle.world_holder.specs.declared.kept.WorldOnDesk.{WorldOnDesk}
 use Rattle.stream_turns.specs.Volume.{stream_calls}
+use Rattle.stream_workers.specs.Ended.{HaveEnded}
 use Rattle.stream_workers.proofs.Dealing.{not_err, all_back, all_numbered, all_streams, all_heads}
 use Rattle.stream_workers.proofs.All.{has_all, have_ended, between_is}
 use Rattle.stream_workers.proofs.serving.serve_streams.Goals as goal
@@ -28,8 +32,8 @@ take_all_in-requires-clause-numbered g c κs within =
     c.deal-dealt.new.tasks.items c.do_tasks-tasks.result.items c.do_tasks-tasks.ensures
     (not_err c.deal-dealt.result well c.deal-dealt.ensures.numbered)
 
-pub take_up-world-requires-clause-all : goal.take_up-world-requires-clause-all
-take_up-world-requires-clause-all g c =
+pub take_up-requires-clause-all : goal.take_up-requires-clause-all
+take_up-requires-clause-all g c =
     let well : is_err c.deal-dealt.result ≡ false = search rules in
     let dealt = c.deal-dealt.new.tasks.items in
     let tasks = c.do_tasks-tasks.result.items in
@@ -63,22 +67,29 @@ returns-then-take_all_in-clause-ended g c =
     (subst (All (λ j. j.served ≡ true)) c.as_slice.ensures.value (c.are_served.ensures served)) in
     let are = all_streams g.V.Wrapped.Line.ends g.V.Wrapped.Line.count g.V.Wrapped.Line.carried desk dealt tasks
     c.do_tasks-tasks.ensures ∙ not_err c.deal-dealt.result well c.deal-dealt.ensures.streams in
-    have_ended g.V.Wrapped.Line.ends g.V.Wrapped.Line.count g.V.Wrapped.Line.carried desk tasks
-    (known c.take_all_in.new.first) (record { world = c.take_up-world.result })
+    let ended = have_ended g.V.Wrapped.Line.ends g.V.Wrapped.Line.count g.V.Wrapped.Line.carried desk tasks
+    (known c.take_all_in.new.first) (record { world = c.take_up.result })
     (g.W.Wiring.counts c.take_all_in.new.wiring) (g.W.Wiring.carried c.take_all_in.new.wiring)
-    c.take_all_in.ensures.first.1 c.take_up-world.ensures numbered back c.take_all_in.ensures.joined c.args.streams.items are
+    c.take_all_in.ensures.first.1 c.take_up.ensures numbered back c.take_all_in.ensures.joined c.args.streams.items are
     (c.take_all_in.ensures.same.0 ∙ not_err c.deal-dealt.result well c.deal-dealt.ensures.made)
-    (ap (λ (o : Origin). o.streams) c.take_up-world.ensures.finds.same_origin
-    ∙ ap (λ (x : WorldOnDesk). length (laid x).indices) last ∙ c.requires.many)
+    (ap (λ (o : Origin). o.streams) c.take_up.ensures.finds.same_origin
+    ∙ ap (λ (x : WorldOnDesk). length (laid x).indices) last ∙ ap (λ (z : World). length z.indices.items) c.in_ok-held.ensures.ok
+    ∙ c.requires.many) in
+    subst (λ (z : World). HaveEnded (map stream_calls c.args.streams.items) (g.W.Wiring.counts c.take_all_in.new.wiring)
+    (g.W.Wiring.carried c.take_all_in.new.wiring) (state_of z)) (sym c.into_inner-world.ensures) ended
 
 pub returns-then-take_all_in-clause-between : goal.returns-then-take_all_in-clause-between
 returns-then-take_all_in-clause-between g c =
     let last = c.take_all_in.ensures.same.1 ∙ (c.deal-dealt.ensures.fresh.1 ∙ ap (λ k. k.last) c.in_ok-desk.ensures.seat) in
-    let many : length c.take_up-world.result.nodes.items ≡ length c.args.world.nodes.items =
-    ap (λ (o : Origin). o.replicas) c.take_up-world.ensures.finds.same_origin ∙ ap (λ (x : WorldOnDesk). length (laid x).nodes) last in
+    let many : length c.take_up.result.value.nodes.items ≡ length c.args.world.nodes.items =
+    ap (λ (o : Origin). o.replicas) c.take_up.ensures.finds.same_origin ∙ ap (λ (x : WorldOnDesk). length (laid x).nodes) last
+    ∙ ap (λ (z : World). length z.nodes.items) c.in_ok-held.ensures.ok in
+    let world : length c.into_inner-world.result.nodes.items ≡ length c.take_up.result.value.nodes.items =
+    ap (λ (z : World). length z.nodes.items) c.into_inner-world.ensures in
+    let sound = subst (λ (z : World). IsSound (state_of z)) (sym c.into_inner-world.ensures) c.take_up.ensures.sound in
     between_is (map stream_calls c.args.streams.items) (g.W.Wiring.counts c.take_all_in.new.wiring)
-    (g.W.Wiring.carried c.take_all_in.new.wiring) c.take_up-world.result c.take_up-world.ensures.sound
-    (omega (arith, many, c.requires.between.few)) (returns-then-take_all_in-clause-ended g c)
+    (g.W.Wiring.carried c.take_all_in.new.wiring) c.into_inner-world.result sound
+    (omega (arith, many, world, c.requires.between.few)) (returns-then-take_all_in-clause-ended g c)
 
 pub returns-then-take_all_in-clause-heads : goal.returns-then-take_all_in-clause-heads
 returns-then-take_all_in-clause-heads g c =

@@ -3,7 +3,7 @@ use Rattle.std.proofs.lemmas.List.{length-map}
 use Rattle.outer_traits.specs.Lines.{AreLinesOf}
 use Rattle.client_worker.specs.Exchanges.{told_in}
 use Rattle.desk_lock.specs.Seats.{last_of}
-use Rattle.world_desk.specs.Laid.{laid}
+use Rattle.world_holder.specs.Laid.{laid}
 use Rattle.stream_turns.specs.Volume.{stream_calls}
 use Rattle.stream_turns.proofs.Channels.{back_whole}
 use Rattle.stream_workers.specs.Ended.{HasEnded}

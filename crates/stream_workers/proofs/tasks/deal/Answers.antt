@@ -2,7 +2,7 @@ use Rattle.std.proofs.Common.{◌≡◌, ◌+◌, [], ◌∷◌, length, refl, s
 use Rattle.std.proofs.lemmas.List.{length-append}
 use Rattle.desk_lock.specs.Seats.{last_of}
 use Rattle.stream_turns.specs.Turn.{IsTaken}
-use Rattle.world_desk.specs.Laid.{laid}
+use Rattle.world_holder.specs.Laid.{laid}
 use Rattle.stream_workers.proofs.Lists.{at_next, whole_next}
 use Rattle.stream_workers.proofs.Dealing.{many_more, is_task, tasks_more, numbers_more, streams_more}
 use Rattle.stream_workers.proofs.tasks.deal.Goals as goal
@@ -30,7 +30,7 @@ loop-stream-preserved g c =
       tasks = tasks_more g.V.Wrapped.Line.ends g.V.Wrapped.Line.count g.V.Wrapped.Line.carried c.args.desk.now items
           c.push.new.self.items _ pushed inv.tasks
           (is_task g.V.Wrapped.Line.ends g.V.Wrapped.Line.count g.V.Wrapped.Line.carried c.args.desk.now _
-          c.split_off-at.result.seat (last_of c.loop-stream.first) c.args.replicas refl split.ready split.last split.idle
+          c.split_off-at.result.seat (last_of c.loop-stream.first) c.args.replicas refl split.rests split.free split.last split.idle
           split.none taken
           (c.requires.replicas.0 ∙ sym (ap (λ w. length (laid w).nodes) inv.last)) c.requires.replicas.1 c.in_ok-channels.ensures);
       numbered = numbers_more g.V.Wrapped.Line.ends g.V.Wrapped.Line.count g.V.Wrapped.Line.carried c.args.desk.now items

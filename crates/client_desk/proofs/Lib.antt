@@ -1,3 +1,0 @@
-pub mod Unlogged
-pub mod RebuildKept
-pub mod AtTurn

@@ -1,2 +1,0 @@
-pub mod AtDesk
-pub mod Rebuild

@@ -1,9 +1,0 @@
-pub mod Shapes
-pub mod Faults
-pub mod Grown
-pub mod Settled
-pub mod AtOnce
-pub mod TurnSteps
-pub mod WholeSteps
-pub mod Pages
-pub mod AddEnds

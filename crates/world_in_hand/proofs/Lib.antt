@@ -1,5 +1,0 @@
-pub mod OwnLemmas
-pub mod StepLemmas
-pub mod Answered
-pub mod AgainstLemmas
-pub mod Turns

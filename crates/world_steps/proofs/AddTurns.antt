@@ -1,0 +1,147 @@
+-- A turn of a stream whose add has the turn: what is found, what it owes, and what a look at its rebuild tells. The World that
+-- was seen as s is found as x, left as y, and seen so as u.
+use Rattle.std.proofs.Common.{◌≡◌, ℕ, ◌<◌, Bool, true, false}
+use Rattle.std.proofs.Common.{Option, None, Some, IfSome, MatchOption}
+use Rattle.std.proofs.Common.{subst, sym, refl, ap, ◌∙◌}
+use Rattle.std.specs.Prelude.{Contains}
+use Rattle.sparse_image.specs.Image.{Table}
+use Rattle.vol_units.specs.declared.page_ref.PageRef.{PageRef}
+use Rattle.volume_model.specs.declared.command.Command.TheVariants as command
+use Rattle.range_turns.specs.Order.{StandsAt}
+use Rattle.volume_model.specs.declared.entry.Entry.TheVariants as entry
+use Rattle.volume_model.specs.declared.mark.Mark.TheVariants as mark
+use Rattle.open_calls.specs.declared.open_call.OpenCall.{OpenCall}
+use Rattle.step_answers.specs.declared.whole_op.WholeOp.TheVariants as whole
+use Rattle.open_calls.specs.Calls.{open_at, node_at}
+use Rattle.open_calls.specs.Maint.{command_at}
+use Rattle.open_rebuild.specs.declared.rebuilding.Rebuilding.{Rebuilding}
+use Rattle.volume_core.specs.State.{State}
+use Rattle.volume_core.specs.Streams.{MayGo}
+use Rattle.volume_core.specs.Turn.{ForAsker, IsFreeTurn}
+use Rattle.world_holder.specs.Counted.{IsRebuildKept}
+use Rattle.world_holder.proofs.CountedLemmas.{own_turn}
+use Rattle.world_holder.proofs.Leaves.{parts_stay}
+use Rattle.stream_steps.specs.declared.add.Added.{Added}
+use Rattle.stream_steps.specs.declared.add.NextPage.{NextPage}
+use Rattle.stream_steps.specs.declared.add.NextPage.TheVariants as next
+use Rattle.stream_steps.specs.declared.add.PageOut.{PageOut}
+use Rattle.stream_steps.specs.declared.add.PageOut.TheVariants as out
+use Rattle.stream_steps.specs.Mine.{Mine, OwnCall}
+use Rattle.stream_steps.specs.Add.{HasAdd, TakesNext, TakesOut}
+use Rattle.world_holder.specs.View.{view, IsFound, Owes}
+use Rattle.world_holder.proofs.Grow.{found_same}
+use Rattle.world_steps.proofs.FrameTurns.{look_same}
+use Rattle.world_steps.proofs.GaveUp.{flag_kept}
+use Rattle.world_steps.proofs.Shapes.{has_call}
+use Rattle.world_steps.specs.Rebuild.{left_now, IsPageIn, AwaitsAt, IsEndedAt, IsNextIn, IsOutIn}
+use Rattle.world_steps.specs.Rebuild.{IsStillKnown, IsSameTo, IsStill, AddedIn}
+use Rattle.world_steps.proofs.Turns.{turn_owner, turn_stream, free_turn}
+use Rattle.world_steps.proofs.Pages.{one_more, takes_all, out_page, out_none, out_block}
+use Rattle.world_steps.proofs.Later.{found_kept, same_left, left_on, still_known}
+
+-- that the add of some replica has the turn
+abbrev pub HasSomeAdd : ℕ → Mine → Type 0
+HasSomeAdd t m = (r : ℕ) × (o : OwnCall) × HasAdd t r o m
+
+-- ---- what is found
+
+module _ (a : Bool) (n t : ℕ) (s x : State) (found : IsFound a n s x) (add : HasSomeAdd t (view a n s)) where
+  add_found : HasSomeAdd t (view a n x)
+  add_found = subst (HasSomeAdd t) (sym (found_same a n s x found)) add
+
+  pub add_kept : IsRebuildKept s.rebuild s x
+  add_kept = let h = add_found in found_kept a n t h.0 h.1 s x found.later found.sound h.2
+
+  -- what was known is known
+  pub add_known : IsStillKnown s x
+  add_known = still_known s x add_kept
+
+  -- its command is the first, and has nothing enrolled
+  pub add_stream : (command_at x.commands 0).stream ≡ n
+  add_stream = let h = add_found in turn_stream a n t x found.sound (command.Add h.0) h.1 h.2
+
+  pub add_free : IsFreeTurn x t
+  add_free = let h = add_found in free_turn a n t x found.sound (command.Add h.0) h.1 h.2
+
+  -- what a step for its asker may leave
+  pub add_go : (y : State) → ForAsker x t (λ m. MayGo m x y) → MayGo n x y
+  add_go y may = let h = add_found in turn_owner a n t x found.sound (command.Add h.0) h.1 h.2 (λ m. MayGo m x y) may
+
+  pub add_owes : (y : State) → MayGo n x y → y.whole ≡ x.whole → Owes n x y
+  add_owes y may same = record { may = may; parts = parts_stay n x y may same; counted = own_turn n x y found.sound add_stream }
+
+-- ---- a look, which leaves the World as it was found
+
+module _ (a : Bool) (n : ℕ) (s x : State) (found : IsFound a n s x) (u : State) (left : u ≡ x) where
+  pub look_to : IsSameTo a n s u
+  look_to = record { same = look_same a n s x u found left; gave_up = flag_kept a n s x x u found left refl }
+
+-- how the rebuild began of the barrier of that ticket
+pub look_added : (a : Bool) (n t : ℕ) (s x : State) → IsFound a n s x → (res : Option Added)
+    → IfSome res (λ w. (i r : ℕ) → StandsAt x.tickets t i → (open_at x.calls i).op ≡ Some (whole.Barrier r)
+    → Contains x.book.entries (entry.Mark (mark.Added r w.source w.name)))
+    → IfSome res (λ w. AddedIn t w (view a n s))
+look_added a n t s x found res told = subst (λ (m : Mine). IfSome res (λ w. AddedIn t w m)) (found_same a n s x found) (by res told)
+  where
+    row : (w : Added) → ((i r : ℕ) → StandsAt x.tickets t i → (open_at x.calls i).op ≡ Some (whole.Barrier r)
+        → Contains x.book.entries (entry.Mark (mark.Added r w.source w.name)))
+        → (b : Bool) → AddedIn t w (view b n x)
+    row w told true = λ r turn o h.
+        let c = has_call true n x t (whole.Barrier r) turn o found.sound h in
+        told c.at.place r (subst (λ k. StandsAt x.tickets k c.at.place) c.number c.at.stands)
+        (ap (λ (y : OpenCall). y.op) c.at.call ∙ c.does)
+    row w told false = tt
+
+    by : (q : Option Added) → IfSome q (λ w. (i r : ℕ) → StandsAt x.tickets t i → (open_at x.calls i).op ≡ Some (whole.Barrier r)
+        → Contains x.book.entries (entry.Mark (mark.Added r w.source w.name)))
+        → IfSome q (λ w. AddedIn t w (view a n x))
+    by (Some w) told = row w told a
+    by None told = tt
+
+module _ (a : Bool) (n t : ℕ) (s x : State) (found : IsFound a n s x) (add : HasSomeAdd t (view a n s)) (u : State) (left : u ≡ x) where
+  pub look_still : IsStill a n s u
+  look_still = record { to = look_to a n s x found u left; known = subst (IsStillKnown s) (sym left) (add_known a n t s x found add) }
+
+  -- the next page, of as many as were left
+  pub look_next : (p : NextPage) → IsNextIn p x
+      → TakesNext p (λ page. AwaitsAt u.rebuild u.ended page) (λ place. IsEndedAt u place) (left_now s.rebuild) (left_now u.rebuild)
+  look_next p y = subst (λ (z : State). TakesNext p (λ page. AwaitsAt z.rebuild z.ended page) (λ place. IsEndedAt z place)
+      (left_now s.rebuild) (left_now z.rebuild)) (sym left) (by p y)
+    where
+      kept : IsRebuildKept s.rebuild s x
+      kept = add_kept a n t s x found add
+
+      by : (p : NextPage) → IsNextIn p x
+          → TakesNext p (λ page. AwaitsAt x.rebuild x.ended page) (λ place. IsEndedAt x place) (left_now s.rebuild) (left_now x.rebuild)
+      by (next.Page page) y = (
+        subst (λ (o : Option Rebuilding). AwaitsAt o x.ended page) (sym y.1) y.2.left,
+        subst (λ (o : Option Rebuilding). 0 < left_now o) (sym y.1) (one_more x y.0 page found.sound y.1 y.2.left),
+        same_left s x kept y.0 y.1,
+      )
+      by next.All y = (takes_all x y.1, left_on s x kept y.0)
+      by (next.Ended place) y = y
+
+  -- what the source has of a page, of as many
+  pub look_out : (p : PageOut) (page : PageRef) (old new : Table) → IsOutIn p page old new x
+      → TakesOut p page new (λ q table. IsPageIn u q table) (λ place. IsEndedAt u place) (left_now s.rebuild) (left_now u.rebuild)
+  look_out p page old new y = subst (λ (z : State). TakesOut p page new (λ q table. IsPageIn z q table) (λ place. IsEndedAt z place)
+      (left_now s.rebuild) (left_now z.rebuild)) (sym left) (by p y)
+    where
+      kept : IsRebuildKept s.rebuild s x
+      kept = add_kept a n t s x found add
+
+      by : (p : PageOut) → IsOutIn p page old new x
+          → TakesOut p page new (λ q table. IsPageIn x q table) (λ place. IsEndedAt x place) (left_now s.rebuild) (left_now x.rebuild)
+      by out.Empty y = (out_none x page old new y, same_left s x kept y.b y.is.begun)
+      by out.Blocks y = (
+        out_page x page old new y,
+        out_block (node_at x.nodes y.b.source) page new y.out.0 y.out.1,
+        same_left s x kept y.b y.is.begun,
+      )
+      by (out.Ended place) y = y
+
+  -- where it was aborted, and else as many are left
+  pub look_end : (res : Option ℕ) → MatchOption res (x.ended ≡ None) (λ place. IsEndedAt x place)
+      → MatchOption res (left_now u.rebuild ≡ left_now s.rebuild) (λ place. IsEndedAt u place)
+  look_end None none = ap (λ (z : State). left_now z.rebuild) left ∙ left_on s x (add_kept a n t s x found add) none
+  look_end (Some place) is = subst (λ (z : State). IsEndedAt z place) (sym left) is

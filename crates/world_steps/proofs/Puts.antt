@@ -1,0 +1,45 @@
+-- A page comes in: what that makes of what the stream knows.
+use Rattle.std.proofs.Common.{◌≡◌, Bool, ℕ, None, Some, subst, sym, ap, ◌∙◌}
+use Rattle.sparse_image.specs.Image.{Table}
+use Rattle.vol_units.specs.declared.page_ref.PageRef.{PageRef}
+use Rattle.open_rebuild.specs.declared.rebuilding.Rebuilding.{Rebuilding}
+use Rattle.volume_core.specs.State.{State}
+use Rattle.volume_core.specs.Sound.{IsSound}
+use Rattle.volume_core.specs.Streams.{MayGo}
+use Rattle.volume_rebuild.specs.Answers.{CopiesIn}
+use Rattle.stream_steps.specs.declared.add.PageIn.{PageIn}
+use Rattle.stream_steps.specs.declared.add.PageIn.TheVariants as put
+use Rattle.stream_steps.specs.Add.{AreKept}
+use Rattle.world_holder.specs.View.{runs, view}
+use Rattle.world_holder.proofs.Grow.{only_open}
+use Rattle.world_steps.specs.Rebuild.{IsPageIn, IsEndedAt, PutsAt}
+use Rattle.world_steps.proofs.Pages.{pages_kept}
+
+not_some : (b : Rebuilding) → None ≡ Some b → ⊥
+not_some b e = cc
+
+-- ---- a page comes in
+
+module _ (s s2 : State) (page : PageRef) (old new : Table) where
+  pub put_row : (a : Bool) (n : ℕ) → MayGo n s s2 → (p : PageIn) → PutsAt p page old new s s2 → view a n s2 ≡ view a n s
+  put_row a n may put.Listed y = only_open n s s2 may a (runs n s) (ap (λ (z : State). z.book.entries) y.state)
+      (ap (λ (z : State). runs n z) y.state)
+  put_row a n may (put.Ended place) y = ap (view a n) y.1
+
+  pub puts_whole : (p : PageIn) → PutsAt p page old new s s2 → s2.whole ≡ s.whole
+  puts_whole put.Listed y = ap (λ (z : State). z.whole) y.state
+  puts_whole (put.Ended place) y = ap (λ (z : State). z.whole) y.1
+
+  pub puts_gave : (p : PageIn) → PutsAt p page old new s s2 → s2.gave_up ≡ s.gave_up
+  puts_gave put.Listed y = ap (λ (z : State). z.gave_up) y.state
+  puts_gave (put.Ended place) y = ap (λ (z : State). z.gave_up) y.1
+
+  ended_kept : CopiesIn s page old new s2 → (place : ℕ) → IsEndedAt s place → IsEndedAt s2 place
+  ended_kept y place is = absurd (not_some y.b (sym is.closed ∙ y.is.begun))
+
+  pub puts_kept : IsSound s → (p : PageIn) → PutsAt p page old new s s2 → AreKept (IsEndedAt s) (IsEndedAt s2) (IsPageIn s) (IsPageIn s2)
+  puts_kept ok put.Listed y = record { ended = ended_kept y; pages = pages_kept s s2 page old new ok y }
+  puts_kept ok (put.Ended place) y = record {
+    ended = λ at is. subst (λ (z : State). IsEndedAt z at) (sym y.1) is;
+    pages = λ p table is. subst (λ (z : State). IsPageIn z p table) (sym y.1) is;
+  }

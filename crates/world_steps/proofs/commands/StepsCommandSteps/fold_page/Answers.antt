@@ -1,0 +1,24 @@
+use Rattle.world_holder.proofs.Taken.{found_as, owes_as}
+use Rattle.world_steps.proofs.MaintTurns.{fold_flag, fold_owes, fold_same}
+use Rattle.world_steps.proofs.GaveUp.{home_kept}
+use Rattle.world_steps.proofs.commands.StepsCommandSteps.fold_page.Goals as goal
+
+pub put-requires-clause-owes : goal.put-requires-clause-owes
+put-requires-clause-owes g c =
+    owes_as c.deref_mut.ensures.value c.take-world.ensures.seen
+    (fold_owes g.H.Holder.alone c.args.self.now.stream c.args.t c.args.replica c.args.page c.args.parent.now _ _ _
+    (found_as c.deref_mut.ensures.value c.take-world.ensures.found) c.fold_in-answer.result c.requires.turn
+    c.fold_in-answer.ensures.may c.fold_in-answer.ensures.ok c.fold_in-answer.ensures.err)
+
+pub returns-clause-home : goal.returns-clause-home
+returns-clause-home g c =
+    home_kept c.take-world.ensures.home c.put.ensures.home
+    (fold_flag g.H.Holder.alone c.args.self.now.stream c.args.t c.args.replica c.args.page c.args.parent.now _ _ _
+    (found_as c.deref_mut.ensures.value c.take-world.ensures.found) c.fold_in-answer.result c.requires.turn
+    c.fold_in-answer.ensures.may c.fold_in-answer.ensures.ok c.fold_in-answer.ensures.err _ c.put.ensures.seen)
+
+pub returns-clause-same : goal.returns-clause-same
+returns-clause-same g c =
+    fold_same g.H.Holder.alone c.args.self.now.stream c.args.t c.args.replica c.args.page c.args.parent.now _ _ _
+    (found_as c.deref_mut.ensures.value c.take-world.ensures.found) c.fold_in-answer.result c.requires.turn
+    c.fold_in-answer.ensures.may c.fold_in-answer.ensures.ok c.fold_in-answer.ensures.err _ c.put.ensures.seen

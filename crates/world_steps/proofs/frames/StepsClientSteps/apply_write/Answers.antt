@@ -1,0 +1,43 @@
+use Rattle.world_holder.proofs.Taken.{found_as, owes_as}
+use Rattle.world_steps.proofs.FrameTurns.{write_owes, write_free, write_to, write_why, write_same, write_boxes}
+use Rattle.world_steps.proofs.frames.StepsClientSteps.apply_write.Goals as goal
+
+pub apply_write-answer-requires-clause-blocks : goal.apply_write-answer-requires-clause-blocks
+apply_write-answer-requires-clause-blocks g c =
+    write_boxes g.H.Holder.alone c.args.self.now.stream c.args.t c.args.blocks.now _ _ (found_as c.deref_mut.ensures.value
+    c.take-world.ensures.found) c.requires.writes
+
+pub put-requires-clause-owes : goal.put-requires-clause-owes
+put-requires-clause-owes g c =
+    owes_as c.deref_mut.ensures.value c.take-world.ensures.seen (write_owes g.H.Holder.alone c.args.self.now.stream c.args.t
+    c.args.replica c.args.blocks.now _ _ _ (found_as c.deref_mut.ensures.value c.take-world.ensures.found)
+    c.apply_write-answer.result c.requires.writes c.apply_write-answer.ensures.may c.apply_write-answer.ensures.ok
+    c.apply_write-answer.ensures.err)
+
+pub returns-clause-ready : goal.returns-clause-ready
+returns-clause-ready g c = (
+  c.put.ensures.rests,
+  write_free g.H.Holder.alone c.args.self.now.stream c.args.t c.args.replica c.args.blocks.now _ _ _ (found_as
+      c.deref_mut.ensures.value c.take-world.ensures.found) c.apply_write-answer.result c.requires.writes
+      c.apply_write-answer.ensures.may c.apply_write-answer.ensures.ok c.apply_write-answer.ensures.err _ c.put.ensures.seen
+      c.requires.ready.1,
+)
+
+pub returns-clause-ok : goal.returns-clause-ok
+returns-clause-ok g c =
+    write_to g.H.Holder.alone c.args.self.now.stream c.args.t c.args.replica c.args.blocks.now _ _ _ (found_as
+    c.deref_mut.ensures.value c.take-world.ensures.found) c.apply_write-answer.result c.requires.writes
+    c.apply_write-answer.ensures.may c.apply_write-answer.ensures.ok c.apply_write-answer.ensures.err _ c.put.ensures.seen
+
+pub returns-clause-why : goal.returns-clause-why
+returns-clause-why g c =
+    write_why g.H.Holder.alone c.args.self.now.stream c.args.t c.args.replica c.args.blocks.now _ _ _ (found_as
+    c.deref_mut.ensures.value c.take-world.ensures.found) c.apply_write-answer.result c.requires.writes
+    c.apply_write-answer.ensures.may c.apply_write-answer.ensures.ok c.apply_write-answer.ensures.err _ c.put.ensures.seen
+    c.apply_write-answer.ensures.why
+
+pub returns-clause-err : goal.returns-clause-err
+returns-clause-err g c =
+    write_same g.H.Holder.alone c.args.self.now.stream c.args.t c.args.replica c.args.blocks.now _ _ _ (found_as
+    c.deref_mut.ensures.value c.take-world.ensures.found) c.apply_write-answer.result c.requires.writes
+    c.apply_write-answer.ensures.may c.apply_write-answer.ensures.ok c.apply_write-answer.ensures.err _ c.put.ensures.seen

@@ -1,0 +1,41 @@
+use Rattle.world_holder.proofs.Taken.{found_as, owes_as}
+use Rattle.world_steps.proofs.FrameTurns.{fault_owes, fault_free, fault_to, fault_modes, fault_why, fault_same}
+use Rattle.world_steps.proofs.frames.StepsClientSteps.fault.Goals as goal
+
+pub put-requires-clause-owes : goal.put-requires-clause-owes
+put-requires-clause-owes g c =
+    owes_as c.deref_mut.ensures.value c.take-world.ensures.seen (fault_owes g.H.Holder.alone c.args.self.now.stream c.args.replica
+    c.args.count _ _ _ (found_as c.deref_mut.ensures.value c.take-world.ensures.found) c.fault-answer.result
+    c.fault-answer.ensures.may c.fault-answer.ensures.ok c.fault-answer.ensures.err)
+
+pub returns-clause-ready : goal.returns-clause-ready
+returns-clause-ready g c = (
+  c.put.ensures.rests,
+  fault_free g.H.Holder.alone c.args.self.now.stream c.args.replica c.args.count _ _ _ (found_as c.deref_mut.ensures.value
+      c.take-world.ensures.found) c.fault-answer.result c.fault-answer.ensures.may c.fault-answer.ensures.ok
+      c.fault-answer.ensures.err _ c.put.ensures.seen c.requires.ready.1,
+)
+
+pub returns-clause-ok : goal.returns-clause-ok
+returns-clause-ok g c =
+    fault_to g.H.Holder.alone c.args.self.now.stream c.args.replica c.args.count _ _ _ (found_as c.deref_mut.ensures.value
+    c.take-world.ensures.found) c.fault-answer.result c.fault-answer.ensures.may c.fault-answer.ensures.ok
+    c.fault-answer.ensures.err _ c.put.ensures.seen c.requires.ready.1
+
+pub returns-clause-failed : goal.returns-clause-failed
+returns-clause-failed g c =
+    fault_modes g.H.Holder.alone c.args.self.now.stream c.args.replica c.args.count _ _ _ (found_as c.deref_mut.ensures.value
+    c.take-world.ensures.found) c.fault-answer.result c.fault-answer.ensures.may c.fault-answer.ensures.ok
+    c.fault-answer.ensures.err _ c.put.ensures.seen
+
+pub returns-clause-why : goal.returns-clause-why
+returns-clause-why g c =
+    fault_why g.H.Holder.alone c.args.self.now.stream c.args.replica c.args.count _ _ _ (found_as c.deref_mut.ensures.value
+    c.take-world.ensures.found) c.fault-answer.result c.fault-answer.ensures.may c.fault-answer.ensures.ok
+    c.fault-answer.ensures.err _ c.put.ensures.seen c.fault-answer.ensures.why
+
+pub returns-clause-err : goal.returns-clause-err
+returns-clause-err g c =
+    fault_same g.H.Holder.alone c.args.self.now.stream c.args.replica c.args.count _ _ _ (found_as c.deref_mut.ensures.value
+    c.take-world.ensures.found) c.fault-answer.result c.fault-answer.ensures.may c.fault-answer.ensures.ok
+    c.fault-answer.ensures.err _ c.put.ensures.seen

@@ -1,0 +1,171 @@
+ghost use Rattle.std.specs.Prelude.{◌≡◌, ℕ, ◌*◌, ◌≤◌};
+ghost use Rattle.vol_units.specs.declared.size.TheConstants.{BLOCK_BYTES, LARGEST_SIZE};
+ghost use Rattle.range_turns.specs.Order.{ticket_at, StandsAt};
+ghost use Rattle.volume_core.specs.State.{state_of};
+ghost use Rattle.volume_core.specs.Sound.{IsSound};
+
+use crate::passing::{pass_admitted, pass_answered, pass_enrolled};
+use crate::steps::Steps;
+use outer_traits::Gate;
+use std::alloc::{AllocError, Global};
+use std::sync::Wait;
+use stream_steps::ClientSteps;
+use volume_core::{Admit, BlockRange, Blocks, Call, Enrolled, Mode, NotThis, TicketNumber};
+use world_holder::{Holder, World};
+
+impl<H: Holder, G: Gate> ClientSteps for Steps<H, G> {
+    ghost use Rattle.std.specs.Prelude.{ℕ};
+    ghost use Rattle.volume_core.specs.State.{modes_in};
+    ghost use Rattle.world_holder.specs.View.{view, IsFree};
+
+    ghost mine = { λ a. view H.alone a.stream (H.seen a.holder) };
+
+    ghost modes = { λ a. modes_in (H.seen a.holder) };
+
+    ghost Home = { H.Home × ℕ };
+
+    ghost home = { λ a. (H.home a.holder, a.stream) };
+
+    ghost ready = { λ a. H.rests a.holder a.stream × IsFree a.stream (H.seen a.holder) };
+
+    fn answer_now<R: Wait>(
+        &mut self,
+        rt: &R,
+        alloc: Global,
+        call: &Call,
+    ) -> Result<u64, AllocError> {
+        let mut world = self.holder.take(rt, self.stream);
+        let answer = world.answer_now(alloc, self.stream, call);
+        self.holder.put(self.stream, world);
+        pass_answered(&self.gate, self.stream, &mut self.ended, &answer);
+        answer
+    }
+
+    fn enrol<R: Wait>(
+        &mut self,
+        rt: &R,
+        alloc: Global,
+        call: &Call,
+    ) -> Result<Enrolled, AllocError> {
+        let mut world = self.holder.take(rt, self.stream);
+        let answer = world.enrol(alloc, self.stream, call);
+        self.holder.put(self.stream, world);
+        pass_enrolled(&self.gate, self.stream, &mut self.ended, &answer);
+        answer
+    }
+
+    fn range<R: Wait>(&mut self, rt: &R, t: TicketNumber) -> BlockRange {
+        let world = self.holder.take(rt, self.stream);
+        let range = range_of(&world, t);
+        self.holder.put(self.stream, world);
+        range
+    }
+
+    fn admit<R: Wait>(
+        &mut self,
+        rt: &R,
+        alloc: Global,
+        t: TicketNumber,
+    ) -> Result<Admit, AllocError> {
+        let mut world = self.holder.take(rt, self.stream);
+        let answer = world.admit(alloc, t);
+        self.holder.put(self.stream, world);
+        pass_admitted(&self.gate, self.stream, &mut self.ended, &answer);
+        answer
+    }
+
+    fn withdraw<R: Wait>(&mut self, rt: &R, t: TicketNumber) {
+        let mut world = self.holder.take(rt, self.stream);
+        world.withdraw(t);
+        self.holder.put(self.stream, world);
+    }
+
+    fn mode<R: Wait>(&mut self, rt: &R, replica: u8) -> Mode {
+        let world = self.holder.take(rt, self.stream);
+        let mode = world.mode(replica);
+        self.holder.put(self.stream, world);
+        mode
+    }
+
+    fn source<R: Wait>(&mut self, rt: &R) -> Option<u8> {
+        let world = self.holder.take(rt, self.stream);
+        let source = world.journal.source();
+        self.holder.put(self.stream, world);
+        source
+    }
+
+    fn apply_in_place<R: Wait>(
+        &mut self,
+        rt: &R,
+        t: TicketNumber,
+        replica: u8,
+    ) -> Result<bool, NotThis> {
+        let mut world = self.holder.take(rt, self.stream);
+        let answer = world.apply_in_place(t, replica);
+        self.holder.put(self.stream, world);
+        answer
+    }
+
+    fn apply_write<R: Wait>(
+        &mut self,
+        rt: &R,
+        t: TicketNumber,
+        replica: u8,
+        blocks: &mut Blocks,
+    ) -> Result<(), NotThis> {
+        let mut world = self.holder.take(rt, self.stream);
+        let answer = world.apply_write(t, replica, blocks);
+        self.holder.put(self.stream, world);
+        answer
+    }
+
+    fn apply_read<R: Wait>(
+        &mut self,
+        rt: &R,
+        t: TicketNumber,
+        replica: u8,
+        into: &mut [u8],
+    ) -> Result<(), NotThis> {
+        let mut world = self.holder.take(rt, self.stream);
+        let answer = world.apply_read(t, replica, into);
+        self.holder.put(self.stream, world);
+        answer
+    }
+
+    fn ack<R: Wait>(&mut self, rt: &R, t: TicketNumber, replica: u8) -> Result<(), NotThis> {
+        let mut world = self.holder.take(rt, self.stream);
+        let answer = world.ack(t, replica);
+        self.holder.put(self.stream, world);
+        answer
+    }
+
+    fn fault<R: Wait>(&mut self, rt: &R, replica: u8, count: u64) -> Result<(), NotThis> {
+        let mut world = self.holder.take(rt, self.stream);
+        let answer = world.fault(self.stream, replica, count);
+        self.holder.put(self.stream, world);
+        answer
+    }
+
+    fn complete<R: Wait>(&mut self, rt: &R, t: TicketNumber) -> Result<u64, NotThis> {
+        let mut world = self.holder.take(rt, self.stream);
+        let answer = world.complete(t);
+        self.holder.put(self.stream, world);
+        pass_answered(&self.gate, self.stream, &mut self.ended, &answer);
+        answer
+    }
+}
+
+// The blocks of a ticket.
+fn range_of(world: &World, t: TicketNumber) -> BlockRange
+    requires sound { IsSound (state_of world.now) }
+    requires there { (i : ℕ) × StandsAt world.now.turns.tickets t i }
+    ensures is { (i : ℕ) → StandsAt world.now.turns.tickets t i
+        → result ≡ (ticket_at world.now.turns.tickets i).range }
+    ensures up { result.first ≤ result.end }
+    ensures inside { result.end * BLOCK_BYTES ≤ LARGEST_SIZE }
+{
+    // What the largest size is, a proof learns here.
+    let _size = world.size.bytes();
+    let place = world.turns.place(t).unwrap();
+    world.turns.ticket(place).range
+}

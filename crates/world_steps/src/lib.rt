@@ -1,0 +1,15 @@
+//! A stream's steps on a World that someone holds for it: each takes it, calls the core, and puts it back.
+#![tactic(auto)]
+
+mod adds;
+mod commands;
+mod frames;
+mod gates;
+mod in_turn;
+mod looks;
+mod passing;
+mod rebuild;
+mod steps;
+
+pub use gates::{NoGate, SharedGate};
+pub use steps::Steps;
