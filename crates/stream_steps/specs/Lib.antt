@@ -2,4 +2,5 @@ pub mod Mine
 pub mod Against
 pub mod Steps
 pub mod Maint
+pub mod Seen
 pub mod Add

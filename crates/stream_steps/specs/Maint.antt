@@ -2,9 +2,7 @@
 use Rattle.std.specs.Prelude.{◌≡◌, ◌≢◌, ℕ, ◌⊎◌, true, false, List, [], ◌∷◌, ◌++◌, slice_set, None, Some, IfSome}
 use Rattle.volume_model.specs.declared.command.Command.{Command}
 use Rattle.volume_model.specs.declared.command.Command.TheVariants as command
-use Rattle.volume_model.specs.declared.call.Call.{Call}
 use Rattle.volume_model.specs.declared.call.Call.TheVariants as call
-use Rattle.volume_model.specs.declared.call.Refusal.{Refusal}
 use Rattle.volume_model.specs.declared.call.Refusal.TheVariants.{NoReplica}
 use Rattle.volume_model.specs.declared.call.Reply.{Reply}
 use Rattle.volume_model.specs.declared.call.Reply.TheVariants as reply
@@ -25,7 +23,7 @@ use Rattle.step_answers.specs.declared.parts.Part.TheVariants.{Owed, Taken, Acke
 use Rattle.step_answers.specs.declared.whole_op.WholeOp.{WholeOp}
 use Rattle.step_answers.specs.declared.whole_op.WholeOp.TheVariants as whole
 use Rattle.step_answers.specs.Asked.{command_of}
-use Rattle.step_answers.specs.Parts.{part_at, IsTaken}
+use Rattle.step_answers.specs.Parts.{part_at, is_pending_at, IsTaken}
 use Rattle.step_answers.specs.declared.answers.NotThis.{NotThis}
 use Rattle.step_answers.specs.declared.answers.NotThis.TheVariants as against
 use Rattle.step_answers.specs.declared.answers.AdmitWhole.{AdmitWhole}
@@ -134,6 +132,11 @@ abbrev pub StartsAs : WholeOp → List OwnCall → OwnCall → Mine → Mine →
 StartsAs (whole.Barrier r) turn o m m2 = StartsBarrier r turn o m m2
 StartsAs op turn o m m2 = StartsWhole turn o m m2
 
+-- it begins no rebuild
+abbrev pub IsNoBarrier : WholeOp → Type 0
+IsNoBarrier (whole.Barrier r) = ⊥
+IsNoBarrier op = Unit {0}
+
 abbrev pub AdmitsWhole : WholeOp → List OwnCall → OwnCall → AdmitWhole → Mine → Mine → Type 0
 AdmitsWhole op turn o admit.Go m m2 = StartsAs op turn o m m2
 AdmitsWhole op turn o (admit.After other) m m2 = m2 ≡ m
@@ -163,6 +166,11 @@ AgainstPart modes o r why = ⊥
 abbrev pub AgainstAckWhole : OwnCall → ℕ → NotThis → Type 0
 AgainstAckWhole o r (against.Pending q) = (q ≡ r) × (¬ IsTaken (part_at o.parts r))
 AgainstAckWhole o r why = ⊥
+
+-- it does not end: that replica has still to acknowledge its part
+abbrev pub AgainstEndWhole : List Mode → OwnCall → NotThis → Type 0
+AgainstEndWhole modes o (against.Pending r) = is_pending_at (mode_of modes r) (part_at o.parts r) ≡ true
+AgainstEndWhole modes o why = ⊥
 
 -- ---- its end
 

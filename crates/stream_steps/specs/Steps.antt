@@ -1,9 +1,9 @@
 -- What the core's steps say to the stream for which they are taken.
-use Rattle.std.specs.Prelude.{◌≡◌, ◌⊎◌, ℕ, ◌+◌, ◌*◌, ◌<◌, ℤ, true, false, List, [], ◌∷◌, ◌++◌, length, slice_set, All}
+use Rattle.std.specs.Prelude.{◌≡◌, ◌⊎◌, ℕ, ◌+◌, ◌*◌, ◌<◌, ◌≤◌, ℤ, pos, true, false, List, [], ◌∷◌, ◌++◌, length, slice_set, All}
 use Rattle.std.specs.Prelude.{is_some, Option, IfSome}
 use Rattle.vol_units.specs.Range.{place_of, blocks_around}
 use Rattle.vol_units.specs.declared.range.BlockRange.{BlockRange}
-use Rattle.vol_units.specs.declared.size.TheConstants.{BLOCK_BYTES}
+use Rattle.vol_units.specs.declared.size.TheConstants.{BLOCK_BYTES, LARGEST_SIZE}
 use Rattle.volume_model.specs.declared.call.Call.{Call}
 use Rattle.volume_model.specs.declared.call.Call.TheVariants as call
 use Rattle.volume_model.specs.declared.call.Reply.{Reply}
@@ -26,7 +26,7 @@ use Rattle.volume_model.specs.declared.entry.Entry.{Entry}
 use Rattle.volume_model.specs.declared.entry.Entry.TheVariants as entry
 use Rattle.volume_model.specs.declared.mark.Mark.{Mark}
 use Rattle.volume_model.specs.declared.mark.Mark.TheVariants as mark
-use Rattle.volume_model.specs.Modes.{HasSource}
+use Rattle.volume_model.specs.Modes.{HasSource, HasNoSource}
 use Rattle.volume_model.specs.OneWorker.{entries_at}
 use Rattle.stream_steps.specs.Mine.{Mine, OwnCall, Log, with_entries, with_more, with_running, answer_placed}
 use Rattle.stream_steps.specs.Mine.{fault_placed, length_of, log_length}
@@ -67,6 +67,17 @@ IsStartedWrite o = (o.started ≡ true) × IsWriteCall o.call
 
 abbrev pub IsStartedRead : OwnCall → Type 0
 IsStartedRead o = (o.started ≡ true) × IsReadCall o.call
+
+-- so many bytes from the offset on lie within the largest volume
+pub record HasPlaces (offset : ℤ) (n : ℕ) : Type 0 where
+  pub from : offset ≡ pos (place_of offset)
+  pub inside : place_of offset + n ≤ LARGEST_SIZE
+
+-- those of a read or a write do
+abbrev pub IsWithin : Call → Type 0
+IsWithin (call.Read offset n) = HasPlaces offset n
+IsWithin (call.Write offset bytes) = HasPlaces offset (length bytes)
+IsWithin c = Unit {0}
 
 -- the call is open now, under that ticket, and has not started; its caller saw what there is
 pub record EnrolsAt (t : ℕ) (c : Call) (m m2 : Mine) : Type 0 where
@@ -109,13 +120,14 @@ pub record Answers (o : OwnCall) (m m2 : Mine) : Type 0 where
   pub read : (bytes : List ℕ) → answer.reply ≡ reply.Read bytes
       → (bytes ≡ o.buffer) × ((r : ℕ) × (r < m.replicas) × (part_at o.parts r ≡ Acked))
 
--- the same, with nothing carried
+-- the same, with nothing carried, since no replica is read and written
 pub record Refuses (o : OwnCall) (m m2 : Mine) : Type 0 where
   pub ends : Answers o m m2
+  pub lost : HasNoSource ends.modes
   pub uncarried : IsUncarried o.call ends.answer.reply
 
 abbrev pub EnrolsTo : Call → Enrolled → Mine → Mine → Type 0
-EnrolsTo c (enrol.Ticket t) m m2 = EnrolsAt t c m m2
+EnrolsTo c (enrol.Ticket t) m m2 = EnrolsAt t c m m2 × IsWithin c
 EnrolsTo c (enrol.OutOfRange place) m m2 = AnswersNow c m m2
 
 -- ---- started
@@ -147,6 +159,8 @@ pub record StartsCall (o : OwnCall) (j : Job) (m m2 : Mine) : Type 0 where
   pub same : own ≡ record o { started = true; whole = own.whole; buffer = own.buffer; parts = own.parts }
   pub of : IsStarted o.call own
   pub job : IsJobFor o.call j own
+  pub range : j.range ≡ own.range
+  pub asks : j.parts ≡ own.parts
   pub none : (r : ℕ) → part_at own.parts r ≡ Acked → ⊥
   pub source : IfSome m.log (λ log. HasSource log.spot.modes)
 

@@ -1,14 +1,16 @@
-ghost use Rattle.std.specs.Prelude.{◌≡◌, ◌⊎◌, ℕ, ◌+◌, ◌≤◌, List, None, true, IfSome, MatchOption, Contains};
+ghost use Rattle.std.specs.Prelude.{◌≡◌, ◌≢◌, ◌⊎◌, ℕ, ◌<◌, ◌≤◌, List, None, Ok, true, false, IfOk, OnErr, IfSome, MatchOption};
 ghost use Rattle.sparse_image.specs.Image.{IsLent};
 ghost use Rattle.step_answers.specs.declared.whole_op.WholeOp.{WholeOp};
-ghost use Rattle.stream_steps.specs.Mine.{Mine, OwnCall};
+ghost use Rattle.volume_model.specs.Faults.{last_count};
+ghost use Rattle.stream_steps.specs.Mine.{Mine, OwnCall, entries_in};
 ghost use Rattle.stream_steps.specs.Steps.{FallsTo};
 ghost use Rattle.stream_steps.specs.Maint.{HasWhole};
-ghost use Rattle.stream_steps.specs.Add.{AreKept, EndsAborted, HasAdd, IsAddedBy, LeavesAdd, Promotes, PutsIn, TakesNext, TakesOut};
+ghost use Rattle.stream_steps.specs.Add.{AdmitsBarrier, AreKept, EndsAborted, HasAdd, IfBegun, IsNoWait, IsStillUnbegun, LeavesAdd, Promotes, PutsIn, TakesNext, TakesOut, WaitsBarrier};
 
 use crate::command::CommandSteps;
 use range_turns::TicketNumber;
 use sparse_image::Page;
+use std::alloc::{AllocError, Global};
 use std::sync::Wait;
 use vol_units::{LayerName, PageRef};
 
@@ -50,6 +52,19 @@ pub struct Added {
     pub name: LayerName,
 }
 
+/// What asking to start the barrier of an add comes to.
+#[derive(Clone, Copy, Debug, PartialEq, Eq)]
+pub enum AdmitBarrier {
+    /// It has started, and its rebuild has begun so.
+    Go(Added),
+    /// It has to wait for that ticket.
+    After(TicketNumber),
+    /// It may not begin: the add's rebuild was begun already, or there is no such replica.
+    Never,
+    /// The add is refused, and answered so.
+    Refused,
+}
+
 /// The core's steps of a rebuild, as the worker of the stream takes them whose add has the maintenance turn, each whole by
 /// itself. The barrier is an operation on the whole volume, and its steps are those of `CommandSteps`.
 pub trait AddSteps: CommandSteps {
@@ -69,16 +84,32 @@ pub trait AddSteps: CommandSteps {
     // The rebuild's aborted mark stands at that place of the journal.
     ghost is_aborted: { Self → ℕ → Type 0 };
 
-    /// How the rebuild of the started barrier began, as its mark tells.
-    fn added<R: Wait>(&mut self, rt: &R, t: TicketNumber) -> Added
+    /// Starts the barrier, where no earlier call is in its way, and with it the rebuild.
+    fn admit_barrier<R: Wait>(
+        &mut self,
+        rt: &R,
+        alloc: Global,
+        t: TicketNumber,
+    ) -> Result<AdmitBarrier, AllocError>
         requires ready { Self.ready self.old }
-        requires started { (r : ℕ) × (turn : List OwnCall) × (o : OwnCall)
-            × HasWhole t (WholeOp.Barrier r) turn o (Self.mine self.old) × (o.started ≡ true) }
+        requires open { (r : ℕ) × (turn : List OwnCall) × (o : OwnCall)
+            × HasWhole t (WholeOp.Barrier r) turn o (Self.mine self.old) × (o.started ≡ false) }
         ensures ready { Self.ready self.new }
         ensures home { Self.home self.new ≡ Self.home self.old }
-        ensures same { Self.mine self.new ≡ Self.mine self.old }
-        ensures is { IfSome (Self.mine self.old).log (λ log. (r : ℕ) (turn : List OwnCall) (o : OwnCall)
-            → HasWhole t (WholeOp.Barrier r) turn o (Self.mine self.old) → IsAddedBy r result log) };
+        ensures ok { IfOk result (λ a. (r : ℕ) (turn : List OwnCall) (o : OwnCall)
+            → HasWhole t (WholeOp.Barrier r) turn o (Self.mine self.old)
+            → AdmitsBarrier r turn o a (Self.mine self.old) (Self.mine self.new)) }
+        ensures begun { IfOk result (λ a. (r : ℕ) (turn : List OwnCall) (o : OwnCall)
+            → HasWhole t (WholeOp.Barrier r) turn o (Self.mine self.old)
+            → IfBegun a r (Self.mine self.old).replicas (Self.begun self.new false)) }
+        ensures unbegun { IfOk result (λ a. IsStillUnbegun a (Self.unbegun self.old) (Self.unbegun self.new)) }
+        ensures never { result ≡ Ok AdmitBarrier.Never → (r : ℕ) (turn : List OwnCall) (o : OwnCall)
+            → HasWhole t (WholeOp.Barrier r) turn o (Self.mine self.old)
+            → r < (Self.mine self.old).replicas → ¬ Self.unbegun self.old }
+        ensures waits { IfOk result (λ a. WaitsBarrier t a (Self.seen self.new)) }
+        ensures free { IfOk result (λ a. IfSome (Self.mine self.old).log (λ log. IsNoWait a)) }
+        ensures err { OnErr result (Self.mine self.new ≡ Self.mine self.old) }
+        ensures kept { OnErr result (Self.unbegun self.old → Self.unbegun self.new) };
 
     // ---- pages
 
@@ -90,6 +121,7 @@ pub trait AddSteps: CommandSteps {
         ensures home { Self.home self.new ≡ Self.home self.old }
         ensures same { Self.mine self.new ≡ Self.mine self.old }
         ensures kept { AreKept (is_aborted self.old) (is_aborted self.new) (is_page self.old) (is_page self.new) }
+        ensures begun { (source r : ℕ) → Self.begun self.old true source r → Self.begun self.new true source r }
         ensures fewer { left self.new ≤ left self.old }
         ensures takes { TakesNext result (awaits self.new) (is_aborted self.new) (left self.old) (left self.new) };
 
@@ -111,6 +143,7 @@ pub trait AddSteps: CommandSteps {
         ensures same { Self.mine self.new ≡ Self.mine self.old }
         ensures kept { AreKept (is_aborted self.old) (is_aborted self.new) (is_page self.old) (is_page self.new) }
         ensures awaits { (p : PageRef) → awaits self.old p → awaits self.new p }
+        ensures begun { (source r : ℕ) → Self.begun self.old true source r → Self.begun self.new true source r }
         ensures fewer { left self.new ≤ left self.old }
         ensures takes { TakesOut result page.now into.new (is_page self.new) (is_aborted self.new)
             (left self.old) (left self.new) };
@@ -132,6 +165,7 @@ pub trait AddSteps: CommandSteps {
         ensures home { Self.home self.new ≡ Self.home self.old }
         ensures same { Self.mine self.new ≡ Self.mine self.old }
         ensures kept { AreKept (is_aborted self.old) (is_aborted self.new) (is_page self.old) (is_page self.new) }
+        ensures begun { (source r : ℕ) → Self.begun self.old true source r → Self.begun self.new true source r }
         ensures fewer { left self.new ≤ left self.old }
         ensures puts { PutsIn result (is_aborted self.new) (left self.old) (left self.new) };
 
@@ -144,7 +178,9 @@ pub trait AddSteps: CommandSteps {
         ensures same { Self.mine self.new ≡ Self.mine self.old }
         ensures kept { AreKept (is_aborted self.old) (is_aborted self.new) (is_page self.old) (is_page self.new) }
         ensures awaits { (p : PageRef) → awaits self.old p → awaits self.new p }
+        ensures begun { (source r : ℕ) → Self.begun self.old true source r → Self.begun self.new true source r }
         ensures fewer { left self.new ≤ left self.old }
+        ensures not { result ≡ None → (place : ℕ) → ¬ is_aborted self.new place }
         ensures is { MatchOption result (left self.new ≡ left self.old) (is_aborted self.new) };
 
     /// The stream's line to the source or to the replica that is rebuilt has failed, and so that replica: thereby the
@@ -152,19 +188,23 @@ pub trait AddSteps: CommandSteps {
     fn copy_fault<R: Wait>(&mut self, rt: &R, t: TicketNumber, replica: u8, count: u64) -> u64
         requires ready { Self.ready self.old }
         requires turn { (r : ℕ) × (o : OwnCall) × HasAdd t r o (Self.mine self.old) }
+        requires end { (source r : ℕ) × Self.begun self.old true source r × ((replica ≡ source) ⊎ (replica ≡ r)) }
+        // The count is above that of the line's last mark, so that the core has to take it.
+        requires above { last_count (Self.mine self.old).stream replica (entries_in (Self.mine self.old).entries) < count }
         ensures ready { Self.ready self.new }
         ensures home { Self.home self.new ≡ Self.home self.old }
         ensures fell { FallsTo replica count (Self.mine self.old) (Self.mine self.new)
             ⊎ (Self.mine self.new ≡ Self.mine self.old) }
         ensures kept { AreKept (is_aborted self.old) (is_aborted self.new) (is_page self.old) (is_page self.new) }
         ensures awaits { (p : PageRef) → awaits self.old p → awaits self.new p }
+        ensures begun { (source r : ℕ) → Self.begun self.old true source r → Self.begun self.new true source r }
         ensures fewer { left self.new ≤ left self.old }
         ensures is { is_aborted self.new result };
 
     // ---- its end
 
-    /// Promotes the replica that is rebuilt, and answers the add that it is done. None: no rebuild of it is open past its
-    /// barrier, or a page is not listed.
+    /// Promotes the replica that is rebuilt, and answers the add that it is done. None: its rebuild was aborted, or a page
+    /// is not listed.
     fn promote<R: Wait>(&mut self, rt: &R, t: TicketNumber) -> Option<u64>
         requires ready { Self.ready self.old }
         requires turn { (r : ℕ) × (o : OwnCall) × HasAdd t r o (Self.mine self.old) }
@@ -172,9 +212,16 @@ pub trait AddSteps: CommandSteps {
         ensures home { Self.home self.new ≡ Self.home self.old }
         ensures done { IfSome result (λ place. (r : ℕ) (o : OwnCall) → HasAdd t r o (Self.mine self.old)
             → Promotes r o (Self.mine self.old) (Self.mine self.new)) }
+        // A page is left, or the rebuild was aborted.
+        ensures why { result ≡ None → (source r : ℕ) → Self.begun self.old true source r
+            → (0 < left self.new) ⊎ ((place : ℕ) × is_aborted self.new place) }
+        ensures kept { result ≡ None
+            → AreKept (is_aborted self.old) (is_aborted self.new) (is_page self.old) (is_page self.new) }
+        ensures fewer { result ≡ None → left self.new ≤ left self.old }
         ensures none { result ≡ None → Self.mine self.new ≡ Self.mine self.old };
 
-    /// Answers the add that its rebuild was aborted, whose mark stands at that place. None: it was not.
+    /// Answers the add that its rebuild was aborted, whose mark stands at that place. None: it was not, or an operation on
+    /// the whole volume has started.
     fn end_aborted<R: Wait>(&mut self, rt: &R, t: TicketNumber, place: u64) -> Option<u64>
         requires ready { Self.ready self.old }
         requires turn { (r : ℕ) × (o : OwnCall) × HasAdd t r o (Self.mine self.old) }
@@ -182,6 +229,10 @@ pub trait AddSteps: CommandSteps {
         ensures home { Self.home self.new ≡ Self.home self.old }
         ensures done { IfSome result (λ at. (r : ℕ) (o : OwnCall) → HasAdd t r o (Self.mine self.old)
             → EndsAborted r place o (Self.mine self.old) (Self.mine self.new)) }
+        // It was not aborted there, or an operation on the whole volume has started, which ends first.
+        ensures why { result ≡ None → is_aborted self.new place → (Self.seen self.new).whole ≢ None }
+        ensures kept { result ≡ None
+            → AreKept (is_aborted self.old) (is_aborted self.new) (is_page self.old) (is_page self.new) }
         ensures none { result ≡ None → Self.mine self.new ≡ Self.mine self.old };
 
     /// Gives the turn of the add back, once memory ran out. Where its rebuild is open it is aborted, and where it was

@@ -1,17 +1,17 @@
-ghost use Rattle.std.specs.Prelude.{◌≡◌, ℕ, ◌*◌, ◌<◌, ◌≤◌, [], length, true, false, Ok, OnOk, OnErr, IfOk, IfErr, IfSome, MatchOption};
-ghost use Rattle.vol_units.specs.declared.size.TheConstants.{BLOCK_BYTES, LARGEST_SIZE};
+ghost use Rattle.std.specs.Prelude.{◌≡◌, ℕ, ◌<◌, [], length, true, false, Ok, OnOk, OnErr, IfOk, IfErr, IfSome, MatchOption};
 ghost use Rattle.volume_model.specs.Modes.{mode_of, IsSource, HasNoSource};
 ghost use Rattle.step_answers.specs.Asked.{IsNow, IsOnRange};
 ghost use Rattle.stream_steps.specs.Mine.{Mine, OwnCall, IsOwn, with_running};
 ghost use Rattle.stream_steps.specs.Against.{AgainstTake, AgainstGive, RefusesAck, RefusesFault, RefusesEnd};
 ghost use Rattle.stream_steps.specs.Steps.{HasNotStarted, HasStarted, IsStartedWrite, IsStartedRead, IsFrameCall, IsOnBlocks, EnrolsTo, AnswersNow, Answers, AdmitsTo, IsNotAfter, AreBlocksOfCall, TakesTo, AcksTo, FaultsTo};
+ghost use Rattle.stream_steps.specs.Seen.{AsksAll, IsNextUp, WaitsAs};
 
+use crate::on_replica::OnReplica;
 use range_turns::TicketNumber;
 use sparse_image::Blocks;
 use std::alloc::{AllocError, Global};
 use std::sync::Wait;
 use step_answers::{Admit, Enrolled, NotThis};
-use vol_units::BlockRange;
 use volume_model::{Call, Mode};
 
 /// The core's steps for one stream, each whole by itself. What others do between two of them is not said.
@@ -19,12 +19,16 @@ pub trait ClientSteps {
     ghost use Rattle.std.specs.Prelude.{List};
     ghost use Rattle.volume_model.specs.declared.mode.Mode.{Mode};
     ghost use Rattle.stream_steps.specs.Mine.{Mine};
+    ghost use Rattle.stream_steps.specs.Seen.{Seen};
 
     /// What is known of the own stream.
     ghost mine: { Self → Mine };
 
     // The mode of each replica, as it was seen last.
     ghost modes: { Self → List Mode };
+
+    // What the last step saw.
+    ghost seen: { Self → Seen };
 
     // What no step changes.
     ghost Home: { Type 0 };
@@ -55,17 +59,6 @@ pub trait ClientSteps {
         ensures ok { IfOk result (λ e. EnrolsTo call.now e (mine self.old) (mine self.new)) }
         ensures err { OnErr result (mine self.new ≡ mine self.old) };
 
-    /// The blocks of the open call.
-    fn range<R: Wait>(&mut self, rt: &R, t: TicketNumber) -> BlockRange
-        requires ready { ready self.old }
-        requires own { (o : OwnCall) × IsOwn t o (mine self.old) }
-        ensures ready { ready self.new }
-        ensures home { home self.new ≡ home self.old }
-        ensures same { mine self.new ≡ mine self.old }
-        ensures is { (o : OwnCall) → IsOwn t o (mine self.old) → result ≡ o.range }
-        ensures up { result.first ≤ result.end }
-        ensures inside { result.end * BLOCK_BYTES ≤ LARGEST_SIZE };
-
     /// Starts the open call, where nothing earlier is in its way.
     fn admit<R: Wait>(
         &mut self,
@@ -74,12 +67,14 @@ pub trait ClientSteps {
         t: TicketNumber,
     ) -> Result<Admit, AllocError>
         requires ready { ready self.old }
-        requires waits { (o : OwnCall) × IsOwn t o (mine self.old) × HasNotStarted o }
+        requires open { (o : OwnCall) × IsOwn t o (mine self.old) × HasNotStarted o }
         ensures ready { ready self.new }
         ensures home { home self.new ≡ home self.old }
         ensures ok { IfOk result (λ a.
             (o : OwnCall) → IsOwn t o (mine self.old) → AdmitsTo o a (mine self.old) (mine self.new)) }
         ensures free { IfOk result (λ a. IfSome (mine self.old).log (λ log. IsNotAfter a)) }
+        ensures asks { IfOk result (λ a. AsksAll a (modes self.new)) }
+        ensures waits { IfOk result (λ a. WaitsAs t a (seen self.new)) }
         ensures err { OnErr result (mine self.new ≡ mine self.old) };
 
     /// Takes the open call back, which has not started.
@@ -89,14 +84,6 @@ pub trait ClientSteps {
         ensures ready { ready self.new }
         ensures home { home self.new ≡ home self.old }
         ensures gone { mine self.new ≡ with_running (mine self.old) [] };
-
-    /// The mode of a replica.
-    fn mode<R: Wait>(&mut self, rt: &R, replica: u8) -> Mode
-        requires ready { ready self.old }
-        ensures ready { ready self.new }
-        ensures home { home self.new ≡ home self.old }
-        ensures same { mine self.new ≡ mine self.old }
-        ensures is { result ≡ mode_of (modes self.new) replica };
 
     /// The lowest replica that is read and written.
     fn source<R: Wait>(&mut self, rt: &R) -> Option<u8>
@@ -114,16 +101,18 @@ pub trait ClientSteps {
         rt: &R,
         t: TicketNumber,
         replica: u8,
-    ) -> Result<bool, NotThis>
+    ) -> OnReplica<Result<bool, NotThis>>
         requires ready { ready self.old }
         requires writes { (o : OwnCall) × IsOwn t o (mine self.old) × IsStartedWrite o }
         ensures ready { ready self.new }
         ensures home { home self.new ≡ home self.old }
-        ensures done { result ≡ Ok true → (o : OwnCall) → IsOwn t o (mine self.old)
+        ensures done { result.answer ≡ Ok true → (o : OwnCall) → IsOwn t o (mine self.old)
             → TakesTo o replica o.buffer (mine self.old) (mine self.new) }
-        ensures same { result ≡ Ok false → mine self.new ≡ mine self.old }
-        ensures why { IfErr result (AgainstTake (modes self.new) replica) }
-        ensures err { OnErr result (mine self.new ≡ mine self.old) };
+        ensures same { result.answer ≡ Ok false → mine self.new ≡ mine self.old }
+        ensures why { IfErr result.answer (AgainstTake (modes self.new) replica) }
+        ensures err { OnErr result.answer (mine self.new ≡ mine self.old) }
+        ensures next { IsNextUp (modes self.new) replica result.next }
+        ensures inside { IfSome result.next (λ r. r < (mine self.old).replicas) };
 
     /// A replica takes the blocks of the open write.
     fn apply_write<R: Wait>(
@@ -132,17 +121,19 @@ pub trait ClientSteps {
         t: TicketNumber,
         replica: u8,
         blocks: &mut Blocks,
-    ) -> Result<(), NotThis>
+    ) -> OnReplica<Result<(), NotThis>>
         requires ready { ready self.old }
         requires writes { (o : OwnCall) × IsOwn t o (mine self.old) × IsStartedWrite o
             × AreBlocksOfCall o blocks.old }
         ensures ready { ready self.new }
         ensures home { home self.new ≡ home self.old }
-        ensures ok { OnOk result ((o : OwnCall) → IsOwn t o (mine self.old)
+        ensures ok { OnOk result.answer ((o : OwnCall) → IsOwn t o (mine self.old)
             → TakesTo o replica o.buffer (mine self.old) (mine self.new)) }
-        ensures why { IfErr result (AgainstTake (modes self.new) replica) }
-        ensures err { OnErr result (mine self.new ≡ mine self.old) }
-        ensures count { length blocks.new ≡ length blocks.old };
+        ensures why { IfErr result.answer (AgainstTake (modes self.new) replica) }
+        ensures err { OnErr result.answer (mine self.new ≡ mine self.old) }
+        ensures count { length blocks.new ≡ length blocks.old }
+        ensures next { IsNextUp (modes self.new) replica result.next }
+        ensures inside { IfSome result.next (λ r. r < (mine self.old).replicas) };
 
     /// The first replica that is read gives the bytes of the open read.
     fn apply_read<R: Wait>(
@@ -164,26 +155,35 @@ pub trait ClientSteps {
         ensures err { OnErr result (mine self.new ≡ mine self.old) };
 
     /// A replica has acknowledged its part of the open call.
-    fn ack<R: Wait>(&mut self, rt: &R, t: TicketNumber, replica: u8) -> Result<(), NotThis>
+    fn ack<R: Wait>(
+        &mut self,
+        rt: &R,
+        t: TicketNumber,
+        replica: u8,
+    ) -> OnReplica<Result<(), NotThis>>
         requires ready { ready self.old }
         requires started { (o : OwnCall) × IsOwn t o (mine self.old) × HasStarted o }
         ensures ready { ready self.new }
         ensures home { home self.new ≡ home self.old }
-        ensures ok { OnOk result ((o : OwnCall) → IsOwn t o (mine self.old)
+        ensures ok { OnOk result.answer ((o : OwnCall) → IsOwn t o (mine self.old)
             → AcksTo o replica (mine self.old) (mine self.new)) }
-        ensures why { IfErr result (λ why. (o : OwnCall) → IsOwn t o (mine self.old)
+        ensures why { IfErr result.answer (λ why. (o : OwnCall) → IsOwn t o (mine self.old)
             → RefusesAck (modes self.new) o replica why) }
-        ensures err { OnErr result (mine self.new ≡ mine self.old) };
+        ensures err { OnErr result.answer (mine self.new ≡ mine self.old) }
+        ensures next { IsNextUp (modes self.new) replica result.next }
+        ensures inside { IfSome result.next (λ r. r < (mine self.old).replicas) };
 
     /// The stream's line to a replica has failed, and so the replica.
-    fn fault<R: Wait>(&mut self, rt: &R, replica: u8, count: u64) -> Result<(), NotThis>
+    fn fault<R: Wait>(&mut self, rt: &R, replica: u8, count: u64) -> OnReplica<Result<(), NotThis>>
         requires ready { ready self.old }
         ensures ready { ready self.new }
         ensures home { home self.new ≡ home self.old }
-        ensures ok { OnOk result (FaultsTo replica count (mine self.old) (mine self.new)) }
-        ensures failed { OnOk result (mode_of (modes self.new) replica ≡ Mode.Err) }
-        ensures why { IfErr result (RefusesFault (modes self.new) (mine self.old) replica count) }
-        ensures err { OnErr result (mine self.new ≡ mine self.old) };
+        ensures ok { OnOk result.answer (FaultsTo replica count (mine self.old) (mine self.new)) }
+        ensures failed { OnOk result.answer (mode_of (modes self.new) replica ≡ Mode.Err) }
+        ensures why { IfErr result.answer (RefusesFault (modes self.new) (mine self.old) replica count) }
+        ensures err { OnErr result.answer (mine self.new ≡ mine self.old) }
+        ensures next { IsNextUp (modes self.new) replica result.next }
+        ensures inside { IfSome result.next (λ r. r < (mine self.old).replicas) };
 
     /// Answers the open call, once its replicas have acknowledged it.
     fn complete<R: Wait>(&mut self, rt: &R, t: TicketNumber) -> Result<u64, NotThis>

@@ -1,7 +1,8 @@
 ghost use Rattle.volume_model.specs.declared.command.Command.{Command};
 ghost use Rattle.step_answers.specs.declared.whole_op.WholeOp.{WholeOp};
-ghost use Rattle.std.specs.Prelude.{◌≡◌, ◌≢◌, ℕ, ◌<◌, List, [], ◌∷◌, false, true, IfOk, IfErr, OnOk, OnErr, IfSome, None, Ok};
+ghost use Rattle.std.specs.Prelude.{◌≡◌, ◌≢◌, ℕ, ◌*◌, ◌<◌, Bool, List, length, [], ◌∷◌, false, true, IfOk, IfErr, OnOk, OnErr, IfSome, None, Ok};
 ghost use Rattle.vol_units.specs.Name.{begins_sys};
+ghost use Rattle.vol_units.specs.declared.size.TheConstants.{PAGE_BYTES};
 ghost use Rattle.volume_model.specs.declared.call.Call.TheVariants as call;
 ghost use Rattle.volume_model.specs.declared.call.Reply.{Reply};
 ghost use Rattle.volume_model.specs.Modes.{mode_of};
@@ -9,7 +10,8 @@ ghost use Rattle.step_answers.specs.Asked.{command_of};
 ghost use Rattle.stream_steps.specs.Mine.{Mine, OwnCall, with_running};
 ghost use Rattle.stream_steps.specs.Against.{RefusesFault};
 ghost use Rattle.stream_steps.specs.Steps.{CommandsTo, EnrolsAt, FallsTo, IsAtOnce};
-ghost use Rattle.stream_steps.specs.Maint.{IsMaint, IsNoAdd, HasTurn, AwaitsTurn, TurnsTo, IsYes, HasWhole, EnrolsWhole, EnrolsUnder, AnswersWhole, AdmitsWhole, IsNotLater, PartsTo, AcksWhole, AgainstPart, AgainstAckWhole, WholeEnds, IsNext};
+ghost use Rattle.stream_steps.specs.Maint.{IsMaint, IsNoAdd, IsNoBarrier, HasTurn, AwaitsTurn, TurnsTo, IsYes, HasWhole, EnrolsWhole, EnrolsUnder, AnswersWhole, AdmitsWhole, IsNotLater, PartsTo, AcksWhole, AgainstPart, AgainstAckWhole, AgainstEndWhole, WholeEnds, IsNext};
+ghost use Rattle.stream_steps.specs.Seen.{CannotGo, FindsNext, RefusesEndPurge, RefusesFold, WaitsTurn, WaitsWhole};
 
 use range_turns::{MayStart, TicketNumber};
 use std::alloc::{AllocError, Global};
@@ -21,15 +23,32 @@ use volume_model::{Command, Mode, Reply};
 /// The core's steps for one stream whose commands are carried to the replicas, each whole by itself. What others do
 /// between two of them is not said.
 pub trait CommandSteps {
-    ghost use Rattle.std.specs.Prelude.{List};
+    ghost use Rattle.std.specs.Prelude.{ℕ, Bool, List};
+    ghost use Rattle.volume_model.specs.declared.mark.FoldOrDrop.{FoldOrDrop};
     ghost use Rattle.volume_model.specs.declared.mode.Mode.{Mode};
     ghost use Rattle.stream_steps.specs.Mine.{Mine};
+    ghost use Rattle.stream_steps.specs.Seen.{Seen};
 
     /// What is known of the own stream.
     ghost mine: { Self → Mine };
 
     // The mode of each replica, as it was seen last.
     ghost modes: { Self → List Mode };
+
+    // What the last step saw.
+    ghost seen: { Self → Seen };
+
+    // That replica is read, and has a block of the page in the one child of the layer.
+    ghost wants_fold: { Self → ℕ → List ℕ → ℕ → Type 0 };
+
+    // The part of a purge can be done, and each replica that is read has folded it.
+    ghost may_go: { Self → FoldOrDrop → Type 0 };
+
+    // No rebuild was begun of the command that has the turn.
+    ghost unbegun: { Self → Type 0 };
+
+    // The rebuild of the second replica from the first is open, past its barrier where that is said, or was aborted.
+    ghost begun: { Self → Bool → ℕ → ℕ → Type 0 };
 
     // What no step changes.
     ghost Home: { Type 0 };
@@ -60,6 +79,7 @@ pub trait CommandSteps {
         ensures ready { ready self.new }
         ensures home { home self.new ≡ home self.old }
         ensures same { mine self.new ≡ mine self.old }
+        ensures begun { (past : Bool) (source r : ℕ) → begun self.old past source r → begun self.new past source r }
         ensures is { result ≡ mode_of (modes self.new) replica };
 
     /// The stream's line to a replica has failed, and so the replica: thereby a rebuild may be aborted.
@@ -67,6 +87,7 @@ pub trait CommandSteps {
         requires ready { ready self.old }
         ensures ready { ready self.new }
         ensures home { home self.new ≡ home self.old }
+        ensures begun { (past : Bool) (source r : ℕ) → begun self.old past source r → begun self.new past source r }
         ensures ok { OnOk result (FallsTo replica count (mine self.old) (mine self.new)) }
         ensures failed { OnOk result (mode_of (modes self.new) replica ≡ Mode.Err) }
         ensures why { IfErr result (RefusesFault (modes self.new) (mine self.old) replica count) }
@@ -77,7 +98,8 @@ pub trait CommandSteps {
         requires ready { ready self.old }
         ensures ready { ready self.new }
         ensures home { home self.new ≡ home self.old }
-        ensures same { mine self.new ≡ mine self.old };
+        ensures same { mine self.new ≡ mine self.old }
+        ensures is { result * PAGE_BYTES ≡ length (seen self.new).log.spot.state.volume.disk };
 
     // ---- the maintenance turn
 
@@ -104,6 +126,8 @@ pub trait CommandSteps {
         ensures home { home self.new ≡ home self.old }
         ensures turns { (c : Command) (o : OwnCall) → AwaitsTurn t c o (mine self.old)
             → TurnsTo o result (mine self.old) (mine self.new) }
+        ensures unbegun { result ≡ MayStart.Yes → unbegun self.new }
+        ensures waits { WaitsTurn t result (seen self.new) }
         ensures free { IfSome (mine self.old).log (λ log. IsYes result) };
 
     /// Ends a purge that has the turn: it is done, or there is no replica. It is refused where it cannot be answered
@@ -115,6 +139,7 @@ pub trait CommandSteps {
         ensures home { home self.new ≡ home self.old }
         ensures ok { OnOk result ((o : OwnCall) → HasTurn t Command.Purge o (mine self.old)
             → AnswersWhole o reply (mine self.old) (mine self.new)) }
+        ensures why { OnErr result (RefusesEndPurge reply (seen self.new)) }
         ensures err { OnErr result (mine self.new ≡ mine self.old) };
 
     /// Gives the turn back without an answer, once memory ran out: of a command that is no add.
@@ -158,6 +183,8 @@ pub trait CommandSteps {
         ensures home { home self.new ≡ home self.old }
         ensures ok { IfOk result (λ w. IfSome w (λ n. (o : OwnCall) → HasTurn t (command_of op.now) o (mine self.old)
             → EnrolsUnder n op.now o (mine self.old) (mine self.new))) }
+        ensures unbegun { unbegun self.old → unbegun self.new }
+        ensures cannot { result ≡ Ok None → CannotGo op.now (may_go self.new) (modes self.new) }
         ensures none { result ≡ Ok None → mine self.new ≡ mine self.old }
         ensures err { OnErr result (mine self.new ≡ mine self.old) };
 
@@ -169,12 +196,15 @@ pub trait CommandSteps {
         t: TicketNumber,
     ) -> Result<AdmitWhole, AllocError>
         requires ready { ready self.old }
-        requires waits { (op : WholeOp) × (turn : List OwnCall) × (o : OwnCall)
+        requires open { (op : WholeOp) × (turn : List OwnCall) × (o : OwnCall)
             × HasWhole t op turn o (mine self.old) × (o.started ≡ false) }
         ensures ready { ready self.new }
         ensures home { home self.new ≡ home self.old }
         ensures ok { IfOk result (λ a. (op : WholeOp) (turn : List OwnCall) (o : OwnCall)
             → HasWhole t op turn o (mine self.old) → AdmitsWhole op turn o a (mine self.old) (mine self.new)) }
+        ensures waits { IfOk result (λ a. WaitsWhole t a (seen self.new)) }
+        ensures never { (op : WholeOp) (turn : List OwnCall) (o : OwnCall) → HasWhole t op turn o (mine self.old)
+            → IsNoBarrier op → result ≢ Ok AdmitWhole.Never }
         ensures free { IfOk result (λ a. IfSome (mine self.old).log (λ log. IsNotLater a)) }
         ensures err { OnErr result (mine self.new ≡ mine self.old) };
 
@@ -195,6 +225,7 @@ pub trait CommandSteps {
             × HasWhole t op turn o (mine self.old) × (o.started ≡ true) }
         ensures ready { ready self.new }
         ensures home { home self.new ≡ home self.old }
+        ensures begun { (past : Bool) (source r : ℕ) → begun self.old past source r → begun self.new past source r }
         ensures ok { OnOk result ((op : WholeOp) (turn : List OwnCall) (o : OwnCall)
             → HasWhole t op turn o (mine self.old) → PartsTo turn o replica (mine self.old) (mine self.new)) }
         ensures why { IfErr result (λ why. (op : WholeOp) (turn : List OwnCall) (o : OwnCall)
@@ -208,6 +239,7 @@ pub trait CommandSteps {
             × HasWhole t op turn o (mine self.old) × (o.started ≡ true) }
         ensures ready { ready self.new }
         ensures home { home self.new ≡ home self.old }
+        ensures begun { (past : Bool) (source r : ℕ) → begun self.old past source r → begun self.new past source r }
         ensures ok { OnOk result ((op : WholeOp) (turn : List OwnCall) (o : OwnCall)
             → HasWhole t op turn o (mine self.old) → AcksWhole turn o replica (mine self.old) (mine self.new)) }
         ensures why { IfErr result (λ why. (op : WholeOp) (turn : List OwnCall) (o : OwnCall)
@@ -223,6 +255,12 @@ pub trait CommandSteps {
         ensures home { home self.new ≡ home self.old }
         ensures ok { OnOk result ((op : WholeOp) (turn : List OwnCall) (o : OwnCall)
             → HasWhole t op turn o (mine self.old) → WholeEnds op turn o (mine self.old) (mine self.new)) }
+        ensures why { IfErr result (λ why. (op : WholeOp) (turn : List OwnCall) (o : OwnCall)
+            → HasWhole t op turn o (mine self.old) → AgainstEndWhole (modes self.new) o why) }
+        ensures begun { (past : Bool) (source r : ℕ) → begun self.old past source r → begun self.new past source r }
+        ensures past { OnOk result ((r source : ℕ) (turn : List OwnCall) (o : OwnCall)
+            → HasWhole t (WholeOp.Barrier r) turn o (mine self.old) → begun self.old false source r
+            → begun self.new true source r) }
         ensures err { OnErr result (mine self.new ≡ mine self.old) };
 
     // ---- a purge
@@ -234,6 +272,7 @@ pub trait CommandSteps {
         ensures ready { ready self.new }
         ensures home { home self.new ≡ home self.old }
         ensures same { mine self.new ≡ mine self.old }
+        ensures found { FindsNext result (seen self.new) }
         ensures is { IfSome (mine self.old).log (IsNext result) };
 
     /// Whether a replica is read and has a block of the page in the one child of the layer.
@@ -241,7 +280,9 @@ pub trait CommandSteps {
         requires ready { ready self.old }
         ensures ready { ready self.new }
         ensures home { home self.new ≡ home self.old }
-        ensures same { mine self.new ≡ mine self.old };
+        ensures same { mine self.new ≡ mine self.old }
+        ensures wanted { result ≡ true → wants_fold self.new replica parent.now page }
+        ensures not { result ≡ false → ¬ wants_fold self.new replica parent.now page };
 
     /// A replica folds a page of the layer's one child onto the layer.
     fn fold_page<R: Wait>(
@@ -256,5 +297,7 @@ pub trait CommandSteps {
         requires turn { (o : OwnCall) × HasTurn t Command.Purge o (mine self.old) }
         ensures ready { ready self.new }
         ensures home { home self.new ≡ home self.old }
-        ensures same { mine self.new ≡ mine self.old };
+        ensures same { mine self.new ≡ mine self.old }
+        ensures folded { OnOk result (¬ wants_fold self.new replica parent.now page) }
+        ensures why { IfErr result (RefusesFold replica parent.now page (modes self.new) (seen self.new).log) };
 }

@@ -4,10 +4,12 @@
 mod add;
 mod client;
 mod command;
+mod on_replica;
 
-pub use add::{AddSteps, Added, NextPage, PageIn, PageOut};
+pub use add::{AddSteps, Added, AdmitBarrier, NextPage, PageIn, PageOut};
 pub use client::ClientSteps;
 pub use command::CommandSteps;
+pub use on_replica::OnReplica;
 pub use sparse_image::{Blocks, Page};
 pub use step_answers::{Admit, Enrolled, Job, NotThis, TicketNumber};
 pub use vol_units::{BlockRange, LayerName, PageRef};
