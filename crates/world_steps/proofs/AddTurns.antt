@@ -1,27 +1,20 @@
 -- A turn of a stream whose add has the turn: what is found, what it owes, and what a look at its rebuild tells. The World that
 -- was seen as s is found as x, left as y, and seen so as u.
-use Rattle.std.proofs.Common.{◌≡◌, ℕ, ◌<◌, Bool, true, false}
-use Rattle.std.proofs.Common.{Option, None, Some, IfSome, MatchOption}
+use Rattle.std.proofs.Common.{◌≡◌, ℕ, ◌<◌, Bool, Option, None, Some, MatchOption}
 use Rattle.std.proofs.Common.{subst, sym, refl, ap, ◌∙◌}
-use Rattle.std.specs.Prelude.{Contains}
 use Rattle.sparse_image.specs.Image.{Table}
 use Rattle.vol_units.specs.declared.page_ref.PageRef.{PageRef}
 use Rattle.volume_model.specs.declared.command.Command.TheVariants as command
-use Rattle.range_turns.specs.Order.{StandsAt}
-use Rattle.volume_model.specs.declared.entry.Entry.TheVariants as entry
-use Rattle.volume_model.specs.declared.mark.Mark.TheVariants as mark
-use Rattle.open_calls.specs.declared.open_call.OpenCall.{OpenCall}
-use Rattle.step_answers.specs.declared.whole_op.WholeOp.TheVariants as whole
-use Rattle.open_calls.specs.Calls.{open_at, node_at}
+use Rattle.open_calls.specs.Calls.{node_at}
 use Rattle.open_calls.specs.Maint.{command_at}
 use Rattle.open_rebuild.specs.declared.rebuilding.Rebuilding.{Rebuilding}
-use Rattle.volume_core.specs.State.{State}
+use Rattle.volume_core.specs.declared.world.EndedRebuild.{EndedRebuild}
+use Rattle.volume_core.specs.State.{State, gave_up_at}
 use Rattle.volume_core.specs.Streams.{MayGo}
 use Rattle.volume_core.specs.Turn.{ForAsker, IsFreeTurn}
 use Rattle.world_holder.specs.Counted.{IsRebuildKept}
 use Rattle.world_holder.proofs.CountedLemmas.{own_turn}
 use Rattle.world_holder.proofs.Leaves.{parts_stay}
-use Rattle.stream_steps.specs.declared.add.Added.{Added}
 use Rattle.stream_steps.specs.declared.add.NextPage.{NextPage}
 use Rattle.stream_steps.specs.declared.add.NextPage.TheVariants as next
 use Rattle.stream_steps.specs.declared.add.PageOut.{PageOut}
@@ -32,12 +25,12 @@ use Rattle.world_holder.specs.View.{view, IsFound, Owes}
 use Rattle.world_holder.proofs.Grow.{found_same}
 use Rattle.world_steps.proofs.FrameTurns.{look_same}
 use Rattle.world_steps.proofs.GaveUp.{flag_kept}
-use Rattle.world_steps.proofs.Shapes.{has_call}
-use Rattle.world_steps.specs.Rebuild.{left_now, IsPageIn, AwaitsAt, IsEndedAt, IsNextIn, IsOutIn}
-use Rattle.world_steps.specs.Rebuild.{IsStillKnown, IsSameTo, IsStill, AddedIn}
+use Rattle.world_steps.specs.Rebuild.{left_now, IsPageIn, IsAbortedAt, AwaitsAt, IsEndedAt, IsNextIn, IsOutIn}
+use Rattle.world_steps.specs.Rebuild.{IsBegunIn}
+use Rattle.world_steps.proofs.Begun.{begun_found}
 use Rattle.world_steps.proofs.Turns.{turn_owner, turn_stream, free_turn}
 use Rattle.world_steps.proofs.Pages.{one_more, takes_all, out_page, out_none, out_block}
-use Rattle.world_steps.proofs.Later.{found_kept, same_left, left_on, still_known}
+use Rattle.world_steps.proofs.Later.{IsStillKnown, found_kept, same_left, left_on, still_known}
 
 -- that the add of some replica has the turn
 abbrev pub HasSomeAdd : ℕ → Mine → Type 0
@@ -72,35 +65,25 @@ module _ (a : Bool) (n t : ℕ) (s x : State) (found : IsFound a n s x) (add : H
 
 -- ---- a look, which leaves the World as it was found
 
+-- the stream knows the same, gave no rebuild up beside those that it had, and knows of its rebuild what it knew
+pub record IsStill (a : Bool) (n : ℕ) (s u : State) : Type 0 where
+  pub same : view a n u ≡ view a n s
+  pub gave_up : gave_up_at u.gave_up n ≡ gave_up_at s.gave_up n
+  pub known : IsStillKnown s u
+
 module _ (a : Bool) (n : ℕ) (s x : State) (found : IsFound a n s x) (u : State) (left : u ≡ x) where
-  pub look_to : IsSameTo a n s u
-  look_to = record { same = look_same a n s x u found left; gave_up = flag_kept a n s x x u found left refl }
-
--- how the rebuild began of the barrier of that ticket
-pub look_added : (a : Bool) (n t : ℕ) (s x : State) → IsFound a n s x → (res : Option Added)
-    → IfSome res (λ w. (i r : ℕ) → StandsAt x.tickets t i → (open_at x.calls i).op ≡ Some (whole.Barrier r)
-    → Contains x.book.entries (entry.Mark (mark.Added r w.source w.name)))
-    → IfSome res (λ w. AddedIn t w (view a n s))
-look_added a n t s x found res told = subst (λ (m : Mine). IfSome res (λ w. AddedIn t w m)) (found_same a n s x found) (by res told)
-  where
-    row : (w : Added) → ((i r : ℕ) → StandsAt x.tickets t i → (open_at x.calls i).op ≡ Some (whole.Barrier r)
-        → Contains x.book.entries (entry.Mark (mark.Added r w.source w.name)))
-        → (b : Bool) → AddedIn t w (view b n x)
-    row w told true = λ r turn o h.
-        let c = has_call true n x t (whole.Barrier r) turn o found.sound h in
-        told c.at.place r (subst (λ k. StandsAt x.tickets k c.at.place) c.number c.at.stands)
-        (ap (λ (y : OpenCall). y.op) c.at.call ∙ c.does)
-    row w told false = tt
-
-    by : (q : Option Added) → IfSome q (λ w. (i r : ℕ) → StandsAt x.tickets t i → (open_at x.calls i).op ≡ Some (whole.Barrier r)
-        → Contains x.book.entries (entry.Mark (mark.Added r w.source w.name)))
-        → IfSome q (λ w. AddedIn t w (view a n x))
-    by (Some w) told = row w told a
-    by None told = tt
+  -- its rebuild is begun still
+  pub look_begun : (past : Bool) (source r : ℕ) → IsBegunIn n s past source r → IsBegunIn n u past source r
+  look_begun past source r begun =
+      subst (λ (z : State). IsBegunIn n z past source r) (sym left) (begun_found n s x past source r found.later begun)
 
 module _ (a : Bool) (n t : ℕ) (s x : State) (found : IsFound a n s x) (add : HasSomeAdd t (view a n s)) (u : State) (left : u ≡ x) where
   pub look_still : IsStill a n s u
-  look_still = record { to = look_to a n s x found u left; known = subst (IsStillKnown s) (sym left) (add_known a n t s x found add) }
+  look_still = record {
+    same = look_same a n s x u found left;
+    gave_up = flag_kept a n s x x u found left refl;
+    known = subst (IsStillKnown s) (sym left) (add_known a n t s x found add);
+  }
 
   -- the next page, of as many as were left
   pub look_next : (p : NextPage) → IsNextIn p x
@@ -145,3 +128,10 @@ module _ (a : Bool) (n t : ℕ) (s x : State) (found : IsFound a n s x) (add : H
       → MatchOption res (left_now u.rebuild ≡ left_now s.rebuild) (λ place. IsEndedAt u place)
   look_end None none = ap (λ (z : State). left_now z.rebuild) left ∙ left_on s x (add_kept a n t s x found add) none
   look_end (Some place) is = subst (λ (z : State). IsEndedAt z place) (sym left) is
+
+  -- and else it was not
+  pub look_not : (res : Option ℕ) → MatchOption res (x.ended ≡ None) (λ place. IsEndedAt x place)
+      → res ≡ None → (place : ℕ) → ¬ IsEndedAt u place
+  look_not None none e place is = subst (λ (o : Option EndedRebuild). IsAbortedAt o place)
+      (ap (λ (z : State). z.ended) left ∙ none) is.ended
+  look_not (Some at) told e place is = absurd cc

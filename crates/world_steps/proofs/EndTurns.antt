@@ -1,8 +1,14 @@
 -- The end of an add, in one turn: the World that was seen as s is found as x, left as y, and seen so as u.
-use Rattle.std.proofs.Common.{◌≡◌, ℕ, Bool}
-use Rattle.std.proofs.Common.{Option, None, Some, IfSome}
-use Rattle.std.proofs.Common.{refl, ap}
+use Rattle.std.proofs.Common.{◌≡◌, ◌≢◌, ◌⊎◌, inl, inr, ℕ, zero, suc, ◌<◌, Bool, true, false, List, [], ◌∷◌, length}
+use Rattle.std.proofs.Common.{Option, None, Some, IsSome, IfSome, subst, sym, refl, ap, ◌∙◌, arith}
+use Rattle.std.specs.Prelude.{not, count_by}
+use Rattle.std.proofs.lemmas.Bool.{false≢true}
 use Rattle.volume_model.specs.declared.call.Reply.TheVariants as reply
+use Rattle.open_calls.specs.Maint.{command_at}
+use Rattle.open_rebuild.specs.Listed.{AreListed}
+use Rattle.open_rebuild.specs.declared.rebuilding.Rebuilding.{Rebuilding}
+use Rattle.volume_core.specs.declared.world.EndedRebuild.{EndedRebuild}
+use Rattle.volume_core.specs.Sound.{IsSound, AreAdds}
 use Rattle.volume_core.specs.State.{State, gave_up_at}
 use Rattle.volume_core.specs.Streams.{MayGo}
 use Rattle.volume_maint.specs.Answers as world
@@ -11,11 +17,62 @@ use Rattle.volume_maint.specs.Steps.{turn_abandoned}
 use Rattle.volume_rebuild.specs.Answers as again
 use Rattle.stream_steps.specs.Mine.{Mine, OwnCall}
 use Rattle.stream_steps.specs.Add.{HasAdd, Promotes, EndsAborted, LeavesAdd}
+use Rattle.world_holder.specs.Counted.{WasAborted}
 use Rattle.world_holder.specs.View.{view, IsFound, Owes}
 use Rattle.world_holder.proofs.Grow.{over}
 use Rattle.world_steps.proofs.GaveUp.{flag_kept}
 use Rattle.world_steps.proofs.Ends.{promote_row, aborted_row, abandon_row, abandon_whole}
-use Rattle.world_steps.proofs.AddTurns.{HasSomeAdd, add_go, add_owes}
+use Rattle.world_steps.proofs.AddTurns.{HasSomeAdd, add_known, add_free, add_go, add_owes}
+use Rattle.world_steps.proofs.Begun.{begun_found}
+use Rattle.world_steps.proofs.Later.{IsStillKnown}
+use Rattle.world_steps.proofs.Pages.{set_left, past_left, same_open}
+use Rattle.world_steps.specs.Rebuild.{left_now, IsAbortedAt, IsEndedAt, IsOpenFrom, IsBegunIn, IsUnfinished, AwaitsPromotion}
+use Rattle.world_steps.proofs.Purges.{none_kept}
+use Rattle.world_steps.specs.Seen.{seen_of}
+
+-- ---- why it does not end
+
+-- a page of the rebuild is left where not all are listed
+some_left : (bits : List Bool) → (AreListed bits (length bits) → ⊥) → 0 < count_by not bits
+some_left [] not_all = absurd (not_all (λ place within. absurd (omega (arith, within))))
+some_left (false ∷ bits) not_all = omega (arith, set_left (false ∷ bits) 0 (omega arith) refl)
+some_left (true ∷ bits) not_all = some_left bits (λ all. not_all (all_more all))
+  where
+    all_more : AreListed bits (length bits) → AreListed (true ∷ bits) (suc (length bits))
+    all_more all zero within = refl
+    all_more all (suc place) within = all place (omega (arith, within))
+
+ended_there : (s : State) → WasAborted s → (place : ℕ) × IsEndedAt s place
+ended_there s was = let at = by s.ended was.ended in (at.0, record { closed = was.none; ended = at.1 })
+  where
+    by : (g : Option EndedRebuild) → IsSome g → (place : ℕ) × IsAbortedAt g place
+    by (Some g) is = (g.place, refl)
+    by None is = absurd (false≢true is)
+
+left_or_ended : (s : State) (source r : ℕ) → IsUnfinished s → IsOpenFrom s true source r ⊎ WasAborted s
+    → (0 < left_now s.rebuild) ⊎ ((place : ℕ) × IsEndedAt s place)
+left_or_ended s source r why (inr was) = inr (ended_there s was)
+left_or_ended s source r (inl none) (inl o) = absurd (none_open o.b (sym none ∙ o.is))
+  where
+    none_open : (b : Rebuilding) → None ≡ Some b → ⊥
+    none_open b e = cc
+left_or_ended s source r (inr why) (inl o) =
+    let b = why.0 in
+    let may : b.may_copy ≡ true = ap (λ (c : Rebuilding). c.may_copy) (same_open b o.b (sym why.1 ∙ o.is)) ∙ o.ended refl in
+    let some = some_left b.listed (why.2 (record { begun = why.1; ended = may })) in
+    inl (subst (λ k. 0 < k) (sym (ap left_now why.1 ∙ past_left b may)) some)
+
+-- its add may be answered so
+aborted_there : (s : State) (at : ℕ) → IsSound s → IsEndedAt s at
+    → world.MayEnd s (command_at s.commands 0).command (reply.Aborted at)
+aborted_there s at ok is = by s.ended refl is.ended
+  where
+    by : (g : Option EndedRebuild) → s.ended ≡ g → IsAbortedAt g at
+        → world.MayEnd s (command_at s.commands 0).command (reply.Aborted at)
+    by (Some g) e place =
+        let adds = subst (AreAdds s.maint s.commands s.rebuild) e ok.adds in
+        (g.target, adds.of_ended.turn.command, e ∙ (λ i. Some (record { target = g.target; place = place i })))
+    by None e place = absurd place
 
 -- ---- the replica is promoted
 
@@ -47,6 +104,17 @@ module _ (a : Bool) (n t : ℕ) (s x y : State) (found : IsFound a n s x) (res :
 
     pub promote_none : res ≡ None → view a n u ≡ view a n s
     promote_none = over a n s x y u found left (λ (m : Mine) (z : State). res ≡ None → view a n z ≡ m) (λ e. ap (view a n) (none e))
+
+    -- then what was known of the rebuild is known
+    pub promote_still : res ≡ None → IsStillKnown s u
+    promote_still e = subst (IsStillKnown s) (sym (left ∙ none e)) (add_known a n t s x found add)
+
+    -- a page of it is left, or it was aborted
+    pub promote_why : (res ≡ None → AwaitsPromotion x t) → res ≡ None → (source r : ℕ) → IsBegunIn n s true source r
+        → (0 < left_now u.rebuild) ⊎ ((place : ℕ) × IsEndedAt u place)
+    promote_why why e source r begun =
+        subst (λ (z : State). (0 < left_now z.rebuild) ⊎ ((place : ℕ) × IsEndedAt z place)) (sym (left ∙ none e))
+        (left_or_ended x source r (why e (add_free a n t s x found add)) (begun_found n s x true source r found.later begun).is)
 
 -- ---- it is answered that its rebuild was aborted
 
@@ -81,6 +149,19 @@ module _ (a : Bool) (n t at : ℕ) (s x y : State) (found : IsFound a n s x) (re
 
     pub abort_none : res ≡ None → view a n u ≡ view a n s
     abort_none = over a n s x y u found left (λ (m : Mine) (z : State). res ≡ None → view a n z ≡ m) (λ e. ap (view a n) (none e))
+
+    -- then what was known of the rebuild is known
+    pub abort_still : res ≡ None → IsStillKnown s u
+    abort_still e = subst (IsStillKnown s) (sym (left ∙ none e)) (add_known a n t s x found add)
+
+    -- an operation on the whole volume has started, if it was aborted there
+    pub abort_why : (res ≡ None → world.AgainstEndTurn x t (reply.Aborted at)) → res ≡ None → IsEndedAt u at
+        → (seen_of u).whole ≢ None
+    abort_why why e is =
+        let same = left ∙ none e in
+        subst (λ (z : State). (seen_of z).whole ≢ None) (sym same)
+        (λ nothing. why e (add_free a n t s x found add)
+        (aborted_there x at found.sound (subst (λ (z : State). IsEndedAt z at) same is)) (none_kept x.whole nothing))
 
 -- ---- its turn is given back
 

@@ -1,8 +1,13 @@
 -- What each step of a frame makes of what its stream knows: of the row of the step, in the World as it is found.
 use Rattle.std.proofs.Common.{◌≡◌, ⊎_elim, ℕ, Bool, [], subst, sym, ap, ◌∙◌, ◌+◌, true, ◌++◌, None, Some, ◌≢◌, ◌<◌}
-use Rattle.std.proofs.Common.{false, List, ◌∷◌, length, map, set, IfSome, refl, arith, Option}
+use Rattle.std.proofs.Common.{false, List, ◌∷◌, length, map, set, IfSome, refl, arith, Option, ◌≤◌, ℤ, pos, negsuc, nat_le}
+use Rattle.std.proofs.Common.{if◌then◌else◌}
 use Rattle.std.proofs.lemmas.List.{get_or-set_same}
-use Rattle.std.proofs.lemmas.Bool.{lt-ltb}
+use Rattle.std.proofs.lemmas.Bool.{lt-ltb, le-ltb}
+use Rattle.std.proofs.lemmas.Bool.Decides.{nat_tests}
+use Rattle.vol_units.specs.Range.{is_good}
+use Rattle.vol_units.specs.Size.{IsVolumeSize}
+use Rattle.vol_units.specs.declared.size.TheConstants.{LARGEST_SIZE}
 use Rattle.range_turns.specs.declared.ticket.Kind.{Kind}
 use Rattle.range_turns.specs.declared.ticket.Ticket.{Ticket}
 use Rattle.range_turns.specs.Order.{ticket_at, StandsAt}
@@ -12,9 +17,9 @@ use Rattle.volume_model.specs.declared.call.Reply.{Reply}
 use Rattle.volume_model.specs.declared.entry.Answer.{Answer}
 use Rattle.volume_model.specs.declared.mode.Mode.{Mode}
 use Rattle.volume_model.specs.declared.call.Refusal.{Refusal}
-use Rattle.volume_model.specs.declared.call.Refusal.TheVariants.{OutOfRange}
+use Rattle.volume_model.specs.declared.call.Refusal.TheVariants.{OutOfRange, TooLong}
 use Rattle.volume_model.specs.PlainState.{PlainState}
-use Rattle.volume_model.specs.PlainStep.{plain_step, longest_call}
+use Rattle.volume_model.specs.PlainStep.{plain_step, longest_call, refusal_of, range_refusal}
 use Rattle.volume_model.specs.declared.call.Reply.TheVariants as reply
 use Rattle.volume_model.specs.declared.entry.Entry.TheVariants as entry
 use Rattle.volume_model.specs.declared.call.Call.TheVariants as call
@@ -37,7 +42,7 @@ use Rattle.volume_core.proofs.CallLemmas.{calls-push_own}
 use Rattle.step_answers.specs.declared.answers.Enrolled.TheVariants as enrol
 use Rattle.stream_steps.specs.Mine.{OwnCall, IsOwn, answer_placed, log_length, with_running}
 use Rattle.stream_steps.specs.Steps.{IsOnBlocks, EnrolsTo, AcksTo, Answers, AnswersNow, IsUncarried, TakesTo}
-use Rattle.stream_steps.specs.Steps.{IsFrameCall}
+use Rattle.stream_steps.specs.Steps.{IsFrameCall, IsWithin, HasPlaces}
 use Rattle.world_holder.proofs.Open.{has_none}
 use Rattle.world_holder.proofs.Entries.{own_answer}
 use Rattle.world_holder.proofs.Grow.{only_open, grown}
@@ -126,7 +131,7 @@ module _ (a : Bool) (n t : ℕ) (o : OwnCall) (s : State) (ok : IsSound s) (own 
   -- it is answered, with places for so many entries
   pub end_row : (s2 : State) (spare : ℕ) (r : Reply) → MayGo n s s2 → IsAnsweredTo n o.call s s2
       → s2 ≡ ended (record s { book = record s.book { spare = spare } }) i r → IsBacked (length s.nodes) (modes_in s) o r
-      → (ends : Answers o (view a n s) (view a n s2)) × (ends.answer.reply ≡ r)
+      → (ends : Answers o (view a n s) (view a n s2)) × (ends.answer.reply ≡ r) × (ends.modes ≡ modes_in s)
   end_row s2 spare r may sees e backed =
       let call = open_at s.calls i in
       let answer : Answer = record {
@@ -149,6 +154,7 @@ module _ (a : Bool) (n t : ℕ) (o : OwnCall) (s : State) (ok : IsSound s) (own 
           done = backed.done;
           read = backed.read;
         },
+        refl,
         refl,
       )
     where
@@ -242,30 +248,54 @@ kind_of k c call.Ping e d = absurd d
 kind_of k c (call.Other x) e d = absurd d
 kind_of k c (call.Command x) e d = absurd d
 
-pub enrol_rows : (a : Bool) (n : ℕ) (c : Call) (e : Enrolled) (s s2 : State) → IsSound s → IsOnRange c → runs n s ≡ []
-    → MayGo n s s2 → EnrolsAs s n c e s2 → SeesEnrolled n c e s s2 → EnrolsTo c e (view a n s) (view a n s2)
-enrol_rows a n c (enrol.Ticket t) s s2 ok range idle may is sees =
+-- ---- what nothing stands against lies within the largest volume
+
+places_in : (size : ℕ) (offset : ℤ) (n : ℕ) → size ≤ LARGEST_SIZE
+    → (if is_good size offset n then None else Some OutOfRange) ≡ None → HasPlaces offset n
+places_in size (pos at) n most none = by (nat_le (at + n) size) refl none
+  where
+    by : (good : Bool) → nat_le (at + n) size ≡ good → (if good then None else Some OutOfRange) ≡ None → HasPlaces (pos at) n
+    by true good e = record { from = refl; inside = grind (arith, nat_tests, good, most) }
+    by false good e = absurd cc
+places_in size (negsuc at) n most none = absurd cc
+
+within : (modes : List Mode) (p : PlainState) (c : Call) → length p.volume.disk ≤ LARGEST_SIZE → IsOnRange c
+    → refusal_of modes p c ≡ None → IsWithin c
+within modes p (call.Read offset n) most short none = places_in (length p.volume.disk) offset n most
+    (subst (λ b. (if b then Some TooLong else range_refusal p.volume offset n) ≡ None) (le-ltb longest_call n short) none)
+within modes p (call.Write offset bytes) most short none = places_in (length p.volume.disk) offset (length bytes) most none
+within modes p call.Ping most short none = tt
+within modes p (call.Other k) most short none = tt
+within modes p (call.Command c) most short none = tt
+
+-- ---- enrolled, and answered that its range is not good
+
+pub enrol_rows : (a : Bool) (n : ℕ) (c : Call) (e : Enrolled) (s s2 : State) → IsSound s → IsVolumeSize s.size → IsOnRange c
+    → runs n s ≡ [] → MayGo n s s2 → EnrolsAs s n c e s2 → SeesEnrolled n c e s s2 → EnrolsTo c e (view a n s) (view a n s2)
+enrol_rows a n c (enrol.Ticket t) s s2 ok size range idle may is sees =
     let b = is.1 in
     let none = has_none n s idle in
     let new : Ticket = record { number = t; range = b.range; kind = b.kind; started = false } in
     let turns : turning s2 n ≡ [] = ap (λ (x : State). turning x n) b.state ∙ none.turns in
     let calls : running s2 n ≡ (new, b.new) ∷ [] = ap (λ (x : State). running x n) b.state
-    ∙ calls-push_own n s.tickets s.calls new b.new ok.on.clients.paired b.by none.calls in
-    record {
-      own = own_call (new, b.new);
-      is = only_open n s s2 may a (own_call (new, b.new) ∷ []) (ap (λ (x : State). x.book.entries) b.state)
-          ((λ i. map own_turn (turns i) ++ map (own_at s2.whole) (calls i))
-          ∙ ap (λ (z : OwnCall). z ∷ []) (plain_at s2.whole (new, b.new) (kind_of b.kind b.new c b.is range)));
-      number = refl;
-      call = b.is;
-      waits = refl;
-      saw = known a b.saw;
-    }
+    ∙ calls-push_own n s.tickets s.calls new b.new ok.on.clients.paired b.by none.calls in (
+      record {
+        own = own_call (new, b.new);
+        is = only_open n s s2 may a (own_call (new, b.new) ∷ []) (ap (λ (x : State). x.book.entries) b.state)
+            ((λ i. map own_turn (turns i) ++ map (own_at s2.whole) (calls i))
+            ∙ ap (λ (z : OwnCall). z ∷ []) (plain_at s2.whole (new, b.new) (kind_of b.kind b.new c b.is range)));
+        number = refl;
+        call = b.is;
+        waits = refl;
+        saw = known a b.saw;
+      },
+      within (modes_in s) (told_of s) c (subst (λ k. k ≤ LARGEST_SIZE) (sym ok.disk) size.most) range is.0,
+    )
   where
     known : (b : Bool) {m : ℕ} → m ≡ length s.book.entries → IfSome (log_length (view b n s)) (λ place. m ≡ place)
     known true e = e
     known false e = tt
-enrol_rows a n c (enrol.OutOfRange place) s s2 ok range idle may is sees =
+enrol_rows a n c (enrol.OutOfRange place) s s2 ok size range idle may is sees =
     now_row a n c (reply.Refused OutOfRange) s s2 (s.book.spare + 1) may sees (has_none n s idle).turns
     (is.2 ∙ ap (λ p. answered (with_place s) n p c (reply.Refused OutOfRange)) is.1) (uncarried c OutOfRange)
 

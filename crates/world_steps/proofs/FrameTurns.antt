@@ -1,8 +1,8 @@
 -- Each step of a frame in one turn: the World that was seen as s is found as x, left as y, and seen so as u.
 use Rattle.std.proofs.Common.{◌≡◌, ℕ, Bool, [], Result, Ok, OnOk, OnErr, IfOk, IfErr, subst, sym, ap, ◌∙◌}
 use Rattle.std.proofs.Common.{Err as Failed, true, ◌<◌, false, List, length, IfSome, refl, Option}
-use Rattle.vol_units.specs.declared.range.BlockRange.{BlockRange}
-use Rattle.range_turns.specs.Order.{ticket_at, StandsAt}
+use Rattle.vol_units.specs.Size.{IsVolumeSize}
+use Rattle.range_turns.specs.Order.{ticket_at}
 use Rattle.volume_model.specs.declared.call.Call.{Call}
 use Rattle.volume_model.specs.declared.mode.Mode.TheVariants.{Err}
 use Rattle.volume_model.specs.Modes.{mode_of}
@@ -17,10 +17,11 @@ use Rattle.step_answers.specs.Asked.{IsOnRange, IsNow}
 use Rattle.volume_core.specs.Answers.{EnrolsAs, Completes, IsAdmit, IsAnsweredNow, AreBlocksOfWrite}
 use Rattle.volume_core.specs.Answers.{TakesInPlace, IsRoomier}
 use Rattle.volume_core.specs.Places.{IsCallAt, IsWriteAt, IsReadAt, IsWaitingAt}
-use Rattle.volume_core.specs.State.{State, modes_in, gave_up_at}
+use Rattle.volume_core.specs.declared.world.World.{World}
+use Rattle.volume_core.specs.State.{State, state_of, modes_in, gave_up_at}
 use Rattle.volume_core.specs.Steps.{acked, faulted, wrote, has_read, without_call}
 use Rattle.volume_core.specs.Streams.{IsTakenBack}
-use Rattle.volume_core.specs.Streams.{MayGo, ForOwner, IsAnsweredTo, SeesEnrolled, turning, SeesAdmit}
+use Rattle.volume_core.specs.Streams.{MayGo, ForOwner, IsAnsweredTo, SeesEnrolled, turning, SeesAdmit, Origin}
 use Rattle.step_answers.specs.declared.answers.Admit.{Admit}
 use Rattle.volume_core.specs.Against as core
 use Rattle.world_holder.specs.Counted.{IsRebuildKept}
@@ -32,14 +33,16 @@ use Rattle.stream_steps.specs.Against.{RefusesAck, RefusesFault, RefusesEnd, Aga
 use Rattle.stream_steps.specs.Steps.{HasStarted, IsOnBlocks, EnrolsTo, AcksTo, FaultsTo, Answers, AnswersNow, TakesTo}
 use Rattle.stream_steps.specs.Steps.{IsFrameCall, AdmitsTo, IsNotAfter, HasNotStarted, AreBlocksOfCall}
 use Rattle.stream_steps.specs.Steps.{IsStartedWrite, IsStartedRead}
+use Rattle.stream_steps.specs.Seen.{AsksAll, WaitsAs}
 use Rattle.world_holder.proofs.Grow.{found_same, over, unchanged}
 use Rattle.world_holder.specs.View.{view, IsFree, IsFound, Owes}
-use Rattle.world_steps.proofs.Own.{HasOne, has_one, idle_from, one_is, one_place, opened}
+use Rattle.world_steps.specs.Seen.{seen_of}
+use Rattle.world_steps.proofs.Own.{idle_from, opened}
 use Rattle.world_steps.proofs.FrameRows.{acked_row, wrote_row, has_read_row, complete_row, now_rows, enrol_rows}
 use Rattle.world_steps.proofs.FrameRows.{roomier_same, gone_row, mode_there}
 use Rattle.world_steps.proofs.Against.{HasOpen, waits_open, started_open, write_open, read_open, open_as, waits_at}
 use Rattle.world_steps.proofs.Against.{buffer_at, blocks_at, takes_why, gives_why, acks_why, ends_why, faults_why}
-use Rattle.world_steps.proofs.StartRows.{admit_rows, never_after}
+use Rattle.world_steps.proofs.StartRows.{admit_rows, never_after, asks_all, waits_as}
 use Rattle.world_steps.proofs.RebuildKept.{kept_itself, kept_enrolled, kept_now, kept_admitted, kept_withdrawn}
 use Rattle.world_steps.proofs.RebuildKept.{kept_placed, kept_wrote, kept_read, kept_acked, kept_faulted}
 use Rattle.world_steps.proofs.RebuildKept.{kept_completed}
@@ -92,6 +95,18 @@ module _ (a : Bool) (n : ℕ) (s x : State) (found : IsFound a n s x) where
     same_on : {A E : Type 0} (res : Result A E) → OnErr res (y ≡ x) → OnErr res (view a n u ≡ view a n s)
     same_on res err = over a n s x y u found left (λ (m : Mine) (z : State). OnErr res (view a n z ≡ m)) (unchanged a n x y res err)
 
+-- a replica that is there, as a step left the World, is one of those that are known
+inside_by : (a : Bool) (n : ℕ) (s x y : State) → IsFound a n s x → MayGo n x y → (r : Option ℕ)
+    → IfSome r (λ k. k < length (modes_in y)) → IfSome r (λ k. k < (view a n s).replicas)
+inside_by a n s x y found may r within =
+    let many : length y.nodes ≡ (view a n s).replicas =
+    ap (λ (o : Origin). o.replicas) may.origin ∙ ap (λ (m : Mine). m.replicas) (found_same a n s x found) in
+    subst (λ j. IfSome r (λ k. k < j)) many (mode_there y r may.sound within)
+
+pub within_as : {v w : World} (r : Option ℕ) → w ≡ v → IfSome r (λ k. k < length (modes_in (state_of w)))
+    → IfSome r (λ k. k < length (modes_in (state_of v)))
+within_as r e within = subst (λ (z : World). IfSome r (λ k. k < length (modes_in (state_of z)))) e within
+
 -- ---- a look, by which nothing changes
 
 pub look_owes : (a : Bool) (n : ℕ) (s x z : State) → z ≡ x → IsFound a n s x → Owes n z x
@@ -106,26 +121,11 @@ module _ (a : Bool) (n : ℕ) (s x u : State) (found : IsFound a n s x) (left : 
   look_same = over a n s x x u found left (λ (m : Mine) (z : State). view a n z ≡ m) refl
 
   pub look_inside : (r : Option ℕ) → IfSome r (λ k. k < length (modes_in x)) → IfSome r (λ k. k < (view a n s).replicas)
-  look_inside r within = over a n s x x u found left (λ (m : Mine) (z : State). IfSome r (λ k. k < m.replicas))
-      (mode_there x r found.sound within)
+  look_inside = inside_by a n s x x found (may_stay n x found.sound)
 
 -- what is so of the modes there is so of the modes that are known
 pub look_modes : (P : List Mode → Type 0) (x u : State) → u ≡ x → P (modes_in x) → P (modes_in u)
 look_modes P x u left h = subst (λ (z : State). P (modes_in z)) (sym left) h
-
--- where the ticket of the open call stands
-module _ (a : Bool) (n t : ℕ) (s x : State) (found : IsFound a n s x) (free : IsFree n s) where
-  one : (o : OwnCall) → IsOwn t o (view a n s) → HasOne n o x
-  one o own = has_one n o x (found_turns a n s x found free) (found_in a n s x found (IsOwn t o) own).is
-
-  pub range_place : ((o : OwnCall) × IsOwn t o (view a n s)) → (i : ℕ) × StandsAt x.tickets t i
-  range_place op = one_place n t op.0 x found.sound (one op.0 op.1) op.1.number
-
-  pub range_is : (r : BlockRange) → ((i : ℕ) → StandsAt x.tickets t i → r ≡ (ticket_at x.tickets i).range)
-      → (o : OwnCall) → IsOwn t o (view a n s) → r ≡ o.range
-  range_is r is o own =
-      let place = one_place n t o x found.sound (one o own) own.number in
-      is place.0 place.1 ∙ ap (λ (c : OwnCall). c.range) (one_is n t o x found.sound (one o own) own.number place.0 place.1)
 
 -- ---- answered at once
 
@@ -166,15 +166,16 @@ module _ {E : Type 0} (a : Bool) (n : ℕ) (c : Call) (s x y : State) (found : I
     pub enrol_same : OnErr res (view a n u ≡ view a n s)
     enrol_same = same_on a n s x found y u left res err
 
-    pub enrol_to : IsOnRange c → (view a n s).running ≡ [] → IfOk res (λ e. SeesEnrolled n c e x y)
+    pub enrol_to : IsVolumeSize x.size → IsOnRange c → (view a n s).running ≡ [] → IfOk res (λ e. SeesEnrolled n c e x y)
         → IfOk res (λ e. EnrolsTo c e (view a n s) (view a n u))
-    enrol_to range idle sees =
+    enrol_to size range idle sees =
         over a n s x y u found left (λ (m : Mine) (z : State). IfOk res (λ e. EnrolsTo c e m (view a n z))) (by res ok sees)
       where
         by : (r : Result Enrolled E) → IfOk r (λ e. EnrolsAs x n c e y) → IfOk r (λ e. SeesEnrolled n c e x y)
             → IfOk r (λ e. EnrolsTo c e (view a n x) (view a n y))
         by (Ok e) is sees =
-            enrol_rows a n c e x y found.sound range (found_in a n s x found (λ (m : Mine). m.running ≡ []) idle) may is sees
+            enrol_rows a n c e x y found.sound size range (found_in a n s x found (λ (m : Mine). m.running ≡ []) idle) may
+            is sees
         by (Failed e) is sees = tt
 
 -- ---- started
@@ -226,6 +227,20 @@ module _ {E : Type 0} (a : Bool) (n t : ℕ) (s x y : State) (found : IsFound a 
         by (Ok ad) is = never_after a n t mine.0 ad x y found.sound (λ alone. (found.same alone).1) mine.1 mine.2 is
         by (Failed e) is = tt
 
+    pub admit_asks : IfOk res (λ ad. AsksAll ad (modes_in u))
+    admit_asks = subst (λ (z : State). IfOk res (λ ad. AsksAll ad (modes_in z))) (sym left) (by res ok)
+      where
+        by : (r : Result Admit E) → IfOk r (λ ad. IsAdmit x t ad y) → IfOk r (λ ad. AsksAll ad (modes_in y))
+        by (Ok ad) is = asks_all t ad x y found.sound is
+        by (Failed e) is = tt
+
+    pub admit_after : IfOk res (λ ad. WaitsAs t ad (seen_of u))
+    admit_after = subst (λ (z : State). IfOk res (λ ad. WaitsAs t ad (seen_of z))) (sym left) (by res ok)
+      where
+        by : (r : Result Admit E) → IfOk r (λ ad. IsAdmit x t ad y) → IfOk r (λ ad. WaitsAs t ad (seen_of y))
+        by (Ok ad) is = waits_as t ad x y is
+        by (Failed e) is = tt
+
 -- where it waits
 pub admit_waits : (a : Bool) (n t : ℕ) (s x : State) → IsFound a n s x
     → ((o : OwnCall) × IsOwn t o (view a n s) × HasNotStarted o) → (i : ℕ) × IsWaitingAt x t i
@@ -271,6 +286,9 @@ module _ (a : Bool) (n t r : ℕ) (s x y : State) (found : IsFound a n s x) (res
   pub place_owes : Owes n x y
   place_owes = owes_by n x y place_go (turns_placed t r x y res ok err) (kept_placed t r x y res ok err)
 
+  pub place_inside : (r : Option ℕ) → IfSome r (λ k. k < length (modes_in y)) → IfSome r (λ k. k < (view a n s).replicas)
+  place_inside = inside_by a n s x y found place_go
+
   module _ (u : State) (left : u ≡ y) where
     pub place_free : IsFree n s → IsFree n u
     place_free free = free_on a n s x found y u left free (turns_placed t r x y res ok err)
@@ -313,6 +331,9 @@ module _ (a : Bool) (n t r : ℕ) (boxes : List (Option (List ℕ))) (s x y : St
 
   pub write_owes : Owes n x y
   write_owes = owes_by n x y write_go (turns_wrote t r x y res ok err) (kept_wrote t r x y res ok err)
+
+  pub write_inside : (r : Option ℕ) → IfSome r (λ k. k < length (modes_in y)) → IfSome r (λ k. k < (view a n s).replicas)
+  write_inside = inside_by a n s x y found write_go
 
   module _ (u : State) (left : u ≡ y) where
     pub write_free : IsFree n s → IsFree n u
@@ -407,6 +428,9 @@ module _ (a : Bool) (n t r : ℕ) (s x y : State) (found : IsFound a n s x) (res
   pub ack_owes : Owes n x y
   ack_owes = owes_by n x y ack_go (turns_acked t r x y res ok err) (kept_acked t r x y res ok err)
 
+  pub ack_inside : (r : Option ℕ) → IfSome r (λ k. k < length (modes_in y)) → IfSome r (λ k. k < (view a n s).replicas)
+  ack_inside = inside_by a n s x y found ack_go
+
   module _ (u : State) (left : u ≡ y) where
     pub ack_free : IsFree n s → IsFree n u
     ack_free free = free_on a n s x found y u left free (turns_acked t r x y res ok err)
@@ -476,6 +500,9 @@ module _ (a : Bool) (n r count : ℕ) (s x y : State) (found : IsFound a n s x) 
     (may : MayGo n x y) (ok : OnOk res (y ≡ faulted x n r count)) (err : OnErr res (y ≡ x)) where
   pub fault_owes : Owes n x y
   fault_owes = owes_by n x y may (turns_faulted n r count x y res ok err) (kept_faulted n r count x y res ok err)
+
+  pub fault_inside : (r : Option ℕ) → IfSome r (λ k. k < length (modes_in y)) → IfSome r (λ k. k < (view a n s).replicas)
+  fault_inside = inside_by a n s x y found may
 
   module _ (u : State) (left : u ≡ y) where
     pub fault_free : IsFree n s → IsFree n u

@@ -12,16 +12,23 @@ use Rattle.world_holder.specs.Counted.{GoesOn, IsRebuildKept}
 use Rattle.world_holder.specs.Laid.{IsLater}
 use Rattle.world_holder.proofs.CountedLemmas.{kept_in_turn}
 use Rattle.stream_steps.specs.Mine.{OwnCall}
-use Rattle.stream_steps.specs.Add.{HasAdd}
+use Rattle.stream_steps.specs.Add.{AreKept, HasAdd}
 use Rattle.world_holder.specs.View.{view}
 use Rattle.world_steps.proofs.Shapes.{has_turn}
-use Rattle.world_steps.specs.Rebuild.{left_now, IsPageIn, IsAbortedAt, AwaitsAt, IsEndedAt, IsStillKnown}
+use Rattle.world_steps.specs.Rebuild.{left_now, IsPageIn, IsAbortedAt, AwaitsAt, IsEndedAt}
 
 not_some : (b : Rebuilding) → None ≡ Some b → ⊥
 not_some b e = cc
 
 some_same : (a b : Rebuilding) → Some a ≡ Some b → a ≡ b
 some_same a b e = cc
+
+-- What was known of the rebuild in one World is known in the other: its end, the source's blocks, and which pages wait; and
+-- no more are left.
+pub record IsStillKnown (s t : State) : Type 0 where
+  pub kept : AreKept (IsEndedAt s) (IsEndedAt t) (IsPageIn s) (IsPageIn t)
+  pub awaits : (p : PageRef) → AwaitsAt s.rebuild s.ended p → AwaitsAt t.rebuild t.ended p
+  pub fewer : left_now t.rebuild ≤ left_now s.rebuild
 
 -- ---- how many pages are left
 

@@ -1,5 +1,4 @@
 pub mod Own
-pub mod Tickets
 pub mod Rest
 pub mod RebuildKept
 pub mod Backed
@@ -17,6 +16,7 @@ pub mod AtOnce
 pub mod Turns
 pub mod GaveUp
 pub mod NextPart
+pub mod Purges
 pub mod MaintTurns
 pub mod Logged
 pub mod Wholes
@@ -26,6 +26,7 @@ pub mod WholeEnds
 pub mod WholeStarts
 pub mod Counted
 pub mod WholesGaveUp
+pub mod Begun
 pub mod WholeTurns
 pub mod Pages
 pub mod Later
@@ -34,3 +35,4 @@ pub mod Ends
 pub mod AddTurns
 pub mod PageTurns
 pub mod EndTurns
+pub mod BarrierTurns

@@ -1,6 +1,7 @@
 -- Each step of a command that is answered at once, of the maintenance turn and of a purge in one turn: the World that was
 -- seen as s is found as x, left as y, and seen so as u.
-use Rattle.std.proofs.Common.{◌≡◌, ℕ, Bool, true, false, List, [], Result, Ok, OnOk, OnErr, IfOk, IfSome, subst, refl, ap}
+use Rattle.std.proofs.Common.{◌≡◌, ℕ, Bool, true, false, List, [], Result, Ok, OnOk, OnErr, IfOk, IfErr, IfSome, subst, sym, refl, ap, ◌∙◌}
+use Rattle.std.proofs.Common.{arith}
 use Rattle.std.proofs.Common.{Err as Failed}
 use Rattle.volume_model.specs.declared.command.Command.{Command}
 use Rattle.volume_model.specs.declared.command.Command.TheVariants as command
@@ -8,15 +9,20 @@ use Rattle.range_turns.specs.declared.turns.MayStart.{MayStart}
 use Rattle.range_turns.specs.declared.turns.MayStart.TheVariants as may_start
 use Rattle.volume_model.specs.declared.call.Call.TheVariants as call
 use Rattle.volume_model.specs.declared.call.Reply.{Reply}
+use Rattle.volume_model.specs.declared.mark.FoldOrDrop.TheVariants as part
+use Rattle.open_calls.specs.Clients.{IsIdle}
 use Rattle.open_calls.specs.Maint.{HasNoCommand, command_at}
+use Rattle.step_answers.specs.declared.answers.NotThis.{NotThis}
+use Rattle.step_answers.specs.declared.answers.NotThis.TheVariants as against
 use Rattle.volume_core.specs.Answers.{IsAnsweredNow}
-use Rattle.volume_core.specs.State.{State, gave_up_at}
+use Rattle.volume_core.specs.State.{State, gave_up_at, modes_in}
 use Rattle.volume_core.specs.Steps.{faulted}
 use Rattle.volume_core.specs.Streams.{MayGo, IsAnsweredTo, turning}
 use Rattle.volume_core.specs.Turn.{without_command, ForAsker, IsFreeTurn}
 use Rattle.volume_maint.specs.Steps.{maint_enrolled, turn_abandoned}
 use Rattle.volume_maint.specs.Answers as world
 use Rattle.volume_maint.specs.Places as place
+use Rattle.volume_maint.proofs.Purging.{IsPurging, node_in, told_can}
 use Rattle.world_holder.specs.Counted.{AreOthersCounted}
 use Rattle.world_holder.proofs.CountedLemmas.{kept_same, kept_answered, others_kept, own_turn}
 use Rattle.world_holder.proofs.Leaves.{parts_stay}
@@ -24,6 +30,7 @@ use Rattle.world_holder.proofs.Found.{still_none, has_no_command}
 use Rattle.stream_steps.specs.Mine.{Mine, OwnCall, with_running}
 use Rattle.stream_steps.specs.Steps.{CommandsTo, EnrolsAt, FallsTo, IsAtOnce}
 use Rattle.stream_steps.specs.Maint.{IsNoAdd, HasTurn, AwaitsTurn, TurnsTo, IsYes, AnswersWhole}
+use Rattle.stream_steps.specs.Seen.{RefusesEndPurge, RefusesFold, WaitsTurn}
 use Rattle.world_holder.specs.View.{view, IsFound, Owes}
 use Rattle.world_holder.proofs.Grow.{found_same, over, unchanged, only_open}
 use Rattle.world_holder.proofs.Open.{has_none}
@@ -34,7 +41,11 @@ use Rattle.world_steps.proofs.FrameTurns.{found_in}
 use Rattle.world_steps.proofs.AtOnce.{once_row, falls_row}
 use Rattle.world_steps.proofs.GaveUp.{flag_kept, KeepsWhole, enrols_still, admits_still, ends_still, folds_still}
 use Rattle.world_steps.proofs.Turns.{asked, enrols, waiting, waits_owner, turn_owner, turn_stream, free_turn, admits, admits_free}
-use Rattle.world_steps.proofs.Turns.{ends, gives_back, gone_without}
+use Rattle.world_steps.proofs.Turns.{ends, gives_back, gone_without, turn_command}
+use Rattle.world_steps.proofs.Settled.{none_begun}
+use Rattle.world_steps.proofs.Purges.{none_kept, purge_ends, unwanted}
+use Rattle.world_steps.specs.Rebuild.{IsUnbegun}
+use Rattle.world_steps.specs.Seen.{seen_of}
 
 -- what a step owes that leaves the operation on the whole volume as it is
 owes_still : (n : ℕ) (x y : State) → MayGo n x y → KeepsWhole x y → AreOthersCounted n x y → Owes n x y
@@ -183,6 +194,22 @@ module _ (a : Bool) (n t : ℕ) (s x y : State) (found : IsFound a n s x) (told 
       (λ (m : Mine) (z : State). (c : Command) (o : OwnCall) → AwaitsTurn t c o m → TurnsTo o told m (view a n z))
       (admits a n t x y found.sound told admit_go ok)
 
+  -- a command that waits is behind the first; and of one that has the turn now no rebuild was begun
+  pub admit_waits : (u : State) → u ≡ y → WaitsTurn t told (seen_of u)
+  admit_waits u left = subst (λ (z : State). WaitsTurn t told (seen_of z)) (sym left) (by told ok)
+    where
+      by : (q : MayStart) → world.TurnsTo x t q y → WaitsTurn t q (seen_of y)
+      by may_start.Yes d = tt
+      by (may_start.After number) d =
+          subst (λ (z : State). WaitsTurn t (may_start.After number) (seen_of z)) (sym d.4) (d.0, d.1.stands, d.2, d.3)
+
+  pub admit_unbegun : (u : State) → u ≡ y → told ≡ may_start.Yes → IsUnbegun u
+  admit_unbegun u left given = subst IsUnbegun (sym left) (by (subst (λ q. world.TurnsTo x t q y) given ok))
+    where
+      by : world.TurnsTo x t may_start.Yes y → IsUnbegun y
+      by d = let none = none_begun x found.sound d.0.waits in
+          subst IsUnbegun (sym d.1) (record { closed = none.closed; first = none.first })
+
 -- ---- under its turn
 
 -- the command of the stream has the turn under that ticket
@@ -221,6 +248,22 @@ module _ {E : Type 0} (a : Bool) (n t : ℕ) (r : Reply) (s x y : State) (found 
         over a n s x y u found left
         (λ (m : Mine) (z : State). OnOk res ((o : OwnCall) → HasTurn t command.Purge o m → AnswersWhole o r m (view a n z)))
         (ends a n t x y found.sound (turn_go a n t command.Purge s x y found h may) r res ok)
+
+module _ (a : Bool) (n t : ℕ) (r : Reply) (s x y : State) (found : IsFound a n s x) (res : Result ℕ NotThis)
+    (h : IsInTurn t command.Purge (view a n s)) (err : OnErr res (y ≡ x)) where
+  pub ends_why : (u : State) → u ≡ y → IfErr res (λ why. (why ≡ against.Ticket) × world.AgainstEndTurn x t r)
+      → OnErr res (RefusesEndPurge r (seen_of u))
+  ends_why u left why = subst (λ (z : State). OnErr res (RefusesEndPurge r (seen_of z))) (sym left) (by res why err)
+    where
+      by : (q : Result ℕ NotThis) → IfErr q (λ why. (why ≡ against.Ticket) × world.AgainstEndTurn x t r) → OnErr q (y ≡ x)
+          → OnErr q (RefusesEndPurge r (seen_of y))
+      by (Ok at) why same = tt
+      by (Failed e) why same = subst (λ (z : State). RefusesEndPurge r (seen_of z)) (sym same)
+          (λ may none.
+          let f = found_turn a n t command.Purge s x y found h in
+          why.1 (free_turn a n t x found.sound command.Purge f.0 f.1)
+          (purge_ends x (command_at x.commands 0).command (turn_command a n t x found.sound command.Purge f.0 f.1) r may)
+          (none_kept x.whole none))
 
 -- ---- it is given back
 
@@ -284,3 +327,37 @@ module _ {E : Type 0} (a : Bool) (n t r page : ℕ) (parent : List ℕ) (s x y :
       by (Ok v) d err = only_open n x y fold_go a (view a n x).running (ap (λ (z : State). z.book.entries) d.state)
           (ap (λ (z : State). (view a n z).running) d.state)
       by (Failed e) d err = ap (view a n) err
+
+-- the purge has the turn, and nothing enrolled
+pub found_purging : (a : Bool) (n t : ℕ) (s x : State) → IsFound a n s x → IsInTurn t command.Purge (view a n s)
+    → place.IsTurnOf x command.Purge × IsIdle (command_at x.commands 0).stream x.calls
+found_purging a n t s x found h =
+    let f = found_turn a n t command.Purge s x x found h in
+    let free = free_turn a n t x found.sound command.Purge f.0 f.1 in (
+      record {
+        some = omega (arith, free.stands.within, found.sound.maint.queued.paired);
+        started = free.started;
+        command = turn_command a n t x found.sound command.Purge f.0 f.1;
+      },
+      free.idle,
+    )
+
+module _ {E : Type 0} (a : Bool) (n r page : ℕ) (parent : List ℕ) (s x y : State) (found : IsFound a n s x) (res : Result (Unit {0}) E)
+    (ok : OnOk res (world.FoldsPage x r parent page y)) where
+  pub fold_folded : (u : State) → u ≡ y → OnOk res (¬ world.WantsFold u r parent page)
+  fold_folded u left = subst (λ (z : State). OnOk res (¬ world.WantsFold z r parent page)) (sym left) (by res ok)
+    where
+      by : (q : Result (Unit {0}) E) → OnOk q (world.FoldsPage x r parent page y) → OnOk q (¬ world.WantsFold y r parent page)
+      by (Failed e) d = tt
+      by (Ok v) d =
+          let purging : IsPurging x = record { stream = (command_at x.commands 0).stream; own = refl; idle = d.idle } in
+          subst (λ (z : State). ¬ world.WantsFold z r parent page) (sym d.state)
+          (unwanted x r page parent d.c (node_in x r found.sound purging d.read)
+          (told_can x r found.sound purging d.read (part.Fold parent d.c) d.can))
+
+pub fold_why : (r page : ℕ) (parent : List ℕ) (x y : State) (res : Result (Unit {0}) NotThis)
+    → IfErr res (RefusesFold r parent page (modes_in x) (seen_of x).log) → OnErr res (y ≡ x) → (u : State) → u ≡ y
+    → IfErr res (RefusesFold r parent page (modes_in u) (seen_of u).log)
+fold_why r page parent x y (Ok v) why err u left = tt
+fold_why r page parent x y (Failed e) why err u left =
+    subst (λ (z : State). RefusesFold r parent page (modes_in z) (seen_of z).log e) (sym (left ∙ err)) why

@@ -1,6 +1,7 @@
 -- What a purge is told to do next, of a World that was seen as s and is found as x.
-use Rattle.std.proofs.Common.{◌≡◌, ℕ, ◌<◌, Bool, true, false, ⊎_elim, List, [], ◌∷◌, length, IfSome, subst, sym, refl, ap, ◌∙◌}
+use Rattle.std.proofs.Common.{◌≡◌, ℕ, ◌<◌, Bool, true, false, ⊎_elim, List, [], ◌∷◌, length, Some, IfSome, subst, sym, refl, ap, ◌∙◌}
 use Rattle.std.proofs.Common.{arith}
+use Rattle.std.specs.Option.{option_map}
 use Rattle.std.proofs.lemmas.Bool.{cases_eq}
 use Rattle.volume_model.specs.declared.command.Command.TheVariants as command
 use Rattle.range_turns.specs.declared.ticket.Ticket.{Ticket}
@@ -16,9 +17,11 @@ use Rattle.volume_maint.specs.Answers as world
 use Rattle.volume_core.specs.State.{spot_of}
 use Rattle.stream_steps.specs.Mine.{Mine, OwnCall}
 use Rattle.stream_steps.specs.Maint.{HasTurn, IsNext}
+use Rattle.stream_steps.specs.Seen.{FindsNext}
 use Rattle.world_holder.specs.View.{view, IsAlone, IsFound}
 use Rattle.world_holder.proofs.Grow.{found_same}
 use Rattle.world_steps.proofs.Shapes.{has_turn}
+use Rattle.world_steps.specs.Seen.{number_of, seen_of}
 
 -- where no stream has a call open, there is no ticket
 at_rest : (s : State) → IsSound s → ((n : ℕ) → running s n ≡ []) → s.tickets ≡ []
@@ -51,3 +54,10 @@ looks_next a n s x found t p y h =
     by : (b : Bool) → IsFound b n s x → ((o : OwnCall) × HasTurn t command.Purge o (view b n x)) → IfSome (view b n x).log (IsNext p)
     by true f k = goes_next n t x p f.sound (f.same refl).1 y k
     by false f k = tt
+
+-- and what is found of it
+pub finds_next : (s : State) (p : NextPart) → world.IsNextPart s p → FindsNext p (seen_of s)
+finds_next s (next.Part f) y = (ap (option_map number_of) y.0, y.1)
+finds_next s next.Nothing y = (ap (option_map number_of) y.0, (y.2, y.1))
+finds_next s next.NoReplica y = y
+finds_next s (next.After number) y = ap (option_map number_of) y.1 ∙ ap Some y.2

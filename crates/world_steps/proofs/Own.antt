@@ -60,7 +60,7 @@ one_by n o s [] a b e = absurd cc
 one_by n o s (x ∷ []) a b e = record { x = x; turns = a; calls = b; is = head_is (own_at s.whole x) o [] e }
 one_by n o s (x ∷ y ∷ cs) a b e = absurd cc
 
-pub has_one : (n : ℕ) (o : OwnCall) (s : State) → turning s n ≡ [] → runs n s ≡ o ∷ [] → HasOne n o s
+has_one : (n : ℕ) (o : OwnCall) (s : State) → turning s n ≡ [] → runs n s ≡ o ∷ [] → HasOne n o s
 has_one n o s turns e = one_by n o s (running s n) turns refl
     (ap (λ ms. map own_turn ms ++ map (own_at s.whole) (running s n)) (sym turns) ∙ e)
 
@@ -91,7 +91,7 @@ unique_number s ok i j a b e = ⊎_elim
     (cases_lt i j)
 
 module _ (n t : ℕ) (o : OwnCall) (s : State) (ok : IsSound s) (its : HasOne n o s) (number : o.number ≡ t) where
-  pub one_open : IsOpen n t o.call s
+  one_open : IsOpen n t o.call s
   one_open = record {
     range = o.range;
     whole = o.whole;
@@ -101,10 +101,10 @@ module _ (n t : ℕ) (o : OwnCall) (s : State) (ok : IsSound s) (its : HasOne n 
   }
 
   -- where the ticket stands, its call is the stream's
-  pub one_stands : (i : ℕ) → StandsAt s.tickets t i → IsOwnAt n o.call s i
+  one_stands : (i : ℕ) → StandsAt s.tickets t i → IsOwnAt n o.call s i
   one_stands i stands = core_own_at n t o.call s i ok one_open stands
 
-  pub one_is : (i : ℕ) → StandsAt s.tickets t i → own_at s.whole (ticket_at s.tickets i, open_at s.calls i) ≡ o
+  one_is : (i : ℕ) → StandsAt s.tickets t i → own_at s.whole (ticket_at s.tickets i, open_at s.calls i) ≡ o
   one_is i stands =
       let at = one_stands i stands in
       ap (own_at s.whole) (at.is ∙ same at.x its.x (sym at.runs ∙ its.calls)) ∙ its.is
@@ -113,7 +113,7 @@ module _ (n t : ℕ) (o : OwnCall) (s : State) (ok : IsSound s) (its : HasOne n 
       same x y e = cc
 
   -- there is a place where it stands
-  pub one_place : (i : ℕ) × StandsAt s.tickets t i
+  one_place : (i : ℕ) × StandsAt s.tickets t i
   one_place =
       let at = calls-place n s.tickets s.calls its.x its.calls in
       let there = calls-one n s.tickets s.calls at.0 its.x its.calls at.1 at.2 at.3 in

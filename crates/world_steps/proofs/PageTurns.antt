@@ -1,32 +1,34 @@
 -- A page comes in, or a line fails, in one turn: the World that was seen as s is found as x, left as y, and seen so as u.
-use Rattle.std.proofs.Common.{◌≡◌, ℕ, ◌+◌, ◌≤◌, Bool}
-use Rattle.std.proofs.Common.{Result, Ok, OnOk, OnErr, ◌⊎◌, inl, inr}
-use Rattle.std.proofs.Common.{subst, sym, ap, ◌∙◌, arith}
+use Rattle.std.proofs.Common.{◌≡◌, ℕ, ◌+◌, ◌<◌, ◌≤◌, Bool, true, false, Result, Ok, OnOk, OnErr, ◌⊎◌, inl, inr}
+use Rattle.std.proofs.Common.{subst, sym, refl, ap, ◌∙◌, arith, eq-eqb}
 use Rattle.std.proofs.Common.{Err as Failed}
+use Rattle.std.specs.Prelude.{◌==◌, ◌||◌}
 use Rattle.sparse_image.specs.Image.{Table}
 use Rattle.vol_units.specs.declared.page_ref.PageRef.{PageRef}
 use Rattle.open_calls.specs.Maint.{command_at}
-use Rattle.step_answers.specs.declared.answers.NotThis.{NotThis}
+use Rattle.volume_model.specs.Faults.{last_count}
 use Rattle.volume_core.specs.State.{State, gave_up_at}
-use Rattle.volume_core.specs.Steps.{faulted}
+use Rattle.volume_core.specs.Steps.{faulted, has_part}
 use Rattle.volume_core.specs.Streams.{MayGo}
 use Rattle.volume_rebuild.specs.Answers.{CopiesIn}
 use Rattle.stream_steps.specs.declared.add.PageIn.{PageIn}
 use Rattle.stream_steps.specs.declared.add.PageIn.TheVariants as put
-use Rattle.stream_steps.specs.Mine.{Mine}
+use Rattle.stream_steps.specs.Mine.{Mine, entries_in}
 use Rattle.stream_steps.specs.Steps.{FallsTo}
 use Rattle.stream_steps.specs.Add.{AreKept, PutsIn}
 use Rattle.world_holder.specs.View.{view, IsFound, Owes}
-use Rattle.world_holder.proofs.Grow.{over}
-use Rattle.world_steps.proofs.Rest.{Rest, turns_faulted}
+use Rattle.world_holder.specs.Counted.{IsRebuildKept, WasAborted}
+use Rattle.world_holder.proofs.Entries.{own_last}
+use Rattle.world_holder.proofs.Grow.{found_same, over}
+use Rattle.world_steps.proofs.Rest.{Rest, rest_of, turns_faulted}
 use Rattle.world_steps.proofs.RebuildKept.{kept_faulted}
+use Rattle.world_steps.proofs.Begun.{begun_found, begun_fall}
 use Rattle.world_steps.proofs.GaveUp.{flag_kept}
-use Rattle.world_steps.specs.Rebuild.{left_now, IsPageIn, IsEndedAt, PutsAt}
-use Rattle.world_steps.specs.Rebuild.{IsStillKnown, IsStill}
+use Rattle.world_steps.specs.Rebuild.{left_now, IsPageIn, IsEndedAt, IsOpenFrom, IsBegunIn, IsEndOf, PutsAt}
 use Rattle.world_steps.proofs.Pages.{one_fewer}
-use Rattle.world_steps.proofs.Later.{same_left, still_known, known_then}
+use Rattle.world_steps.proofs.Later.{IsStillKnown, same_left, still_known, known_then}
 use Rattle.world_steps.proofs.AtOnce.{falls_row}
-use Rattle.world_steps.proofs.Puts.{put_row, puts_whole, puts_gave, puts_kept}
+use Rattle.world_steps.proofs.Puts.{put_row, puts_whole, puts_gave, puts_kept, puts_begun}
 use Rattle.world_steps.proofs.AddTurns.{HasSomeAdd, add_known, add_kept, add_stream, add_owes}
 
 -- ---- a page comes in
@@ -61,6 +63,10 @@ module _ (a : Bool) (n t : ℕ) (s x y : State) (page : PageRef) (old new : Tabl
           pages = λ q table is. then.pages q table (first.kept.pages q table is);
         })
 
+    pub put_begun : (past : Bool) (source r : ℕ) → IsBegunIn n s past source r → IsBegunIn n u past source r
+    put_begun past source r begun = subst (λ (z : State). IsBegunIn n z past source r) (sym left)
+        (puts_begun x y page old new n past source r p puts (begun_found n s x past source r found.later begun))
+
     pub put_puts : PutsIn p (IsEndedAt u) (left_now s.rebuild) (left_now u.rebuild)
     put_puts = subst (λ (z : State). PutsIn p (IsEndedAt z) (left_now s.rebuild) (left_now z.rebuild)) (sym left) (by p puts)
       where
@@ -75,43 +81,70 @@ module _ (a : Bool) (n t : ℕ) (s x y : State) (page : PageRef) (old new : Tabl
         by put.Listed c = omega (arith, one_less c, (add_known a n t s x found add).fewer)
         by (put.Ended place) c = omega (arith, ap (λ (z : State). left_now z.rebuild) c.1, (add_known a n t s x found add).fewer)
 
--- ---- a line fails, and then the end of the rebuild is seen
+-- ---- a line fails
 
-module _ (a : Bool) (n t r count : ℕ) (s x y : State) (found : IsFound a n s x) (res : Result (Unit {0}) NotThis)
-    (add : HasSomeAdd t (view a n s)) (may : MayGo n x y) (ok : OnOk res (y ≡ faulted x n r count)) (err : OnErr res (y ≡ x)) where
+-- what is left is one of these, as a fault is told
+abbrev Told : State → State → State → Type 0
+Told x y z = (res : Result (Unit {0}) (Unit {0})) × OnOk res (y ≡ z) × OnErr res (y ≡ x)
+
+told : (x y z : State) → (y ≡ z) ⊎ (y ≡ x) → Told x y z
+told x y z (inl e) = (Ok tt, e, tt)
+told x y z (inr e) = (Failed tt, tt, e)
+
+module _ (a : Bool) (n t r count : ℕ) (s x y : State) (found : IsFound a n s x) (add : HasSomeAdd t (view a n s)) (may : MayGo n x y)
+    (fell : (y ≡ faulted x n r count) ⊎ (y ≡ x)) where
+  its_told : Told x y (faulted x n r count)
+  its_told = told x y (faulted x n r count) fell
+
+  -- what others have open stays, and the rebuild, or it is aborted
+  its_rest : rest_of y ≡ rest_of x
+  its_rest = let k = its_told in turns_faulted n r count x y k.0 k.1 k.2
+
+  its_kept : IsRebuildKept x.rebuild x y
+  its_kept = let k = its_told in kept_faulted n r count x y k.0 k.1 k.2
+
   pub fall_owes : Owes n x y
-  fall_owes = add_owes a n t s x found add y may (ap (λ (z : Rest). z.whole) (turns_faulted n r count x y res ok err))
+  fall_owes = add_owes a n t s x found add y may (ap (λ (z : Rest). z.whole) its_rest)
 
   module _ (u : State) (left : u ≡ y) where
-    fall_to : FallsTo r count (view a n s) (view a n u) ⊎ (view a n u ≡ view a n s)
-    fall_to = over a n s x y u found left (λ (m : Mine) (z : State). FallsTo r count m (view a n z) ⊎ (view a n z ≡ m)) (by res ok err)
+    pub fall_fell : FallsTo r count (view a n s) (view a n u) ⊎ (view a n u ≡ view a n s)
+    fall_fell = over a n s x y u found left (λ (m : Mine) (z : State). FallsTo r count m (view a n z) ⊎ (view a n z ≡ m)) (by fell)
       where
-        by : (q : Result (Unit {0}) NotThis) → OnOk q (y ≡ faulted x n r count) → OnErr q (y ≡ x)
-            → FallsTo r count (view a n x) (view a n y) ⊎ (view a n y ≡ view a n x)
-        by (Ok v) e same = inl (falls_row a n r count x y may e)
-        by (Failed v) e same = inr (ap (view a n) same)
+        by : (y ≡ faulted x n r count) ⊎ (y ≡ x) → FallsTo r count (view a n x) (view a n y) ⊎ (view a n y ≡ view a n x)
+        by (inl e) = inl (falls_row a n r count x y may e)
+        by (inr same) = inr (ap (view a n) same)
 
-    fall_known : IsStillKnown s u
-    fall_known = subst (IsStillKnown s) (sym left) (known_then s x y (add_known a n t s x found add)
-        (still_known x y (kept_faulted n r count x y res ok err)))
+    pub fall_gave : gave_up_at u.gave_up n ≡ gave_up_at s.gave_up n
+    fall_gave = flag_kept a n s x y u found left (ap (λ (z : Rest). z.gave_up) its_rest)
 
-    -- the add has the turn still, with an entry more
-    pub fall_add : HasSomeAdd t (view a n u)
-    fall_add =
-        let h = add.2 in
-        (add.0, add.1, record { is = by fall_to ∙ h.is; number = h.number; call = h.call; wants = h.wants; started = h.started })
-      where
-        by : FallsTo r count (view a n s) (view a n u) ⊎ (view a n u ≡ view a n s) → (view a n u).running ≡ (view a n s).running
-        by (inl f) = ap (λ (z : Mine). z.running) f.is
-        by (inr same) = ap (λ (z : Mine). z.running) same
+    pub fall_still : IsStillKnown s u
+    fall_still = subst (IsStillKnown s) (sym left)
+        (known_then s x y (add_known a n t s x found add) (still_known x y its_kept))
 
-    module _ (v : State) (then : IsStill a n u v) where
-      pub fall_fell : FallsTo r count (view a n s) (view a n v) ⊎ (view a n v ≡ view a n s)
-      fall_fell = subst (λ (m : Mine). FallsTo r count (view a n s) m ⊎ (m ≡ view a n s)) (sym then.to.same) fall_to
+    pub fall_begun : (past : Bool) (source q : ℕ) → IsBegunIn n s past source q → IsBegunIn n u past source q
+    fall_begun past source q begun =
+        let k = its_told in
+        subst (λ (z : State). IsBegunIn n z past source q) (sym left)
+        (begun_fall n r count x y k.0 k.1 k.2 past source q (begun_found n s x past source q found.later begun))
 
-      pub fall_gave : gave_up_at v.gave_up n ≡ gave_up_at s.gave_up n
-      fall_gave = then.to.gave_up
-          ∙ flag_kept a n s x y u found left (ap (λ (z : Rest). z.gave_up) (turns_faulted n r count x y res ok err))
+-- the replica is an end of the rebuild that is found
+module _ (a : Bool) (n r count : ℕ) (s x : State) (found : IsFound a n s x) where
+  pub fall_part : (source q : ℕ) × IsBegunIn n s true source q × ((r ≡ source) ⊎ (r ≡ q)) → IsEndOf x r
+  fall_part begun = by (begun_found n s x true begun.0 begun.1 found.later begun.2).is begun.3
+    where
+      source_part : (b : Bool) (k : ℕ) → r ≡ k → (b || (r == k)) ≡ true
+      source_part true k e = refl
+      source_part false k e = eq-eqb r k e
 
-      pub fall_still : IsStillKnown s v
-      fall_still = known_then s u v fall_known then.known
+      target_part : (b : Bool) (k : ℕ) → r ≡ k → ((r == k) || b) ≡ true
+      target_part b k e = ap (λ c. c || b) (eq-eqb r k e)
+
+      by : IsOpenFrom x true begun.0 begun.1 ⊎ WasAborted x → (r ≡ begun.0) ⊎ (r ≡ begun.1) → IsEndOf x r
+      by (inl o) (inl e) = inl (ap (λ b. has_part b r) o.is ∙ source_part (r == o.b.target) o.b.source (e ∙ sym o.from))
+      by (inl o) (inr e) = inl (ap (λ b. has_part b r) o.is ∙ target_part (r == o.b.source) o.b.target (e ∙ sym o.to))
+      by (inr was) e = inr was
+
+  -- and the count is above the last that the journal tells
+  pub fall_above : last_count (view a n s).stream r (entries_in (view a n s).entries) < count → last_count n r x.book.entries < count
+  fall_above above = subst (λ k. k < count) (own_last n r x.book.opening.modes x.book.entries)
+      (subst (λ (m : Mine). last_count m.stream r (entries_in m.entries) < count) (sym (found_same a n s x found)) above)

@@ -26,7 +26,8 @@ use Rattle.volume_rebuild.proofs.Bare.{bare_page}
 use Rattle.volume_rebuild.proofs.Left.{has_bits}
 use Rattle.world_steps.specs.Rebuild.{left_of, left_now, IsPageIn}
 
-set_left : (bits : List Bool) (i : ℕ) → i < length bits → flag_at bits i ≡ false → count_by not (set bits i true) + 1 ≡ count_by not bits
+pub set_left : (bits : List Bool) (i : ℕ) → i < length bits → flag_at bits i ≡ false
+    → count_by not (set bits i true) + 1 ≡ count_by not bits
 set_left bits i within left =
     omega (
       arith,
@@ -39,7 +40,7 @@ none_left [] all = refl
 none_left (true ∷ bits) all = none_left bits (λ place h. all (suc place) (omega (arith, h)))
 none_left (false ∷ bits) all = absurd (false≢true (all 0 (omega arith)))
 
-past_left : (b : Rebuilding) → b.may_copy ≡ true → left_of b ≡ count_by not b.listed
+pub past_left : (b : Rebuilding) → b.may_copy ≡ true → left_of b ≡ count_by not b.listed
 past_left b may = ap (λ c. cond c (count_by not b.listed) 0) may
 
 before_left : (b : Rebuilding) → b.may_copy ≡ false → left_of b ≡ 0
@@ -83,7 +84,7 @@ module _ (s : State) (b : Rebuilding) (page : PageRef) (ok : IsSound s) (begun :
   one_more = omega (arith, one_fewer)
 
 -- the source is not what is rebuilt
-apart : (s : State) (b : Rebuilding) → IsSound s → s.rebuild ≡ Some b → b.source ≢ b.target
+pub apart : (s : State) (b : Rebuilding) → IsSound s → s.rebuild ≡ Some b → b.source ≢ b.target
 apart s b ok is e =
     let roles = (subst (λ x. IsRebuilding s.size (modes_in s) s.tickets s.calls s.whole s.nodes x) is ok.rebuild).roles in
     rw≢wo (sym roles.source ∙ ap (mode_of (modes_in s)) e ∙ roles.target)
@@ -91,7 +92,7 @@ apart s b ok is e =
     rw≢wo : Rw ≡ Wo → ⊥
     rw≢wo f = cc
 
-same_open : (a b : Rebuilding) → Some a ≡ Some b → a ≡ b
+pub same_open : (a b : Rebuilding) → Some a ≡ Some b → a ≡ b
 same_open a b e = cc
 
 -- what was true of the source's pages is true still

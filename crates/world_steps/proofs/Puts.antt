@@ -1,22 +1,27 @@
 -- A page comes in: what that makes of what the stream knows.
-use Rattle.std.proofs.Common.{◌≡◌, Bool, ℕ, None, Some, subst, sym, ap, ◌∙◌}
+use Rattle.std.proofs.Common.{◌≡◌, ◌⊎◌, inl, inr, Bool, ℕ, None, Some, subst, sym, ap, ◌∙◌}
 use Rattle.sparse_image.specs.Image.{Table}
 use Rattle.vol_units.specs.declared.page_ref.PageRef.{PageRef}
 use Rattle.open_rebuild.specs.declared.rebuilding.Rebuilding.{Rebuilding}
+use Rattle.open_rebuild.specs.Claim.{with_page}
 use Rattle.volume_core.specs.State.{State}
 use Rattle.volume_core.specs.Sound.{IsSound}
-use Rattle.volume_core.specs.Streams.{MayGo}
+use Rattle.volume_core.specs.Streams.{turning, MayGo}
 use Rattle.volume_rebuild.specs.Answers.{CopiesIn}
 use Rattle.stream_steps.specs.declared.add.PageIn.{PageIn}
 use Rattle.stream_steps.specs.declared.add.PageIn.TheVariants as put
 use Rattle.stream_steps.specs.Add.{AreKept}
 use Rattle.world_holder.specs.View.{runs, view}
 use Rattle.world_holder.proofs.Grow.{only_open}
-use Rattle.world_steps.specs.Rebuild.{IsPageIn, IsEndedAt, PutsAt}
+use Rattle.world_holder.specs.Counted.{WasAborted}
+use Rattle.world_steps.specs.Rebuild.{IsPageIn, IsEndedAt, IsOpenFrom, IsBegunIn, PutsAt}
 use Rattle.world_steps.proofs.Pages.{pages_kept}
 
 not_some : (b : Rebuilding) → None ≡ Some b → ⊥
 not_some b e = cc
+
+some_same : (a b : Rebuilding) → Some a ≡ Some b → a ≡ b
+some_same a b e = cc
 
 -- ---- a page comes in
 
@@ -43,3 +48,29 @@ module _ (s s2 : State) (page : PageRef) (old new : Table) where
     ended = λ at is. subst (λ (z : State). IsEndedAt z at) (sym y.1) is;
     pages = λ p table is. subst (λ (z : State). IsPageIn z p table) (sym y.1) is;
   }
+
+  -- its rebuild goes on from the same source
+  pub puts_begun : (n : ℕ) (past : Bool) (source r : ℕ) (p : PageIn) → PutsAt p page old new s s2 → IsBegunIn n s past source r
+      → IsBegunIn n s2 past source r
+  puts_begun n past source r put.Listed y begun = record {
+    turn = record {
+      p = begun.turn.p;
+      turns = ap (λ (z : State). turning z n) y.state ∙ begun.turn.turns;
+      started = begun.turn.started;
+      adds = begun.turn.adds;
+    };
+    is = by begun.is;
+  }
+    where
+      by : IsOpenFrom s past source r ⊎ WasAborted s → IsOpenFrom s2 past source r ⊎ WasAborted s2
+      by (inl o) =
+          let same : y.b ≡ o.b = some_same y.b o.b (sym y.is.begun ∙ o.is) in
+          inl (record {
+            b = with_page y.b page.layer page.page;
+            is = ap (λ (z : State). z.rebuild) y.state;
+            from = ap (λ (b : Rebuilding). b.source) same ∙ o.from;
+            to = ap (λ (b : Rebuilding). b.target) same ∙ o.to;
+            ended = λ e. ap (λ (b : Rebuilding). b.may_copy) same ∙ o.ended e;
+          })
+      by (inr was) = absurd (not_some y.b (sym was.none ∙ y.is.begun))
+  puts_begun n past source r (put.Ended place) y begun = subst (λ (z : State). IsBegunIn n z past source r) (sym y.1) begun

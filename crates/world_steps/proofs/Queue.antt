@@ -93,6 +93,17 @@ first_gone n (u ∷ ts) [] some pair own alone = absurd (omega arith)
 first_gone n (u ∷ ts) (c ∷ cs) some pair own alone =
     turn_of_none n ts cs (λ k less e. alone 0 (suc k) (omega arith) (omega (arith, less)) (own ∙ sym e))
 
+-- the first is the stream's one
+pub first_only : (n : ℕ) (ts : List Ticket) (cs : List MaintCall) → 0 < length cs → length cs ≡ length ts
+    → (command_at cs 0).stream ≡ n
+    → ((k l : ℕ) → k < l → l < length cs → (command_at cs k).stream ≢ (command_at cs l).stream)
+    → commands_in n ts cs ≡ (ticket_at ts 0, command_at cs 0) ∷ []
+first_only n [] cs some pair own alone = absurd (omega arith)
+first_only n (u ∷ ts) [] some pair own alone = absurd (omega arith)
+first_only n (u ∷ ts) (c ∷ cs) some pair own alone =
+    with_head n u c ts cs own ∙ ap (λ (l : Pairs). (u, c) ∷ l)
+    (turn_of_none n ts cs (λ k less e. alone 0 (suc k) (omega arith) (omega (arith, less)) (own ∙ sym e)))
+
 -- ---- a stream has one at most
 
 abbrev pub AreFew : {A : Type 0} → List A → Type 0

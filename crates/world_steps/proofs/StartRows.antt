@@ -7,11 +7,11 @@ use Rattle.vol_units.specs.declared.size.TheConstants.{BLOCK_BYTES}
 use Rattle.vol_units.specs.Range.{blocks_around}
 use Rattle.range_turns.specs.declared.ticket.Kind.{Kind}
 use Rattle.range_turns.specs.declared.ticket.Ticket.{Ticket}
-use Rattle.range_turns.specs.Order.{ticket_at, StandsAt}
+use Rattle.range_turns.specs.Order.{ticket_at, no_ticket, StandsAt}
 use Rattle.range_turns.specs.declared.ticket.Kind.TheVariants as kind
 use Rattle.volume_model.specs.declared.call.Call.{Call}
 use Rattle.volume_model.specs.declared.mode.Mode.TheVariants.{Err, Rw}
-use Rattle.volume_model.specs.Modes.{mode_of, HasSource, IsSource}
+use Rattle.volume_model.specs.Modes.{mode_of, HasSource, HasNoSource, IsSource}
 use Rattle.volume_model.specs.declared.call.Refusal.TheVariants.{NoReplica}
 use Rattle.volume_model.specs.declared.mode.Mode.{Mode}
 use Rattle.volume_model.specs.declared.call.Reply.TheVariants as reply
@@ -35,8 +35,10 @@ use Rattle.volume_core.proofs.CallLemmas.{calls-none}
 use Rattle.step_answers.specs.declared.answers.Admit.TheVariants as admit
 use Rattle.stream_steps.specs.Mine.{OwnCall, IsOwn}
 use Rattle.stream_steps.specs.Steps.{IsOnBlocks, IsUncarried, AdmitsTo, IsNotAfter, StartsCall, IsStarted, IsJobFor}
+use Rattle.stream_steps.specs.Seen.{AsksAll, WaitsAs}
 use Rattle.world_holder.proofs.Grow.{only_open}
 use Rattle.world_holder.specs.View.{own_call, view, IsAlone}
+use Rattle.world_steps.specs.Seen.{seen_of}
 use Rattle.world_steps.proofs.Own.{IsAt, own_stands, runs_put}
 use Rattle.world_steps.proofs.FrameRows.{same_asked, uncarried, end_row}
 use Rattle.world_steps.proofs.Backed.{refused_backed}
@@ -71,12 +73,12 @@ module _ (a : Bool) (n t : ℕ) (o : OwnCall) (job : Job) (s : State) (i : ℕ) 
     abbrev its_call : OpenCall
     its_call = begun (open_at s.calls i) (modes_in s) front back buffer
 
-    there : (s2 : State) → s2 ≡ goes → open_at s2.calls i ≡ its_call
-    there s2 is = ap (λ (x : State). open_at x.calls i) is ∙ get_or-set_same s.calls i its_call no_call inside
+    there : open_at goes.calls i ≡ its_call
+    there = get_or-set_same s.calls i its_call no_call inside
 
-    starts_with : MayGo n s goes → IsStarted o.call (own_call (new, its_call)) → IsJobFor o.call job (own_call (new, its_call))
-        → StartsCall o job (view a n s) (view a n goes)
-    starts_with may of j =
+    starts_with : MayGo n s goes → IsJobOf goes i job → IsStarted o.call (own_call (new, its_call))
+        → IsJobFor o.call job (own_call (new, its_call)) → StartsCall o job (view a n s) (view a n goes)
+    starts_with may tells of j =
         let whole = (front ++ (open_at s.calls i).bytes) ++ back in
         let parts = map part_for (modes_in s) in
         record {
@@ -89,6 +91,8 @@ module _ (a : Bool) (n t : ℕ) (o : OwnCall) (job : Job) (s : State) (i : ℕ) 
               ∙ ap (λ (x : OwnCall). record x { started = true; whole = whole; buffer = buffer; parts = parts }) here.is;
           of = of;
           job = j;
+          range = tells.range ∙ ap (λ (x : Ticket). x.range) (get_or-set_same s.tickets i new no_ticket waits.stands.within);
+          asks = tells.parts ∙ ap (λ (x : OpenCall). x.parts) there;
           none = not_acked;
           source = source_known a;
         }
@@ -97,13 +101,13 @@ module _ (a : Bool) (n t : ℕ) (o : OwnCall) (job : Job) (s : State) (i : ℕ) 
     starts_by : (k : Kind) (first : ℕ) → (ticket_at s.tickets i).kind ≡ k → call_asked k (open_at s.calls i) ≡ o.call
         → BeginsBy k (with_place s) i first s2 → StartsCall o job (view a n s) (view a n s2)
     starts_by kind.Read first is asked b =
-        subst (λ (z : State). MayGo n s z → StartsCall o job (view a n s) (view a n z)) (sym b.state)
-        (λ go. starts_with s.nodes [] [] b.buffer go
+        subst (λ (z : State). MayGo n s z → IsJobOf z i job → StartsCall o job (view a n s) (view a n z)) (sym b.state)
+        (λ go tells. starts_with s.nodes [] [] b.buffer go tells
         (subst (λ c. IsStarted c (own_call (new, its_call s.nodes [] [] b.buffer))) asked b.count)
-        (subst (λ c. IsJobFor c job (own_call (new, its_call s.nodes [] [] b.buffer))) asked tt)) may
+        (subst (λ c. IsJobFor c job (own_call (new, its_call s.nodes [] [] b.buffer))) asked tt)) may of_job
     starts_by kind.Write first is asked b =
-        subst (λ (z : State). MayGo n s z → StartsCall o job (view a n s) (view a n z)) (sym b.state)
-        (λ go. starts_with b.nodes b.front b.back [] go
+        subst (λ (z : State). MayGo n s z → IsJobOf z i job → StartsCall o job (view a n s) (view a n z)) (sym b.state)
+        (λ go tells. starts_with b.nodes b.front b.back [] go tells
         (subst (λ c. IsStarted c (own_call (new, its_call b.nodes b.front b.back []))) asked (record {
           front = b.front;
           back = b.back;
@@ -113,7 +117,7 @@ module _ (a : Bool) (n t : ℕ) (o : OwnCall) (job : Job) (s : State) (i : ℕ) 
           around = fits.lies.around ∙ ap (λ x. blocks_around (open_at s.calls i).at x) (sym (fits.count is));
         }))
         (subst (λ c. IsJobFor c job (own_call (new, its_call b.nodes b.front b.back []))) asked
-        (λ q. (front_is q ++ (open_at s.calls i).bytes) ++ back_is q))) may
+        (λ q. (front_is tells q ++ (open_at s.calls i).bytes) ++ back_is tells q))) may of_job
       where
         fits : Fits s.size (length s.indices) (length (forms s.whole s.nodes)) (ticket_at s.tickets i) (open_at s.calls i)
         fits = ok.on.clients.fits i waits.stands.within
@@ -122,14 +126,11 @@ module _ (a : Bool) (n t : ℕ) (o : OwnCall) (job : Job) (s : State) (i : ℕ) 
             → from + length ((f ++ m) ++ k) ≡ until
         sum f m k from until e = ap (λ x. from + x) (length-append (f ++ m) k ∙ ap (λ x. x + length k) (length-append f m)) ∙ e
 
-        begins : open_at s2.calls i ≡ its_call b.nodes b.front b.back []
-        begins = there b.nodes b.front b.back [] s2 b.state
+        front_is : IsJobOf (goes b.nodes b.front b.back []) i job → b.front ≡ job.front
+        front_is tells = sym (tells.front ∙ ap (λ (x : OpenCall). x.front) (there b.nodes b.front b.back []))
 
-        front_is : b.front ≡ job.front
-        front_is = sym (of_job.front ∙ ap (λ (x : OpenCall). x.front) begins)
-
-        back_is : b.back ≡ job.back
-        back_is = sym (of_job.back ∙ ap (λ (x : OpenCall). x.back) begins)
+        back_is : IsJobOf (goes b.nodes b.front b.back []) i job → b.back ≡ job.back
+        back_is tells = sym (tells.back ∙ ap (λ (x : OpenCall). x.back) (there b.nodes b.front b.back []))
     starts_by kind.Whole first is asked b = absurd b
 
 -- ---- its rows
@@ -145,7 +146,44 @@ admit_rows a n t o (admit.NoReplica place) s s2 ok own blocks may is sees =
     let refused = reply.Refused NoReplica in
     let done = end_row a n t o s ok own blocks is.0 is.1.stands s2 (s.book.spare + 1) refused may sees is.5
     (refused_backed (length s.nodes) (modes_in s) o refused refl) in
-    record { ends = done.0; uncarried = subst (IsUncarried o.call) (sym done.1) (uncarried o.call NoReplica) }
+    record {
+      ends = done.0;
+      lost = subst HasNoSource (sym done.2) is.3;
+      uncarried = subst (IsUncarried o.call) (sym done.1) (uncarried o.call NoReplica);
+    }
+
+-- ---- what it asks and waits for
+
+-- the parts of a call that starts, and the modes, which stay as they are
+begun_in : (s s2 : State) (i : ℕ) (nodes : List Node) (front back buffer : List ℕ) → i < length s.calls
+    → s2 ≡ started (with_place s) i nodes front back buffer
+    → ((open_at s2.calls i).parts ≡ map part_for (modes_in s)) × (modes_in s2 ≡ modes_in s)
+begun_in s s2 i nodes front back buffer below e = (
+  ap (λ (x : State). (open_at x.calls i).parts) e ∙ ap (λ (c : OpenCall). c.parts)
+      (get_or-set_same s.calls i (begun (open_at s.calls i) (modes_in s) front back buffer) no_call below),
+  ap modes_in e,
+)
+
+begun_parts : (k : Kind) (s s2 : State) (i first : ℕ) → i < length s.calls → BeginsBy k (with_place s) i first s2
+    → ((open_at s2.calls i).parts ≡ map part_for (modes_in s)) × (modes_in s2 ≡ modes_in s)
+begun_parts kind.Read s s2 i first below b = begun_in s s2 i s.nodes [] [] b.buffer below b.state
+begun_parts kind.Write s s2 i first below b = begun_in s s2 i b.nodes b.front b.back [] below b.state
+begun_parts kind.Whole s s2 i first below b = absurd b
+
+pub asks_all : (t : ℕ) (ad : Admit) (s s2 : State) → IsSound s → IsAdmit s t ad s2 → AsksAll ad (modes_in s2)
+asks_all t (admit.Go job) s s2 ok is =
+    let below : is.0 < length s.calls = omega (arith, is.1.stands.within, ok.on.clients.paired) in
+    let parts = begun_parts (ticket_at s.tickets is.0).kind s s2 is.0 is.3.source below is.3.begins in
+    λ r. ap (λ ps. part_at ps r) (is.4.parts ∙ parts.0) ∙ part_of (modes_in s) r
+    ∙ ap (λ modes. part_for (mode_of modes r)) (sym parts.1)
+asks_all t (admit.After k) s s2 ok is = tt
+asks_all t (admit.NoReplica place) s s2 ok is = tt
+
+pub waits_as : (t : ℕ) (ad : Admit) (s s2 : State) → IsAdmit s t ad s2 → WaitsAs t ad (seen_of s2)
+waits_as t (admit.Go job) s s2 is = tt
+waits_as t (admit.After k) s s2 is =
+    subst (λ (z : State). WaitsAs t (admit.After k) (seen_of z)) (sym is.3) (is.0, is.2.0, is.1.stands, is.2.1, is.2.2)
+waits_as t (admit.NoReplica place) s s2 is = tt
 
 -- ---- alone, it is never told to wait
 

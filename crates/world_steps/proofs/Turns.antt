@@ -226,10 +226,6 @@ module _ (a : Bool) where
     admits may_start.Yes may x c o w = begun_mine may c o w x.0 x.1
     admits (may_start.After number) may x c o w = ap (view a n) x.4
 
-    pub admits_whole : (told : MayStart) → world.TurnsTo s t told s2 → s2.whole ≡ s.whole
-    admits_whole may_start.Yes x = ap (λ (z : State). z.whole) x.1
-    admits_whole (may_start.After number) x = ap (λ (z : State). z.whole) x.4
-
     -- one that is alone need not wait
     pub admits_free : (told : MayStart) → IsAlone n s → world.TurnsTo s t told s2
         → ((c : Command) × (o : OwnCall) × AwaitsTurn t c o (view a n s)) → IsYes told

@@ -1,5 +1,6 @@
 -- An operation on the whole volume ends, as the worker of its stream sees it.
-use Rattle.std.proofs.Common.{◌≡◌, ◌≢◌, ℕ, inl, inr, Bool, List, [], ◌∷◌, ◌++◌, map, Option, Some, None, Result, Ok, OnOk, OnErr}
+use Rattle.std.proofs.Common.{◌≡◌, ◌≢◌, ℕ, inl, inr, Bool, true, List, [], ◌∷◌, ◌++◌, map, Option, Some, None, Result, Ok, OnOk, OnErr}
+use Rattle.std.proofs.Common.{IfErr}
 use Rattle.std.proofs.Common.{subst, sym, refl, ap, ◌∙◌, append-nil}
 use Rattle.std.proofs.Common.{Err as Failed}
 use Rattle.std.specs.List.{remove}
@@ -13,12 +14,15 @@ use Rattle.volume_model.specs.declared.entry.Entry.{Entry}
 use Rattle.volume_model.specs.declared.entry.Entry.TheVariants as entry
 use Rattle.volume_model.specs.declared.mark.FoldOrDrop.{FoldOrDrop}
 use Rattle.volume_model.specs.declared.mark.Mark.TheVariants as mark
-use Rattle.volume_model.specs.Modes.{source_of, HasSource, HasNoSource}
+use Rattle.volume_model.specs.Modes.{mode_of, source_of, HasSource, HasNoSource}
 use Rattle.volume_model.proofs.SpotLemmas.{has_source, no_source}
 use Rattle.volume_model.proofs.StepLemmas.{has_no_source}
 use Rattle.step_answers.specs.declared.whole_op.WholeOp.{WholeOp}
 use Rattle.step_answers.specs.declared.whole_op.WholeOp.TheVariants as whole
 use Rattle.step_answers.specs.Asked.{command_of}
+use Rattle.step_answers.specs.Parts.{part_at, is_pending_at}
+use Rattle.step_answers.specs.declared.answers.NotThis.{NotThis}
+use Rattle.step_answers.specs.declared.answers.NotThis.TheVariants as against
 use Rattle.open_calls.specs.Calls.{open_at}
 use Rattle.open_calls.specs.Maint.{IsAskedBy}
 use Rattle.volume_core.specs.State.{State, modes_in, index_at}
@@ -31,7 +35,7 @@ use Rattle.world_holder.specs.Laid.{parts_of}
 use Rattle.world_holder.proofs.Found.{turn_of_none}
 use Rattle.world_holder.proofs.Leaves.{parts_stay}
 use Rattle.stream_steps.specs.Mine.{OwnCall, Log, answer_placed, with_running}
-use Rattle.stream_steps.specs.Maint.{HasWhole, AnswersWhole, IsWholeReply, EndsWhole, WholeEnds}
+use Rattle.stream_steps.specs.Maint.{HasWhole, AgainstEndWhole, AnswersWhole, IsWholeReply, EndsWhole, WholeEnds}
 use Rattle.world_holder.specs.View.{own_turn, runs, view}
 use Rattle.world_holder.proofs.Entries.{own_answer}
 use Rattle.world_holder.proofs.Grow.{only_open, grown, grown_by}
@@ -39,7 +43,8 @@ use Rattle.world_steps.proofs.Logged.{if_known}
 use Rattle.world_steps.proofs.Queue.{first_gone}
 use Rattle.world_steps.proofs.Shapes.{HasCall, has_call}
 use Rattle.world_steps.proofs.Turns.{runs_as}
-use Rattle.world_steps.proofs.Wholes.{none_of, one_of, stream_at, saw_at, whole_op, parts_else, calls_left, HasSome}
+use Rattle.world_steps.proofs.Wholes.{none_of, one_of, stream_at, saw_at, whole_op, whole_on, kept_whole, parts_are, parts_else}
+use Rattle.world_steps.proofs.Wholes.{calls_left, begun_all, HasSome, HasBegun}
 
 -- the turn is over with the operation, and of all that is told here nothing changes
 pub record SameButTurn (z z2 : State) : Type 0 where
@@ -230,3 +235,28 @@ module _ (a : Bool) where
         parts_else a n s t w.0 w.1 w.2 x s2 may (one_of a t s.whole y.w y.at.is y.at.number)
         (none_of a t s2.whole (ends_over t s s2 y).whole)
     completes_parts (Failed e) y err w = parts_stay n s s2 may (ap (λ (z : State). z.whole) err)
+
+  -- ---- or it does not
+
+  module _ (n t : ℕ) (s : State) (ok : IsSound s) where
+    -- that replica has still to acknowledge it
+    not_yet : (op : WholeOp) (turn : List OwnCall) (o : OwnCall) → HasWhole t op turn o (view a n s) → o.started ≡ true → (why : NotThis)
+        → world.AgainstEndWhole s t why → AgainstEndWhole (modes_in s) o why
+    not_yet op turn o h begun against.Ticket z =
+        let x = has_call a n s t op turn o ok h in
+        let w = kept_whole a n s t op turn o x ok begun in
+        absurd (z w.0 x.at.place (whole_on a n s t op turn o x ok begun w.0 w.1))
+    not_yet op turn o h begun (against.Pending r) z =
+        let x = has_call a n s t op turn o ok h in
+        ap (λ ps. is_pending_at (mode_of (modes_in s) r) (part_at ps r)) (parts_are a n s t op turn o x z.0 z.2.is z.2.number) ∙ z.3
+    not_yet op turn o h begun (against.Mode m) z = absurd z
+    not_yet op turn o h begun against.Page z = absurd z
+    not_yet op turn o h begun (against.Count c) z = absurd z
+
+    pub ends_why : (s2 : State) (res : Result ℕ NotThis) → IfErr res (world.AgainstEndWhole s t) → OnErr res (s2 ≡ s)
+        → HasBegun t (view a n s)
+        → IfErr res (λ why. (op : WholeOp) (turn : List OwnCall) (o : OwnCall) → HasWhole t op turn o (view a n s)
+        → AgainstEndWhole (modes_in s2) o why)
+    ends_why s2 (Ok at) z err w = tt
+    ends_why s2 (Failed why) z err w = λ op turn o h. subst (λ (y : State). AgainstEndWhole (modes_in y) o why) (sym err)
+        (not_yet op turn o h (begun_all a n t s ok w op turn o h) why z)

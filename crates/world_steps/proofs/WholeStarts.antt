@@ -44,8 +44,10 @@ use Rattle.volume_maint.specs.Places as place
 use Rattle.volume_maint.proofs.Begins.{its_volume}
 use Rattle.world_holder.specs.Laid.{parts_of}
 use Rattle.world_holder.proofs.Leaves.{parts_stay}
+use Rattle.stream_steps.specs.declared.add.Added.{Added}
+use Rattle.stream_steps.specs.Add.{BeginsBy}
 use Rattle.stream_steps.specs.Mine.{OwnCall, Log, with_running}
-use Rattle.stream_steps.specs.Maint.{HasWhole, StartsWhole, StartsBarrier, StartsAs, AdmitsWhole, IsNotLater}
+use Rattle.stream_steps.specs.Maint.{HasWhole, StartsWhole, StartsAs, AdmitsWhole, IsNotLater}
 use Rattle.world_holder.specs.View.{own_turn, runs, log_of, view, IsAlone}
 use Rattle.world_holder.proofs.Grow.{only_open, grown_by}
 use Rattle.world_steps.proofs.Logged.{if_known, if_alone}
@@ -124,26 +126,43 @@ module _ (a : Bool) where
       free = unopposed_here free;
     }
 
+    -- the barrier starts of the rebuild that began so
+    abbrev added_by : Rebuilding → Added
+    added_by b = record { source = b.source; name = barrier_name s b.source }
+
     barrier_mine : IsSound s → IsUnopposed → (i : ℕ) (b : Rebuilding) (spares : List (Option Tables)) → StandsAt s.tickets t i
         → source_of (modes_in s) ≡ Some b.source → barrier_name s b.source ≡ sys_name (told_of s).volume.snapshots.number
-        → s2 ≡ barrier_begun s i b spares → StartsBarrier b.target turn o (view a n s) (view a n s2)
+        → s2 ≡ barrier_begun s i b spares → BeginsBy (added_by b) b.target turn o (view a n s) (view a n s2)
     barrier_mine ok free i b spares at from under e =
         let parts : List Part = map part_for (barrier_modes s b.target) in
         record {
-          own = record o { started = true; parts = parts };
-          source = b.source;
-          name = barrier_name s b.source;
-          is = grown_by n s s2 may a [] (turn ++ record o { started = true; parts = parts } ∷ [])
-              (entry.Mark (mark.Added b.target b.source (barrier_name s b.source)) ∷ [])
-              (ap (λ (z : State). z.book.entries) e) refl
-              (begun_runs ok i at (barrier_of (with_places s) i b spares) at.is (ap (λ (z : State). turning z n) e)
-              (ap (λ (z : State). running z n) e) (ap (λ (z : State). z.whole) e));
-          same = refl;
-          none = λ k acked. not_acked (mode_of (barrier_modes s b.target) k) (sym (part_of (barrier_modes s b.target) k) ∙ acked);
-          free = unopposed_here free;
-          from = if_known a s (λ (log : Log). source_of log.spot.modes ≡ Some b.source) from;
-          under = if_known a s (λ (log : Log). barrier_name s b.source ≡ sys_name log.spot.state.volume.snapshots.number) under;
+          starts = record {
+            own = record o { started = true; parts = parts };
+            source = b.source;
+            name = barrier_name s b.source;
+            is = grown_by n s s2 may a [] (turn ++ record o { started = true; parts = parts } ∷ [])
+                (entry.Mark (mark.Added b.target b.source (barrier_name s b.source)) ∷ [])
+                (ap (λ (z : State). z.book.entries) e) refl
+                (begun_runs ok i at (barrier_of (with_places s) i b spares) at.is (ap (λ (z : State). turning z n) e)
+                (ap (λ (z : State). running z n) e) (ap (λ (z : State). z.whole) e));
+            same = refl;
+            none = λ k acked. not_acked (mode_of (barrier_modes s b.target) k) (sym (part_of (barrier_modes s b.target) k) ∙ acked);
+            free = unopposed_here free;
+            from = if_known a s (λ (log : Log). source_of log.spot.modes ≡ Some b.source) from;
+            under = if_known a s (λ (log : Log). barrier_name s b.source ≡ sys_name log.spot.state.volume.snapshots.number) under;
+          };
+          source = refl;
+          name = refl;
         }
+
+    pub barrier_starts : IsSound s → IsUnopposed → (i k : ℕ) → world.IsWaiting s t i (whole.Barrier k) → (y : world.BeginsBarrier s i k s2)
+        → BeginsBy (added_by y.b) k turn o (view a n s) (view a n s2)
+    barrier_starts ok free i k w y =
+        let named : barrier_name s y.b.source ≡ sys_name (told_of s).volume.snapshots.number =
+        ap (λ (v : Volume). sys_name v.snapshots.number)
+        (its_volume s i ok w.awaits.stands.within w.awaits.kind w.awaits.waits w.clear y.b.source y.source.read) in
+        subst (λ r. BeginsBy (added_by y.b) r turn o (view a n s) (view a n s2)) y.target
+        (barrier_mine ok free i y.b y.spares w.awaits.stands (source_one (modes_in s) y.b.source y.source) named y.state)
 
     starts_as : IsSound s → IsUnopposed → (i : ℕ) (p : WholeOp) → world.IsWaiting s t i p → world.BeginsWhole s i p s2
         → StartsAs p turn o (view a n s) (view a n s2)
@@ -151,12 +170,7 @@ module _ (a : Bool) where
     starts_as ok free i (whole.Remove name) w y = begun_mine ok free i (whole.Remove name) y.0 w.awaits.stands y.2
     starts_as ok free i (whole.Revert name) w y = begun_mine ok free i (whole.Revert name) y.0 w.awaits.stands y.2
     starts_as ok free i (whole.Purge f) w y = begun_mine ok free i (whole.Purge f) y.0 w.awaits.stands y.2
-    starts_as ok free i (whole.Barrier k) w y =
-        let named : barrier_name s y.b.source ≡ sys_name (told_of s).volume.snapshots.number =
-        ap (λ (v : Volume). sys_name v.snapshots.number)
-        (its_volume s i ok w.awaits.stands.within w.awaits.kind w.awaits.waits w.clear y.b.source y.source.read) in
-        subst (λ r. StartsBarrier r turn o (view a n s) (view a n s2)) y.target
-        (barrier_mine ok free i y.b y.spares w.awaits.stands (source_one (modes_in s) y.b.source y.source) named y.state)
+    starts_as ok free i (whole.Barrier k) w y = (barrier_starts ok free i k w y).starts
 
     starts_parts : (i : ℕ) (p : WholeOp) → StandsAt s.tickets t i → world.BeginsWhole s i p s2 → IsOf t s2.whole
     starts_parts i (whole.Snapshot name) at y =

@@ -1,14 +1,18 @@
 -- Each step on the whole volume in one turn: the World that was seen as s is found as x, left as y, and seen so.
-use Rattle.std.proofs.Common.{◌≡◌, ℕ, Bool, List, [], Option, Some, None, Result, Ok, OnOk, OnErr, IfOk, IfErr, IfSome, subst, sym}
+use Rattle.std.proofs.Common.{◌≡◌, ◌≢◌, ℕ, Bool, true, false, List, [], Option, Some, None, Result, Ok, OnOk, OnErr, IfOk, IfErr, IfSome}
+use Rattle.std.proofs.Common.{subst, sym, ap}
+use Rattle.std.proofs.Common.{Err as Failed}
 use Rattle.volume_model.specs.declared.call.Call.TheVariants as call
 use Rattle.step_answers.specs.declared.whole_op.WholeOp.{WholeOp}
+use Rattle.step_answers.specs.declared.whole_op.WholeOp.TheVariants as whole
 use Rattle.step_answers.specs.Asked.{command_of}
 use Rattle.open_calls.specs.Clients.{IsIdle}
 use Rattle.step_answers.specs.declared.answers.NotThis.{NotThis}
 use Rattle.volume_core.specs.State.{State, modes_in}
 use Rattle.volume_core.specs.Steps.{without_call}
-use Rattle.volume_core.specs.Streams.{MayGo}
+use Rattle.volume_core.specs.Streams.{MayGo, turning}
 use Rattle.step_answers.specs.declared.answers.AdmitWhole.{AdmitWhole}
+use Rattle.step_answers.specs.declared.answers.AdmitWhole.TheVariants as admit
 use Rattle.volume_maint.specs.Answers as world
 use Rattle.volume_maint.specs.Answers.{MayAsk}
 use Rattle.volume_maint.specs.Places as place
@@ -16,18 +20,23 @@ use Rattle.volume_maint.specs.Places.{ForCaller}
 use Rattle.stream_steps.specs.Mine.{Mine, OwnCall, with_running}
 use Rattle.stream_steps.specs.Steps.{EnrolsAt}
 use Rattle.stream_steps.specs.Maint.{HasTurn, HasWhole, EnrolsWhole, EnrolsUnder, AdmitsWhole, IsNotLater}
-use Rattle.stream_steps.specs.Maint.{PartsTo, AcksWhole, AgainstPart, AgainstAckWhole, WholeEnds}
+use Rattle.stream_steps.specs.Maint.{PartsTo, AcksWhole, AgainstPart, AgainstAckWhole, AgainstEndWhole, IsNoBarrier, WholeEnds}
+use Rattle.stream_steps.specs.Seen.{CannotGo, WaitsWhole}
 use Rattle.world_holder.specs.View.{view, IsFound, Owes}
 use Rattle.world_holder.proofs.Grow.{found_same, over, unchanged}
+use Rattle.world_steps.proofs.Begun.{IsSameTurn, same_turn, begun_found, begun_over, begun_past, begun_same, unbegun_found}
 use Rattle.world_steps.proofs.Own.{idle_from}
-use Rattle.world_steps.proofs.Wholes.{HasSome, Waits, HasBegun, whole_owner, whole_waits}
+use Rattle.world_steps.proofs.Shapes.{HasCall, has_call}
+use Rattle.world_steps.proofs.Wholes.{HasSome, Waits, HasBegun, same_op, whole_owner, whole_waits}
 use Rattle.world_steps.proofs.WholeEnrols.{IsSnapshot, snap_asks, snaps, snaps_at, snap_parts}
 use Rattle.world_steps.proofs.WholeEnrols.{turn_asks, turn_idle, parts_enrolled, under_mine, under_none}
 use Rattle.world_steps.proofs.WholeStarts.{admit_mine, admit_free, admit_parts, withdraws, withdraws_parts}
 use Rattle.world_steps.proofs.WholeParts.{takes, takes_parts, takes_why, acks, acks_parts, acks_why}
-use Rattle.world_steps.proofs.WholeEnds.{completes, completes_parts}
+use Rattle.world_steps.proofs.WholeEnds.{completes, completes_parts, ends_why}
 use Rattle.world_steps.proofs.Counted.{counted_snapshot, counted_turn_of, counted_admit, counted_withdrawn}
 use Rattle.world_steps.proofs.Counted.{counted_part, counted_ack, counted_end}
+use Rattle.world_steps.specs.Rebuild.{IsBegunIn, IsUnbegun}
+use Rattle.world_steps.specs.Seen.{seen_of, MayGoIn}
 
 -- what was known is so of what is found
 found_in : (a : Bool) (n : ℕ) (s x : State) → IsFound a n s x → (P : Mine → Type 0) → P (view a n s) → P (view a n x)
@@ -107,6 +116,32 @@ module _ (a : Bool) (n t : ℕ) (op : WholeOp) (s x : State) (found : IsFound a 
       under_not = over a n s x y u found left (λ (m : Mine) (z : State). res ≡ Ok None → view a n z ≡ m)
           (under_none a n t x found.sound op y may res ok)
 
+      -- where the command that has the turn began no rebuild, it has begun none; and why a part of a purge is not enrolled
+      pub under_unbegun : IsUnbegun s → IsUnbegun u
+      under_unbegun none = subst IsUnbegun (sym left) (by res ok err)
+        where
+          here : IsUnbegun x
+          here = unbegun_found a n t s x found (command_of op) found_turn none
+
+          by_one : (w : Option ℕ) → world.EnrolsWhole x n op w y → IsUnbegun y
+          by_one (Some k) e = subst IsUnbegun (sym e.1) (record { closed = here.closed; first = here.first })
+          by_one None e = subst IsUnbegun (sym e.1) here
+
+          by : (q : Result (Option ℕ) E) → IfOk q (λ w. world.EnrolsWhole x n op w y) → OnErr q (y ≡ x) → IsUnbegun y
+          by (Ok w) e err = by_one w e
+          by (Failed f) e err = subst IsUnbegun (sym err) here
+
+      pub under_cannot : res ≡ Ok None → CannotGo op (MayGoIn u) (modes_in u)
+      under_cannot none = subst (λ (z : State). CannotGo op (MayGoIn z) (modes_in z)) (sym left)
+          (by op (subst (λ q. IfOk q (λ w. world.EnrolsWhole x n op w y)) none ok))
+        where
+          by : (p : WholeOp) → world.EnrolsWhole x n p None y → CannotGo p (MayGoIn y) (modes_in y)
+          by (whole.Purge f) e = subst (λ (z : State). CannotGo (whole.Purge f) (MayGoIn z) (modes_in z)) (sym e.1) e.0
+          by (whole.Snapshot name) e = e.0
+          by (whole.Remove name) e = e.0
+          by (whole.Revert name) e = e.0
+          by (whole.Barrier r) e = e.0
+
 -- ---- it is asked to start
 
 module _ (a : Bool) (n t : ℕ) (s x : State) (found : IsFound a n s x) (w : Waits t (view a n s)) where
@@ -144,6 +179,41 @@ module _ (a : Bool) (n t : ℕ) (s x : State) (found : IsFound a n s x) (w : Wai
       pub admit_soon : IfOk res (λ ans. IfSome (view a n s).log (λ log. IsNotLater ans))
       admit_soon = over a n s x y u found left (λ (m : Mine) (z : State). IfOk res (λ ans. IfSome m.log (λ log. IsNotLater ans)))
           (admit_free a n t x found.sound y (waits_go y may) res ok found_open (λ alone. (found.same alone).1))
+
+      -- one that waits, waits for the first in its way; and none but a barrier may not begin
+      pub admit_waits : IfOk res (λ ans. WaitsWhole t ans (seen_of u))
+      admit_waits = subst (λ (z : State). IfOk res (λ ans. WaitsWhole t ans (seen_of z))) (sym left) (by res ok)
+        where
+          by_one : (ans : AdmitWhole) → world.AdmitsWhole x t ans y → WaitsWhole t ans (seen_of y)
+          by_one (admit.After number) d = subst (λ (z : State). WaitsWhole t (admit.After number) (seen_of z)) (sym d.3)
+              (d.0, d.2.0, d.1.stands, d.2.1, d.2.2)
+          by_one admit.Go d = tt
+          by_one admit.Never d = tt
+          by_one (admit.Refused why at) d = tt
+
+          by : (q : Result AdmitWhole E) → IfOk q (λ ans. world.AdmitsWhole x t ans y) → IfOk q (λ ans. WaitsWhole t ans (seen_of y))
+          by (Ok ans) d = by_one ans d
+          by (Failed e) d = tt
+
+    pub admit_begins : (op : WholeOp) (turn : List OwnCall) (o : OwnCall) → HasWhole t op turn o (view a n s) → IsNoBarrier op
+        → res ≢ Ok admit.Never
+    admit_begins op turn o h other never = by op other (subst (world.MayNotBegin x) same d.3)
+      where
+        d : world.AdmitsWhole x t admit.Never y
+        d = subst (λ q. IfOk q (λ ans. world.AdmitsWhole x t ans y)) never ok
+
+        here : HasCall a n x t op turn o
+        here = has_call a n x t op turn o found.sound (found_in a n s x found (HasWhole t op turn o) h)
+
+        same : d.1 ≡ op
+        same = same_op a n x t op turn o here d.0 d.1 d.2.awaits.stands d.2.asks
+
+        by : (p : WholeOp) → IsNoBarrier p → world.MayNotBegin x p → ⊥
+        by (whole.Snapshot name) other not = not
+        by (whole.Remove name) other not = not
+        by (whole.Revert name) other not = not
+        by (whole.Purge f) other not = not
+        by (whole.Barrier r) other not = other
 
   -- ---- it is taken back
 
@@ -200,6 +270,17 @@ module _ (a : Bool) (n t : ℕ) (s x : State) (found : IsFound a n s x) (w : Has
           (turn : List OwnCall) (o : OwnCall) → HasWhole t op turn o m → AgainstPart (modes_in z) o r why))
           (takes_why a n t x found.sound y (begun_go y may) r res why err found_begun)
 
+      pub part_begun : (past : Bool) (source q : ℕ) → IsBegunIn n s past source q → IsBegunIn n u past source q
+      part_begun past source q = begun_over a n s x y u found left past source q (begun_same n x y past source q (by res ok err))
+        where
+          by : (z : Result (Unit {0}) NotThis) → OnOk z (world.TakesPart x t r y) → OnErr z (y ≡ x) → IsSameTurn n x y
+          by (Ok v) d same = record {
+            turns = ap (λ (z : State). turning z n) d.state;
+            rebuild = ap (λ (z : State). z.rebuild) d.state;
+            ended = ap (λ (z : State). z.ended) d.state;
+          }
+          by (Failed e) d same = same_turn n x y same
+
   -- and acknowledges it
   module _ (r : ℕ) (y : State) (res : Result (Unit {0}) NotThis) (may : ForCaller x t (λ m. MayGo m x y))
       (ok : OnOk res (world.AcksPart x t r y)) (err : OnErr res (y ≡ x)) where
@@ -226,6 +307,17 @@ module _ (a : Bool) (n t : ℕ) (s x : State) (found : IsFound a n s x) (w : Has
           (turn : List OwnCall) (o : OwnCall) → HasWhole t op turn o m → AgainstAckWhole o r why))
           (acks_why a n t x found.sound y (begun_go y may) r res why found_begun)
 
+      pub acks_begun : (past : Bool) (source q : ℕ) → IsBegunIn n s past source q → IsBegunIn n u past source q
+      acks_begun past source q = begun_over a n s x y u found left past source q (begun_same n x y past source q (by res ok err))
+        where
+          by : (z : Result (Unit {0}) NotThis) → OnOk z (world.AcksPart x t r y) → OnErr z (y ≡ x) → IsSameTurn n x y
+          by (Ok v) d same = record {
+            turns = ap (λ (z : State). turning z n) d.state;
+            rebuild = ap (λ (z : State). z.rebuild) d.state;
+            ended = ap (λ (z : State). z.ended) d.state;
+          }
+          by (Failed e) d same = same_turn n x y same
+
   -- and it ends
   module _ {E : Type 0} (y : State) (res : Result ℕ E) (may : ForCaller x t (λ m. MayGo m x y))
       (ok : OnOk res (world.EndsWhole x t y)) (err : OnErr res (y ≡ x)) where
@@ -245,3 +337,30 @@ module _ (a : Bool) (n t : ℕ) (s x : State) (found : IsFound a n s x) (w : Has
       ends_to = over a n s x y u found left (λ (m : Mine) (z : State). OnOk res ((op : WholeOp) (turn : List OwnCall)
           (o : OwnCall) → HasWhole t op turn o m → WholeEnds op turn o m (view a n z)))
           (completes a n t x found.sound y (begun_go y may) res ok)
+
+      -- its rebuild stays, and once a barrier has ended it is past that
+      pub ends_past : OnOk res ((r source : ℕ) (turn : List OwnCall) (o : OwnCall) → HasWhole t (whole.Barrier r) turn o (view a n s)
+          → IsBegunIn n s false source r → IsBegunIn n u true source r)
+      ends_past = by res ok
+        where
+          by : (q : Result ℕ E) → OnOk q (world.EndsWhole x t y) → OnOk q ((r source : ℕ) (turn : List OwnCall) (o : OwnCall)
+              → HasWhole t (whole.Barrier r) turn o (view a n s) → IsBegunIn n s false source r → IsBegunIn n u true source r)
+          by (Ok at) d = λ r source turn o h begun. subst (λ (z : State). IsBegunIn n z true source r) (sym left)
+              (begun_past n x y source r a t found.sound found_some d false true (begun_found n s x false source r found.later begun))
+          by (Failed e) d = tt
+
+      pub ends_begun : (past : Bool) (source r : ℕ) → IsBegunIn n s past source r → IsBegunIn n u past source r
+      ends_begun past source r = begun_over a n s x y u found left past source r (by res ok err)
+        where
+          by : (q : Result ℕ E) → OnOk q (world.EndsWhole x t y) → OnErr q (y ≡ x) → IsBegunIn n x past source r
+              → IsBegunIn n y past source r
+          by (Ok at) d same = begun_past n x y source r a t found.sound found_some d past past
+          by (Failed e) d same = begun_same n x y past source r (same_turn n x y same)
+
+  -- or it does not
+  module _ (y : State) (res : Result ℕ NotThis) (err : OnErr res (y ≡ x)) (u : State) (left : u ≡ y) where
+    pub ends_against : IfErr res (world.AgainstEndWhole x t) → IfErr res (λ why. (op : WholeOp) (turn : List OwnCall) (o : OwnCall)
+        → HasWhole t op turn o (view a n s) → AgainstEndWhole (modes_in u) o why)
+    ends_against why = over a n s x y u found left (λ (m : Mine) (z : State). IfErr res (λ why. (op : WholeOp)
+        (turn : List OwnCall) (o : OwnCall) → HasWhole t op turn o m → AgainstEndWhole (modes_in z) o why))
+        (ends_why a n t x found.sound y res why err found_begun)

@@ -1,15 +1,30 @@
 -- What a stream knows of the rebuild of its add, and what a page that comes in makes of it.
-use Rattle.std.specs.Prelude.{◌≡◌, ℕ, ◌≤◌, not, count_by, Bool, false, true, List, if◌then◌else◌, Option, None, Some, IfSome}
+use Rattle.std.specs.Prelude.{◌≡◌, ◌⊎◌, ℕ, not, count_by, Bool, false, true, List, [], ◌∷◌, ◌++◌}
+use Rattle.std.specs.Prelude.{if◌then◌else◌, Option, None, Some}
 use Rattle.sparse_image.specs.Image.{Table}
 use Rattle.vol_units.specs.declared.page_ref.PageRef.{PageRef}
 use Rattle.replica_node.specs.Held.{IsPageOf}
-use Rattle.step_answers.specs.declared.whole_op.WholeOp.TheVariants as whole
+use Rattle.range_turns.specs.declared.ticket.Ticket.{Ticket}
 use Rattle.open_calls.specs.Calls.{node_at}
+use Rattle.open_calls.specs.declared.maint.MaintCall.{MaintCall}
 use Rattle.open_rebuild.specs.declared.rebuilding.Rebuilding.{Rebuilding}
 use Rattle.open_rebuild.specs.Pages.{IsFrozenPage, IsPageLeft}
 use Rattle.volume_core.specs.declared.world.EndedRebuild.{EndedRebuild}
-use Rattle.volume_core.specs.State.{State, gave_up_at}
-use Rattle.volume_rebuild.specs.Answers.{IsNextPage, CopiesOut, CopiesIn}
+use Rattle.volume_core.specs.State.{State}
+use Rattle.volume_core.specs.Steps.{has_part}
+use Rattle.volume_core.specs.Streams.{turning}
+use Rattle.volume_core.specs.Turn.{IsFreeTurn}
+use Rattle.volume_rebuild.specs.Answers.{IsNextPage, CopiesOut, CopiesIn, IsAllListed}
+use Rattle.volume_rebuild.specs.Places.{IsPast}
+use Rattle.volume_model.specs.declared.call.Refusal.{Refusal}
+use Rattle.volume_model.specs.declared.command.Command.TheVariants as command
+use Rattle.volume_model.specs.declared.entry.Entry.{Entry}
+use Rattle.volume_model.specs.declared.entry.Entry.TheVariants as entry
+use Rattle.volume_model.specs.declared.mark.Mark.TheVariants as mark
+use Rattle.step_answers.specs.declared.answers.AdmitWhole.TheVariants as admit
+use Rattle.volume_maint.specs.Answers.{AdmitsWhole}
+use Rattle.stream_steps.specs.declared.add.AdmitBarrier.{AdmitBarrier}
+use Rattle.stream_steps.specs.declared.add.AdmitBarrier.TheVariants as barrier
 use Rattle.stream_steps.specs.declared.add.Added.{Added}
 use Rattle.stream_steps.specs.declared.add.NextPage.{NextPage}
 use Rattle.stream_steps.specs.declared.add.NextPage.TheVariants as next
@@ -17,10 +32,7 @@ use Rattle.stream_steps.specs.declared.add.PageOut.{PageOut}
 use Rattle.stream_steps.specs.declared.add.PageOut.TheVariants as out
 use Rattle.stream_steps.specs.declared.add.PageIn.{PageIn}
 use Rattle.stream_steps.specs.declared.add.PageIn.TheVariants as put
-use Rattle.stream_steps.specs.Mine.{Mine, OwnCall}
-use Rattle.stream_steps.specs.Maint.{HasWhole}
-use Rattle.stream_steps.specs.Add.{AreKept, IsAddedBy}
-use Rattle.world_holder.specs.View.{view}
+use Rattle.world_holder.specs.Counted.{WasAborted}
 
 -- how many pages may be copied and are not listed
 abbrev pub left_of : Rebuilding → ℕ
@@ -52,6 +64,61 @@ pub record IsEndedAt (s : State) (place : ℕ) : Type 0 where
   pub closed : s.rebuild ≡ None
   pub ended : IsAbortedAt s.ended place
 
+-- ---- how it begins
+
+-- What asking a barrier to start is answered. Where it starts, its mark is the journal's last, and it is told how its rebuild
+-- began.
+pub record IsToldBegun (added : Added) (s2 : State) : Type 0 where
+  pub front : List Entry
+  pub target : ℕ
+  pub is : s2.book.entries ≡ front ++ entry.Mark (mark.Added target added.source added.name) ∷ []
+
+abbrev pub AdmitsBarrierIn : State → ℕ → AdmitBarrier → State → Type 0
+AdmitsBarrierIn s t (barrier.Go added) s2 = AdmitsWhole s t admit.Go s2 × IsToldBegun added s2
+AdmitsBarrierIn s t (barrier.After other) s2 = AdmitsWhole s t (admit.After other) s2
+AdmitsBarrierIn s t barrier.Never s2 = AdmitsWhole s t admit.Never s2
+AdmitsBarrierIn s t barrier.Refused s2 = (why : Refusal) × (place : ℕ) × AdmitsWhole s t (admit.Refused why place) s2
+
+-- no rebuild is open, and none was aborted, of the command that has the turn
+pub record IsUnbegun (s : State) : Type 0 where
+  pub closed : s.rebuild ≡ None
+  pub first : s.ended ≡ None
+
+-- the rebuild is open from that source of that replica, past its barrier where that is said
+pub record IsOpenFrom (s : State) (past : Bool) (source r : ℕ) : Type 0 where
+  pub b : Rebuilding
+  pub is : s.rebuild ≡ Some b
+  pub from : b.source ≡ source
+  pub to : b.target ≡ r
+  pub ended : past ≡ true → b.may_copy ≡ true
+
+-- the add of that replica is the stream's, and has the turn
+pub record AddsInTurn (stream r : ℕ) (s : State) : Type 0 where
+  pub p : Ticket × MaintCall
+  pub turns : turning s stream ≡ p ∷ []
+  pub started : p.0.started ≡ true
+  pub adds : p.1.command ≡ command.Add r
+
+-- the stream's add has the turn, and its rebuild is open so, or was aborted
+pub record IsBegunIn (stream : ℕ) (s : State) (past : Bool) (source r : ℕ) : Type 0 where
+  pub turn : AddsInTurn stream r s
+  pub is : IsOpenFrom s past source r ⊎ WasAborted s
+
+-- ---- how it ends
+
+-- the replica is the source or the target of the rebuild that is open, or that was aborted
+abbrev pub IsEndOf : State → ℕ → Type 0
+IsEndOf s r = (has_part s.rebuild r ≡ true) ⊎ WasAborted s
+
+-- no rebuild is open, or it is not past its barrier, or a page of it is left
+abbrev pub IsUnfinished : State → Type 0
+IsUnfinished s = (s.rebuild ≡ None)
+    ⊎ ((b : Rebuilding) × (s.rebuild ≡ Some b) × (IsPast s b → IsAllListed b → ⊥))
+
+-- so it is, if the command of the ticket has the turn with nothing enrolled
+abbrev pub AwaitsPromotion : State → ℕ → Type 0
+AwaitsPromotion s t = IsFreeTurn s t → IsUnfinished s
+
 -- ---- what a turn does for it
 
 -- the first page that is left to copy; none is left, of a rebuild that was not aborted; or where its aborted mark stands
@@ -70,27 +137,3 @@ IsOutIn (out.Ended place) page old new s = IsEndedAt s place
 abbrev pub PutsAt : PageIn → PageRef → Table → Table → State → State → Type 0
 PutsAt put.Listed page old new s s2 = CopiesIn s page old new s2
 PutsAt (put.Ended place) page old new s s2 = IsEndedAt s2 place × (s2 ≡ s)
-
--- ---- what stays
-
--- What was known of the rebuild in one World is known in the other: its end, the source's blocks, and which pages wait; and
--- no more are left.
-pub record IsStillKnown (s t : State) : Type 0 where
-  pub kept : AreKept (IsEndedAt s) (IsEndedAt t) (IsPageIn s) (IsPageIn t)
-  pub awaits : (p : PageRef) → AwaitsAt s.rebuild s.ended p → AwaitsAt t.rebuild t.ended p
-  pub fewer : left_now t.rebuild ≤ left_now s.rebuild
-
--- the stream knows of both Worlds the same, and gave a rebuild up in both or in none
-pub record IsSameTo (alone : Bool) (stream : ℕ) (s t : State) : Type 0 where
-  pub same : view alone stream t ≡ view alone stream s
-  pub gave_up : gave_up_at t.gave_up stream ≡ gave_up_at s.gave_up stream
-
--- and what was known of the rebuild is known
-pub record IsStill (alone : Bool) (stream : ℕ) (s t : State) : Type 0 where
-  pub to : IsSameTo alone stream s t
-  pub known : IsStillKnown s t
-
--- the rebuild of the barrier of that ticket began so, where the journal is known
-abbrev pub AddedIn : ℕ → Added → Mine → Type 0
-AddedIn t a m = IfSome m.log (λ log. (r : ℕ) (turn : List OwnCall) (o : OwnCall)
-    → HasWhole t (whole.Barrier r) turn o m → IsAddedBy r a log)

@@ -1,10 +1,10 @@
-use crate::looks::{await_added, await_end, look_for_end};
-use crate::passing::{ended_in, pass_if};
-use crate::rebuild::{end_in, next_in, out_in, promote_in, put_in};
+use crate::passing::{ended_in, pass_barrier, pass_if, pass_if_ended};
+use crate::rebuild::{barrier_in, end_in, end_of, fall_in, next_in, out_in, promote_in, put_in};
 use crate::steps::Steps;
 use outer_traits::Gate;
+use std::alloc::{AllocError, Global};
 use std::sync::Wait;
-use stream_steps::{AddSteps, Added, NextPage, Page, PageIn, PageOut, PageRef};
+use stream_steps::{AddSteps, AdmitBarrier, NextPage, Page, PageIn, PageOut, PageRef};
 use volume_core::TicketNumber;
 use world_holder::Holder;
 
@@ -22,8 +22,19 @@ impl<H: Holder, G: Gate> AddSteps for Steps<H, G> {
 
     ghost is_aborted = { λ a place. IsEndedAt (H.seen a.holder) place };
 
-    fn added<R: Wait>(&mut self, rt: &R, t: TicketNumber) -> Added {
-        await_added(rt, &mut self.holder, self.stream, t)
+    fn admit_barrier<R: Wait>(
+        &mut self,
+        rt: &R,
+        alloc: Global,
+        t: TicketNumber,
+    ) -> Result<AdmitBarrier, AllocError> {
+        let mut world = self.holder.take(rt, self.stream);
+        let answer = barrier_in(&mut world, alloc, t);
+        let ended = ended_in(&world, self.stream);
+        self.holder.put(self.stream, world);
+        pass_if_ended(&self.gate, self.stream, &mut self.ended, ended);
+        pass_barrier(&self.gate, self.stream, &answer);
+        answer
     }
 
     fn copy_next<R: Wait>(&mut self, rt: &R, t: TicketNumber) -> NextPage {
@@ -63,14 +74,19 @@ impl<H: Holder, G: Gate> AddSteps for Steps<H, G> {
     }
 
     fn aborted<R: Wait>(&mut self, rt: &R, t: TicketNumber) -> Option<u64> {
-        look_for_end(rt, &mut self.holder, self.stream, t)
+        let _ = t;
+        let world = self.holder.take(rt, self.stream);
+        let end = end_of(&world);
+        self.holder.put(self.stream, world);
+        end
     }
 
     fn copy_fault<R: Wait>(&mut self, rt: &R, t: TicketNumber, replica: u8, count: u64) -> u64 {
+        let _ = t;
         let mut world = self.holder.take(rt, self.stream);
-        let _told = world.fault(self.stream, replica, count);
+        let place = fall_in(&mut world, self.stream, replica, count);
         self.holder.put(self.stream, world);
-        await_end(rt, &mut self.holder, self.stream, t)
+        place
     }
 
     fn promote<R: Wait>(&mut self, rt: &R, t: TicketNumber) -> Option<u64> {

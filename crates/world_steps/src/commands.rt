@@ -12,11 +12,24 @@ use world_holder::Holder;
 impl<H: Holder, G: Gate> CommandSteps for Steps<H, G> {
     ghost use Rattle.std.specs.Prelude.{ℕ, Bool};
     ghost use Rattle.volume_core.specs.State.{modes_in, gave_up_at};
+    ghost use Rattle.volume_maint.specs.Answers.{WantsFold};
     ghost use Rattle.world_holder.specs.View.{view};
+    ghost use Rattle.world_steps.specs.Rebuild.{IsBegunIn, IsUnbegun};
+    ghost use Rattle.world_steps.specs.Seen.{seen_of, MayGoIn};
 
     ghost mine = { λ a. view H.alone a.stream (H.seen a.holder) };
 
     ghost modes = { λ a. modes_in (H.seen a.holder) };
+
+    ghost seen = { λ a. seen_of (H.seen a.holder) };
+
+    ghost wants_fold = { λ a r p page. WantsFold (H.seen a.holder) r p page };
+
+    ghost may_go = { λ a f. MayGoIn (H.seen a.holder) f };
+
+    ghost unbegun = { λ a. IsUnbegun (H.seen a.holder) };
+
+    ghost begun = { λ a past source r. IsBegunIn a.stream (H.seen a.holder) past source r };
 
     // What no step of the holder changes, the stream, and whether it gave a rebuild up in the World that was seen last.
     ghost Home = { H.Home × ℕ × Bool };

@@ -1,26 +1,24 @@
-ghost use Rattle.std.specs.Prelude.{◌≡◌, ℕ, ◌*◌, ◌≤◌};
-ghost use Rattle.vol_units.specs.declared.size.TheConstants.{BLOCK_BYTES, LARGEST_SIZE};
-ghost use Rattle.range_turns.specs.Order.{ticket_at, StandsAt};
-ghost use Rattle.volume_core.specs.State.{state_of};
-ghost use Rattle.volume_core.specs.Sound.{IsSound};
-
+use crate::in_turn::next_up;
 use crate::passing::{pass_admitted, pass_answered, pass_enrolled};
 use crate::steps::Steps;
 use outer_traits::Gate;
 use std::alloc::{AllocError, Global};
 use std::sync::Wait;
-use stream_steps::ClientSteps;
-use volume_core::{Admit, BlockRange, Blocks, Call, Enrolled, Mode, NotThis, TicketNumber};
-use world_holder::{Holder, World};
+use stream_steps::{ClientSteps, OnReplica};
+use volume_core::{Admit, Blocks, Call, Enrolled, NotThis, TicketNumber};
+use world_holder::Holder;
 
 impl<H: Holder, G: Gate> ClientSteps for Steps<H, G> {
     ghost use Rattle.std.specs.Prelude.{ℕ};
     ghost use Rattle.volume_core.specs.State.{modes_in};
     ghost use Rattle.world_holder.specs.View.{view, IsFree};
+    ghost use Rattle.world_steps.specs.Seen.{seen_of};
 
     ghost mine = { λ a. view H.alone a.stream (H.seen a.holder) };
 
     ghost modes = { λ a. modes_in (H.seen a.holder) };
+
+    ghost seen = { λ a. seen_of (H.seen a.holder) };
 
     ghost Home = { H.Home × ℕ };
 
@@ -48,17 +46,12 @@ impl<H: Holder, G: Gate> ClientSteps for Steps<H, G> {
         call: &Call,
     ) -> Result<Enrolled, AllocError> {
         let mut world = self.holder.take(rt, self.stream);
+        // What the largest size is, a proof learns here.
+        let _size = world.size.bytes();
         let answer = world.enrol(alloc, self.stream, call);
         self.holder.put(self.stream, world);
         pass_enrolled(&self.gate, self.stream, &mut self.ended, &answer);
         answer
-    }
-
-    fn range<R: Wait>(&mut self, rt: &R, t: TicketNumber) -> BlockRange {
-        let world = self.holder.take(rt, self.stream);
-        let range = range_of(&world, t);
-        self.holder.put(self.stream, world);
-        range
     }
 
     fn admit<R: Wait>(
@@ -80,13 +73,6 @@ impl<H: Holder, G: Gate> ClientSteps for Steps<H, G> {
         self.holder.put(self.stream, world);
     }
 
-    fn mode<R: Wait>(&mut self, rt: &R, replica: u8) -> Mode {
-        let world = self.holder.take(rt, self.stream);
-        let mode = world.mode(replica);
-        self.holder.put(self.stream, world);
-        mode
-    }
-
     fn source<R: Wait>(&mut self, rt: &R) -> Option<u8> {
         let world = self.holder.take(rt, self.stream);
         let source = world.journal.source();
@@ -99,11 +85,12 @@ impl<H: Holder, G: Gate> ClientSteps for Steps<H, G> {
         rt: &R,
         t: TicketNumber,
         replica: u8,
-    ) -> Result<bool, NotThis> {
+    ) -> OnReplica<Result<bool, NotThis>> {
         let mut world = self.holder.take(rt, self.stream);
         let answer = world.apply_in_place(t, replica);
+        let next = next_up(&world, replica);
         self.holder.put(self.stream, world);
-        answer
+        OnReplica { answer, next }
     }
 
     fn apply_write<R: Wait>(
@@ -112,11 +99,12 @@ impl<H: Holder, G: Gate> ClientSteps for Steps<H, G> {
         t: TicketNumber,
         replica: u8,
         blocks: &mut Blocks,
-    ) -> Result<(), NotThis> {
+    ) -> OnReplica<Result<(), NotThis>> {
         let mut world = self.holder.take(rt, self.stream);
         let answer = world.apply_write(t, replica, blocks);
+        let next = next_up(&world, replica);
         self.holder.put(self.stream, world);
-        answer
+        OnReplica { answer, next }
     }
 
     fn apply_read<R: Wait>(
@@ -132,18 +120,30 @@ impl<H: Holder, G: Gate> ClientSteps for Steps<H, G> {
         answer
     }
 
-    fn ack<R: Wait>(&mut self, rt: &R, t: TicketNumber, replica: u8) -> Result<(), NotThis> {
+    fn ack<R: Wait>(
+        &mut self,
+        rt: &R,
+        t: TicketNumber,
+        replica: u8,
+    ) -> OnReplica<Result<(), NotThis>> {
         let mut world = self.holder.take(rt, self.stream);
         let answer = world.ack(t, replica);
+        let next = next_up(&world, replica);
         self.holder.put(self.stream, world);
-        answer
+        OnReplica { answer, next }
     }
 
-    fn fault<R: Wait>(&mut self, rt: &R, replica: u8, count: u64) -> Result<(), NotThis> {
+    fn fault<R: Wait>(
+        &mut self,
+        rt: &R,
+        replica: u8,
+        count: u64,
+    ) -> OnReplica<Result<(), NotThis>> {
         let mut world = self.holder.take(rt, self.stream);
         let answer = world.fault(self.stream, replica, count);
+        let next = next_up(&world, replica);
         self.holder.put(self.stream, world);
-        answer
+        OnReplica { answer, next }
     }
 
     fn complete<R: Wait>(&mut self, rt: &R, t: TicketNumber) -> Result<u64, NotThis> {
@@ -153,19 +153,4 @@ impl<H: Holder, G: Gate> ClientSteps for Steps<H, G> {
         pass_answered(&self.gate, self.stream, &mut self.ended, &answer);
         answer
     }
-}
-
-// The blocks of a ticket.
-fn range_of(world: &World, t: TicketNumber) -> BlockRange
-    requires sound { IsSound (state_of world.now) }
-    requires there { (i : ℕ) × StandsAt world.now.turns.tickets t i }
-    ensures is { (i : ℕ) → StandsAt world.now.turns.tickets t i
-        → result ≡ (ticket_at world.now.turns.tickets i).range }
-    ensures up { result.first ≤ result.end }
-    ensures inside { result.end * BLOCK_BYTES ≤ LARGEST_SIZE }
-{
-    // What the largest size is, a proof learns here.
-    let _size = world.size.bytes();
-    let place = world.turns.place(t).unwrap();
-    world.turns.ticket(place).range
 }

@@ -1,18 +1,30 @@
 //! What a step does in more than one call, on a World that it has taken.
 
-ghost use Rattle.std.specs.Prelude.{◌≡◌, OnOk, OnErr, ℕ, ◌<◌, List, Some, length, IfOk};
+ghost use Rattle.std.specs.Prelude.{◌≡◌, OnOk, OnErr, ℕ, ◌<◌, List, Some, length, IfOk, IfErr, IfSome};
 ghost use Rattle.open_calls.specs.Maint.{command_at};
-ghost use Rattle.volume_core.specs.State.{state_of};
+ghost use Rattle.volume_core.specs.State.{state_of, modes_in};
+ghost use Rattle.stream_steps.specs.Seen.{IsNextUp, RefusesFold};
 ghost use Rattle.volume_core.specs.Sound.{IsSound};
 ghost use Rattle.volume_core.specs.Streams.{MayGo};
 ghost use Rattle.volume_maint.specs.Answers.{FoldsPage, EnrolsWhole, MayAsk};
+ghost use Rattle.volume_maint.specs.Places.{IsTurnOf};
+ghost use Rattle.world_steps.specs.Seen.{seen_of};
 ghost use Rattle.open_calls.specs.Clients.{IsIdle};
 
 use std::alloc::{AllocError, Global};
-use volume_core::{NotThis, TicketNumber, World};
+use volume_core::{Command, Mode, NotThis, TicketNumber, World};
 use volume_maint::{LayerName, WholeOp};
 
-/// A replica folds a page of the layer's one child onto the layer. A volume has no page behind its last.
+/// The first replica behind that one that has not failed.
+pub(crate) fn next_up(world: &World, replica: u8) -> Option<u8>
+    ensures next { IsNextUp (modes_in (state_of world.now)) replica result }
+    ensures inside { IfSome result (λ r. r < length (modes_in (state_of world.now))) }
+{
+    (0..world.journal.replica_count()).find(|r| replica < *r && world.mode(*r) != Mode::Err)
+}
+
+/// A replica folds a page of the layer's one child onto the layer. Of what stands against it, that the replica is not
+/// read is told first, and then that the volume has no such page, or nothing to fold.
 pub(crate) fn fold_in(
     world: &mut World,
     replica: u8,
@@ -20,10 +32,18 @@ pub(crate) fn fold_in(
     page: u32,
 ) -> Result<(), NotThis>
     requires sound { IsSound (state_of world.old) }
+    requires purges { IsTurnOf (state_of world.old) Command.Purge
+        × IsIdle (command_at world.old.commands.items 0).stream world.old.calls.items }
     ensures ok { OnOk result (FoldsPage (state_of world.old) replica parent.now page (state_of world.new)) }
+    ensures why { IfErr result (RefusesFold replica parent.now page (modes_in (state_of world.old))
+        (seen_of (state_of world.old)).log) }
     ensures err { OnErr result (state_of world.new ≡ state_of world.old) }
     ensures may { MayGo (command_at world.old.commands.items 0).stream (state_of world.old) (state_of world.new) }
 {
+    let mode = world.mode(replica);
+    if mode != Mode::Rw {
+        return Err(NotThis::Mode(mode));
+    }
     if page >= world.size.page_count() {
         return Err(NotThis::Ticket);
     }

@@ -6,7 +6,6 @@ mod commands;
 mod frames;
 mod gates;
 mod in_turn;
-mod looks;
 mod passing;
 mod rebuild;
 mod steps;

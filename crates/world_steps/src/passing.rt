@@ -1,17 +1,23 @@
 //! What the worker of a stream tells its gate, outside of the turn.
 use outer_traits::{Gate, Point};
 use std::alloc::AllocError;
+use stream_steps::AdmitBarrier;
 use volume_core::{Admit, Enrolled, World};
 use volume_maint::{AdmitWhole, MayStart};
 
 /// The stream's next call was answered: the gate is told its index, and it is counted.
-pub fn pass_ended<G: Gate>(gate: &G, stream: u8, ended: &mut u64) {
+pub(crate) fn pass_ended<G: Gate>(gate: &G, stream: u8, ended: &mut u64) {
     gate.pass(stream, Point::Ended(*ended));
     *ended = ended.wrapping_add(1);
 }
 
 /// The same where the step answers a call, unless it failed.
-pub fn pass_answered<G: Gate, A, E>(gate: &G, stream: u8, ended: &mut u64, answer: &Result<A, E>) {
+pub(crate) fn pass_answered<G: Gate, A, E>(
+    gate: &G,
+    stream: u8,
+    ended: &mut u64,
+    answer: &Result<A, E>,
+) {
     pass_if(gate, stream, ended, answer.is_ok());
 }
 
@@ -51,6 +57,13 @@ pub(crate) fn pass_turn<G: Gate>(gate: &G, stream: u8, told: &MayStart) {
 /// An operation on the whole volume that was told to wait is about to ask again.
 pub(crate) fn pass_whole<G: Gate>(gate: &G, stream: u8, told: &Result<AdmitWhole, AllocError>) {
     if let Ok(AdmitWhole::After(_)) = told {
+        gate.pass(stream, Point::Waiting);
+    }
+}
+
+/// A barrier that was told to wait is about to ask again.
+pub(crate) fn pass_barrier<G: Gate>(gate: &G, stream: u8, told: &Result<AdmitBarrier, AllocError>) {
+    if let Ok(AdmitBarrier::After(_)) = told {
         gate.pass(stream, Point::Waiting);
     }
 }

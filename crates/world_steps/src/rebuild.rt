@@ -1,65 +1,69 @@
 //! What a turn does for the rebuild of the add that has the maintenance turn, on the World in hand.
 
-ghost use Rattle.std.specs.Prelude.{◌≡◌, ◌≢◌, ℕ, Some, None, Contains, IfSome, MatchOption};
+ghost use Rattle.std.specs.Prelude.{◌≡◌, ◌≢◌, ◌⊎◌, ℕ, ◌<◌, List, [], ◌∷◌, ◌++◌, true, Some, None, IfOk, OnErr, IfSome, MatchOption};
 ghost use Rattle.sparse_image.specs.Image.{IsLent};
 ghost use Rattle.volume_model.specs.declared.call.Reply.TheVariants as reply;
 ghost use Rattle.volume_model.specs.declared.entry.Entry.TheVariants as entry;
 ghost use Rattle.volume_model.specs.declared.mark.Mark.TheVariants as mark;
-ghost use Rattle.range_turns.specs.Order.{StandsAt};
+ghost use Rattle.volume_model.specs.declared.entry.Entry.{Entry};
+ghost use Rattle.volume_model.specs.Faults.{last_count};
 ghost use Rattle.step_answers.specs.declared.whole_op.WholeOp.TheVariants as whole;
 ghost use Rattle.open_calls.specs.Calls.{open_at};
 ghost use Rattle.open_calls.specs.Maint.{command_at};
 ghost use Rattle.volume_core.specs.State.{state_of};
 ghost use Rattle.volume_core.specs.Sound.{IsSound};
+ghost use Rattle.volume_core.specs.Steps.{faulted};
 ghost use Rattle.volume_core.specs.Streams.{MayGo};
-ghost use Rattle.volume_maint.specs.Answers.{EndsTurn};
+ghost use Rattle.volume_maint.specs.Places.{AwaitsWhole, ForCaller};
+ghost use Rattle.volume_maint.specs.Answers.{EndsTurn, AgainstEndTurn};
 ghost use Rattle.volume_core.specs.Turn.{ForAsker};
 ghost use Rattle.volume_rebuild.specs.Answers.{Promotes};
-ghost use Rattle.world_steps.specs.Rebuild.{IsPageIn, IsAbortedAt, AwaitsAt, IsEndedAt, IsNextIn, IsOutIn, PutsAt};
+ghost use Rattle.world_steps.specs.Rebuild.{AdmitsBarrierIn, IsToldBegun, IsEndOf, AwaitsPromotion, IsPageIn, IsAbortedAt, AwaitsAt, IsEndedAt, IsNextIn, IsOutIn, PutsAt};
 
-use stream_steps::{Added, NextPage, Page, PageIn, PageOut, PageRef};
-use volume_core::{Entry, Journal, Reply, TicketNumber, World};
-use volume_maint::WholeOp;
+use std::alloc::{AllocError, Global};
+use stream_steps::{Added, AdmitBarrier, NextPage, Page, PageIn, PageOut, PageRef};
+use volume_core::{Entry, Reply, TicketNumber, World};
+use volume_maint::AdmitWhole;
 use volume_model::Mark;
 
 // ---- how it began
 
-/// How the newest rebuild began of the replica for which the barrier of that ticket is.
-pub(crate) fn added_of(world: &World, t: TicketNumber) -> Option<Added>
-    requires sound { IsSound (state_of world.now) }
-    ensures { IfSome result (λ a. (i r : ℕ) → StandsAt world.now.turns.tickets t i
-        → (open_at world.now.calls.items i).op ≡ Some (whole.Barrier r)
-        → Contains world.now.journal.entries (entry.Mark (mark.Added r a.source a.name))) }
+/// Starts the barrier of that ticket, where no earlier call is in its way, and with it the rebuild.
+pub(crate) fn barrier_in(
+    world: &mut World,
+    alloc: Global,
+    t: TicketNumber,
+) -> Result<AdmitBarrier, AllocError>
+    requires sound { IsSound (state_of world.old) }
+    requires barrier { (i r : ℕ) × AwaitsWhole (state_of world.old) t i
+        × ((open_at world.old.calls.items i).op ≡ Some (whole.Barrier r)) }
+    ensures sound { IsSound (state_of world.new) }
+    ensures ok { IfOk result (λ a. AdmitsBarrierIn (state_of world.old) t a (state_of world.new)) }
+    ensures err { OnErr result (state_of world.new ≡ state_of world.old) }
+    ensures may { ForCaller (state_of world.old) t (λ stream. MayGo stream (state_of world.old) (state_of world.new)) }
 {
-    let place = world.turns.place(t)?;
-    match world.calls[place].op {
-        Some(WholeOp::Barrier(replica)) => newest_added(&world.journal, replica),
-        _ => None,
-    }
+    let admit = volume_maint::admit_whole(world, alloc, t)?;
+    Ok(match admit {
+        AdmitWhole::Go => AdmitBarrier::Go(begun_in(world)),
+        AdmitWhole::After(other) => AdmitBarrier::After(other),
+        AdmitWhole::Never => AdmitBarrier::Never,
+        AdmitWhole::Refused(_, _) => AdmitBarrier::Refused,
+    })
 }
 
-/// How the newest rebuild of the replica began, as the journal tells it.
-fn newest_added(journal: &Journal, replica: u8) -> Option<Added>
-    ensures { IfSome result (λ a. Contains journal.now.entries (entry.Mark (mark.Added replica a.source a.name))) }
+/// How the rebuild began that is open: its mark is the journal's last entry.
+fn begun_in(world: &World) -> Added
+    requires { (front : List Entry) × (target source : ℕ) × (name : List ℕ)
+        × (world.now.journal.entries ≡ front ++ entry.Mark (mark.Added target source name) ∷ []) }
+    ensures { IsToldBegun result (state_of world.now) }
 {
-    for place in (0..journal.len()).rev() {
-        if let Entry::Mark(
-            Mark::Added {
-                replica: of,
-                source,
-                name,
-            },
-        ) = journal.entry(place)
-        {
-            if *of == replica {
-                return Some(Added {
-                    source: *source,
-                    name: *name,
-                });
-            }
-        }
+    match world.journal.entry(world.journal.len() - 1) {
+        Entry::Mark(Mark::Added { source, name, .. }) => Added {
+            source: *source,
+            name: *name,
+        },
+        _ => unreachable!(),
     }
-    None
 }
 
 // ---- pages
@@ -130,10 +134,26 @@ fn ended_place(world: &World) -> u64
     }
 }
 
+/// The stream's line to the source or to the target of the add's rebuild has failed, and so that replica: it is told where
+/// the aborted mark of the rebuild stands.
+pub(crate) fn fall_in(world: &mut World, stream: u8, replica: u8, count: u64) -> u64
+    requires sound { IsSound (state_of world.old) }
+    requires part { IsEndOf (state_of world.old) replica }
+    requires above { last_count stream replica world.old.journal.entries < count }
+    ensures fell { (state_of world.new ≡ faulted (state_of world.old) stream replica count)
+        ⊎ (state_of world.new ≡ state_of world.old) }
+    ensures is { IsEndedAt (state_of world.new) result }
+    ensures may { MayGo stream (state_of world.old) (state_of world.new) }
+{
+    let _told = world.fault(stream, replica, count);
+    ended_place(world)
+}
+
 /// Promotes the replica that is rebuilt, and answers the add.
 pub(crate) fn promote_in(world: &mut World, t: TicketNumber) -> Option<u64>
     requires sound { IsSound (state_of world.old) }
     ensures done { IfSome result (λ place. Promotes (state_of world.old) t (state_of world.new)) }
+    ensures why { result ≡ None → AwaitsPromotion (state_of world.old) t }
     ensures none { result ≡ None → state_of world.new ≡ state_of world.old }
     ensures may { ForAsker (state_of world.old) t (λ stream. MayGo stream (state_of world.old) (state_of world.new)) }
 {
@@ -147,6 +167,7 @@ pub(crate) fn promote_in(world: &mut World, t: TicketNumber) -> Option<u64>
 pub(crate) fn end_in(world: &mut World, t: TicketNumber, place: u64) -> Option<u64>
     requires sound { IsSound (state_of world.old) }
     ensures done { IfSome result (λ at. EndsTurn (state_of world.old) t (reply.Aborted place) (state_of world.new)) }
+    ensures why { result ≡ None → AgainstEndTurn (state_of world.old) t (reply.Aborted place) }
     ensures none { result ≡ None → state_of world.new ≡ state_of world.old }
     ensures may { ForAsker (state_of world.old) t (λ stream. MayGo stream (state_of world.old) (state_of world.new)) }
 {

@@ -1,7 +1,8 @@
+use Rattle.std.proofs.Common.{true}
 use Rattle.world_holder.proofs.Taken.{found_as, owes_as}
 use Rattle.world_steps.proofs.GaveUp.{home_kept}
 use Rattle.world_steps.proofs.AddTurns.{add_known}
-use Rattle.world_steps.proofs.PageTurns.{put_owes, put_same, put_gave, put_kept, put_puts, put_fewer}
+use Rattle.world_steps.proofs.PageTurns.{put_owes, put_same, put_gave, put_kept, put_begun, put_puts, put_fewer}
 use Rattle.world_steps.proofs.adds.StepsAddSteps.copy_in.Goals as goal
 
 pub put_in-answer-requires-clause-page : goal.put_in-answer-requires-clause-page
@@ -59,3 +60,10 @@ returns-clause-puts g c =
     c.args.page.now c.args.with.now c.put_in-answer.new.with c.put_in-answer.result
     (found_as c.deref_mut.ensures.value c.take-world.ensures.found) c.requires.turn
     c.put_in-answer.ensures.puts c.put_in-answer.ensures.may _ c.put.ensures.seen
+
+pub returns-clause-begun : goal.returns-clause-begun
+returns-clause-begun g c =
+    put_begun g.H.Holder.alone c.args.self.now.stream c.args.t _ _ _
+    c.args.page.now c.args.with.now c.put_in-answer.new.with c.put_in-answer.result
+    (found_as c.deref_mut.ensures.value c.take-world.ensures.found) c.requires.turn
+    c.put_in-answer.ensures.puts c.put_in-answer.ensures.may _ c.put.ensures.seen true

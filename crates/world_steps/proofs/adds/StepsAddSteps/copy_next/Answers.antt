@@ -1,7 +1,8 @@
+use Rattle.std.proofs.Common.{true}
 use Rattle.world_holder.proofs.Taken.{found_as, seen_as}
 use Rattle.world_steps.proofs.GaveUp.{home_kept}
 use Rattle.world_steps.proofs.FrameTurns.{look_owes}
-use Rattle.world_steps.proofs.AddTurns.{look_still, look_next}
+use Rattle.world_steps.proofs.AddTurns.{look_begun, look_still, look_next}
 use Rattle.world_steps.proofs.adds.StepsAddSteps.copy_next.Goals as goal
 
 pub put-requires-clause-owes : goal.put-requires-clause-owes
@@ -12,14 +13,14 @@ pub returns-clause-same : goal.returns-clause-same
 returns-clause-same g c =
     (look_still g.H.Holder.alone c.args.self.now.stream c.args.t _ _
     (found_as c.deref.ensures c.take-world.ensures.found) c.requires.turn _
-    (seen_as c.deref.ensures c.put.ensures.seen)).to.same
+    (seen_as c.deref.ensures c.put.ensures.seen)).same
 
 pub returns-clause-home : goal.returns-clause-home
 returns-clause-home g c =
     home_kept c.take-world.ensures.home c.put.ensures.home
     (look_still g.H.Holder.alone c.args.self.now.stream c.args.t _ _
     (found_as c.deref.ensures c.take-world.ensures.found) c.requires.turn _
-    (seen_as c.deref.ensures c.put.ensures.seen)).to.gave_up
+    (seen_as c.deref.ensures c.put.ensures.seen)).gave_up
 
 pub returns-clause-kept : goal.returns-clause-kept
 returns-clause-kept g c =
@@ -38,3 +39,8 @@ returns-clause-takes g c =
     look_next g.H.Holder.alone c.args.self.now.stream c.args.t _ _
     (found_as c.deref.ensures c.take-world.ensures.found) c.requires.turn _
     (seen_as c.deref.ensures c.put.ensures.seen) c.next_in-next.result c.next_in-next.ensures
+
+pub returns-clause-begun : goal.returns-clause-begun
+returns-clause-begun g c =
+    look_begun g.H.Holder.alone c.args.self.now.stream _ _
+    (found_as c.deref.ensures c.take-world.ensures.found) _ (seen_as c.deref.ensures c.put.ensures.seen) true

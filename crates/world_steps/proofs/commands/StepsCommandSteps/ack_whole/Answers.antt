@@ -1,5 +1,5 @@
 use Rattle.world_holder.proofs.Taken.{found_as, owes_as}
-use Rattle.world_steps.proofs.WholeTurns.{acks_owes, acks_to, acks_against, acks_same}
+use Rattle.world_steps.proofs.WholeTurns.{acks_owes, acks_to, acks_against, acks_same, acks_begun}
 use Rattle.world_steps.proofs.WholesGaveUp.{home_whole, acks_gave}
 use Rattle.world_steps.proofs.commands.StepsCommandSteps.ack_whole.Goals as goal
 
@@ -37,3 +37,10 @@ returns-clause-home g c =
     let found = found_as c.deref_mut.ensures.value c.take-world.ensures.found in
     home_whole _ _ _ _ _ _ _ _ _ found (acks_gave _ _ c.args.t c.args.replica step.result step.ensures.ok step.ensures.err)
     c.put.ensures.seen c.take-world.ensures.home c.put.ensures.home
+
+pub returns-clause-begun : goal.returns-clause-begun
+returns-clause-begun g c =
+    let step = c.ack_whole-answer in
+    let found = found_as c.deref_mut.ensures.value c.take-world.ensures.found in
+    acks_begun _ _ c.args.t _ _ found c.requires.started c.args.replica _ step.result
+    step.ensures.may step.ensures.ok step.ensures.err _ c.put.ensures.seen

@@ -1,5 +1,6 @@
 use Rattle.world_holder.proofs.Taken.{found_as, owes_as}
 use Rattle.world_steps.proofs.MaintTurns.{found_waiting, admit_flag, admit_owes, admit_free, admit_to}
+use Rattle.world_steps.proofs.MaintTurns.{admit_unbegun, admit_waits}
 use Rattle.world_steps.proofs.GaveUp.{home_kept}
 use Rattle.world_steps.proofs.commands.StepsCommandSteps.admit_maint.Goals as goal
 
@@ -33,3 +34,15 @@ returns-clause-free g c =
     admit_free g.H.Holder.alone c.args.self.now.stream c.args.t _ _ _
     (found_as c.deref_mut.ensures.value c.take-world.ensures.found) c.admit_maint-answer.result c.requires.waits
     c.admit_maint-answer.ensures.may c.admit_maint-answer.ensures.turns
+
+pub returns-clause-unbegun : goal.returns-clause-unbegun
+returns-clause-unbegun g c =
+    admit_unbegun g.H.Holder.alone c.args.self.now.stream c.args.t _ _ _
+    (found_as c.deref_mut.ensures.value c.take-world.ensures.found) c.admit_maint-answer.result c.requires.waits
+    c.admit_maint-answer.ensures.may c.admit_maint-answer.ensures.turns _ c.put.ensures.seen
+
+pub returns-clause-waits : goal.returns-clause-waits
+returns-clause-waits g c =
+    admit_waits g.H.Holder.alone c.args.self.now.stream c.args.t _ _ _
+    (found_as c.deref_mut.ensures.value c.take-world.ensures.found) c.admit_maint-answer.result c.requires.waits
+    c.admit_maint-answer.ensures.may c.admit_maint-answer.ensures.turns _ c.put.ensures.seen

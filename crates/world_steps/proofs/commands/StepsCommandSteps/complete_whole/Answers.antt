@@ -1,5 +1,5 @@
 use Rattle.world_holder.proofs.Taken.{found_as, owes_as}
-use Rattle.world_steps.proofs.WholeTurns.{ends_owes, ends_to, ends_same}
+use Rattle.world_steps.proofs.WholeTurns.{ends_owes, ends_to, ends_same, ends_against, ends_begun, ends_past}
 use Rattle.world_steps.proofs.WholesGaveUp.{home_whole, completes_gave}
 use Rattle.world_steps.proofs.commands.StepsCommandSteps.complete_whole.Goals as goal
 
@@ -30,3 +30,23 @@ returns-clause-home g c =
     let found = found_as c.deref_mut.ensures.value c.take-world.ensures.found in
     home_whole _ _ _ _ _ _ _ _ _ found (completes_gave _ _ c.args.t step.result step.ensures.ok step.ensures.err)
     c.put.ensures.seen c.take-world.ensures.home c.put.ensures.home
+
+pub returns-clause-why : goal.returns-clause-why
+returns-clause-why g c =
+    let step = c.complete_whole-answer in
+    let found = found_as c.deref_mut.ensures.value c.take-world.ensures.found in
+    ends_against _ _ c.args.t _ _ found c.requires.started _ step.result step.ensures.err _ c.put.ensures.seen step.ensures.why
+
+pub returns-clause-begun : goal.returns-clause-begun
+returns-clause-begun g c =
+    let step = c.complete_whole-answer in
+    let found = found_as c.deref_mut.ensures.value c.take-world.ensures.found in
+    ends_begun _ _ c.args.t _ _ found c.requires.started _ step.result
+    step.ensures.may step.ensures.ok step.ensures.err _ c.put.ensures.seen
+
+pub returns-clause-past : goal.returns-clause-past
+returns-clause-past g c =
+    let step = c.complete_whole-answer in
+    let found = found_as c.deref_mut.ensures.value c.take-world.ensures.found in
+    ends_past _ _ c.args.t _ _ found c.requires.started _ step.result
+    step.ensures.may step.ensures.ok step.ensures.err _ c.put.ensures.seen

@@ -1,5 +1,5 @@
 use Rattle.world_holder.proofs.Taken.{found_as, owes_as}
-use Rattle.world_steps.proofs.MaintTurns.{ends_flag, ends_owes, ends_same, ends_to}
+use Rattle.world_steps.proofs.MaintTurns.{ends_flag, ends_owes, ends_same, ends_to, ends_why}
 use Rattle.world_steps.proofs.GaveUp.{home_kept}
 use Rattle.world_steps.proofs.commands.StepsCommandSteps.end_maint.Goals as goal
 
@@ -28,3 +28,9 @@ returns-clause-err g c =
     ends_same g.H.Holder.alone c.args.self.now.stream c.args.t c.args.reply _ _ _
     (found_as c.deref_mut.ensures.value c.take-world.ensures.found) c.end_maint-answer.result c.requires.turn
     c.end_maint-answer.ensures.may c.end_maint-answer.ensures.ok c.end_maint-answer.ensures.err _ c.put.ensures.seen
+
+pub returns-clause-why : goal.returns-clause-why
+returns-clause-why g c =
+    ends_why g.H.Holder.alone c.args.self.now.stream c.args.t c.args.reply _ _ _
+    (found_as c.deref_mut.ensures.value c.take-world.ensures.found) c.end_maint-answer.result c.requires.turn
+    c.end_maint-answer.ensures.err _ c.put.ensures.seen c.end_maint-answer.ensures.why

@@ -1,5 +1,6 @@
 use Rattle.world_holder.proofs.Taken.{found_as, owes_as}
 use Rattle.world_steps.proofs.WholeTurns.{under_idle, under_may, under_owes, under_to, under_not, under_same}
+use Rattle.world_steps.proofs.WholeTurns.{under_unbegun, under_cannot}
 use Rattle.world_steps.proofs.WholesGaveUp.{home_whole, whole_gave}
 use Rattle.world_steps.proofs.commands.StepsCommandSteps.enrol_whole.Goals as goal
 
@@ -47,3 +48,17 @@ returns-clause-home g c =
     let found = found_as c.deref_mut.ensures.value c.take-world.ensures.found in
     home_whole _ _ _ _ _ _ _ _ _ found (whole_gave _ _ _ c.args.op.now step.result step.ensures.ok step.ensures.err)
     c.put.ensures.seen c.take-world.ensures.home c.put.ensures.home
+
+pub returns-clause-unbegun : goal.returns-clause-unbegun
+returns-clause-unbegun g c =
+    let step = c.enrol_whole-answer in
+    let found = found_as c.deref_mut.ensures.value c.take-world.ensures.found in
+    under_unbegun _ _ c.args.t c.args.op.now _ _ found c.requires.turn _ step.result
+    step.ensures.may step.ensures.ok step.ensures.err _ c.put.ensures.seen
+
+pub returns-clause-cannot : goal.returns-clause-cannot
+returns-clause-cannot g c =
+    let step = c.enrol_whole-answer in
+    let found = found_as c.deref_mut.ensures.value c.take-world.ensures.found in
+    under_cannot _ _ c.args.t c.args.op.now _ _ found c.requires.turn _ step.result
+    step.ensures.may step.ensures.ok step.ensures.err _ c.put.ensures.seen

@@ -1,8 +1,11 @@
-use Rattle.std.proofs.Common.{refl}
+use Rattle.std.proofs.Common.{refl, subst, sym}
+use Rattle.volume_core.specs.State.{State, state_of}
+use Rattle.stream_steps.specs.Seen.{FindsNext}
 use Rattle.world_steps.proofs.FrameTurns.{look_owes, look_same}
 use Rattle.world_steps.proofs.GaveUp.{flag_kept, home_kept}
-use Rattle.world_steps.proofs.NextPart.{looks_next}
-use Rattle.world_holder.proofs.Taken.{found_as}
+use Rattle.world_steps.proofs.NextPart.{looks_next, finds_next}
+use Rattle.world_holder.proofs.Taken.{found_as, seen_as}
+use Rattle.world_steps.specs.Seen.{seen_of}
 use Rattle.world_steps.proofs.commands.StepsCommandSteps.fold_next.Goals as goal
 
 pub put-requires-clause-owes : goal.put-requires-clause-owes
@@ -22,3 +25,8 @@ pub returns-clause-is : goal.returns-clause-is
 returns-clause-is g c =
     looks_next g.H.Holder.alone c.args.self.now.stream _ _ (found_as c.deref.ensures c.take-world.ensures.found)
     c.args.t c.fold_next-next.result c.fold_next-next.ensures c.requires.turn
+
+pub returns-clause-found : goal.returns-clause-found
+returns-clause-found g c =
+    subst (λ (z : State). FindsNext c.fold_next-next.result (seen_of z)) (sym (seen_as c.deref.ensures c.put.ensures.seen))
+    (finds_next (state_of c.deref.result.now) c.fold_next-next.result c.fold_next-next.ensures)

@@ -1,4 +1,5 @@
 use Rattle.world_holder.proofs.Taken.{found_as, owes_as}
+use Rattle.world_steps.proofs.Begun.{begun_fall, begun_over}
 use Rattle.world_steps.proofs.FrameTurns.{fault_owes, fault_same, fault_modes, fault_why}
 use Rattle.world_steps.proofs.MaintTurns.{falls_flag, falls_to}
 use Rattle.world_steps.proofs.GaveUp.{home_kept}
@@ -41,3 +42,10 @@ returns-clause-err g c =
     fault_same g.H.Holder.alone c.args.self.now.stream c.args.replica c.args.count _ _ _
     (found_as c.deref_mut.ensures.value c.take-world.ensures.found) c.fault-answer.result c.fault-answer.ensures.may
     c.fault-answer.ensures.ok c.fault-answer.ensures.err _ c.put.ensures.seen
+
+pub returns-clause-begun : goal.returns-clause-begun
+returns-clause-begun g c = λ past source r.
+    begun_over g.H.Holder.alone c.args.self.now.stream _ _ _ _
+    (found_as c.deref_mut.ensures.value c.take-world.ensures.found) c.put.ensures.seen past source r
+    (begun_fall c.args.self.now.stream c.args.replica c.args.count _ _ c.fault-answer.result
+    c.fault-answer.ensures.ok c.fault-answer.ensures.err past source r)

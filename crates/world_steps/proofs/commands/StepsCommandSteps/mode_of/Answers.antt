@@ -1,4 +1,5 @@
 use Rattle.std.proofs.Common.{refl}
+use Rattle.world_steps.proofs.Begun.{begun_over}
 use Rattle.world_steps.proofs.FrameTurns.{look_owes, look_same}
 use Rattle.world_steps.proofs.GaveUp.{flag_kept, home_kept}
 use Rattle.world_steps.proofs.commands.StepsCommandSteps.mode_of.Goals as goal
@@ -15,3 +16,7 @@ returns-clause-home g c =
 pub returns-clause-same : goal.returns-clause-same
 returns-clause-same g c =
     look_same g.H.Holder.alone c.args.self.now.stream _ _ _ c.take-world.ensures.found c.put.ensures.seen
+
+pub returns-clause-begun : goal.returns-clause-begun
+returns-clause-begun g c = λ past source r.
+    begun_over g.H.Holder.alone c.args.self.now.stream _ _ _ _ c.take-world.ensures.found c.put.ensures.seen past source r (λ begun. begun)

@@ -1,4 +1,6 @@
-use Rattle.std.proofs.Common.{refl}
+use Rattle.std.proofs.Common.{length, refl, sym, ap, ◌∙◌}
+use Rattle.volume_core.specs.State.{State, told_of}
+use Rattle.world_holder.proofs.Taken.{found_as, seen_as}
 use Rattle.world_steps.proofs.FrameTurns.{look_owes, look_same}
 use Rattle.world_steps.proofs.GaveUp.{flag_kept, home_kept}
 use Rattle.world_steps.proofs.commands.StepsCommandSteps.page_count.Goals as goal
@@ -15,3 +17,8 @@ returns-clause-home g c =
 pub returns-clause-same : goal.returns-clause-same
 returns-clause-same g c =
     look_same g.H.Holder.alone c.args.self.now.stream _ _ _ c.take-world.ensures.found c.put.ensures.seen
+
+pub returns-clause-is : goal.returns-clause-is
+returns-clause-is g c =
+    c.page_count-count.ensures ∙ sym (found_as c.deref.ensures c.take-world.ensures.found).sound.disk
+    ∙ ap (λ (z : State). length (told_of z).volume.disk) (sym (seen_as c.deref.ensures c.put.ensures.seen))

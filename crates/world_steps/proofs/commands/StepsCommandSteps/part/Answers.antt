@@ -1,5 +1,5 @@
 use Rattle.world_holder.proofs.Taken.{found_as, owes_as}
-use Rattle.world_steps.proofs.WholeTurns.{part_owes, part_to, part_why, part_same}
+use Rattle.world_steps.proofs.WholeTurns.{part_owes, part_to, part_why, part_same, part_begun}
 use Rattle.world_steps.proofs.WholesGaveUp.{home_whole, takes_gave}
 use Rattle.world_steps.proofs.commands.StepsCommandSteps.part.Goals as goal
 
@@ -37,3 +37,10 @@ returns-clause-home g c =
     let found = found_as c.deref_mut.ensures.value c.take-world.ensures.found in
     home_whole _ _ _ _ _ _ _ _ _ found (takes_gave _ _ c.args.t c.args.replica step.result step.ensures.ok step.ensures.err)
     c.put.ensures.seen c.take-world.ensures.home c.put.ensures.home
+
+pub returns-clause-begun : goal.returns-clause-begun
+returns-clause-begun g c =
+    let step = c.part-answer in
+    let found = found_as c.deref_mut.ensures.value c.take-world.ensures.found in
+    part_begun _ _ c.args.t _ _ found c.requires.started c.args.replica _ step.result
+    step.ensures.may step.ensures.ok step.ensures.err _ c.put.ensures.seen

@@ -1,5 +1,7 @@
-use Rattle.world_holder.proofs.Taken.{found_as, owes_as}
+use Rattle.stream_steps.specs.Seen.{IsNextUp}
+use Rattle.world_holder.proofs.Taken.{found_as, owes_as, seen_as}
 use Rattle.world_steps.proofs.FrameTurns.{fault_owes, fault_free, fault_to, fault_modes, fault_why, fault_same}
+use Rattle.world_steps.proofs.FrameTurns.{look_modes, fault_inside, within_as}
 use Rattle.world_steps.proofs.frames.StepsClientSteps.fault.Goals as goal
 
 pub put-requires-clause-owes : goal.put-requires-clause-owes
@@ -39,3 +41,14 @@ returns-clause-err g c =
     fault_same g.H.Holder.alone c.args.self.now.stream c.args.replica c.args.count _ _ _ (found_as c.deref_mut.ensures.value
     c.take-world.ensures.found) c.fault-answer.result c.fault-answer.ensures.may c.fault-answer.ensures.ok
     c.fault-answer.ensures.err _ c.put.ensures.seen
+
+pub returns-clause-next : goal.returns-clause-next
+returns-clause-next g c =
+    look_modes (λ modes. IsNextUp modes c.args.replica c.next_up-next.result) _ _ (seen_as c.deref.ensures c.put.ensures.seen)
+    c.next_up-next.ensures.next
+
+pub returns-clause-inside : goal.returns-clause-inside
+returns-clause-inside g c =
+    fault_inside g.H.Holder.alone c.args.self.now.stream c.args.replica c.args.count _ _ _ (found_as c.deref_mut.ensures.value
+    c.take-world.ensures.found) c.fault-answer.result c.fault-answer.ensures.may c.fault-answer.ensures.ok
+    c.fault-answer.ensures.err c.next_up-next.result (within_as c.next_up-next.result c.deref.ensures c.next_up-next.ensures.inside)
