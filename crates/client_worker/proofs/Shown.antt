@@ -26,9 +26,6 @@ use Rattle.client_worker.proofs.Told.{acked-on, are_carried-on, has_part}
 pub shown_same : (a b : Mine) → b ≡ a → KeepsShown a b
 shown_same a b e = λ counts carried h. subst (λ (m : Mine). IsShown m counts carried) (sym e) h
 
-pub shown_from : (a b c : Mine) → b ≡ a → KeepsShown (with_running b []) c → KeepsShown (with_running a []) c
-shown_from a b c e h = subst (λ (m : Mine). KeepsShown (with_running m []) c) e h
-
 -- lines that are further
 pub shown_later : (m : Mine) (before now : List ℕ) (told told2 : List (Option (List (List ℕ))))
     → ((k : ℕ) → get_or before k 0 ≤ get_or now k 0) → TellOn told told2 → IsShown m before told → IsShown m now told2

@@ -1,14 +1,16 @@
 -- A write is carried to each replica in its turn, in room that was made before it started.
 use Rattle.std.proofs.Common.{◌≡◌, ℕ, ◌+◌, ◌-◌, ◌*◌, ◌<◌, ◌≤◌, ℤ, List, [], ◌∷◌, ◌++◌, length, take, drop, get_or}
 use Rattle.std.proofs.Common.{set, is_some, true, vec_capacity, Option, Some, None, subst, sym, ap, ◌∙◌}
-use Rattle.std.proofs.Common.{length-append, arith, Bool, false}
+use Rattle.std.proofs.Common.{length-append, arith, Bool, false, IfSome, refl}
 use Rattle.std.specs.List.{All}
-use Rattle.std.proofs.lemmas.List.{get_or-set_other, take_rest}
+use Rattle.std.proofs.lemmas.List.{get_or-set_other, length-set, take_rest}
 use Rattle.std.proofs.lemmas.List.Elements.{All-get_or}
-use Rattle.vol_units.specs.declared.size.TheConstants.{BLOCK_BYTES}
+use Rattle.vol_units.specs.Range.{blocks_around, place_of}
+use Rattle.vol_units.specs.declared.size.TheConstants.{BLOCK_BYTES, LARGEST_SIZE}
 use Rattle.vol_units.specs.declared.range.BlockRange.{BlockRange}
 use Rattle.volume_model.specs.declared.call.Call.{Call}
 use Rattle.volume_model.specs.declared.call.Call.TheVariants as call
+use Rattle.volume_model.specs.declared.mode.Mode.{Mode}
 use Rattle.step_answers.specs.declared.parts.Part.TheVariants.{Acked}
 use Rattle.step_answers.specs.Parts.{part_at}
 use Rattle.sparse_image.specs.Listed.{bytes_in}
@@ -18,6 +20,7 @@ use Rattle.client_worker.specs.declared.rooms.Rooms.{Rooms}
 use Rattle.stream_steps.specs.Mine.{Mine, OwnCall, IsOwn}
 use Rattle.stream_steps.specs.Steps.{Refuses, StartsCall, IsStarted, IsStartedWrite, IsWriteCall, IsRounded, IsJobFor}
 use Rattle.stream_steps.specs.Steps.{HasStarted, IsOnBlocks, IsReadCall, AreBlocksOfCall}
+use Rattle.stream_steps.specs.Seen.{IsNextUp}
 use Rattle.client_worker.specs.Serving.{KeepsOpen}
 use Rattle.client_worker.specs.Ends.{StartsOr, EndsTo, TakesUp}
 use Rattle.client_worker.specs.Rooms.{AreBoxes, CarriesWrite, CarriesRead, HasWriteRoom, HoldsWrite, BeginsIn, BeginsOr, ReadsIn, ReadsOr}
@@ -91,75 +94,98 @@ carries_one o a b goes t block n r own request request2 sets sets2 d c boxes sam
   subst (AreBoxes n) (sym set') (All-get_or (AreBoxes n) sets r d inside boxes),
 )
 
-pub sets_left : {A : Type 0} (xs ys : List A) (r : ℕ) (x : A) → ((k : ℕ) (d : A) → r ≤ k → k < length ys → get_or ys k d ≡ get_or xs k d)
-    → (k : ℕ) (d : A) → r + 1 ≤ k → k < length (set ys r x) → length (set ys r x) ≡ length ys → get_or (set ys r x) k d ≡ get_or xs k d
-sets_left xs ys r x left k d low high long = get_or-set_other ys r k x d (λ e. absurd (omega (arith, low, e)))
-    ∙ left k d (omega (arith, low)) (omega (arith, high, long))
+-- the sets of the replicas from that one on are as they were
+abbrev pub AreLeft : List (List (Option (List ℕ))) → List (List (Option (List ℕ))) → Option ℕ → Type 0
+AreLeft before now next = IfSome next (λ r. (k : ℕ) (d : List (Option (List ℕ))) → r ≤ k → k < length now
+    → get_or now k d ≡ get_or before k d)
+
+pub sets_first : (sets : List (List (Option (List ℕ)))) (next : Option ℕ) → AreLeft sets sets next
+sets_first sets None = tt
+sets_first sets (Some r) = λ k d low high. refl
+
+pub sets_left : (modes : List Mode) (xs ys zs : List (List (Option (List ℕ)))) (r : ℕ) (x : List (Option (List ℕ))) (next : Option ℕ)
+    → AreLeft xs ys (Some r) → IsNextUp modes r next → zs ≡ set ys r x → AreLeft xs zs next
+sets_left modes xs ys zs r x None left up is = tt
+sets_left modes xs ys zs r x (Some q) left up is = λ k d low high.
+    let long : length zs ≡ length ys = ap length is ∙ length-set ys r x in
+    ap (λ l. get_or l k d) is ∙ get_or-set_other ys r k x d (λ e. absurd (omega (arith, low, up.0, e)))
+    ∙ left k d (omega (arith, low, up.0)) (omega (arith, high, long))
+
+-- how many replicas there are from that one on
+abbrev pub left_from : ℕ → Option ℕ → ℕ
+left_from n None = 0
+left_from n (Some r) = n - r
+
+fewer_left : (modes : List Mode) (n r : ℕ) (next : Option ℕ) → r < n → IsNextUp modes r next → left_from n next < n - r
+fewer_left modes n r None inside up = omega (arith, inside)
+fewer_left modes n r (Some q) inside up = omega (arith, inside, up.0)
+
+pub left_fewer : (modes : List Mode) (n n2 r : ℕ) (now next : Option ℕ) → now ≡ Some r → n2 ≡ n → IfSome now (λ q. q < n)
+    → IsNextUp modes r next → left_from n2 next < left_from n now
+left_fewer modes n n2 r now next e same inside up =
+    subst (λ k. left_from k next < left_from n now) (sym same)
+    (subst (λ x. left_from n next < left_from n x) (sym e) (fewer_left modes n r next (subst (λ x. IfSome x (λ q. q < n)) e inside) up))
 
 -- ---- the start
 
--- what was said of the start, where the call was as it is
-module _ (t : ℕ) (a b c : Mine) (j : Option Job) (same : b ≡ a) (ok : (o : OwnCall) → IsOwn t o b → StartsOr o j b c) where
-  told : (o : OwnCall) → IsOwn t o a → StartsOr o j a c
-  told = subst (λ (m : Mine). (o : OwnCall) → IsOwn t o m → StartsOr o j m c) same ok
-
+-- what was said of the start
+module _ (t : ℕ) (a c : Mine) (j : Option Job) (ok : (o : OwnCall) → IsOwn t o a → StartsOr o j a c) where
   pub not_begun : j ≡ None → (o : OwnCall) → IsOwn t o a → Refuses o a c
-  not_begun e o h = subst (λ x. StartsOr o x a c) e (told o h)
+  not_begun e o h = subst (λ x. StartsOr o x a c) e (ok o h)
 
   pub begun : (job : Job) → j ≡ Some job → (o : OwnCall) → IsOwn t o a → StartsCall o job a c
-  begun job e o h = subst (λ x. StartsOr o x a c) e (told o h)
+  begun job e o h = subst (λ x. StartsOr o x a c) e (ok o h)
 
--- the bytes of a started write fill its blocks
+-- the bytes of a started write fill its blocks, which were counted before
 module _ (o : OwnCall) (job : Job) (a b : Mine) (s : StartsCall o job a b) (offset : ℤ) (bytes : List ℕ)
-    (is : o.call ≡ call.Write offset bytes) where
-  pub whole_is : s.own.whole ≡ (job.front ++ bytes) ++ job.back
+    (is : o.call ≡ call.Write offset bytes) (r : BlockRange) (around : r ≡ blocks_around (place_of offset) (length bytes))
+    (up : r.first ≤ r.end) where
+  whole_is : s.own.whole ≡ (job.front ++ bytes) ++ job.back
   whole_is = subst (λ c. IsJobFor c job s.own) is s.job
 
   rounded : IsRounded offset bytes s.own.range s.own.whole
   rounded = subst (λ c. IsStarted c s.own) is s.of
 
-  same_range : s.own.range ≡ o.range
-  same_range = ap (λ (x : OwnCall). x.range) s.same
+  counted : r ≡ s.own.range
+  counted = around ∙ sym rounded.around
 
   same_call : s.own.call ≡ o.call
   same_call = ap (λ (x : OwnCall). x.call) s.same
 
-  pub whole_long : o.range.first ≤ o.range.end
-      → length job.front + length bytes + length job.back ≡ (o.range.end - o.range.first) * BLOCK_BYTES
-  whole_long up =
+  pub whole_long : length job.front + length bytes + length job.back ≡ (r.end - r.first) * BLOCK_BYTES
+  whole_long =
       let parts = ap length whole_is ∙ length-append (job.front ++ bytes) job.back
       ∙ ap (λ k. k + length job.back) (length-append job.front bytes) in
-      let count : o.range.first * BLOCK_BYTES + length s.own.whole ≡ o.range.end * BLOCK_BYTES =
-      subst (λ (r : BlockRange). r.first * BLOCK_BYTES + length s.own.whole ≡ r.end * BLOCK_BYTES) same_range
+      let count : r.first * BLOCK_BYTES + length s.own.whole ≡ r.end * BLOCK_BYTES =
+      subst (λ (x : BlockRange). x.first * BLOCK_BYTES + length s.own.whole ≡ x.end * BLOCK_BYTES) (sym counted)
       rounded.count in
       omega (arith, parts, count, up)
 
-  pub begins_in : (block replicas : ℕ) (rooms filled : Rooms) → block ≡ o.range.first → o.range.first ≤ o.range.end
-      → o.range.end * BLOCK_BYTES ≤ 1073741824 → HasWriteRoom (o.range.end - o.range.first) replicas rooms
+  pub begins_in : (replicas : ℕ) (rooms filled : Rooms) → r.end * BLOCK_BYTES ≤ LARGEST_SIZE
+      → HasWriteRoom (r.end - r.first) replicas rooms
       → filled.sets.items ≡ rooms.sets.items → vec_capacity filled.arrivals ≡ vec_capacity rooms.arrivals
       → drop header_length filled.request.items ≡ (job.front ++ bytes) ++ job.back
       → length filled.request.items ≡ header_length + (length job.front + length bytes + length job.back)
-      → BeginsIn o block replicas filled a b
-  begins_in block replicas rooms filled first up inside fits sets arrivals whole count =
-      let long = whole_long up in
+      → BeginsIn o job replicas filled a b
+  begins_in replicas rooms filled inside fits sets arrivals whole count =
       record {
         own = s.own;
         begins = begins o job a b s;
         filled = record {
-          blocks = o.range.end - o.range.first;
+          blocks = r.end - r.first;
           carries = record {
             writes = (ap (λ (x : OwnCall). x.started) s.same, subst IsWriteCall (sym (same_call ∙ is)) tt);
             rounded = subst (λ c. IsStarted c s.own) (sym same_call) s.of;
             header = omega (arith, count);
-            few = omega (arith, count, long, inside, up);
+            few = omega (arith, count, whole_long, inside, up);
             whole = whole ∙ sym whole_is;
-            first = ap (λ (r : BlockRange). r.first) same_range ∙ sym first;
-            count = omega (arith, up, ap (λ (r : BlockRange). r.first) same_range, ap (λ (r : BlockRange). r.end) same_range);
+            first = ap (λ (x : BlockRange). x.first) (sym s.range);
+            count = omega (arith, up, ap (λ (x : BlockRange). x.first) counted, ap (λ (x : BlockRange). x.end) counted);
             size = ap length whole_is ∙ length-append (job.front ++ bytes) job.back
-                ∙ ap (λ k. k + length job.back) (length-append job.front bytes) ∙ long;
+                ∙ ap (λ k. k + length job.back) (length-append job.front bytes) ∙ whole_long;
           };
-          boxes = subst (All (AreBoxes (o.range.end - o.range.first))) (sym sets) fits.boxes;
-          arrivals = omega (arith, count, long, fits.arrivals, arrivals);
+          boxes = subst (All (AreBoxes (r.end - r.first))) (sym sets) fits.boxes;
+          arrivals = omega (arith, count, whole_long, fits.arrivals, arrivals);
           sets = ap length sets ∙ fits.sets;
         };
       }
@@ -181,23 +207,23 @@ reads_begun o job offset n a b s is = record {
 pub only_own : (t : ℕ) (m : Mine) (o p : OwnCall) → IsOwn t o m → IsOwn t p m → p ≡ o
 only_own t m o p a b = one_of p o (sym b.is ∙ a.is)
 
-pub begins_none : (t n : ℕ) (a b : Mine) (j : Option ℕ) (rooms : Rooms)
+pub begins_none : (t n : ℕ) (a b : Mine) (j : Option Job) (rooms : Rooms)
     → ((o : OwnCall) → IsOwn t o a → BeginsOr o j n rooms a b) → j ≡ None → (o : OwnCall) → IsOwn t o a → TakesUp o a b
 begins_none t n a b j rooms ok e o h = takes_refused o a b (subst (λ x. BeginsOr o x n rooms a b) e (ok o h))
 
-pub begins_some : (t n : ℕ) (a b : Mine) (j : Option ℕ) (block : ℕ) (rooms : Rooms)
-    → ((o : OwnCall) → IsOwn t o a → BeginsOr o j n rooms a b) → j ≡ Some block → (o : OwnCall) → IsOwn t o a
-    → BeginsIn o block n rooms a b
-begins_some t n a b j block rooms ok e o h = subst (λ x. BeginsOr o x n rooms a b) e (ok o h)
+pub begins_some : (t n : ℕ) (a b : Mine) (j : Option Job) (job : Job) (rooms : Rooms)
+    → ((o : OwnCall) → IsOwn t o a → BeginsOr o j n rooms a b) → j ≡ Some job → (o : OwnCall) → IsOwn t o a
+    → BeginsIn o job n rooms a b
+begins_some t n a b j job rooms ok e o h = subst (λ x. BeginsOr o x n rooms a b) e (ok o h)
 
-pub begins_own : (t n block : ℕ) (a b : Mine) (rooms : Rooms) (o : OwnCall) → IsOwn t o a → BeginsIn o block n rooms a b
-    → (x : OwnCall) × IsOwn t x b × HoldsWrite x block n rooms
-begins_own t n block a b rooms o own s = (s.own, begun_own t o s.own a b own s.begins, s.filled)
+pub begins_own : (t n : ℕ) (job : Job) (a b : Mine) (rooms : Rooms) (o : OwnCall) → IsOwn t o a → BeginsIn o job n rooms a b
+    → (x : OwnCall) × IsOwn t x b × HoldsWrite x job.range.first n rooms
+begins_own t n job a b rooms o own s = (s.own, begun_own t o s.own a b own s.begins, s.filled)
 
-pub begins_ends : (t n block : ℕ) (a b c : Mine) (rooms : Rooms)
-    → ((o : OwnCall) → IsOwn t o a → BeginsIn o block n rooms a b) → ((o : OwnCall) → IsOwn t o b → EndsTo o b c)
+pub begins_ends : (t n : ℕ) (job : Job) (a b c : Mine) (rooms : Rooms)
+    → ((o : OwnCall) → IsOwn t o a → BeginsIn o job n rooms a b) → ((o : OwnCall) → IsOwn t o b → EndsTo o b c)
     → (o : OwnCall) → IsOwn t o a → TakesUp o a c
-begins_ends t n block a b c rooms begins ends o own =
+begins_ends t n job a b c rooms begins ends o own =
     let s = begins o own in
     takes_started o s.own a b c s.begins (ends s.own (begun_own t o s.own a b own s.begins))
 

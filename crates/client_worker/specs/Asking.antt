@@ -3,7 +3,8 @@ use Rattle.std.specs.Prelude.{◌≡◌, ◌≢◌, ℕ, ◌<◌, ◌⊎◌, Lis
 use Rattle.volume_model.specs.declared.mode.Mode.{Mode}
 use Rattle.volume_model.specs.declared.mode.Mode.TheVariants.{Rw, Err}
 use Rattle.volume_model.specs.Modes.{mode_of}
-use Rattle.step_answers.specs.declared.parts.Part.TheVariants.{Acked}
+use Rattle.step_answers.specs.declared.parts.Part.{Part}
+use Rattle.step_answers.specs.declared.parts.Part.TheVariants.{Owed, Acked}
 use Rattle.step_answers.specs.Parts.{part_at, IsTaken}
 use Rattle.outer_traits.specs.Lines.{TellsMore}
 use Rattle.stream_steps.specs.Mine.{Mine, OwnCall}
@@ -20,6 +21,11 @@ TellsFrame before now r frame = TellsMore (told_in before r) (told_in now r) (fr
 -- with this reply more, the line has carried the replica's part of the open call
 abbrev pub LacksReply : OwnCall → Option (List (List ℕ)) → List ℕ → Type 0
 LacksReply o told reply = IfSome told (λ frames. HasPart o.call o.buffer (frames ++ reply ∷ []))
+
+-- the replica is the first that owes its part
+pub record IsFirstOwed (parts : List Part) (r : ℕ) : Type 0 where
+  pub owes : part_at parts r ≡ Owed
+  pub first : (q : ℕ) → q < r → part_at parts q ≢ Owed
 
 -- the replica had its step of the open call, if it has a part in it
 abbrev pub HasTaken : OwnCall → ℕ → Type 0

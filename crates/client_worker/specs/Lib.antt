@@ -5,3 +5,4 @@ pub mod Asking
 pub mod Ends
 pub mod Frames
 pub mod Rooms
+pub mod Working

@@ -3,6 +3,7 @@ use Rattle.std.specs.Prelude.{◌≡◌, ℕ, ◌+◌, ◌*◌, ◌<◌, ◌≤�
 use Rattle.std.specs.Prelude.{drop, All, is_some, Option, Some, None}
 use Rattle.vol_units.specs.declared.size.TheConstants.{BLOCK_BYTES}
 use Rattle.volume_model.specs.declared.call.Call.TheVariants as call
+use Rattle.step_answers.specs.declared.answers.Job.{Job}
 use Rattle.frame_wire.specs.Spelling.{header_length}
 use Rattle.client_worker.specs.declared.rooms.Rooms.{Rooms}
 use Rattle.stream_steps.specs.Mine.{Mine, OwnCall}
@@ -55,15 +56,15 @@ pub record HoldsWrite (o : OwnCall) (block replicas : ℕ) (rooms : Rooms) : Typ
   pub sets : length rooms.sets.items ≡ replicas
 
 -- the write starts, and its request is filled
-pub record BeginsIn (o : OwnCall) (block replicas : ℕ) (rooms : Rooms) (m m2 : Mine) : Type 0 where
+pub record BeginsIn (o : OwnCall) (job : Job) (replicas : ℕ) (rooms : Rooms) (m m2 : Mine) : Type 0 where
   pub own : OwnCall
   pub begins : BeginsAs o own m m2
-  pub filled : HoldsWrite own block replicas rooms
+  pub filled : HoldsWrite own job.range.first replicas rooms
 
--- it begins at that block, or there is no replica
-abbrev pub BeginsOr : OwnCall → Option ℕ → ℕ → Rooms → Mine → Mine → Type 0
+-- it begins with that job, or there is no replica
+abbrev pub BeginsOr : OwnCall → Option Job → ℕ → Rooms → Mine → Mine → Type 0
 BeginsOr o None replicas rooms m m2 = Refuses o m m2
-BeginsOr o (Some block) replicas rooms m m2 = BeginsIn o block replicas rooms m m2
+BeginsOr o (Some job) replicas rooms m m2 = BeginsIn o job replicas rooms m m2
 
 -- the read of so many bytes starts, and no replica has acknowledged it
 pub record ReadsIn (o : OwnCall) (offset : ℤ) (n : ℕ) (m m2 : Mine) : Type 0 where

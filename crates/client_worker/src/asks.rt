@@ -1,9 +1,11 @@
 //! A replica is asked for its part of the open call.
 
-ghost use Rattle.std.specs.Prelude.{◌≡◌, ℕ, ◌+◌, ◌*◌, ◌<◌, ◌≤◌, length, map, drop, vec_capacity, true, false};
+ghost use Rattle.std.specs.Prelude.{◌≡◌, ℕ, ◌+◌, ◌*◌, ◌<◌, ◌≤◌, length, map, drop, vec_capacity, OnOk, OnErr};
+ghost use Rattle.std.specs.Prelude.{IfErr, IfSome};
 ghost use Rattle.volume_model.specs.Modes.{mode_of, IsSource};
 ghost use Rattle.frame_wire.specs.Spelling.{header_length};
 ghost use Rattle.stream_steps.specs.Mine.{OwnCall, IsOwn};
+ghost use Rattle.stream_steps.specs.Seen.{IsNextUp};
 ghost use Rattle.stream_steps.specs.Steps.{TakesTo};
 ghost use Rattle.client_worker.specs.Serving.{IsShown, KeepsOpen};
 ghost use Rattle.client_worker.specs.Ends.{NoneAcked};
@@ -21,7 +23,7 @@ use std::sync::Wait;
 use stream_steps::ClientSteps;
 use volume_model::Mode;
 
-/// Asks a replica for its part of the open write, unless it has failed: its request is there but for the header.
+/// Asks a replica for its part of the open write, and says which is next: its request is there but for the header.
 pub(crate) fn ask_write<R: Wait, C: ClientSteps, L: Line + Drop>(
     rt: &R,
     steps: &mut C,
@@ -32,7 +34,7 @@ pub(crate) fn ask_write<R: Wait, C: ClientSteps, L: Line + Drop>(
     request: &mut [u8],
     blocks: &mut Blocks,
     room: &mut Vec<u8>,
-)
+) -> Option<u8>
     requires ready { C.ready steps.old }
     requires line { replica < length channels.old }
     requires room { header_length + length request.old ≤ vec_capacity room.old }
@@ -50,24 +52,24 @@ pub(crate) fn ask_write<R: Wait, C: ClientSteps, L: Line + Drop>(
         (map (λ c. L.carried c.line) channels.new) }
     ensures goes { KeepsOpen (C.mine steps.old) (C.mine steps.new) }
     ensures asked { AckedOrFailed (C.modes steps.new) replica (C.mine steps.new) }
+    ensures next { IsNextUp (C.modes steps.new) replica result }
+    ensures inside { IfSome result (λ r. r < (C.mine steps.old).replicas) }
 {
-    if steps.mode(rt, replica) == Mode::Err {
-        return;
-    }
     let seq = next_exchange(channels, replica);
     let count = (request.len() - HEADER_LENGTH) as u32;
     put_header(request, &write_head(seq, first, count));
-    if !pass(rt, steps, channels, replica, request, room) {
-        return;
+    if let Err(next) = pass(rt, steps, channels, replica, request, room) {
+        return next;
     }
-    if !take_write(rt, steps, t, replica, first, request, blocks) {
-        return;
+    if let Err(next) = take_write(rt, steps, t, replica, first, request, blocks) {
+        return next;
     }
     let reply = encode_header(&write_reply_head(seq, first, count));
-    reply_with(rt, steps, channels, t, replica, &reply, room);
+    reply_with(rt, steps, channels, t, replica, &reply, room)
 }
 
-/// A replica takes the open write, whose request came through, and says whether it did: in place, or else in boxes.
+/// A replica takes the open write, whose request came through: in place, or else in boxes. Where it does not, since it
+/// has failed, which is next is said.
 fn take_write<R: Wait, C: ClientSteps>(
     rt: &R,
     steps: &mut C,
@@ -76,24 +78,30 @@ fn take_write<R: Wait, C: ClientSteps>(
     first: u32,
     request: &[u8],
     blocks: &mut Blocks,
-) -> bool
+) -> Result<(), Option<u8>>
     requires ready { C.ready steps.old }
     requires own { (o : OwnCall) × (n : ℕ) × IsOwn t o (C.mine steps.old)
         × CarriesWrite o first n request.now × AreBoxes n blocks.old }
     ensures ready { C.ready steps.new }
     ensures home { C.home steps.new ≡ C.home steps.old }
-    ensures taken { result ≡ true → (o : OwnCall) → IsOwn t o (C.mine steps.old)
-        → TakesTo o replica o.buffer (C.mine steps.old) (C.mine steps.new) }
-    ensures same { result ≡ false → C.mine steps.new ≡ C.mine steps.old }
-    ensures failed { result ≡ false → mode_of (C.modes steps.new) replica ≡ Mode.Err }
+    ensures taken { OnOk result ((o : OwnCall) → IsOwn t o (C.mine steps.old)
+        → TakesTo o replica o.buffer (C.mine steps.old) (C.mine steps.new)) }
+    ensures same { OnErr result (C.mine steps.new ≡ C.mine steps.old) }
+    ensures failed { OnErr result (mode_of (C.modes steps.new) replica ≡ Mode.Err) }
+    ensures next { IfErr result (IsNextUp (C.modes steps.new) replica) }
+    ensures inside { IfErr result (λ next. IfSome next (λ r. r < (C.mine steps.old).replicas)) }
 {
-    match steps.apply_in_place(rt, t, replica) {
-        Ok(true) => true,
-        Ok(false) => {
-            blocks.fill(&request[HEADER_LENGTH..]);
-            steps.apply_write(rt, t, replica, blocks).is_ok()
-        }
-        Err(_) => false,
+    let placed = steps.apply_in_place(rt, t, replica);
+    match placed.answer {
+        Ok(true) => return Ok(()),
+        Ok(false) => {}
+        Err(_) => return Err(placed.next),
+    }
+    blocks.fill(&request[HEADER_LENGTH..]);
+    let boxed = steps.apply_write(rt, t, replica, blocks);
+    match boxed.answer {
+        Ok(()) => Ok(()),
+        Err(_) => Err(boxed.next),
     }
 }
 
@@ -129,7 +137,7 @@ pub(crate) fn ask_read<R: Wait, C: ClientSteps, L: Line + Drop>(
     let seq = next_exchange(channels, replica);
     let count = (reply.len() - HEADER_LENGTH) as u32;
     let request = encode_header(&read_head(seq, offset, count));
-    if !pass(rt, steps, channels, replica, &request, room) {
+    if pass(rt, steps, channels, replica, &request, room).is_err() {
         return;
     }
     let bytes = &mut reply[HEADER_LENGTH..];

@@ -10,13 +10,13 @@ mod pass;
 mod rooms;
 mod serve;
 mod stream;
+mod worker;
 
 pub use channel::{Channel, carry, next_exchange};
 pub use frames::put_header;
 pub use outer_traits::Line;
-pub use rooms::Rooms;
 pub use script_text::Frames;
-pub use stream::{run_stream, serve_call};
 pub use stream_steps::{
     Admit, BlockRange, Blocks, Call, ClientSteps, Enrolled, Job, Mode, NotThis, TicketNumber,
 };
+pub use worker::Worker;

@@ -1,6 +1,7 @@
 //! The memory that calls are carried in: it is made before a call starts, and kept for those behind it.
 
-ghost use Rattle.std.specs.Prelude.{◌≡◌, ◌+◌, ◌*◌, ◌<◌, ◌≤◌, ◌++◌, ◌^◌, [], length, drop, All, OnOk, vec_len, vec_capacity};
+ghost use Rattle.std.specs.Prelude.{◌≡◌, ◌+◌, ◌*◌, ◌<◌, ◌≤◌, ◌++◌, ◌^◌, [], length, drop, All, OnOk, vec_len};
+ghost use Rattle.std.specs.Prelude.{vec_capacity};
 ghost use Rattle.vol_units.specs.declared.size.TheConstants.{BLOCK_BYTES};
 ghost use Rattle.frame_wire.specs.Spelling.{header_length};
 ghost use Rattle.client_worker.specs.Rooms.{AreBoxes, HasWriteRoom, HasReadRoom};

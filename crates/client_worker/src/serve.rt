@@ -1,14 +1,19 @@
 //! The calls of a stream are carried to the replicas, one after another.
 
-ghost use Rattle.std.specs.Prelude.{◌≡◌, ℕ, ℤ, ◌+◌, ◌≤◌, ◌<◌, ◌^◌, [], length, map, All, vec_capacity, OnOk, OnErr, IfOk};
-ghost use Rattle.vol_units.specs.declared.size.TheConstants.{BLOCK_BYTES};
+ghost use Rattle.std.specs.Prelude.{◌≡◌, ◌≢◌, ℕ, ℤ, ◌+◌, ◌*◌, ◌≤◌, ◌<◌, ◌^◌, [], length, map, All};
+ghost use Rattle.std.specs.Prelude.{vec_capacity, OnOk, OnErr, IfOk, IfSome, MatchOption};
+ghost use Rattle.vol_units.specs.Range.{blocks_around, place_of};
+ghost use Rattle.vol_units.specs.declared.size.TheConstants.{BLOCK_BYTES, LARGEST_SIZE};
 ghost use Rattle.volume_model.specs.PlainStep.{longest_call};
 ghost use Rattle.frame_wire.specs.Spelling.{header_length};
 ghost use Rattle.stream_steps.specs.Mine.{OwnCall, IsOwn, with_running};
-ghost use Rattle.stream_steps.specs.Steps.{HasNotStarted};
+ghost use Rattle.step_answers.specs.Parts.{part_at};
+ghost use Rattle.stream_steps.specs.Steps.{HasNotStarted, HasPlaces};
+ghost use Rattle.client_worker.specs.Asking.{IsFirstOwed};
 ghost use Rattle.client_worker.specs.Serving.{IsShown, KeepsOpen};
 ghost use Rattle.client_worker.specs.Ends.{KeepsShown, NoneAcked, EndsTo, TakesUp};
-ghost use Rattle.client_worker.specs.Rooms.{AreBoxes, CarriesWrite, CarriesRead, HoldsWrite, HasReadRoom, BeginsOr, ReadsOr};
+ghost use Rattle.client_worker.specs.Rooms.{AreBoxes, CarriesWrite, CarriesRead, HoldsWrite, HasReadRoom};
+ghost use Rattle.client_worker.specs.Rooms.{BeginsOr, ReadsOr};
 
 use crate::asks::{ask_read, ask_write};
 use crate::channel::Channel;
@@ -20,25 +25,42 @@ use range_turns::TicketNumber;
 use sparse_image::Blocks;
 use std::alloc::{AllocError, Global};
 use std::sync::Wait;
+use step_answers::{Job, Part, Parts};
 use stream_steps::ClientSteps;
+use vol_units::BlockRange;
 use volume_model::{Bytes, Call};
 
-/// Asks each replica, in rising number, for its part of the open write.
+/// The first of so many replicas that owes its part.
+fn first_owed(parts: &Parts, replicas: usize) -> Option<u8>
+    requires { replicas ≤ 8 }
+    ensures is { MatchOption result ((r : ℕ) → r < replicas → part_at parts.now r ≢ Part.Owed) (IsFirstOwed parts.now) }
+    ensures inside { IfSome result (λ r. r < replicas) }
+{
+    for r in 0..replicas as u8 {
+        if parts.at(r) == Part::Owed {
+            return Some(r);
+        }
+    }
+    None
+}
+
+/// Asks each replica that owes its part of the open write for it, in rising number, unless it has failed by then.
 fn ask_all<R: Wait, C: ClientSteps, L: Line + Drop>(
     rt: &R,
     steps: &mut C,
     channels: &mut [Channel<L>],
     t: TicketNumber,
-    first: u32,
+    job: &Job,
     request: &mut [u8],
     sets: &mut [Blocks],
     room: &mut Vec<u8>,
 )
     requires ready { C.ready steps.old }
-    requires lines { (length channels.old ≤ 8) × (length sets.old ≡ length channels.old) }
+    requires lines { (length channels.old ≤ 8) × (length channels.old ≡ (C.mine steps.old).replicas)
+        × (length sets.old ≡ length channels.old) }
     requires room { header_length + length request.old ≤ vec_capacity room.old }
     requires own { (o : OwnCall) × (n : ℕ) × IsOwn t o (C.mine steps.old)
-        × CarriesWrite o first n request.old × All (AreBoxes n) sets.old }
+        × CarriesWrite o job.now.range.first n request.old × All (AreBoxes n) sets.old }
     requires shown { IsShown (C.mine steps.old) (map (λ c. L.count c.line) channels.old)
         (map (λ c. L.carried c.line) channels.old) }
     ensures ready { C.ready steps.new }
@@ -49,17 +71,12 @@ fn ask_all<R: Wait, C: ClientSteps, L: Line + Drop>(
         (map (λ c. L.carried c.line) channels.new) }
     ensures goes { KeepsOpen (C.mine steps.old) (C.mine steps.new) }
 {
-    for r in 0..channels.len() {
-        ask_write(
-            rt,
-            steps,
-            channels,
-            t,
-            r as u8,
-            first,
-            request,
-            &mut sets[r],
-            room,
+    let first = job.range.first;
+    let mut next = first_owed(&job.parts, channels.len());
+    while let Some(replica) = next {
+        let blocks = &mut sets[replica as usize];
+        next = ask_write(
+            rt, steps, channels, t, replica, first, request, blocks, room,
         );
     }
 }
@@ -70,13 +87,13 @@ fn carry_write<R: Wait, C: ClientSteps, L: Line + Drop>(
     steps: &mut C,
     channels: &mut [Channel<L>],
     t: TicketNumber,
-    first: u32,
+    job: &Job,
     rooms: &mut Rooms,
 )
     requires ready { C.ready steps.old }
-    requires lines { length channels.old ≤ 8 }
+    requires lines { (length channels.old ≤ 8) × (length channels.old ≡ (C.mine steps.old).replicas) }
     requires own { (o : OwnCall) × IsOwn t o (C.mine steps.old)
-        × HoldsWrite o first (length channels.old) rooms.old }
+        × HoldsWrite o job.now.range.first (length channels.old) rooms.old }
     requires shown { IsShown (C.mine steps.old) (map (λ c. L.count c.line) channels.old)
         (map (λ c. L.carried c.line) channels.old) }
     ensures ready { C.ready steps.new }
@@ -92,7 +109,7 @@ fn carry_write<R: Wait, C: ClientSteps, L: Line + Drop>(
         steps,
         channels,
         t,
-        first,
+        job,
         &mut rooms.request,
         &mut rooms.sets,
         &mut rooms.arrivals,
@@ -100,27 +117,39 @@ fn carry_write<R: Wait, C: ClientSteps, L: Line + Drop>(
     await_end(rt, steps, t);
 }
 
-/// Starts the open write at its first block, in room that is made before. Out of memory takes it back.
+/// The blocks in which the bytes of a write lie.
+fn touched_by(offset: i64, length: usize) -> BlockRange
+    requires { HasPlaces offset length }
+    ensures is { result ≡ blocks_around (place_of offset) length }
+    ensures up { result.first ≤ result.end }
+    ensures inside { result.end * BLOCK_BYTES ≤ LARGEST_SIZE }
+{
+    BlockRange::touched(offset as usize, length)
+}
+
+/// Starts the open write, in room that is made before. Out of memory takes it back.
 fn begin_write<R: Wait, C: ClientSteps>(
     rt: &R,
     alloc: Global,
     steps: &mut C,
     t: TicketNumber,
+    offset: i64,
     bytes: &Bytes,
     replicas: usize,
     rooms: &mut Rooms,
-) -> Result<Option<u32>, AllocError>
+) -> Result<Option<Job>, AllocError>
     requires ready { C.ready steps.old }
+    requires within { HasPlaces offset (length bytes.now) }
     requires waits { (o : OwnCall) × IsOwn t o (C.mine steps.old) × HasNotStarted o
-        × ((offset : ℤ) × (o.call ≡ Call.Write offset bytes.now)) }
+        × (o.call ≡ Call.Write offset bytes.now) }
     ensures ready { C.ready steps.new }
     ensures home { C.home steps.new ≡ C.home steps.old }
     ensures shown { KeepsShown (with_running (C.mine steps.old) []) (C.mine steps.new) }
-    ensures ok { IfOk result (λ block. (o : OwnCall) → IsOwn t o (C.mine steps.old)
-        → BeginsOr o block replicas rooms.new (C.mine steps.old) (C.mine steps.new)) }
+    ensures ok { IfOk result (λ job. (o : OwnCall) → IsOwn t o (C.mine steps.old)
+        → BeginsOr o job replicas rooms.new (C.mine steps.old) (C.mine steps.new)) }
     ensures err { OnErr result (C.mine steps.new ≡ with_running (C.mine steps.old) []) }
 {
-    let range = steps.range(rt, t);
+    let range = touched_by(offset, bytes.len());
     let count = (range.end - range.first) as usize;
     if let Err(error) = rooms.make_for_write(alloc, count, replicas) {
         steps.withdraw(rt, t);
@@ -135,7 +164,7 @@ fn begin_write<R: Wait, C: ClientSteps>(
         bytes.as_slice(),
         job.back.as_slice(),
     );
-    Ok(Some(range.first))
+    Ok(Some(job))
 }
 
 /// Takes the open write to its end. Out of memory takes it back.
@@ -146,12 +175,14 @@ pub(crate) fn serve_write<R: Wait, C: ClientSteps, L: Line + Drop>(
     channels: &mut [Channel<L>],
     rooms: &mut Rooms,
     t: TicketNumber,
+    offset: i64,
     bytes: &Bytes,
 ) -> Result<(), AllocError>
     requires ready { C.ready steps.old }
-    requires lines { length channels.old ≤ 8 }
+    requires lines { (length channels.old ≤ 8) × (length channels.old ≡ (C.mine steps.old).replicas) }
+    requires within { HasPlaces offset (length bytes.now) }
     requires waits { (o : OwnCall) × IsOwn t o (C.mine steps.old) × HasNotStarted o
-        × ((offset : ℤ) × (o.call ≡ Call.Write offset bytes.now)) }
+        × (o.call ≡ Call.Write offset bytes.now) }
     requires shown { IsShown (with_running (C.mine steps.old) []) (map (λ c. L.count c.line) channels.old)
         (map (λ c. L.carried c.line) channels.old) }
     ensures ready { C.ready steps.new }
@@ -164,10 +195,11 @@ pub(crate) fn serve_write<R: Wait, C: ClientSteps, L: Line + Drop>(
         → TakesUp o (C.mine steps.old) (C.mine steps.new)) }
     ensures err { OnErr result (C.mine steps.new ≡ with_running (C.mine steps.old) []) }
 {
-    let Some(first) = begin_write(rt, alloc, steps, t, bytes, channels.len(), rooms)? else {
+    let replicas = channels.len();
+    let Some(job) = begin_write(rt, alloc, steps, t, offset, bytes, replicas, rooms)? else {
         return Ok(());
     };
-    carry_write(rt, steps, channels, t, first, rooms);
+    carry_write(rt, steps, channels, t, &job, rooms);
     Ok(())
 }
 

@@ -1,22 +1,18 @@
-//! A stream's calls, one after another.
+//! One call of a stream.
 
-ghost use Rattle.std.specs.Prelude.{◌≡◌, ℕ, ◌+◌, ◌<◌, ◌≤◌, [], length, map, All, true, false, OnOk, OnErr};
+ghost use Rattle.std.specs.Prelude.{◌≡◌, ℕ, ◌+◌, ◌<◌, ◌≤◌, [], length, map, true, false, OnOk, OnErr};
 ghost use Rattle.step_answers.specs.Asked.{IsNow, IsOnRange};
-ghost use Rattle.frame_stream.specs.Asked.{asked_of, call_of};
-ghost use Rattle.frame_stream.specs.declared.asked.Asked.TheVariants as asked;
 ghost use Rattle.stream_steps.specs.Mine.{OwnCall, IsOwn, with_running};
-ghost use Rattle.stream_steps.specs.Steps.{HasNotStarted, IsFrameCall};
-ghost use Rattle.client_worker.specs.Asks.{IsAsked, IsShort};
-ghost use Rattle.client_worker.specs.Serving.{IsShown, GrewBy, Grew, GrewSome};
+ghost use Rattle.stream_steps.specs.Steps.{HasNotStarted, IsFrameCall, IsWithin};
+ghost use Rattle.client_worker.specs.Asks.{IsShort};
+ghost use Rattle.client_worker.specs.Serving.{IsShown, GrewBy};
 ghost use Rattle.client_worker.specs.Ends.{TakesUp};
 
 use crate::channel::Channel;
 use crate::rooms::Rooms;
 use crate::serve::{serve_read, serve_write};
-use frame_stream::{Asked, Frame, of_frame};
 use outer_traits::Line;
 use range_turns::TicketNumber;
-use script_text::Frames;
 use std::alloc::{AllocError, Global};
 use std::sync::Wait;
 use step_answers::Enrolled;
@@ -24,40 +20,8 @@ use stream_steps::ClientSteps;
 use vol_units::LONGEST_CALL;
 use volume_model::Call;
 
-/// Takes the calls of a stream's frames one after another, and carries each to the replicas. Out of memory leaves
-/// none of them open, and what was done before it stands.
-pub fn run_stream<R: Wait, C: ClientSteps, L: Line + Drop>(
-    rt: &R,
-    alloc: Global,
-    steps: &mut C,
-    channels: &mut [Channel<L>],
-    frames: &Frames,
-) -> Result<(), AllocError>
-    requires ready { C.ready steps.old }
-    requires lines { (length channels.old ≤ 8) × (length channels.old ≡ (C.mine steps.old).replicas) }
-    requires idle { (C.mine steps.old).running ≡ [] }
-    requires asked { All IsAsked frames.now }
-    requires shown { IsShown (C.mine steps.old) (map (λ c. L.count c.line) channels.old)
-        (map (λ c. L.carried c.line) channels.old) }
-    ensures ready { C.ready steps.new }
-    ensures home { C.home steps.new ≡ C.home steps.old }
-    ensures count { length channels.new ≡ length channels.old }
-    ensures ends { map (λ c. L.ends c.line) channels.new ≡ map (λ c. L.ends c.line) channels.old }
-    ensures shown { IsShown (C.mine steps.new) (map (λ c. L.count c.line) channels.new)
-        (map (λ c. L.carried c.line) channels.new) }
-    ensures ok { OnOk result (Grew (map call_of frames.now) (C.mine steps.old) (C.mine steps.new)) }
-    ensures err { OnErr result (GrewSome (map call_of frames.now) (C.mine steps.old) (C.mine steps.new)) }
-{
-    let mut rooms = Rooms::new(alloc);
-    let mut left = frames.reader()?;
-    while let Some(frame) = left.next()? {
-        serve_call(rt, alloc, steps, channels, &mut rooms, call_in(frame))?;
-    }
-    Ok(())
-}
-
 /// Takes one call of the stream to its answer, in room that is lent. Out of memory leaves it unasked.
-pub fn serve_call<R: Wait, C: ClientSteps, L: Line + Drop>(
+pub(crate) fn serve_one<R: Wait, C: ClientSteps, L: Line + Drop>(
     rt: &R,
     alloc: Global,
     steps: &mut C,
@@ -104,6 +68,7 @@ fn serve_open<R: Wait, C: ClientSteps, L: Line + Drop>(
     requires ready { C.ready steps.old }
     requires lines { (length channels.old ≤ 8) × (length channels.old ≡ (C.mine steps.old).replicas) }
     requires range { IsOnRange call.now }
+    requires within { IsWithin call.now }
     requires waits { (o : OwnCall) × IsOwn t o (C.mine steps.old) × HasNotStarted o × (o.call ≡ call.now) }
     requires shown { IsShown (with_running (C.mine steps.old) []) (map (λ c. L.count c.line) channels.old)
         (map (λ c. L.carried c.line) channels.old) }
@@ -121,7 +86,9 @@ fn serve_open<R: Wait, C: ClientSteps, L: Line + Drop>(
         Call::Read { offset, length } => {
             serve_read(rt, alloc, steps, channels, rooms, t, *offset, *length)
         }
-        Call::Write { bytes, .. } => serve_write(rt, alloc, steps, channels, rooms, t, bytes),
+        Call::Write { offset, bytes } => {
+            serve_write(rt, alloc, steps, channels, rooms, t, *offset, bytes)
+        }
         Call::Ping | Call::Other(_) | Call::Command(_) => unreachable!(),
     }
 }
@@ -137,16 +104,5 @@ fn is_now(call: &Call) -> bool
         Call::Read { length, .. } => *length > LONGEST_CALL,
         Call::Write { .. } => false,
         Call::Ping | Call::Other(_) | Call::Command(_) => true,
-    }
-}
-
-/// The call that a frame is.
-fn call_in(frame: Frame) -> Call
-    requires { asked_of frame ≡ asked.Call (call_of frame) }
-    ensures { result ≡ call_of frame }
-{
-    match of_frame(frame) {
-        Asked::Call(call) => call,
-        Asked::End => unreachable!(),
     }
 }

@@ -1,4 +1,4 @@
-use Rattle.std.proofs.Common.{rules, arith, ◌≡◌, length, map, slice_set, is_err, refl, ap, sym, subst, ◌∙◌, true, false}
+use Rattle.std.proofs.Common.{rules, arith, ◌≡◌, length, map, slice_set, is_err, refl, ap, sym, subst, ◌∙◌, false}
 use Rattle.frame_wire.specs.Spelling.{frame}
 use Rattle.step_answers.specs.declared.parts.Part.TheVariants.{Taken}
 use Rattle.stream_steps.specs.Mine.{IsOwn}
@@ -16,9 +16,9 @@ reply_with-requires-clause-own g c =
     let into_apply_read = c.apply_read.new.into in
     let mine_pass = g.C.ClientSteps.mine c.pass.new.steps in
     let op = c.requires.own in
-    let came : c.pass.result ≡ true = search rules in
+    let came : is_err c.pass.result ≡ false = search rules in
     let same : g.C.ClientSteps.mine c.pass.new.steps ≡ g.C.ClientSteps.mine c.args.steps.now =
-    ap g.C.ClientSteps.mine (c.pass.ensures.same came) in
+    ap g.C.ClientSteps.mine (done_well c.pass.result came c.pass.ensures.same) in
     let own : IsOwn c.args.t op.0 mine_pass = subst (IsOwn c.args.t op.0) (sym same) op.1 in
     let yes : is_err c.apply_read.result ≡ false = search rules in
     let took : TakesTo op.0 c.args.replica into_apply_read mine_pass (g.C.ClientSteps.mine c.apply_read.new.self) =
@@ -36,16 +36,16 @@ reply_with-requires-clause-own g c =
           (search rules) (search rules) (search rules)
           (c.put_header.ensures ∙ ap (frame c.read_reply_head.result)
           (body_put c.args.reply.now into_apply_read op.2.header (omega (arith, long, op.2.count))))
-          (c.pass.ensures.carried came),
+          (done_well c.pass.result came c.pass.ensures.carried),
     )
 
 pub reply_with-requires-clause-shown : goal.reply_with-requires-clause-shown
 reply_with-requires-clause-shown g c =
     let mine_pass = g.C.ClientSteps.mine c.pass.new.steps in
     let op = c.requires.own in
-    let came : c.pass.result ≡ true = search rules in
+    let came : is_err c.pass.result ≡ false = search rules in
     let same : g.C.ClientSteps.mine c.pass.new.steps ≡ g.C.ClientSteps.mine c.args.steps.now =
-    ap g.C.ClientSteps.mine (c.pass.ensures.same came) in
+    ap g.C.ClientSteps.mine (done_well c.pass.result came c.pass.ensures.same) in
     let own : IsOwn c.args.t op.0 mine_pass = subst (IsOwn c.args.t op.0) (sym same) op.1 in
     let yes : is_err c.apply_read.result ≡ false = search rules in
     let took : TakesTo op.0 c.args.replica c.apply_read.new.into mine_pass (g.C.ClientSteps.mine c.apply_read.new.self) =
@@ -61,9 +61,9 @@ returns-clause-goes g c =
     let mine_apply_read = g.C.ClientSteps.mine c.apply_read.new.self in
     let mine_reply_with = g.C.ClientSteps.mine c.reply_with.new.steps in
     let op = c.requires.own in
-    let came : c.pass.result ≡ true = search rules in
+    let came : is_err c.pass.result ≡ false = search rules in
     let same : g.C.ClientSteps.mine c.pass.new.steps ≡ g.C.ClientSteps.mine c.args.steps.now =
-    ap g.C.ClientSteps.mine (c.pass.ensures.same came) in
+    ap g.C.ClientSteps.mine (done_well c.pass.result came c.pass.ensures.same) in
     let own : IsOwn c.args.t op.0 mine_pass = subst (IsOwn c.args.t op.0) (sym same) op.1 in
     let yes : is_err c.apply_read.result ≡ false = search rules in
     let took : TakesTo op.0 c.args.replica c.apply_read.new.into mine_pass mine_apply_read =

@@ -1,10 +1,10 @@
-use Rattle.std.proofs.Common.{rules, refl}
+use Rattle.std.proofs.Common.{rules, ◌≡◌, ◌<◌, ℕ, length, set, refl, sym, subst, ◌∙◌, Some, IfSome}
 use Rattle.client_worker.proofs.Going.{goes_same, goes_then}
-use Rattle.client_worker.proofs.Writing.{carries_one, sets_left}
+use Rattle.client_worker.proofs.Writing.{AreLeft, carries_one, goes_replicas, left_fewer, sets_first, sets_left}
 use Rattle.client_worker.proofs.serve.ask_all.Goals as goal
 
-pub loop-r-init : goal.loop-r-init
-loop-r-init g c = record {
+pub loop-next-init : goal.loop-next-init
+loop-next-init g c = record {
   ready = search rules;
   home = refl;
   count = refl;
@@ -13,29 +13,51 @@ loop-r-init g c = record {
   shown = c.requires.shown;
   goes = goes_same (g.C.ClientSteps.mine c.args.steps.now) (g.C.ClientSteps.mine c.args.steps.now) refl;
   request = refl;
-  sets = λ k d low high. refl;
+  inside = search rules;
+  sets = sets_first c.args.sets.now c.first_owed-next.result;
 }
 
-pub ask_write-requires-clause-own : goal.ask_write-requires-clause-own
-ask_write-requires-clause-own g c =
+pub ask_write-next-requires-clause-own : goal.ask_write-next-requires-clause-own
+ask_write-next-requires-clause-own g c =
     let op = c.requires.own in
-    carries_one op.0 (g.C.ClientSteps.mine c.args.steps.now) (g.C.ClientSteps.mine c.loop-r.steps) c.loop-r.invariant.goes
-    c.args.t c.args.first op.1 c.loop-r.r op.2 c.args.request.now c.loop-r.request c.args.sets.now c.loop-r.sets
-    c.index-sets-r.result
-    op.3 op.4 c.loop-r.invariant.request (search rules) (search rules)
-    (c.loop-r.invariant.sets c.loop-r.r c.index-sets-r.result (search rules) (search rules))
+    let r = c.in-Some.replica in
+    let e : c.loop-next.next ≡ Some r = search rules in
+    let left : AreLeft c.args.sets.now c.loop-next.sets (Some r) =
+    subst (AreLeft c.args.sets.now c.loop-next.sets) e c.loop-next.invariant.sets in
+    carries_one op.0 (g.C.ClientSteps.mine c.args.steps.now) (g.C.ClientSteps.mine c.loop-next.steps) c.loop-next.invariant.goes
+    c.args.t c.args.job.now.range.first op.1 r op.2 c.args.request.now c.loop-next.request c.args.sets.now c.loop-next.sets
+    c.index-sets-replica.result
+    op.3 op.4 c.loop-next.invariant.request (search rules) (search rules)
+    (left r c.index-sets-replica.result (search rules) (search rules))
 
-pub loop-r-preserved : goal.loop-r-preserved
-loop-r-preserved g c = record {
-  ready = search rules;
-  home = search rules;
-  count = search rules;
-  ends = search rules;
-  room = search rules;
-  shown = search rules;
-  goes = goes_then (g.C.ClientSteps.mine c.args.steps.now) (g.C.ClientSteps.mine c.loop-r.steps)
-      (g.C.ClientSteps.mine c.ask_write.new.steps) c.loop-r.invariant.goes c.ask_write.ensures.goes;
-  request = search rules;
-  sets = λ k d low high. sets_left c.args.sets.now c.loop-r.sets c.loop-r.r c.ask_write.new.blocks c.loop-r.invariant.sets k
-      d low high (search rules);
-}
+pub loop-next-smaller : goal.loop-next-smaller
+loop-next-smaller g c =
+    let e : c.loop-next.next ≡ Some c.in-Some.replica = search rules in
+    left_fewer (g.C.ClientSteps.modes c.ask_write-next.new.steps) (length c.loop-next.channels) (length c.ask_write-next.new.channels)
+    c.in-Some.replica c.loop-next.next c.ask_write-next.result e (search rules) c.loop-next.invariant.inside c.ask_write-next.ensures.next
+
+pub loop-next-preserved : goal.loop-next-preserved
+loop-next-preserved g c =
+    let op = c.requires.own in
+    let e : c.loop-next.next ≡ Some c.in-Some.replica = search rules in
+    let count : length c.ask_write-next.new.channels ≡ length c.args.channels.now = search rules in
+    let many : (g.C.ClientSteps.mine c.loop-next.steps).replicas ≡ length c.ask_write-next.new.channels =
+    goes_replicas (g.C.ClientSteps.mine c.args.steps.now) (g.C.ClientSteps.mine c.loop-next.steps) op.0 c.loop-next.invariant.goes
+    op.2.is ∙ sym (count ∙ c.requires.lines.1) in
+    record {
+      ready = search rules;
+      home = search rules;
+      count = search rules;
+      ends = search rules;
+      room = search rules;
+      shown = search rules;
+      goes = goes_then (g.C.ClientSteps.mine c.args.steps.now) (g.C.ClientSteps.mine c.loop-next.steps)
+          (g.C.ClientSteps.mine c.ask_write-next.new.steps) c.loop-next.invariant.goes c.ask_write-next.ensures.goes;
+      request = search rules;
+      inside = subst (λ (n : ℕ). IfSome c.ask_write-next.result (λ r. r < n)) many c.ask_write-next.ensures.inside;
+      sets =
+          sets_left (g.C.ClientSteps.modes c.ask_write-next.new.steps) c.args.sets.now c.loop-next.sets
+          (set c.loop-next.sets c.in-Some.replica c.ask_write-next.new.blocks) c.in-Some.replica c.ask_write-next.new.blocks
+          c.ask_write-next.result (subst (AreLeft c.args.sets.now c.loop-next.sets) e c.loop-next.invariant.sets)
+          c.ask_write-next.ensures.next refl;
+    }

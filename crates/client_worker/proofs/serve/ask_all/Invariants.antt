@@ -1,11 +1,12 @@
-use Rattle.std.proofs.Common.{◌≡◌, ◌≤◌, ◌<◌, ℕ, List, Option, length, map, drop, vec_capacity, slice_index_or}
+use Rattle.std.proofs.Common.{◌≡◌, ◌≤◌, ◌<◌, length, map, drop, vec_capacity, IfSome}
 use Rattle.frame_wire.specs.Spelling.{header_length}
 use Rattle.client_worker.specs.Serving.{IsShown, KeepsOpen}
+use Rattle.client_worker.proofs.Writing.{AreLeft, left_from}
 use Rattle.client_worker.proofs.serve.ask_all.Given as goal
 
--- the write goes on, and the sets of the replicas that are left to ask are as they were
-abbrev pub invariant-loop-r : goal.invariant-loop-r
-invariant-loop-r g l = record {
+-- the write goes on, and the sets of the replicas from the next one on are as they were
+abbrev pub invariant-loop-next : goal.invariant-loop-next
+invariant-loop-next g l = record {
   ready : g.C.ClientSteps.ready l.steps;
   home : g.C.ClientSteps.home l.steps ≡ g.C.ClientSteps.home l.initial.steps;
   count : length l.channels ≡ length l.initial.channels;
@@ -15,5 +16,10 @@ invariant-loop-r g l = record {
       (map (λ x. g.L.Line.carried x.line) l.channels);
   goes : KeepsOpen (g.C.ClientSteps.mine l.initial.steps) (g.C.ClientSteps.mine l.steps);
   request : drop header_length l.request ≡ drop header_length l.initial.request;
-  sets : (k : ℕ) (d : List (Option (List ℕ))) → l.r ≤ k → k < length l.sets → slice_index_or l.sets k d ≡ slice_index_or l.initial.sets k d;
+  inside : IfSome l.next (λ r. r < length l.channels);
+  sets : AreLeft l.initial.sets l.sets l.next;
 }
+
+-- how many replicas there are from the next one on
+abbrev pub decreases-loop-next : goal.decreases-loop-next
+decreases-loop-next g l = left_from (length l.channels) l.next

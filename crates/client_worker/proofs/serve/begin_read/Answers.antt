@@ -1,4 +1,4 @@
-use Rattle.std.proofs.Common.{rules, ◌≡◌, Some, [], refl}
+use Rattle.std.proofs.Common.{rules, ◌≡◌, Some, []}
 use Rattle.stream_steps.specs.Mine.{with_running}
 use Rattle.client_worker.proofs.Shown.{shown_same}
 use Rattle.client_worker.proofs.Writing.{not_begun, begun, reads_begun}
@@ -14,10 +14,10 @@ returns-in-Some-clause-ok g c =
     λ o offset own is.
     let e : c.in_ok-_job.field-0 ≡ Some c.in-Some._job = search rules in
     reads_begun o c.in-Some._job offset c.args.count mine_before (g.C.ClientSteps.mine c.start.new.steps)
-    (begun c.args.t mine_before mine_before (g.C.ClientSteps.mine c.start.new.steps) c.in_ok-_job.field-0 refl
+    (begun c.args.t mine_before (g.C.ClientSteps.mine c.start.new.steps) c.in_ok-_job.field-0
     c.in_ok-_job.ensures.ok c.in-Some._job e o own) is
 
 pub returns-in-None-clause-ok : goal.returns-in-None-clause-ok
 returns-in-None-clause-ok g c = λ o offset own is.
-    not_begun c.args.t (g.C.ClientSteps.mine c.args.steps.now) (g.C.ClientSteps.mine c.args.steps.now)
-    (g.C.ClientSteps.mine c.start.new.steps) c.in_ok-_job.field-0 refl c.in_ok-_job.ensures.ok c.in-None.is o own
+    not_begun c.args.t (g.C.ClientSteps.mine c.args.steps.now) (g.C.ClientSteps.mine c.start.new.steps) c.in_ok-_job.field-0
+    c.in_ok-_job.ensures.ok c.in-None.is o own

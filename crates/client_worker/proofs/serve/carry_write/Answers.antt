@@ -6,7 +6,7 @@ use Rattle.client_worker.proofs.serve.carry_write.Goals as goal
 pub await_end-requires-clause-own : goal.await_end-requires-clause-own
 await_end-requires-clause-own g c =
     let op = c.requires.own in
-    write_started op.0 c.args.t c.args.first (length c.args.channels.now) (g.C.ClientSteps.mine c.args.steps.now)
+    write_started op.0 c.args.t c.args.job.now.range.first (length c.args.channels.now) (g.C.ClientSteps.mine c.args.steps.now)
     (g.C.ClientSteps.mine c.ask_all.new.steps) c.args.rooms.now op.1 op.2 c.ask_all.ensures.goes
 
 pub returns-clause-shown : goal.returns-clause-shown

@@ -1,23 +1,22 @@
-use Rattle.std.proofs.Common.{rules, ◌≡◌, ◌∷◌, ◌++◌, [], refl, sym, subst}
+use Rattle.std.proofs.Common.{rules, ◌≡◌, ◌∷◌, ◌++◌, [], refl, sym, subst, ◌∙◌, map}
 use Rattle.std.proofs.lemmas.List.Elements.{All-head, All-rest, All-same}
 use Rattle.frame_stream.specs.Asked.{call_of}
 use Rattle.client_worker.specs.Asks.{IsAsked, IsShort}
-use Rattle.client_worker.specs.Serving.{GrewBy}
+use Rattle.client_worker.specs.Serving.{GrewBy, GrewSome}
+use Rattle.client_worker.specs.Working.{Work}
 use Rattle.client_worker.proofs.Calls.{asked_short, whole_next}
 use Rattle.client_worker.proofs.Served.{grew_none, grew_ask}
-use Rattle.client_worker.proofs.stream.run_stream.Goals as goal
+use Rattle.client_worker.proofs.worker.Worker.run_stream.Goals as goal
 
 pub loop-left-init : goal.loop-left-init
 loop-left-init g c =
     let same : c.in_ok-left.left ≡ c.args.frames.now = search rules in
+    let idle : (g.C.ClientSteps.mine c.args.self.now.steps).running ≡ [] =
+    subst (λ (w : Work g.row.C.Denot g.row.L.Denot). (g.C.ClientSteps.mine w.steps).running ≡ []) c.self.view_is c.self.invariant.idle in
     record {
-      ready = search rules;
-      home = refl;
-      count = refl;
-      ends = refl;
-      shown = c.requires.shown;
+      stays = record { home = refl; lines = record { count = refl; ends = refl } };
       asked = All-same IsAsked c.in_ok-left.left c.args.frames.now same c.requires.asked;
-      done = ([], same, grew_none (g.C.ClientSteps.mine c.args.steps.now) c.requires.idle);
+      done = ([], same, grew_none (g.C.ClientSteps.mine c.args.self.now.steps) idle);
     }
 
 pub call_in-requires : goal.call_in-requires
@@ -36,22 +35,38 @@ serve_call-requires-clause-short g c =
 
 pub loop-left-preserved : goal.loop-left-preserved
 loop-left-preserved g c =
-    let mine_serve_call = g.C.ClientSteps.mine c.serve_call.new.steps in
-    let mine_left = g.C.ClientSteps.mine c.loop-left.steps in
+    let mine_serve_call = g.C.ClientSteps.mine c.serve_call.new.self.steps in
+    let mine_left = g.C.ClientSteps.mine c.loop-left.self.steps in
     let cut : c.loop-left.left ≡ c.in-Some.frame ∷ c.next.new.self = search rules in
     let d = c.loop-left.invariant.done in
     let grew : GrewBy (call_of c.in-Some.frame) mine_left mine_serve_call =
     subst (λ x. GrewBy x mine_left mine_serve_call) c.call_in.ensures c.in_ok-serve_call.ensures.ok in
     record {
-      ready = search rules;
-      home = search rules;
-      count = search rules;
-      ends = search rules;
-      shown = search rules;
+      stays = record {
+        home = c.in_ok-serve_call.ensures.stays.home ∙ c.loop-left.invariant.stays.home;
+        lines = record {
+          count = c.in_ok-serve_call.ensures.stays.lines.count ∙ c.loop-left.invariant.stays.lines.count;
+          ends = c.in_ok-serve_call.ensures.stays.lines.ends ∙ c.loop-left.invariant.stays.lines.ends;
+        };
+      };
       asked = All-rest IsAsked c.in-Some.frame c.next.new.self c.loop-left.left cut c.loop-left.invariant.asked;
       done = (
         d.0 ++ c.in-Some.frame ∷ [],
         whole_next c.args.frames.now d.0 c.next.new.self c.loop-left.left c.in-Some.frame d.1 cut,
-        grew_ask call_of d.0 c.in-Some.frame (g.C.ClientSteps.mine c.args.steps.now) mine_left mine_serve_call d.2 grew,
+        grew_ask call_of d.0 c.in-Some.frame (g.C.ClientSteps.mine c.args.self.now.steps) mine_left mine_serve_call d.2 grew,
       );
     }
+
+-- none was served
+pub returns-in_err-left-clause-err : goal.returns-in_err-left-clause-err
+returns-in_err-left-clause-err g c =
+    let idle : (g.C.ClientSteps.mine c.args.self.now.steps).running ≡ [] =
+    subst (λ (w : Work g.row.C.Denot g.row.L.Denot). (g.C.ClientSteps.mine w.steps).running ≡ []) c.self.view_is c.self.invariant.idle in
+    let none : GrewSome (map call_of c.args.frames.now) (g.C.ClientSteps.mine c.args.self.now.steps)
+    (g.C.ClientSteps.mine c.args.self.now.steps) = record {
+      done = [];
+      left = map call_of c.args.frames.now;
+      are = refl;
+      grew = grew_none (g.C.ClientSteps.mine c.args.self.now.steps) idle;
+    } in
+    search rules

@@ -1,10 +1,10 @@
 use Rattle.std.proofs.Common.{rules, ◌≡◌, map}
 use Rattle.step_answers.specs.declared.answers.Enrolled.TheVariants as enrol
 use Rattle.stream_steps.specs.Steps.{EnrolsAt}
-use Rattle.client_worker.proofs.Calls.{enrol_begun, enrol_refused}
+use Rattle.client_worker.proofs.Calls.{enrol_begun, enrol_refused, enrol_within}
 use Rattle.client_worker.proofs.Shown.{shown_now, shown_enrolled}
 use Rattle.client_worker.proofs.Served.{grew_now, enrol_served}
-use Rattle.client_worker.proofs.stream.serve_call.Goals as goal
+use Rattle.client_worker.proofs.stream.serve_one.Goals as goal
 
 pub returns-then-is_now-clause-shown : goal.returns-then-is_now-clause-shown
 returns-then-is_now-clause-shown g c =
@@ -49,3 +49,9 @@ returns-clause-ok g c =
     enrol_begun c.in-Ticket.t c.args.call c.in_ok-enrol.field-0 mine_before mine_enrol e c.in_ok-enrol.ensures.ok in
     enrol_served c.serve_open.result c.in-Ticket.t c.args.call mine_before mine_enrol
     (g.C.ClientSteps.mine c.serve_open.new.steps) s c.serve_open.ensures.ok
+
+pub serve_open-requires-clause-within : goal.serve_open-requires-clause-within
+serve_open-requires-clause-within g c =
+    let e : c.in_ok-enrol.field-0 ≡ enrol.Ticket c.in-Ticket.t = search rules in
+    enrol_within c.in-Ticket.t c.args.call c.in_ok-enrol.field-0 (g.C.ClientSteps.mine c.args.steps.now)
+    (g.C.ClientSteps.mine c.enrol.new.self) e c.in_ok-enrol.ensures.ok

@@ -1,0 +1,30 @@
+-- What a worker has, and what holds between its calls.
+use Rattle.std.specs.Prelude.{◌≡◌, ℕ, ◌≤◌, List, [], length, map, Option}
+use Rattle.outer_traits.specs.declared.ends.Ends.{Ends}
+use Rattle.stream_steps.specs.Mine.{Mine}
+use Rattle.client_worker.specs.declared.channel.Channel.{Channel}
+use Rattle.client_worker.specs.Serving.{IsShown}
+
+-- its steps, and a line to each replica
+pub record Work (C L : Type 0) : Type 0 where
+  pub steps : C
+  pub channels : List (Channel L)
+
+-- the next step can be taken, no call is open, there is a line to each replica, and what the lines tell is shown
+pub record IsIdle {C L : Type 0} (can : C → Type 0) (mine : C → Mine) (count : L → ℕ) (carried : L → Option (List (List ℕ)))
+    (w : Work C L) : Type 0 where
+  pub ready : can w.steps
+  pub idle : (mine w.steps).running ≡ []
+  pub few : length w.channels ≤ 8
+  pub lines : length w.channels ≡ (mine w.steps).replicas
+  pub shown : IsShown (mine w.steps) (map (λ c. count c.line) w.channels) (map (λ c. carried c.line) w.channels)
+
+-- the lines are as many, and between the same, in their order
+pub record KeepsLines {C L : Type 0} (between : L → Ends) (w w2 : Work C L) : Type 0 where
+  pub count : length w2.channels ≡ length w.channels
+  pub ends : map (λ c. between c.line) w2.channels ≡ map (λ c. between c.line) w.channels
+
+-- what stays over all that it does
+pub record Stays {C L H : Type 0} (at : C → H) (between : L → Ends) (w w2 : Work C L) : Type 0 where
+  pub home : at w2.steps ≡ at w.steps
+  pub lines : KeepsLines between w w2

@@ -1,0 +1,113 @@
+//! The worker of a stream, as a value.
+
+ghost use Rattle.std.specs.Prelude.{◌≡◌, map, All, OnOk, OnErr};
+ghost use Rattle.frame_stream.specs.Asked.{asked_of, call_of};
+ghost use Rattle.frame_stream.specs.declared.asked.Asked.TheVariants as asked;
+ghost use Rattle.stream_steps.specs.Steps.{IsFrameCall};
+ghost use Rattle.client_worker.specs.Asks.{IsAsked, IsShort};
+ghost use Rattle.client_worker.specs.Serving.{GrewBy, Grew, GrewSome};
+ghost use Rattle.client_worker.specs.Working.{IsIdle, Stays};
+
+use crate::channel::Channel;
+use crate::rooms::Rooms;
+use crate::stream::serve_one;
+use frame_stream::{Asked, Frame, of_frame};
+use outer_traits::Line;
+use script_text::Frames;
+use std::alloc::{AllocError, Global};
+use std::marker::Model;
+use std::sync::Wait;
+use stream_steps::ClientSteps;
+use volume_model::Call;
+
+/// What serves a stream: the steps of its core, a line to each replica, and the memory of its calls, which stays from
+/// call to call. Between two of them none is open.
+#[derive(Drop)]
+pub struct Worker<C: ClientSteps + Drop, L: Line + Drop> {
+    steps: C,
+    channels: Vec<Channel<L>>,
+    rooms: Rooms,
+}
+
+impl<C: ClientSteps + Drop, L: Line + Drop> Model for Worker<C, L> {
+    ghost use Rattle.client_worker.specs.Working.{Work, IsIdle};
+
+    ghost Value = { Work C L };
+
+    ghost view = { λ w. record { steps = w.steps; channels = w.channels.items } };
+
+    ghost invariant = { λ w. IsIdle C.ready C.mine L.count L.carried
+        (record { steps = w.steps; channels = w.channels.items }) };
+}
+
+impl<C: ClientSteps + Drop, L: Line + Drop> Worker<C, L> {
+    /// With no memory yet.
+    pub fn new(alloc: Global, steps: C, channels: Vec<Channel<L>>) -> Worker<C, L>
+        requires { IsIdle C.ready C.mine L.count L.carried (record { steps = steps; channels = channels.items }) }
+        ensures { result ≡ record { steps = steps; channels = channels.items } }
+    {
+        Worker {
+            steps,
+            channels,
+            rooms: Rooms::new(alloc),
+        }
+    }
+
+    /// The steps and the lines, once no more is to be served.
+    pub fn into_parts(self) -> (C, Vec<Channel<L>>)
+        ensures parts { self ≡ record { steps = result.0; channels = result.1.items } }
+        ensures idle { IsIdle C.ready C.mine L.count L.carried self }
+    {
+        (self.steps, self.channels)
+    }
+
+    /// Takes the calls of a stream's frames one after another, and carries each to the replicas. Out of memory leaves
+    /// none of them open, and what was done before it stands.
+    pub fn run_stream<R: Wait>(
+        &mut self,
+        rt: &R,
+        alloc: Global,
+        frames: &Frames,
+    ) -> Result<(), AllocError>
+        requires asked { All IsAsked frames.now }
+        ensures stays { Stays C.home L.ends self.old self.new }
+        ensures ok { OnOk result (Grew (map call_of frames.now) (C.mine self.old.steps) (C.mine self.new.steps)) }
+        ensures err { OnErr result (GrewSome (map call_of frames.now) (C.mine self.old.steps) (C.mine self.new.steps)) }
+    {
+        // What holds of the worker between its calls, a proof learns here.
+        let _ = &self.steps;
+        let mut left = frames.reader()?;
+        while let Some(frame) = left.next()? {
+            self.serve_call(rt, alloc, call_in(frame))?;
+        }
+        Ok(())
+    }
+
+    /// Takes one call of the stream to its answer. Out of memory leaves it unasked.
+    pub fn serve_call<R: Wait>(
+        &mut self,
+        rt: &R,
+        alloc: Global,
+        call: Call,
+    ) -> Result<(), AllocError>
+        requires frame { IsFrameCall call }
+        requires short { IsShort call }
+        ensures stays { Stays C.home L.ends self.old self.new }
+        ensures ok { OnOk result (GrewBy call (C.mine self.old.steps) (C.mine self.new.steps)) }
+        ensures err { OnErr result (C.mine self.new.steps ≡ C.mine self.old.steps) }
+    {
+        let channels = &mut self.channels;
+        serve_one(rt, alloc, &mut self.steps, channels, &mut self.rooms, call)
+    }
+}
+
+/// The call that a frame is.
+fn call_in(frame: Frame) -> Call
+    requires { asked_of frame ≡ asked.Call (call_of frame) }
+    ensures { result ≡ call_of frame }
+{
+    match of_frame(frame) {
+        Asked::Call(call) => call,
+        Asked::End => unreachable!(),
+    }
+}
