@@ -1,2 +1,0 @@
-mod AddLemmas
-mod CopierLemmas

@@ -1,3 +1,0 @@
-pub mod Copier
-pub mod Adding
-pub mod Serving

@@ -1,6 +1,0 @@
-pub mod OwnAnswers
-pub mod Serving
-pub mod Frames
-pub mod Rooms
-pub mod Whole
-pub mod Purges

@@ -1,0 +1,13 @@
+pub mod OwnAnswers
+pub mod Goes
+pub mod ShownLemmas
+pub mod PartLemmas
+pub mod FrameLemmas
+pub mod AnswerLemmas
+pub mod CommandLemmas
+pub mod PurgeLemmas
+pub mod RoundLemmas
+pub mod InTurn
+mod AddLemmas
+mod BarrierLemmas
+mod CopierLemmas

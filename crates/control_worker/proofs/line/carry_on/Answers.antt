@@ -1,0 +1,19 @@
+use Rattle.std.proofs.Common.{rules, ◌≡◌, is_ok, true}
+use Rattle.outer_traits.specs.Lines.{Carries}
+use Rattle.client_worker.proofs.Told.{carry_more, carry_ok}
+use Rattle.control_worker.proofs.line.carry_on.Goals as goal
+
+pub returns-clause-told : goal.returns-clause-told
+returns-clause-told g c =
+    let told : Carries (g.L.Line.carried c.args.channel.now.line) (g.L.Line.carried c.carry.new.self)
+    c.put_number-channel.new.bytes c.carry.result = search rules in
+    carry_more c.carry.result (g.L.Line.carried c.args.channel.now.line) (g.L.Line.carried c.carry.new.self)
+    c.put_number-channel.new.bytes told
+
+pub returns-clause-carried : goal.returns-clause-carried
+returns-clause-carried g c = λ e.
+    let told : Carries (g.L.Line.carried c.args.channel.now.line) (g.L.Line.carried c.carry.new.self)
+    c.put_number-channel.new.bytes c.carry.result = search rules in
+    let came : is_ok c.carry.result ≡ true = search rules in
+    carry_ok c.carry.result (g.L.Line.carried c.args.channel.now.line) (g.L.Line.carried c.carry.new.self)
+    c.put_number-channel.new.bytes came told

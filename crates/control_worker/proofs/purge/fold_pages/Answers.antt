@@ -1,0 +1,52 @@
+use Rattle.std.proofs.Common.{rules, refl, arith, ◌≡◌, ◌<◌, ◌∙◌, sym, subst}
+use Rattle.std.proofs.lemmas.Grind.{common_steps}
+use Rattle.volume_model.specs.declared.command.Command.TheVariants as command
+use Rattle.volume_model.specs.Modes.{mode_of}
+use Rattle.control_worker.specs.Purges.{IsFolded}
+use Rattle.control_worker.proofs.RoundLemmas.{below_next}
+use Rattle.control_worker.proofs.Goes.{goes_same, goes_on, turn_kept}
+use Rattle.control_worker.proofs.purge.fold_pages.Goals as goal
+
+pub loop-page-init : goal.loop-page-init
+loop-page-init g c = record {
+  ready = search rules;
+  home = refl;
+  count = refl;
+  ends = refl;
+  room = search rules;
+  text = refl;
+  shown = c.requires.shown;
+  goes = goes_same (g.C.CommandSteps.mine c.args.steps.now) (g.C.CommandSteps.mine c.args.steps.now) refl;
+  folded = λ page r below. absurd (omega (arith, below));
+}
+
+pub fold_all-requires-clause-turn : goal.fold_all-requires-clause-turn
+fold_all-requires-clause-turn g c = turn_kept c.args.t command.Purge (g.C.CommandSteps.mine c.args.steps.now)
+    (g.C.CommandSteps.mine c.loop-page.steps) c.loop-page.invariant.goes c.requires.turn
+
+pub loop-page-preserved : goal.loop-page-preserved
+loop-page-preserved g c = record {
+  ready = search rules;
+  home = search rules;
+  count = search rules;
+  ends = search rules;
+  room = search rules;
+  text = search rules;
+  shown = search rules;
+  goes = goes_on (g.C.CommandSteps.mine c.args.steps.now) (g.C.CommandSteps.mine c.loop-page.steps)
+      (g.C.CommandSteps.mine c.fold_all.new.steps) c.loop-page.invariant.goes c.fold_all.ensures.goes;
+  folded = λ page r below there.
+      below_next
+      (λ q. (seen : g.row.C.Denot) × (g.C.CommandSteps.home seen ≡ g.C.CommandSteps.home c.args.steps.now)
+      × IsFolded (g.C.CommandSteps.wants_fold seen r c.args.parent.now q) (mode_of (g.C.CommandSteps.modes seen) r)
+      c.args.parent.now q (g.C.CommandSteps.seen seen))
+      c.loop-page.page (λ q low. c.loop-page.invariant.folded q r low there)
+      (let h = c.fold_all.ensures.folded r (subst (λ n. r < n) (sym c.loop-page.invariant.count) there) in
+      (h.0, h.1 ∙ c.loop-page.invariant.home, h.2))
+      page below;
+}
+
+pub returns-clause-folded : goal.returns-clause-folded
+returns-clause-folded g c = λ page r below there.
+    let low : page < c.loop-page.page = grind (arith, common_steps) in
+    c.loop-page.invariant.folded page r low there

@@ -1,0 +1,255 @@
+//! The pages of a rebuild go over the stream's lines.
+
+ghost use Rattle.std.specs.Prelude.{◌≡◌, ◌≢◌, ℕ, ◌<◌, [], length, map, true, IfOk};
+ghost use Rattle.stream_steps.specs.Mine.{OwnCall, with_running};
+ghost use Rattle.stream_steps.specs.Add.{HasAdd};
+ghost use Rattle.client_worker.specs.Serving.{IsShown};
+ghost use Rattle.control_worker.specs.Whole.{GoesOn};
+ghost use Rattle.control_worker.specs.Adding.{EndsAs};
+ghost use Rattle.control_worker.specs.Copier.{replica_for};
+
+use crate::line::carry_on;
+use client_worker::{Channel, Line};
+use page_text::append_text;
+use rebuild_worker::{Carried, Copied, CopyNext, CopyOut, CopyPut, CopySide, CopySteps, copy_all};
+use std::alloc::{AllocError, Global};
+use std::mem;
+use std::sync::Wait;
+use stream_steps::{AddSteps, NextPage, Page, PageIn, PageOut, PageRef, TicketNumber};
+
+/// The steps of the rebuild of the stream's add, with the stream's lines.
+#[derive(Drop)]
+pub(crate) struct Copier<'a, C, L: Drop> {
+    steps: &'a mut C,
+    channels: &'a mut [Channel<L>],
+    /// The add that has the turn.
+    turn: TicketNumber,
+    source: u8,
+    target: u8,
+    hand: Option<PageRef>,
+    read: bool,
+    /// The blocks of the page in hand, once it was read.
+    page: &'a mut Page,
+    /// Boxes that the last page without blocks left.
+    spare: &'a mut Page,
+    /// Where frames arrive.
+    arrivals: &'a mut Vec<u8>,
+}
+
+impl<'a, C: AddSteps, L: Line + Drop> CopySteps for Copier<'a, C, L> {
+    ghost use Rattle.std.specs.Prelude.{ℕ, List, length, map, true};
+    ghost use Rattle.outer_traits.specs.declared.ends.Ends.{Ends};
+    ghost use Rattle.stream_steps.specs.Mine.{Mine};
+    ghost use Rattle.control_worker.specs.Whole.{GoesOn};
+    ghost use Rattle.control_worker.specs.Copier.{IsCopying, IsTextOn, work_of};
+
+    ghost copying = { λ s. work_of (C.left s.steps.now) s.hand s.read (map (λ c. L.carried c.line) s.channels.now)
+        (map (λ c. c.seq) s.channels.now) s.source s.target };
+
+    ghost is_aborted = { λ s place. C.is_aborted s.steps.now place };
+
+    ghost is_text = { λ s page text. IsTextOn (C.is_page s.steps.now) page text };
+
+    // What the stream's worker knew once, and what it knows now is that with lines failed.
+    ghost Fact = { Mine };
+
+    ghost stays = { λ s m. GoesOn m (C.mine s.steps.now) };
+
+    ghost Home = { C.Home × ℕ × ℕ × ℕ × List Ends × ℕ × ℕ };
+
+    ghost home = { λ s. (
+      C.home s.steps.now,
+      s.steps.ghost_name,
+      s.channels.ghost_name,
+      length s.channels.now,
+      map (λ c. L.ends c.line) s.channels.now,
+      s.source,
+      s.target,
+    ) };
+
+    ghost ready = { λ s. C.ready s.steps.now
+        × IsCopying s.turn s.source s.target (C.mine s.steps.now) (map (λ c. L.count c.line) s.channels.now)
+        (map (λ c. L.carried c.line) s.channels.now) (C.begun s.steps.now true s.source s.target)
+        (C.awaits s.steps.now) (C.is_page s.steps.now) s.hand s.read s.page.now };
+
+    #[tactic(auto, using(crate::proofs::CopierLemmas::quiet_same, crate::proofs::CopierLemmas::texts_kept, crate::proofs::CopierLemmas::stays_same, crate::proofs::CopierLemmas::add_same, crate::proofs::CopierLemmas::shown_still, crate::proofs::CopierLemmas::hand_unread, crate::proofs::CopierLemmas::hand_kept))]
+    fn next<R: Wait>(&mut self, rt: &R) -> CopyNext {
+        let next = self.steps.copy_next(rt, self.turn);
+        match &next {
+            NextPage::Page(page) => {
+                self.hand = Some(*page);
+                self.read = false;
+                CopyNext::Page(*page)
+            }
+            NextPage::All => CopyNext::All,
+            NextPage::Ended(place) => CopyNext::Ended(*place),
+        }
+    }
+
+    fn carry<R: Wait>(
+        &mut self,
+        rt: &R,
+        alloc: Global,
+        side: CopySide,
+        frame: &mut [u8],
+    ) -> Result<Carried, AllocError> {
+        let _ = alloc;
+        let replica = replica_for(side, self.source, self.target);
+        self.arrivals.clear();
+        self.arrivals.reserve(frame.len())?;
+        let channel = &mut self.channels[replica as usize];
+        if carry_on(channel, frame, self.arrivals) {
+            return Ok(Carried::Whole);
+        }
+        let count = channel.line.faults();
+        let place = self.steps.copy_fault(rt, self.turn, replica, count);
+        Ok(Carried::Ended(place))
+    }
+
+    #[tactic(auto, using(crate::proofs::CopierLemmas::quiet_same, crate::proofs::CopierLemmas::texts_kept, crate::proofs::CopierLemmas::stays_same, crate::proofs::CopierLemmas::add_same, crate::proofs::CopierLemmas::shown_still, crate::proofs::CopierLemmas::hand_unread, crate::proofs::CopierLemmas::hand_read, crate::proofs::CopierLemmas::hand_kept))]
+    fn out<R: Wait>(
+        &mut self,
+        rt: &R,
+        alloc: Global,
+        page: &PageRef,
+        text: &mut Vec<u8>,
+    ) -> Result<CopyOut, AllocError> {
+        self.read = false;
+        let mut blocks = mem::replace(self.spare, Page::unmade(alloc)).lent(alloc)?;
+        match self.steps.copy_out(rt, self.turn, page, &mut blocks) {
+            PageOut::Ended(place) => Ok(CopyOut::Ended(place)),
+            PageOut::Empty => {
+                *self.page = Page::unmade(alloc);
+                *self.spare = blocks;
+                self.read = true;
+                Ok(CopyOut::Empty)
+            }
+            PageOut::Blocks => {
+                let _made = blocks.is_made();
+                append_text(text, &page.layer, &blocks)?;
+                *self.page = blocks;
+                self.read = true;
+                Ok(CopyOut::Text)
+            }
+        }
+    }
+
+    #[tactic(auto, using(crate::proofs::CopierLemmas::quiet_same, crate::proofs::CopierLemmas::texts_kept, crate::proofs::CopierLemmas::stays_same, crate::proofs::CopierLemmas::add_same, crate::proofs::CopierLemmas::shown_still, crate::proofs::CopierLemmas::hand_none))]
+    fn put<R: Wait>(
+        &mut self,
+        rt: &R,
+        alloc: Global,
+        page: &PageRef,
+    ) -> Result<CopyPut, AllocError> {
+        let mut blocks = mem::replace(self.page, Page::unmade(alloc));
+        self.hand = None;
+        self.read = false;
+        match self.steps.copy_in(rt, self.turn, page, &mut blocks) {
+            PageIn::Listed => Ok(CopyPut::Listed),
+            PageIn::Ended(place) => Ok(CopyPut::Ended(place)),
+        }
+    }
+
+    #[tactic(auto, using(crate::proofs::CopierLemmas::quiet_same, crate::proofs::CopierLemmas::texts_kept, crate::proofs::CopierLemmas::stays_same, crate::proofs::CopierLemmas::add_same, crate::proofs::CopierLemmas::shown_still, crate::proofs::CopierLemmas::hand_kept))]
+    fn ended<R: Wait>(&mut self, rt: &R) -> Option<u64> {
+        self.steps.aborted(rt, self.turn)
+    }
+}
+
+/// The replica to which a frame goes.
+fn replica_for(side: CopySide, source: u8, target: u8) -> u8
+    ensures { result ≡ replica_for side source target }
+{
+    match side {
+        CopySide::Source => source,
+        CopySide::Target => target,
+    }
+}
+
+/// Copies all pages of the frozen layers from the source to the target, or until the rebuild is aborted. Out of memory
+/// leaves what was done.
+pub(crate) fn copy_pages<R: Wait, C: AddSteps, L: Line + Drop>(
+    rt: &R,
+    alloc: Global,
+    steps: &mut C,
+    channels: &mut [Channel<L>],
+    t: TicketNumber,
+    source: u8,
+    target: u8,
+) -> Result<Copied, AllocError>
+    requires ready { C.ready steps.old }
+    requires lines { (source < length channels.old) × (target < length channels.old) × (source ≢ target) }
+    requires turn { (r : ℕ) × (o : OwnCall) × HasAdd t r o (C.mine steps.old) }
+    requires begun { C.begun steps.old true source target }
+    requires shown { IsShown (with_running (C.mine steps.old) []) (map (λ c. L.count c.line) channels.old)
+        (map (λ c. L.carried c.line) channels.old) }
+    ensures ready { C.ready steps.new }
+    ensures home { C.home steps.new ≡ C.home steps.old }
+    ensures count { length channels.new ≡ length channels.old }
+    ensures ends { map (λ c. L.ends c.line) channels.new ≡ map (λ c. L.ends c.line) channels.old }
+    ensures shown { IsShown (with_running (C.mine steps.new) []) (map (λ c. L.count c.line) channels.new)
+        (map (λ c. L.carried c.line) channels.new) }
+    ensures goes { GoesOn (C.mine steps.old) (C.mine steps.new) }
+    ensures begun { C.begun steps.new true source target }
+    ensures ended { IfOk result (λ c. EndsAs c (C.left steps.new) (C.is_aborted steps.new)) }
+{
+    let mut page = Page::unmade(alloc);
+    let mut spare = Page::unmade(alloc);
+    let mut arrivals = Vec::new(alloc);
+    copy_over(
+        rt,
+        alloc,
+        steps,
+        channels,
+        t,
+        source,
+        target,
+        &mut page,
+        &mut spare,
+        &mut arrivals,
+    )
+}
+
+/// Copies them with these rooms for a page's blocks, for boxes and for what arrives.
+fn copy_over<R: Wait, C: AddSteps, L: Line + Drop>(
+    rt: &R,
+    alloc: Global,
+    steps: &mut C,
+    channels: &mut [Channel<L>],
+    t: TicketNumber,
+    source: u8,
+    target: u8,
+    page: &mut Page,
+    spare: &mut Page,
+    arrivals: &mut Vec<u8>,
+) -> Result<Copied, AllocError>
+    requires ready { C.ready steps.old }
+    requires lines { (source < length channels.old) × (target < length channels.old) × (source ≢ target) }
+    requires turn { (r : ℕ) × (o : OwnCall) × HasAdd t r o (C.mine steps.old) }
+    requires begun { C.begun steps.old true source target }
+    requires shown { IsShown (with_running (C.mine steps.old) []) (map (λ c. L.count c.line) channels.old)
+        (map (λ c. L.carried c.line) channels.old) }
+    ensures ready { C.ready steps.new }
+    ensures home { C.home steps.new ≡ C.home steps.old }
+    ensures count { length channels.new ≡ length channels.old }
+    ensures ends { map (λ c. L.ends c.line) channels.new ≡ map (λ c. L.ends c.line) channels.old }
+    ensures shown { IsShown (with_running (C.mine steps.new) []) (map (λ c. L.count c.line) channels.new)
+        (map (λ c. L.carried c.line) channels.new) }
+    ensures goes { GoesOn (C.mine steps.old) (C.mine steps.new) }
+    ensures begun { C.begun steps.new true source target }
+    ensures ended { IfOk result (λ c. EndsAs c (C.left steps.new) (C.is_aborted steps.new)) }
+{
+    let mut copier = Copier {
+        steps,
+        channels,
+        turn: t,
+        source,
+        target,
+        hand: None,
+        read: false,
+        page,
+        spare,
+        arrivals,
+    };
+    copy_all(rt, alloc, &mut copier)
+}

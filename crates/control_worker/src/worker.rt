@@ -1,0 +1,68 @@
+//! The worker of a stream of commands, as a value.
+
+ghost use Rattle.std.specs.Prelude.{◌≡◌, length, false, All, IfOk, OnOk, OnErr};
+ghost use Rattle.client_worker.specs.Working.{IsIdle, KeepsLines};
+ghost use Rattle.control_worker.specs.Serving.{Commanded, CommandedSome, IsForWorker};
+
+use crate::control::{Served, answer_all};
+use client_worker::{Channel, Line};
+use std::alloc::{AllocError, Global};
+use std::marker::Model;
+use std::sync::Wait;
+use stream_steps::{AddSteps, Command};
+
+/// What answers a stream's commands: the steps of its core, and a line to each replica.
+#[derive(Drop)]
+pub struct ControlWorker<C: AddSteps + Drop, L: Line + Drop> {
+    steps: C,
+    channels: Vec<Channel<L>>,
+}
+
+impl<C: AddSteps + Drop, L: Line + Drop> Model for ControlWorker<C, L> {
+    ghost use Rattle.client_worker.specs.Working.{Work, IsIdle};
+
+    ghost Value = { Work C L };
+
+    ghost view = { λ w. record { steps = w.steps; channels = w.channels.items } };
+
+    ghost invariant = { λ w. IsIdle C.ready C.mine L.count L.carried
+        (record { steps = w.steps; channels = w.channels.items }) };
+}
+
+impl<C: AddSteps + Drop, L: Line + Drop> ControlWorker<C, L> {
+    /// Of these steps and lines.
+    pub fn new(steps: C, channels: Vec<Channel<L>>) -> ControlWorker<C, L>
+        requires { IsIdle C.ready C.mine L.count L.carried (record { steps = steps; channels = channels.items }) }
+        ensures { result ≡ record { steps = steps; channels = channels.items } }
+    {
+        ControlWorker { steps, channels }
+    }
+
+    /// The steps and the lines, once no more is to be answered.
+    pub fn into_parts(self) -> (C, Vec<Channel<L>>)
+        ensures parts { self ≡ record { steps = result.0; channels = result.1.items } }
+        ensures idle { IsIdle C.ready C.mine L.count L.carried self }
+    {
+        (self.steps, self.channels)
+    }
+
+    /// Answers the commands of a stream one after another. Out of memory leaves none of them open, and what was done
+    /// before it stands.
+    pub fn run_control<R: Wait>(
+        &mut self,
+        rt: &R,
+        alloc: Global,
+        commands: &[Command],
+    ) -> Result<Served, AllocError>
+        requires taken { All (IsForWorker (length self.old.channels)) commands.now }
+        // Where memory ran out, it may tell that the stream gave a rebuild up.
+        ensures home { OnOk result (C.home self.new.steps ≡ C.home self.old.steps) }
+        ensures lines { KeepsLines L.ends self.old self.new }
+        ensures ok { OnOk result (Commanded commands.now (C.mine self.old.steps) (C.mine self.new.steps)) }
+        ensures fault { IfOk result (λ s. s.target_fault ≡ false) }
+        ensures err { OnErr result (CommandedSome commands.now (C.mine self.old.steps) (C.mine self.new.steps)) }
+    {
+        let channels = &mut self.channels;
+        answer_all(rt, alloc, &mut self.steps, channels, commands)
+    }
+}
