@@ -1,7 +1,6 @@
 -- The lines of a worker, one after another: new ones, and those that are taken back.
 use Rattle.std.proofs.Common.{◌≡◌, ℕ, ◌+◌, List, [], ◌∷◌, ◌++◌, length, map, Option, sym, ap, subst, ◌∙◌, arith}
-use Rattle.std.proofs.Common.{slice_index_or, add-zero, take, drop}
-use Rattle.std.proofs.Math.Seq.{take-append_seam}
+use Rattle.std.proofs.Common.{slice_index_or, add-zero}
 use Rattle.std.specs.Prelude.{IfSome, None}
 use Rattle.std.proofs.lemmas.List.{map-append, length-append, length-map, append-nil, get_or_past}
 use Rattle.std.proofs.lemmas.List.Elements.{All-nil, All-cons, All-append}
@@ -80,43 +79,29 @@ pub others_stay : {T : Type 0} (f g h : ℕ → ℕ → T) (worker : ℕ) (told 
     → TellsOthers worker f h
 others_stay f g h worker told same records w r apart = records.others w r (λ both. apart both.0) ∙ same w r
 
--- a slice is put back into its vector
-pub back_whole : {C : Type 0} (len : ℕ) (items now new : List C) → len ≡ length items → now ≡ items
-    → length new ≡ length now → take len (new ++ drop (length new) items) ≡ new
-back_whole len items now new whole same many =
-    ap (λ n. take n (new ++ drop (length new) items)) (omega (arith, whole, ap length same, many))
-    ∙ take-append_seam new (drop (length new) items)
-
--- Lines of a worker to so many replicas, in a vector of which a slice was given: they were used, and put back.
-module _ (w m n len : ℕ) (C : Type 0) (ends : C → Ends) (count : C → ℕ) (told : C → Option (List (List ℕ))) (items now new : List C)
-    (lines : AreNewLines w m (map ends items) (map count items) (map told items)) (at : m ≡ n) (whole : len ≡ length items)
-    (value : now ≡ items) (many : length new ≡ length now) (same : map ends new ≡ map ends now) where
-  abbrev back : List C
-  back = take len (new ++ drop (length new) items)
-
-  is : back ≡ new
-  is = back_whole len items now new whole value many
-
-  as_many : length new ≡ n
-  as_many = omega (arith, many, ap length value, length-map items ends, lines.many, at)
+-- Lines of a worker to so many replicas: they were used, and these are given back.
+module _ (w m n : ℕ) (C : Type 0) (ends : C → Ends) (count : C → ℕ) (told : C → Option (List (List ℕ))) (items back : List C)
+    (lines : AreNewLines w m (map ends items) (map count items) (map told items)) (at : m ≡ n)
+    (same : map ends back ≡ map ends items) where
+  as_many : length back ≡ n
+  as_many = omega (arith, length-map back ends, ap length same, lines.many, at)
 
   lined : AreLinesOf w 0 (map ends back)
-  lined = subst (AreLinesOf w 0) (sym (ap (map ends) is ∙ same ∙ ap (map ends) value)) lines.lined
+  lined = subst (AreLinesOf w 0) (sym same) lines.lined
 
   -- what they told is noted
   pub noted_back : (opening : Spot) (cs : List Call) (before after : List Entry) (counts counts' : ℕ → ℕ → ℕ)
       (told0 told' : ℕ → ℕ → Option (List (List ℕ))) → length opening.modes ≡ n
-      → IsTurn opening n w cs before after (λ r. slice_index_or (map count new) r 0) (told_in (map told new))
+      → IsTurn opening n w cs before after (λ r. slice_index_or (map count back) r 0) (told_in (map told back))
       → ((worker : ℕ) → AreLinesOf worker 0 (map ends back) → RecordsOf counts counts' worker (map count back))
       → ((worker : ℕ) → AreLinesOf worker 0 (map ends back) → RecordsOf told0 told' worker (map told back))
       → IsTurn opening n w cs before after (counts' w) (told' w)
   noted_back opening cs before after counts counts' told0 told' modes turn counted carried =
-      noted opening n w cs before after (λ r. slice_index_or (map count new) r 0) (counts' w) (told_in (map told new)) (told' w) modes turn
-      (λ r high. get_or_past (map count new) r 0 (omega (arith, length-map new count, as_many, high)))
-      (λ r low. (counted w lined).here r 0 (omega (arith, length-map back count, ap length is, as_many, low))
-      ∙ ap (λ l. slice_index_or (map count l) r 0) is)
-      (λ r low. (carried w lined).here r None (omega (arith, length-map back told, ap length is, as_many, low))
-      ∙ ap (λ l. slice_index_or (map told l) r None) is)
+      noted opening n w cs before after (λ r. slice_index_or (map count back) r 0) (counts' w) (told_in (map told back)) (told' w)
+      modes turn
+      (λ r high. get_or_past (map count back) r 0 (omega (arith, length-map back count, as_many, high)))
+      (λ r low. (counted w lined).here r 0 (omega (arith, length-map back count, as_many, low)))
+      (λ r low. (carried w lined).here r None (omega (arith, length-map back told, as_many, low)))
 
   -- and other lines tell the same
   pub others_back : {T : Type 0} (note : C → T) (f g h : ℕ → ℕ → T) → TellsSame f g

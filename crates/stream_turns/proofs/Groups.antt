@@ -18,8 +18,8 @@ use Rattle.volume_core.specs.Streams.{MayAppend, MayAppendMark}
 use Rattle.stream_steps.specs.Mine.{Log, longer}
 use Rattle.stream_steps.specs.Steps.{IsNoFault}
 use Rattle.client_worker.specs.Serving.{IsFaultMark, IsOwnFault, Serves, AreServed}
-use Rattle.command_worker.specs.Purges.{MayComeBefore}
-use Rattle.command_worker.specs.Serving.{Commands, AreCommanded}
+use Rattle.control_worker.specs.Purges.{MayComeBefore}
+use Rattle.control_worker.specs.Serving.{Commands, AreCommanded}
 
 -- ---- marks before an answer
 

@@ -8,5 +8,6 @@ pub mod OneTurn
 pub mod Replicas
 pub mod Turned
 pub mod Channels
+pub mod Parts
 pub mod ScriptLemmas
 pub mod SoFar

@@ -26,7 +26,7 @@ use Rattle.stream_steps.specs.Mine.{Placed, entries_in}
 use Rattle.stream_steps.specs.Steps.{IsFrameCall}
 use Rattle.client_worker.specs.Exchanges.{CarriedOf, IsCarried, AreCarried, HasRead, HasWrite}
 use Rattle.client_worker.specs.Serving.{AreServed}
-use Rattle.command_worker.specs.Serving.{AreCommanded}
+use Rattle.control_worker.specs.Serving.{AreCommanded}
 use Rattle.world_holder.specs.View.{is_own_mark, is_own, own_entries}
 use Rattle.stream_turns.specs.Turns.{AreWell, IsTurn}
 use Rattle.world_holder.proofs.Entries.{own_counts}

@@ -1,7 +1,8 @@
 -- How far the serving of streams has come, and what it has made once none is left.
 use Rattle.std.proofs.Common.{◌≡◌, ◌≢◌, ℕ, zero, suc, false, ◌+◌, ◌<◌, ◌≤◌, inl, inr, List, [], ◌∷◌, ◌++◌, length}
 use Rattle.std.proofs.Common.{map, replicate, Option, Result, Ok, Err as Failed, IfOk, sym, refl, ap, subst, ◌∙◌}
-use Rattle.std.proofs.Common.{arith, append_assoc, append-nil}
+use Rattle.std.proofs.Common.{arith, append_assoc, append-nil, All}
+use Rattle.std.proofs.lemmas.List.Elements.{All-head, All-tail}
 use Rattle.std.proofs.lemmas.Bool.{cases_lt}
 use Rattle.std.proofs.lemmas.List.{length-append, length-map, map-append, length-replicate, get_or-replicate, get_or_past}
 use Rattle.volume_model.specs.declared.call.Call.{Call}
@@ -25,11 +26,11 @@ use Rattle.client_worker.specs.Exchanges.{AreCarried, ExchangesShown}
 use Rattle.script_text.specs.declared.script.Script.{Script}
 use Rattle.script_text.specs.declared.script.Stream.{Stream}
 use Rattle.world_holder.specs.View.{own_entries}
-use Rattle.stream_turns.specs.declared.serving.Served.{Served}
-use Rattle.stream_turns.specs.Turn.{IsBetween, HasNoEntry, KeepsOrigin, HasTurn, HaveTurns}
+use Rattle.stream_turns.specs.declared.serving.ServedStreams.{ServedStreams}
+use Rattle.stream_turns.specs.Turn.{IsTaken, IsBetween, HasNoEntry, KeepsOrigin, HasTurn, HaveTurns}
 use Rattle.stream_turns.specs.Serving.{IsServed, IsServedInTurn}
 use Rattle.stream_turns.specs.Turns.{IsTurn, AreTurns, TellsOthers}
-use Rattle.stream_turns.specs.Volume.{opening_of as begins, stream_calls, heads_of, calls_in}
+use Rattle.stream_turns.specs.Volume.{opening_of as begins, stream_calls, heads_of}
 use Rattle.stream_turns.proofs.Exchanged.{exchanged}
 use Rattle.stream_turns.proofs.Turned.{same_opening, same_replicas}
 use Rattle.stream_turns.proofs.Replicas.{replicas_are, as_many}
@@ -60,6 +61,20 @@ no_streams all w counts told between begun = record {
 }
 
 -- the next stream has no entry yet
+-- what is so of all streams is so of the next
+in_next : (P : Stream → Type 0) (done rest : List Stream) (x : Stream) → All P (done ++ x ∷ rest) → P x
+in_next P [] rest x all = All-head P x rest all
+in_next P (d ∷ done) rest x all = in_next P done rest x (All-tail P d (done ++ x ∷ rest) all)
+
+-- the next stream is one that a worker takes
+pub next_taken : (number : ℕ) (all rest : List Stream) (x : Stream) (w0 w : World) (counts : ℕ → ℕ → ℕ)
+    (told : ℕ → ℕ → Option (List (List ℕ))) → StreamsSoFar number all (x ∷ rest) w0 w counts told
+    → All (IsTaken (length w0.nodes.items)) all → IsTaken (length w.nodes.items) x
+next_taken number all rest x w0 w counts told far taken =
+    subst (λ n. IsTaken n x) (sym (ap (λ (o : Origin). o.replicas) far.origin))
+    (in_next (IsTaken (length w0.nodes.items)) far.done rest x
+    (subst (All (IsTaken (length w0.nodes.items))) far.cut taken))
+
 pub is_first : (number : ℕ) (all rest : List Stream) (w0 w : World) (counts : ℕ → ℕ → ℕ) (told : ℕ → ℕ → Option (List (List ℕ)))
     → StreamsSoFar number all rest w0 w counts told → HasNoEntry number w
 is_first number all rest w0 w counts told far =
@@ -166,7 +181,7 @@ begins_between script w n sound begun few =
 -- ---- all of it
 
 -- Of a World that began so: nothing is open of it any more, and each stream's own entries are what they should be.
-module _ (script : Script) (w : World) (s : Served) (streams : List Stream) (n : ℕ)
+module _ (script : Script) (w : World) (s : ServedStreams) (streams : List Stream) (n : ℕ)
     (begun : IsOpenedOn script.size (blank_opening script.replicas) (replicate script.replicas (blank script.size)) n
     (state_of w))
     (between : IsBetween s.world) (origin : KeepsOrigin w s.world) (same : streams ≡ script.streams) where
@@ -217,7 +232,7 @@ module _ (script : Script) (w : World) (s : Served) (streams : List Stream) (n :
       (omega (arith, here, many)))
       ∙ (λ i. served (start i) (map stream_calls (same i)))
 
-pub each_served : {E : Type 0} (script : Script) (w : World) (res : Result Served E) (streams : List Stream)
+pub each_served : {E : Type 0} (script : Script) (w : World) (res : Result ServedStreams E) (streams : List Stream)
     (counts : ℕ → ℕ → ℕ) (told : ℕ → ℕ → Option (List (List ℕ))) (n : ℕ)
     → IsOpenedOn script.size (blank_opening script.replicas) (replicate script.replicas (blank script.size)) n (state_of w)
     → IfOk res (λ s. IsBetween s.world)
@@ -228,7 +243,7 @@ each_served script w (Ok s) streams counts told n begun between origin turns sam
     served_is script w s streams n begun between origin same counts told turns.calls turns.counted turns.carried heads
 each_served script w (Failed e) streams counts told n begun between origin turns same heads = tt
 
-pub each_in_turn : {E : Type 0} (script : Script) (w : World) (res : Result Served E) (streams : List Stream)
+pub each_in_turn : {E : Type 0} (script : Script) (w : World) (res : Result ServedStreams E) (streams : List Stream)
     (counts : ℕ → ℕ → ℕ) (told : ℕ → ℕ → Option (List (List ℕ))) (n : ℕ)
     → IsOpenedOn script.size (blank_opening script.replicas) (replicate script.replicas (blank script.size)) n (state_of w)
     → IfOk res (λ s. IsBetween s.world)

@@ -26,7 +26,7 @@ use Rattle.stream_steps.specs.Mine.{Mine, Log, entries_in}
 use Rattle.stream_steps.specs.Steps.{IsFrameCall}
 use Rattle.client_worker.specs.Exchanges.{told_in, AreCarried}
 use Rattle.client_worker.specs.Serving.{IsShown, Grew}
-use Rattle.command_worker.specs.Serving.{Commanded}
+use Rattle.control_worker.specs.Serving.{Commanded}
 use Rattle.world_holder.specs.View.{own_entries, view}
 use Rattle.script_text.specs.declared.script.Stream.{Stream}
 use Rattle.script_text.specs.declared.script.Stream.TheVariants as stream
@@ -41,6 +41,9 @@ each_ok (Err e) f p = tt
 pub any_ok : {T E : Type 0} (r : Result T E) {P : Type 0} → P → OnOk r P
 any_ok (Ok x) p = p
 any_ok (Err e) p = tt
+
+pub told_ok : {T E P : Type 0} {r : Result T E} {x : T} → r ≡ Ok x → OnOk r P → P
+told_ok {T} {E} {P} {r} {x} is on = subst (λ (y : Result T E). OnOk y P) is on
 
 -- ---- a frame asks no command
 

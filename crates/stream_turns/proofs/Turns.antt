@@ -36,8 +36,8 @@ use Rattle.volume_model.proofs.OnlyServed.{with_source}
 use Rattle.stream_steps.specs.Mine.{Log, longer}
 use Rattle.stream_steps.specs.Steps.{IsFrameCall, IsNoFault, AreMarks}
 use Rattle.client_worker.specs.Serving.{IsFaultMark, IsOwnFault, Serves, AreServed}
-use Rattle.command_worker.specs.Purges.{MayComeBefore}
-use Rattle.command_worker.specs.Serving.{AreCommanded}
+use Rattle.control_worker.specs.Purges.{MayComeBefore}
+use Rattle.control_worker.specs.Serving.{AreCommanded}
 use Rattle.stream_turns.proofs.Groups.{IsGroup, served_group, commanded_group, group_answers}
 
 -- ---- the answer of a frame's call

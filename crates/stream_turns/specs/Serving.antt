@@ -11,7 +11,7 @@ use Rattle.open_calls.specs.Calls.{node_at}
 use Rattle.client_worker.specs.Exchanges.{ExchangesShown}
 use Rattle.script_text.specs.declared.script.Script.{Script}
 use Rattle.script_text.specs.Script.{IsScript}
-use Rattle.stream_turns.specs.declared.serving.Served.{Served}
+use Rattle.stream_turns.specs.declared.serving.ServedStreams.{ServedStreams}
 use Rattle.stream_turns.specs.Volume.{opening_of, heads_in, calls_in}
 
 -- some input is this script
@@ -26,7 +26,7 @@ HaveNotFailed counts script = (w r : ℕ) → w < length script.streams → r < 
 -- streams' calls, over lines that counted these faults and told that they carried this. Each replica that is read and
 -- written is then the volume that the journal leaves. So it is in whatever order the streams are served, and side by side.
 pub record IsServed (script : Script) (counts : ℕ → ℕ → ℕ) (told : ℕ → ℕ → Option (List (List ℕ)))
-    (s : Served) : Type 0 where
+    (s : ServedStreams) : Type 0 where
   pub heads : s.heads.items ≡ heads_in script
   pub opening : s.world.journal.opening.modes ≡ (opening_of script).modes
   pub layers : s.world.journal.opening.layers ≡ 1
@@ -39,6 +39,6 @@ pub record IsServed (script : Script) (counts : ℕ → ℕ → ℕ) (told : ℕ
       ≡ (replay (opening_of script).state s.world.journal.entries).volume
 
 -- where no line failed, the journal is that of one worker
-abbrev pub IsServedInTurn : Script → (ℕ → ℕ → ℕ) → Served → Type 0
+abbrev pub IsServedInTurn : Script → (ℕ → ℕ → ℕ) → ServedStreams → Type 0
 IsServedInTurn script counts s = HaveNotFailed counts script
     → s.world.journal.entries ≡ served (opening_of script) (calls_in script)

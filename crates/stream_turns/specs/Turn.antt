@@ -10,14 +10,14 @@ use Rattle.volume_core.specs.Sound.{IsSound, NoneGaveUp}
 use Rattle.volume_core.specs.State.{state_of, opening_of}
 use Rattle.volume_core.specs.Streams.{origin_of}
 use Rattle.client_worker.specs.Asks.{IsAsked}
-use Rattle.add_worker.specs.Serving.{IsForWorker}
+use Rattle.control_worker.specs.Serving.{IsForWorker}
 use Rattle.world_holder.specs.View.{own_entries}
 use Rattle.stream_turns.specs.Turns.{IsTurn, AreTurns}
 
--- a stream that a worker takes
-abbrev pub IsTaken : Stream → Type 0
-IsTaken (stream.Frames frames) = All IsAsked frames
-IsTaken (stream.Control commands) = All IsForWorker commands
+-- a stream that a worker takes who has so many replicas
+abbrev pub IsTaken : ℕ → Stream → Type 0
+IsTaken replicas (stream.Frames frames) = All IsAsked frames
+IsTaken replicas (stream.Control commands) = All (IsForWorker replicas) commands
 
 -- No call is open, no command has the maintenance turn or waits for it, no stream gave a rebuild up, and there are few
 -- replicas.

@@ -13,7 +13,7 @@ use world_holder::World;
 
 /// What the serving of streams has made.
 #[derive(Drop)]
-pub struct Served {
+pub struct ServedStreams {
     /// The headers of each stream's frames. A control stream has none.
     pub heads: Vec<Sequence<Head>>,
     /// The World at the end: its journal, and its replicas.
@@ -27,7 +27,7 @@ pub fn serve<R: Wait, W: Wiring>(
     alloc: Global,
     script: Script,
     wiring: &mut W,
-) -> Result<Served, AllocError>
+) -> Result<ServedStreams, AllocError>
     requires { IsRead script }
     ensures served { IfOk result (IsServed script (W.counts wiring.new) (W.carried wiring.new)) }
     ensures turns { IfOk result (IsServedInTurn script (W.counts wiring.new)) }
@@ -58,10 +58,10 @@ fn serve_streams<R: Wait, W: Wiring>(
     streams: Vec<Stream>,
     world: World,
     wiring: &mut W,
-) -> Result<Served, AllocError>
+) -> Result<ServedStreams, AllocError>
     requires few { length streams.items ≤ 16 }
     requires many { length world.indices.items ≡ length streams.items }
-    requires taken { All IsTaken streams.items }
+    requires taken { All (IsTaken (length world.nodes.items)) streams.items }
     requires between { IsBetween world }
     requires begun { world.journal.entries ≡ [] }
     ensures between { IfOk result (λ served. IsBetween served.world) }
@@ -78,7 +78,7 @@ fn serve_streams<R: Wait, W: Wiring>(
         heads.push(heads_in(alloc, stream))?;
         number += 1;
     }
-    Ok(Served { heads, world })
+    Ok(ServedStreams { heads, world })
 }
 
 /// The headers of a stream's frames. A control stream has none.

@@ -7,8 +7,8 @@ ghost use Rattle.stream_turns.specs.Turns.{TellsOthers};
 ghost use Rattle.stream_turns.specs.Volume.{stream_calls};
 
 use crate::lines::{channels_of, take_back};
-use add_worker::run_commands;
-use client_worker::{Channel, run_stream};
+use client_worker::{Channel, Worker};
+use control_worker::ControlWorker;
 use outer_traits::{Line, Wiring};
 use script_text::{LinePlan, Stream};
 use std::alloc::{AllocError, Global};
@@ -28,7 +28,7 @@ pub(crate) fn serve_stream<R: Wait, W: Wiring>(
 ) -> Result<World, AllocError>
     requires there { number < length world.indices.items }
     requires between { IsBetween world }
-    requires taken { IsTaken stream.now }
+    requires taken { IsTaken (length world.nodes.items) stream.now }
     requires first { HasNoEntry number world }
     ensures between { IfOk result IsBetween }
     ensures origin { IfOk result (KeepsOrigin world) }
@@ -38,56 +38,66 @@ pub(crate) fn serve_stream<R: Wait, W: Wiring>(
     ensures carried { OnOk result (TellsOthers number (W.carried wiring.old) (W.carried wiring.new)) }
 {
     let replicas = world.nodes.len() as u8;
-    let mut channels = channels_of(alloc, plans, number, replicas, wiring)?;
-    let after = run(rt, alloc, stream, number, world, channels.as_mut_slice());
+    let held = Box::new(alloc, world)?;
+    let channels = channels_of(alloc, plans, number, replicas, wiring)?;
+    let (after, channels) = run(rt, alloc, stream, number, held, channels);
     take_back(wiring, channels);
     after
 }
 
-/// Serves the stream on these lines.
+/// Serves the stream on these lines, and gives them back.
 fn run<R: Wait, L: Line + Drop>(
     rt: &R,
     alloc: Global,
     stream: &Stream,
     number: u8,
-    world: World,
-    channels: &mut [Channel<L>],
-) -> Result<World, AllocError>
-    requires there { number < length world.indices.items }
-    requires between { IsBetween world }
-    requires taken { IsTaken stream.now }
-    requires first { HasNoEntry number world }
-    requires new { AreNewLines number (length world.nodes.items)
-        (map (λ c. L.ends c.line) channels.old) (map (λ c. L.count c.line) channels.old)
-        (map (λ c. L.carried c.line) channels.old) }
-    ensures between { IfOk result IsBetween }
-    ensures origin { IfOk result (KeepsOrigin world) }
-    ensures ends { map (λ c. L.ends c.line) channels.new ≡ map (λ c. L.ends c.line) channels.old }
-    ensures turn { IfOk result (λ after. HasTurn (stream_calls stream.now) number world after
-        (λ r. slice_index_or (map (λ c. L.count c.line) channels.new) r 0)
-        (told_in (map (λ c. L.carried c.line) channels.new))) }
+    held: Box<World>,
+    channels: Vec<Channel<L>>,
+) -> (Result<World, AllocError>, Vec<Channel<L>>)
+    requires there { number < length held.value.indices.items }
+    requires between { IsBetween held.value }
+    requires taken { IsTaken (length held.value.nodes.items) stream.now }
+    requires first { HasNoEntry number held.value }
+    requires new { AreNewLines number (length held.value.nodes.items)
+        (map (λ c. L.ends c.line) channels.items) (map (λ c. L.count c.line) channels.items)
+        (map (λ c. L.carried c.line) channels.items) }
+    ensures between { IfOk result.0 IsBetween }
+    ensures origin { IfOk result.0 (KeepsOrigin held.value) }
+    ensures ends { map (λ c. L.ends c.line) result.1.items ≡ map (λ c. L.ends c.line) channels.items }
+    ensures turn { IfOk result.0 (λ after. HasTurn (stream_calls stream.now) number held.value after
+        (λ r. slice_index_or (map (λ c. L.count c.line) result.1.items) r 0)
+        (told_in (map (λ c. L.carried c.line) result.1.items))) }
 {
-    let held = Box::new(alloc, world)?;
+    let steps = Steps {
+        holder: Hand::of(held, number),
+        stream: number,
+        gate: NoGate,
+        ended: 0,
+    };
     match stream {
         Stream::Frames(frames) => {
-            let mut steps = Steps {
-                holder: Hand::of(held, number),
-                stream: number,
-                gate: NoGate,
-                ended: 0,
-            };
-            run_stream(rt, alloc, &mut steps, channels, frames)?;
-            Ok(Box::into_inner(steps.holder.into_world(steps.stream)))
+            let mut worker = Worker::new(alloc, steps, channels);
+            let served = worker.run_stream(rt, alloc, frames);
+            let (steps, channels) = worker.into_parts();
+            match served {
+                Ok(()) => {
+                    let held = steps.holder.into_world(steps.stream);
+                    (Ok(Box::into_inner(held)), channels)
+                }
+                Err(error) => (Err(error), channels),
+            }
         }
         Stream::Control(commands) => {
-            let mut steps = Steps {
-                holder: Hand::of(held, number),
-                stream: number,
-                gate: NoGate,
-                ended: 0,
-            };
-            run_commands(rt, alloc, &mut steps, channels, commands.as_slice())?;
-            Ok(Box::into_inner(steps.holder.into_world(steps.stream)))
+            let mut worker = ControlWorker::new(steps, channels);
+            let served = worker.run_control(rt, alloc, commands.as_slice());
+            let (steps, channels) = worker.into_parts();
+            match served {
+                Ok(_) => {
+                    let held = steps.holder.into_world(steps.stream);
+                    (Ok(Box::into_inner(held)), channels)
+                }
+                Err(error) => (Err(error), channels),
+            }
         }
     }
 }

@@ -3,7 +3,7 @@ use Rattle.script_text.specs.declared.script.Stream.{Stream}
 use Rattle.script_text.proofs.GoodLemmas.{few_streams, few_replicas}
 use Rattle.stream_turns.specs.Turn.{IsTaken}
 use Rattle.stream_turns.proofs.ScriptLemmas.{all_taken}
-use Rattle.stream_turns.proofs.SoFar.{each_served, each_in_turn, begins_between}
+use Rattle.stream_turns.proofs.SoFar.{each_served, each_in_turn, begins_between, begins_many}
 use Rattle.stream_turns.proofs.serving.serve.Goals as goal
 
 pub overflow_cast-len : goal.overflow_cast-len
@@ -15,7 +15,9 @@ serve_streams-requires-clause-few g c κs within =
 
 pub serve_streams-requires-clause-taken : goal.serve_streams-requires-clause-taken
 serve_streams-requires-clause-taken g c κs within =
-    subst (All IsTaken) (sym c.into_vec.ensures) (all_taken c.requires.0 c.args.script c.requires.1)
+    subst (λ n. All (IsTaken n) c.into_vec.result.items)
+    (sym (begins_many c.args.script.size c.args.script.replicas c.len.result _ c.in_ok-world.ensures.begun))
+    (subst (All (IsTaken c.args.script.replicas)) (sym c.into_vec.ensures) (all_taken c.requires.0 c.args.script c.requires.1))
 
 pub serve_streams-requires-clause-between : goal.serve_streams-requires-clause-between
 serve_streams-requires-clause-between g c κs within =

@@ -2,7 +2,7 @@ use Rattle.std.proofs.Common.{◌≡◌, ◌∷◌, ◌++◌, ◌+◌, map, refl
 use Rattle.std.proofs.lemmas.List.{nil_from_length}
 use Rattle.std.specs.Vec.Iter.{into_iter_items}
 use Rattle.stream_turns.specs.Volume.{heads_of}
-use Rattle.stream_turns.proofs.SoFar.{StreamsSoFar, is_first, no_streams, streams_more, streams_all, one_kept}
+use Rattle.stream_turns.proofs.SoFar.{StreamsSoFar, is_first, next_taken, no_streams, streams_more, streams_all, one_kept}
 use Rattle.stream_turns.proofs.serving.serve_streams.Goals as goal
 
 pub loop-stream-init : goal.loop-stream-init
@@ -22,6 +22,14 @@ serve_stream-requires-clause-first g c κs within =
     is_first c.loop-stream.number c.args.streams.items (into_iter_items c.loop-stream.stream-iterator) c.args.world
     c.loop-stream.world (g.W.Wiring.counts c.loop-stream.wiring) (g.W.Wiring.carried c.loop-stream.wiring)
     c.loop-stream.invariant.far
+
+pub serve_stream-requires-clause-taken : goal.serve_stream-requires-clause-taken
+serve_stream-requires-clause-taken g c κs within =
+    next_taken c.loop-stream.number c.args.streams.items (into_iter_items c.next.new.self) c.in-Some.stream c.args.world
+    c.loop-stream.world (g.W.Wiring.counts c.loop-stream.wiring) (g.W.Wiring.carried c.loop-stream.wiring)
+    (subst (λ xs. StreamsSoFar c.loop-stream.number c.args.streams.items xs c.args.world c.loop-stream.world
+    (g.W.Wiring.counts c.loop-stream.wiring) (g.W.Wiring.carried c.loop-stream.wiring)) c.in-Some.ensures.steps.0
+    c.loop-stream.invariant.far) c.requires.taken
 
 pub loop-stream-preserved : goal.loop-stream-preserved
 loop-stream-preserved g c =

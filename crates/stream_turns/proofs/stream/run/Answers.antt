@@ -1,45 +1,76 @@
-use Rattle.std.proofs.Common.{ap, ◌∙◌}
-use Rattle.volume_core.specs.State.{State, state_of, gave_up_at}
+use Rattle.std.proofs.Common.{ℕ, Bool, map, ap}
+use Rattle.volume_core.specs.State.{state_of, gave_up_at}
+use Rattle.volume_core.specs.Streams.{Origin, origin_of}
+use Rattle.world_holder.specs.declared.hand.Hand.{Hand}
+use Rattle.world_steps.specs.declared.gates.NoGate.{NoGate}
+use Rattle.world_steps.specs.declared.steps.Steps.{Steps}
+use Rattle.frame_stream.specs.Asked.{call_of}
+use Rattle.client_worker.specs.Serving.{Grew}
+use Rattle.control_worker.specs.Serving.{Commanded}
 use Rattle.stream_turns.proofs.Channels.{many_told}
-use Rattle.stream_turns.proofs.Turned.{between_again, stream_of_frames, stream_of_commands}
+use Rattle.stream_turns.proofs.Parts.{stays_of, lines_of, home_of, idle_of, mine_of}
+use Rattle.stream_turns.proofs.Turned.{told_ok, between_again, stream_of_frames, stream_of_commands}
 use Rattle.stream_turns.proofs.stream.run.Goals as goal
 
-pub returns-in_ok-run_stream-in-Frames-clause-between : goal.returns-in_ok-run_stream-in-Frames-clause-between
-returns-in_ok-run_stream-in-Frames-clause-between g c =
-    let world = c.into_world.ensures in
-    between_again c.args.world _ c.into_inner.result _ _ c.into_inner.ensures world.sound world.rest world.turns world.gave_up
-    (c.of.ensures.seen ∙ ap state_of c.in_ok-held.ensures.ok) world.world
-    (ap (λ p. p.0) c.run_stream.ensures.home) c.requires.between.few
+-- what the steps call home
+abbrev home_at : Steps Hand NoGate → Origin × ℕ × Bool
+home_at s = (
+  origin_of (state_of s.holder.last.value.value),
+  s.stream,
+  gave_up_at (state_of s.holder.last.value.value).gave_up s.stream,
+)
 
-pub returns-in_ok-run_stream-in-Frames-clause-turn : goal.returns-in_ok-run_stream-in-Frames-clause-turn
-returns-in_ok-run_stream-in-Frames-clause-turn g c =
-    stream_of_frames c.args.number c.args.world _ c.into_inner.result c.args.stream.now _ _ c.into_inner.ensures c.requires.first
-    (many_told (λ c. c.line) g.L.Line.ends g.L.Line.count _ _ _ c.run_stream.ensures.count c.requires.new.many)
-    c.into_world.ensures.sound _ _ _ (c.of.ensures.seen ∙ ap state_of c.in_ok-held.ensures.ok) c.into_world.ensures.world
-    (ap (λ p. p.0) c.run_stream.ensures.home) (ap (λ p. p.1) c.run_stream.ensures.home) c.run_stream.ensures.shown
-    c.in-Frames.frames c.in-Frames.is c.in_ok-run_stream-in-Frames.ensures.ok
+pub returns-in-Ok-clause-between : goal.returns-in-Ok-clause-between
+returns-in-Ok-clause-between g c =
+    let world = c.into_world-held.ensures in
+    let stays = stays_of c.new-worker.ensures c.into_parts-steps.ensures.parts c.run_stream-served.ensures.stays in
+    between_again c.args.held.value _ c.into_inner.result _ _ c.into_inner.ensures world.sound world.rest world.turns world.gave_up
+    c.of.ensures.seen world.world (ap (λ p. p.0) stays.home) c.requires.between.few
 
-pub returns-in_ok-run_commands-in-Control-clause-between : goal.returns-in_ok-run_commands-in-Control-clause-between
-returns-in_ok-run_commands-in-Control-clause-between g c =
-    let world = c.into_world-in-Control.ensures in
-    between_again c.args.world _ c.into_inner-in-Control.result _ _ c.into_inner-in-Control.ensures world.sound world.rest world.turns
-    world.gave_up (c.of-in-Control.ensures.seen ∙ ap state_of c.in_ok-held.ensures.ok) world.world
-    (ap (λ p. p.0) c.in_ok-run_commands-in-Control.ensures.home) c.requires.between.few
+pub returns-in-Ok-clause-ends : goal.returns-in-Ok-clause-ends
+returns-in-Ok-clause-ends g c =
+    (stays_of c.new-worker.ensures c.into_parts-steps.ensures.parts c.run_stream-served.ensures.stays).lines.ends
 
-pub returns-in_ok-run_commands-in-Control-clause-turn : goal.returns-in_ok-run_commands-in-Control-clause-turn
-returns-in_ok-run_commands-in-Control-clause-turn g c =
-    stream_of_commands c.args.number c.args.world _ c.into_inner-in-Control.result c.args.stream.now _ _
-    c.into_inner-in-Control.ensures c.requires.first
-    (many_told (λ c. c.line) g.L.Line.ends g.L.Line.count _ _ _ c.run_commands.ensures.count c.requires.new.many)
-    c.into_world-in-Control.ensures.sound _ _ _ (c.of-in-Control.ensures.seen ∙ ap state_of c.in_ok-held.ensures.ok)
-    c.into_world-in-Control.ensures.world
-    (ap (λ p. p.0) c.in_ok-run_commands-in-Control.ensures.home) (ap (λ p. p.1) c.in_ok-run_commands-in-Control.ensures.home)
-    c.run_commands.ensures.shown
-    c.in-Control.commands c.as_slice.result.now c.in-Control.is c.as_slice.ensures c.in_ok-run_commands-in-Control.ensures.ok
+pub returns-in-Ok-clause-turn : goal.returns-in-Ok-clause-turn
+returns-in-Ok-clause-turn g c =
+    let world = c.into_world-held.ensures in
+    let made = c.new-worker.ensures in
+    let back = c.into_parts-steps.ensures.parts in
+    let stays = stays_of made back c.run_stream-served.ensures.stays in
+    let idle = idle_of made back c.into_parts-steps.ensures.idle in
+    stream_of_frames c.args.number c.args.held.value _ c.into_inner.result c.args.stream.now _ _ c.into_inner.ensures c.requires.first
+    (many_told (λ c. c.line) g.L.Line.ends g.L.Line.count _ _ _ stays.lines.count c.requires.new.many)
+    world.sound _ _ _ c.of.ensures.seen world.world
+    (ap (λ p. p.0) stays.home) (ap (λ p. p.1) stays.home) idle.shown
+    c.in-Frames.frames c.in-Frames.is
+    (mine_of made back c.into_parts-steps.ensures.idle (Grew (map call_of c.in-Frames.frames))
+    (told_ok c.in-Ok.is c.run_stream-served.ensures.ok))
 
-pub into_world-requires-in-Control-clause-kept : goal.into_world-requires-in-Control-clause-kept
-into_world-requires-in-Control-clause-kept g c =
-    ap (λ p. p.2) c.in_ok-run_commands-in-Control.ensures.home
-    ∙ ap (λ (s : State). gave_up_at s.gave_up c.args.number)
-    (c.of-in-Control.ensures.seen ∙ ap state_of c.in_ok-held.ensures.ok)
-    ∙ c.requires.between.gave_up c.args.number
+pub returns-in-Ok-served-clause-between : goal.returns-in-Ok-served-clause-between
+returns-in-Ok-served-clause-between g c =
+    let world = c.into_world-held-in-Ok-served.ensures in
+    let same = told_ok c.in-Ok-served.is c.run_control-served.ensures.home in
+    let home = home_of c.new-worker-in-Control.ensures c.into_parts-steps-in-Control.ensures.parts home_at same in
+    between_again c.args.held.value _ c.into_inner-in-Ok-served.result _ _ c.into_inner-in-Ok-served.ensures world.sound world.rest
+    world.turns world.gave_up c.of.ensures.seen world.world (ap (λ p. p.0) home) c.requires.between.few
+
+pub returns-in-Ok-served-clause-ends : goal.returns-in-Ok-served-clause-ends
+returns-in-Ok-served-clause-ends g c =
+    (lines_of c.new-worker-in-Control.ensures c.into_parts-steps-in-Control.ensures.parts c.run_control-served.ensures.lines).ends
+
+pub returns-in-Ok-served-clause-turn : goal.returns-in-Ok-served-clause-turn
+returns-in-Ok-served-clause-turn g c =
+    let world = c.into_world-held-in-Ok-served.ensures in
+    let made = c.new-worker-in-Control.ensures in
+    let back = c.into_parts-steps-in-Control.ensures.parts in
+    let lines = lines_of made back c.run_control-served.ensures.lines in
+    let home = home_of made back home_at (told_ok c.in-Ok-served.is c.run_control-served.ensures.home) in
+    let idle = idle_of made back c.into_parts-steps-in-Control.ensures.idle in
+    let done = told_ok c.in-Ok-served.is c.run_control-served.ensures.ok in
+    stream_of_commands c.args.number c.args.held.value _ c.into_inner-in-Ok-served.result c.args.stream.now _ _
+    c.into_inner-in-Ok-served.ensures c.requires.first
+    (many_told (λ c. c.line) g.L.Line.ends g.L.Line.count _ _ _ lines.count c.requires.new.many)
+    world.sound _ _ _ c.of.ensures.seen world.world
+    (ap (λ p. p.0) home) (ap (λ p. p.1) home) idle.shown
+    c.in-Control.commands c.as_slice.result.now c.in-Control.is c.as_slice.ensures
+    (mine_of made back c.into_parts-steps-in-Control.ensures.idle (Commanded c.as_slice.result.now) done)
