@@ -14,7 +14,7 @@ use Rattle.volume_core.specs.Streams.{turning}
 use Rattle.client_worker.specs.Exchanges.{told_in}
 use Rattle.client_worker.specs.Serving.{IsShown, Grew}
 use Rattle.world_holder.specs.View.{view, IsFree}
-use Rattle.command_worker.specs.Serving.{Commanded}
+use Rattle.control_worker.specs.Serving.{Commanded}
 use Rattle.std.specs.Prelude.{slice_index_or}
 use Rattle.stream_workers.specs.Ended.{HasEnded}
 use Rattle.stream_workers.proofs.Ends.{frames_ended, commands_ended}
@@ -27,8 +27,8 @@ ok_of (Ok a) h e = h
 ok_of (Failed x) h e = absurd (let f : false ≡ true = e in cc)
 
 -- Of a worker that was lent a seat of the stream n, and gave back this one, of the stream that it had.
-module _ {E : Type 0} (n n2 : ℕ) (s : State) (t : Seat WorldOnDesk) (same : n2 ≡ n)
-    (res : Result (Unit {0}) E) (is : is_ok res ≡ true)
+module _ {A E : Type 0} (n n2 : ℕ) (s : State) (t : Seat WorldOnDesk) (same : n2 ≡ n)
+    (res : Result A E) (is : is_ok res ≡ true)
     (counts : List ℕ) (told : List (Option (List (List ℕ)))) where
   pub frames_at : (cs : List Call) → IsFree n2 (laid (last_of t)) → (view false n s).entries ≡ []
       → IsShown (view false n2 (laid (last_of t))) counts told

@@ -46,7 +46,7 @@ module _ {L : Type 0} (ends : L → Ends) (count : L → ℕ) (told : L → Opti
   pub is_task : (j : Task L) (seat : Seat WorldOnDesk) (w : WorldOnDesk) (k : ℕ) → j.seat ≡ Some seat
       → IsSeated d seat j.number → IsFree j.number (laid (last_of seat)) → last_of seat ≡ w
       → (view false j.number (laid w)).running ≡ [] → (view false j.number (laid w)).entries ≡ []
-      → IsTaken j.stream → k ≡ length (laid w).nodes → k ≤ 8
+      → IsTaken k j.stream → k ≡ length (laid w).nodes → k ≤ 8
       → AreNewLines j.number k (ends_in ends j.channels.items) (counts_in count j.channels.items)
       (carried_in told j.channels.items) → IsTask ends count told d j
   is_task j seat w k has rests free last idle none taken many few lines = record {
@@ -58,7 +58,7 @@ module _ {L : Type 0} (ends : L → Ends) (count : L → ℕ) (told : L → Opti
       idle = subst (λ (x : WorldOnDesk). (view false j.number (laid x)).running ≡ []) (sym last) idle;
       none = subst (λ (x : WorldOnDesk). (view false j.number (laid x)).entries ≡ []) (sym last) none;
     };
-    taken = taken;
+    taken = subst (λ n. IsTaken n j.stream) replicas taken;
     few = subst (λ n. n ≤ 8) replicas few;
     lines = subst (λ n. AreNewLines j.number n (ends_in ends j.channels.items) (counts_in count j.channels.items)
         (carried_in told j.channels.items)) replicas lines;

@@ -14,8 +14,8 @@ use Rattle.volume_core.specs.Streams.{turning}
 use Rattle.stream_steps.specs.Mine.{Mine, Placed, entries_in}
 use Rattle.client_worker.specs.Exchanges.{told_in, AreCarried}
 use Rattle.client_worker.specs.Serving.{IsShown, Grew}
-use Rattle.command_worker.specs.Serving.{Commanded}
-use Rattle.command_worker.proofs.OwnAnswers.{own_calls, own_streams}
+use Rattle.control_worker.specs.Serving.{Commanded}
+use Rattle.control_worker.proofs.OwnAnswers.{own_calls, own_streams}
 use Rattle.world_holder.specs.View.{own_entries, view, IsFound}
 use Rattle.stream_turns.proofs.Groups.{served_groups, groups_calls}
 use Rattle.stream_turns.proofs.OneTurn.{told_carried}

@@ -19,7 +19,7 @@ use Rattle.client_worker.specs.Exchanges.{IsCarried, AreCarried}
 use Rattle.script_text.specs.declared.script.Script.{Script}
 use Rattle.script_text.specs.declared.script.Stream.{Stream}
 use Rattle.world_holder.specs.View.{own_entries}
-use Rattle.stream_turns.specs.declared.serving.Served.{Served}
+use Rattle.stream_turns.specs.declared.serving.ServedStreams.{ServedStreams}
 use Rattle.stream_turns.specs.Serving.{IsServed}
 use Rattle.stream_turns.specs.Turn.{IsBetween, KeepsOrigin}
 use Rattle.stream_turns.specs.Volume.{stream_calls, heads_of}
@@ -61,7 +61,7 @@ module _ (css : List (List Call)) (counts : ℕ → ℕ → ℕ) (told : ℕ →
   each_carried : (v : ℕ) → AreCarried (length w.nodes.items) (told v) (own_entries v (opening_of (state_of w)).modes entries)
   each_carried v = subst (λ (o : Origin). AreCarried o.replicas (told v) (own_entries v o.opening.modes entries)) origin (each_here v)
 
-pub each_served : {E : Type 0} (script : Script) (w : World) (res : Result Served E) (streams : List Stream)
+pub each_served : {E : Type 0} (script : Script) (w : World) (res : Result ServedStreams E) (streams : List Stream)
     (counts : ℕ → ℕ → ℕ) (told : ℕ → ℕ → Option (List (List ℕ))) (n : ℕ)
     → IsOpenedOn script.size (blank_opening script.replicas) (replicate script.replicas (blank script.size)) n (state_of w)
     → IfOk res (λ s. IsBetween s.world) → IfOk res (λ s. KeepsOrigin w s.world)

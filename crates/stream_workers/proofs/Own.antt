@@ -10,7 +10,7 @@ use Rattle.volume_model.specs.declared.mode.Mode.{Mode}
 use Rattle.volume_model.specs.History.{answers_from, calls_of}
 use Rattle.volume_model.specs.Modes.{modes_after_entry}
 use Rattle.stream_steps.specs.Mine.{Placed, entries_in}
-use Rattle.command_worker.specs.OwnAnswers.{answers_in}
+use Rattle.control_worker.specs.OwnAnswers.{answers_in}
 use Rattle.world_holder.specs.View.{is_own_mark, own_entries}
 
 -- the calls answered, which do not depend on where the answers stand

@@ -46,7 +46,7 @@ module _ {L : Type 0} (ends : L → Ends) (count : L → ℕ) (told : L → Opti
     pub seat : Seat WorldOnDesk
     pub has : j.seat ≡ Some seat
     pub begins : Begins d seat j.number
-    pub taken : IsTaken j.stream
+    pub taken : IsTaken (length (laid (last_of seat)).nodes) j.stream
     pub few : length (laid (last_of seat)).nodes ≤ 8
     pub lines : AreNewLines j.number (length (laid (last_of seat)).nodes) (ends_in ends j.channels.items)
         (counts_in count j.channels.items) (carried_in told j.channels.items)

@@ -10,4 +10,4 @@ mod tasks;
 pub use outer_traits::{Gate, Point, Wiring};
 pub use script_text::Script;
 pub use serving::serve;
-pub use stream_turns::{Served, World};
+pub use stream_turns::{ServedStreams, World};

@@ -12,7 +12,7 @@ use script_text::{LinePlan, Script, Stream};
 use std::alloc::{AllocError, Global};
 use std::sync::Wait;
 use std::thread::Threads;
-use stream_turns::{Served, World};
+use stream_turns::{ServedStreams, World};
 use world_holder::{lay_down, take_up};
 
 /// Serves the streams of a script on its replicas side by side, a worker in a thread for each. The lines come from the
@@ -24,7 +24,7 @@ pub fn serve<R: Threads + Wait + Sync, W: Wiring, G: Gate + Sync>(
     script: Script,
     wiring: &mut W,
     gate: &G,
-) -> Result<Served, AllocError>
+) -> Result<ServedStreams, AllocError>
     requires { IsRead script }
     ensures { IfOk result (IsServed script (W.counts wiring.new) (W.carried wiring.new)) }
 {
@@ -60,11 +60,11 @@ fn serve_streams<R: Threads + Wait + Sync, W: Wiring, V: Wrapping<W>, G: Gate + 
     wiring: &mut W,
     wrapping: &V,
     gate: &G,
-) -> Result<Served, AllocError>
+) -> Result<ServedStreams, AllocError>
     requires some { (1 ≤ length streams.items) × (length streams.items ≤ 16) }
     requires many { length world.indices.items ≡ length streams.items }
     requires replicas { replicas ≡ length world.nodes.items }
-    requires taken { All IsTaken streams.items }
+    requires taken { All (IsTaken replicas) streams.items }
     requires between { IsBetween world }
     requires begun { world.journal.entries ≡ [] }
     ensures between { IfOk result (λ served. IsBetween served.world) }
@@ -93,7 +93,7 @@ fn serve_streams<R: Threads + Wait + Sync, W: Wiring, V: Wrapping<W>, G: Gate + 
         alloc, &desk, &mut first, wiring, wrapping, tasks, &mut heads,
     ) {
         let world = Box::into_inner(take_up(desk, first));
-        Ok(Served { heads, world })
+        Ok(ServedStreams { heads, world })
     } else {
         Err(AllocError)
     }

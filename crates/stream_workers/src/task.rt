@@ -5,7 +5,7 @@ ghost use Rattle.desk_lock.specs.Seats.{number_of, last_of, IsSeatOf};
 ghost use Rattle.world_holder.specs.Laid.{laid};
 ghost use Rattle.client_worker.specs.Asks.{IsAsked};
 ghost use Rattle.client_worker.specs.Exchanges.{told_in};
-ghost use Rattle.add_worker.specs.Serving.{IsForWorker};
+ghost use Rattle.control_worker.specs.Serving.{IsForWorker};
 ghost use Rattle.frame_stream.specs.Asked.{call_of};
 ghost use Rattle.volume_model.specs.declared.call.Call.TheVariants as call;
 ghost use Rattle.stream_turns.specs.Turn.{IsTaken, AreNewLines};
@@ -13,11 +13,12 @@ ghost use Rattle.stream_turns.specs.Volume.{stream_calls};
 ghost use Rattle.stream_workers.specs.Ended.{HasEnded};
 ghost use Rattle.stream_workers.specs.Tasks.{Begins, IsTask, IsDone};
 
-use add_worker::run_commands;
-use client_worker::{Channel, Frames, run_stream};
+use client_worker::{Channel, Frames, Worker};
+use control_worker::ControlWorker;
 use outer_traits::{Gate, Line};
 use script_text::{Command, Stream};
 use std::alloc::Global;
+use std::mem;
 use std::sync::Wait;
 use world_holder::{AtSeat, Desk, Seat, WorldOnDesk};
 use world_steps::{SharedGate, Steps};
@@ -29,6 +30,7 @@ pub(crate) struct Task<L: Drop> {
     pub(crate) stream: Stream,
     /// None while the worker has it in hand.
     pub(crate) seat: Option<Seat<WorldOnDesk>>,
+    /// Empty while the worker has them in hand.
     pub(crate) channels: Vec<Channel<L>>,
     /// Whether the stream was served to its end.
     pub(crate) served: bool,
@@ -46,8 +48,8 @@ pub(crate) fn work<R: Wait, L: Line + Drop, G: Gate>(
     ensures { IsDone L.ends L.count L.carried desk.now task.old task.new }
 {
     let seat = task.seat.take().unwrap();
-    let channels = task.channels.as_mut_slice();
-    let (seat, served) = serve_stream(
+    let channels = mem::replace(&mut task.channels, Vec::new(alloc));
+    let (seat, channels, served) = serve_stream(
         rt,
         alloc,
         desk,
@@ -58,10 +60,12 @@ pub(crate) fn work<R: Wait, L: Line + Drop, G: Gate>(
         channels,
     );
     task.seat = Some(seat);
+    task.channels = channels;
     task.served = served;
 }
 
-/// Serves a stream at a seat, and says whether memory sufficed. Where it did not, no clause tells of the seat.
+/// Serves a stream at a seat on these lines, gives both back, and says whether memory sufficed. Where it did not, no
+/// clause tells of the seat.
 fn serve_stream<R: Wait, L: Line + Drop, G: Gate>(
     rt: &R,
     alloc: Global,
@@ -70,22 +74,22 @@ fn serve_stream<R: Wait, L: Line + Drop, G: Gate>(
     number: u8,
     seat: Seat<WorldOnDesk>,
     stream: &Stream,
-    channels: &mut [Channel<L>],
-) -> (Seat<WorldOnDesk>, bool)
+    channels: Vec<Channel<L>>,
+) -> (Seat<WorldOnDesk>, Vec<Channel<L>>, bool)
     requires begins { Begins desk.now seat number }
-    requires taken { IsTaken stream.now }
+    requires taken { IsTaken (length (laid (last_of seat)).nodes) stream.now }
     requires few { length (laid (last_of seat)).nodes ≤ 8 }
     requires lines { AreNewLines number (length (laid (last_of seat)).nodes)
-        (map (λ c. L.ends c.line) channels.old) (map (λ c. L.count c.line) channels.old)
-        (map (λ c. L.carried c.line) channels.old) }
-    ensures seat { result.1 ≡ true → IsSeatOf desk.now result.0 × (number_of result.0 ≡ Some number) }
-    ensures count { length channels.new ≡ length channels.old }
-    ensures ends { map (λ c. L.ends c.line) channels.new ≡ map (λ c. L.ends c.line) channels.old }
-    ensures replicas { result.1 ≡ true
+        (map (λ c. L.ends c.line) channels.items) (map (λ c. L.count c.line) channels.items)
+        (map (λ c. L.carried c.line) channels.items) }
+    ensures seat { result.2 ≡ true → IsSeatOf desk.now result.0 × (number_of result.0 ≡ Some number) }
+    ensures count { length result.1.items ≡ length channels.items }
+    ensures ends { map (λ c. L.ends c.line) result.1.items ≡ map (λ c. L.ends c.line) channels.items }
+    ensures replicas { result.2 ≡ true
         → length (laid (last_of result.0)).nodes ≡ length (laid (last_of seat)).nodes }
-    ensures served { result.1 ≡ true → HasEnded number (stream_calls stream.now)
-        (λ r. slice_index_or (map (λ c. L.count c.line) channels.new) r 0)
-        (told_in (map (λ c. L.carried c.line) channels.new)) (laid (last_of result.0)) }
+    ensures served { result.2 ≡ true → HasEnded number (stream_calls stream.now)
+        (λ r. slice_index_or (map (λ c. L.count c.line) result.1.items) r 0)
+        (told_in (map (λ c. L.carried c.line) result.1.items)) (laid (last_of result.0)) }
 {
     match stream {
         Stream::Frames(frames) => serve_frames(
@@ -115,31 +119,33 @@ fn serve_frames<R: Wait, L: Line + Drop, G: Gate>(
     number: u8,
     seat: Seat<WorldOnDesk>,
     frames: &Frames,
-    channels: &mut [Channel<L>],
-) -> (Seat<WorldOnDesk>, bool)
+    channels: Vec<Channel<L>>,
+) -> (Seat<WorldOnDesk>, Vec<Channel<L>>, bool)
     requires begins { Begins desk.now seat number }
     requires asked { All IsAsked frames.now }
     requires few { length (laid (last_of seat)).nodes ≤ 8 }
     requires lines { AreNewLines number (length (laid (last_of seat)).nodes)
-        (map (λ c. L.ends c.line) channels.old) (map (λ c. L.count c.line) channels.old)
-        (map (λ c. L.carried c.line) channels.old) }
-    ensures seat { result.1 ≡ true → IsSeatOf desk.now result.0 × (number_of result.0 ≡ Some number) }
-    ensures count { length channels.new ≡ length channels.old }
-    ensures ends { map (λ c. L.ends c.line) channels.new ≡ map (λ c. L.ends c.line) channels.old }
-    ensures replicas { result.1 ≡ true
+        (map (λ c. L.ends c.line) channels.items) (map (λ c. L.count c.line) channels.items)
+        (map (λ c. L.carried c.line) channels.items) }
+    ensures seat { result.2 ≡ true → IsSeatOf desk.now result.0 × (number_of result.0 ≡ Some number) }
+    ensures count { length result.1.items ≡ length channels.items }
+    ensures ends { map (λ c. L.ends c.line) result.1.items ≡ map (λ c. L.ends c.line) channels.items }
+    ensures replicas { result.2 ≡ true
         → length (laid (last_of result.0)).nodes ≡ length (laid (last_of seat)).nodes }
-    ensures served { result.1 ≡ true → HasEnded number (map call_of frames.now)
-        (λ r. slice_index_or (map (λ c. L.count c.line) channels.new) r 0)
-        (told_in (map (λ c. L.carried c.line) channels.new)) (laid (last_of result.0)) }
+    ensures served { result.2 ≡ true → HasEnded number (map call_of frames.now)
+        (λ r. slice_index_or (map (λ c. L.count c.line) result.1.items) r 0)
+        (told_in (map (λ c. L.carried c.line) result.1.items)) (laid (last_of result.0)) }
 {
-    let mut steps = Steps {
+    let steps = Steps {
         holder: AtSeat { desk, seat },
         stream: number,
         gate: SharedGate { gate },
         ended: 0,
     };
-    let served = run_stream(rt, alloc, &mut steps, channels, frames).is_ok();
-    (steps.holder.seat, served)
+    let mut worker = Worker::new(alloc, steps, channels);
+    let served = worker.run_stream(rt, alloc, frames).is_ok();
+    let (steps, channels) = worker.into_parts();
+    (steps.holder.seat, channels, served)
 }
 
 /// The same of a stream of commands.
@@ -151,29 +157,31 @@ fn serve_commands<R: Wait, L: Line + Drop, G: Gate>(
     number: u8,
     seat: Seat<WorldOnDesk>,
     commands: &[Command],
-    channels: &mut [Channel<L>],
-) -> (Seat<WorldOnDesk>, bool)
+    channels: Vec<Channel<L>>,
+) -> (Seat<WorldOnDesk>, Vec<Channel<L>>, bool)
     requires begins { Begins desk.now seat number }
-    requires taken { All IsForWorker commands.now }
+    requires taken { All (IsForWorker (length (laid (last_of seat)).nodes)) commands.now }
     requires few { length (laid (last_of seat)).nodes ≤ 8 }
     requires lines { AreNewLines number (length (laid (last_of seat)).nodes)
-        (map (λ c. L.ends c.line) channels.old) (map (λ c. L.count c.line) channels.old)
-        (map (λ c. L.carried c.line) channels.old) }
-    ensures seat { result.1 ≡ true → IsSeatOf desk.now result.0 × (number_of result.0 ≡ Some number) }
-    ensures count { length channels.new ≡ length channels.old }
-    ensures ends { map (λ c. L.ends c.line) channels.new ≡ map (λ c. L.ends c.line) channels.old }
-    ensures replicas { result.1 ≡ true
+        (map (λ c. L.ends c.line) channels.items) (map (λ c. L.count c.line) channels.items)
+        (map (λ c. L.carried c.line) channels.items) }
+    ensures seat { result.2 ≡ true → IsSeatOf desk.now result.0 × (number_of result.0 ≡ Some number) }
+    ensures count { length result.1.items ≡ length channels.items }
+    ensures ends { map (λ c. L.ends c.line) result.1.items ≡ map (λ c. L.ends c.line) channels.items }
+    ensures replicas { result.2 ≡ true
         → length (laid (last_of result.0)).nodes ≡ length (laid (last_of seat)).nodes }
-    ensures served { result.1 ≡ true → HasEnded number (map call.Command commands.now)
-        (λ r. slice_index_or (map (λ c. L.count c.line) channels.new) r 0)
-        (told_in (map (λ c. L.carried c.line) channels.new)) (laid (last_of result.0)) }
+    ensures served { result.2 ≡ true → HasEnded number (map call.Command commands.now)
+        (λ r. slice_index_or (map (λ c. L.count c.line) result.1.items) r 0)
+        (told_in (map (λ c. L.carried c.line) result.1.items)) (laid (last_of result.0)) }
 {
-    let mut steps = Steps {
+    let steps = Steps {
         holder: AtSeat { desk, seat },
         stream: number,
         gate: SharedGate { gate },
         ended: 0,
     };
-    let served = run_commands(rt, alloc, &mut steps, channels, commands).is_ok();
-    (steps.holder.seat, served)
+    let mut worker = ControlWorker::new(steps, channels);
+    let served = worker.run_control(rt, alloc, commands).is_ok();
+    let (steps, channels) = worker.into_parts();
+    (steps.holder.seat, channels, served)
 }

@@ -40,7 +40,7 @@ pub(crate) fn deal<W: Wiring, V: Wrapping<W>, G: Gate>(
     requires room { length streams.items ≤ seats_of desk.now }
     requires many { length (laid (last_of first.old)).indices ≡ length streams.items }
     requires replicas { (replicas ≡ length (laid (last_of first.old)).nodes) × (replicas ≤ 8) }
-    requires taken { All IsTaken streams.items }
+    requires taken { All (IsTaken replicas) streams.items }
     requires none { tasks.old.items ≡ [] }
     ensures seat { IsSeatOf desk.now first.new × (number_of first.new ≡ None) }
     ensures fresh { ((known first.new).joined ≡ []) × (last_of first.new ≡ last_of first.old) }

@@ -21,7 +21,7 @@ use Rattle.volume_model.specs.declared.mode.Mode.{Mode}
 use Rattle.volume_model.specs.declared.mode.Mode.TheVariants.{Rw}
 use Rattle.journal_book.specs.Book.{modes_of}
 use Rattle.volume_model.proofs.OneWorkerLemmas.{length-modes_after}
-use Rattle.stream_turns.specs.declared.serving.Served.{Served}
+use Rattle.stream_turns.specs.declared.serving.ServedStreams.{ServedStreams}
 use Rattle.stream_turns.specs.Volume.{opening_of, heads_in}
 use Rattle.stream_turns.specs.Serving.{IsServed}
 use Rattle.volume_cli.specs.declared.stop.Stop.{Stop}
@@ -65,7 +65,7 @@ had_script left rest input script given end is =
     (input, is, Consumes-whole left rest input (λ told. told ≡ input) given (end is.headed.cut.most) refl)
 
 -- there are few replicas
-pub few_modes : (input : List ℕ) (script : Script) (counted : ℕ → ℕ → ℕ) (carried : ℕ → ℕ → Option (List (List ℕ))) (s : Served)
+pub few_modes : (input : List ℕ) (script : Script) (counted : ℕ → ℕ → ℕ) (carried : ℕ → ℕ → Option (List (List ℕ))) (s : ServedStreams)
     → IsScript input script → IsServed script counted carried s → length (modes_of s.world.journal) < 256
 few_modes input script counted carried s is done =
     let few = few_replicas input script is in
@@ -78,7 +78,7 @@ few_modes input script counted carried s is done =
     )
 
 -- the text that is written is the report of the run
-pub written_is : (script : Script) (counted : ℕ → ℕ → ℕ) (carried : ℕ → ℕ → Option (List (List ℕ))) (s : Served)
+pub written_is : (script : Script) (counted : ℕ → ℕ → ℕ) (carried : ℕ → ℕ → Option (List (List ℕ))) (s : ServedStreams)
     → IsServed script counted carried s
     → written_text s.heads.items s.world.journal (map volume_of_node s.world.nodes.items) ≡ report_text script s.world.journal.entries
 written_is script counted carried s done =

@@ -12,7 +12,7 @@ use outer_traits::{OuterError, Sink, Source, read_whole};
 use report_writer::write_report;
 use script_text::MOST_INPUT;
 use std::alloc::Global;
-use stream_turns::Served;
+use stream_turns::ServedStreams;
 
 /// Reads the input to its end, or to one byte past the most that it may have.
 pub fn read_input<S: Source>(alloc: Global, source: &mut S) -> Result<Bytes, Stop>
@@ -29,7 +29,11 @@ pub fn read_input<S: Source>(alloc: Global, source: &mut S) -> Result<Bytes, Sto
 }
 
 /// Writes the report of what was served. Where that fails, the sink has taken a prefix of it.
-pub fn write_output<K: Sink>(alloc: Global, served: &Served, sink: &mut K) -> Result<(), Stop>
+pub fn write_output<K: Sink>(
+    alloc: Global,
+    served: &ServedStreams,
+    sink: &mut K,
+) -> Result<(), Stop>
     requires few { length (modes_of served.now.world.journal) < 256 }
     requires each { length served.now.world.nodes.items ≡ length (modes_of served.now.world.journal) }
     ensures whole { OnOk result (Appends (K.contents sink.old) (K.contents sink.new)

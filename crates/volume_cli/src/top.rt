@@ -18,7 +18,7 @@ use script_text::{Script, read_script};
 use std::alloc::{AllocError, Global};
 use std::sync::Wait;
 use std::thread::Threads;
-use stream_turns::Served;
+use stream_turns::ServedStreams;
 
 /// Does what the words of the command line ask: `run` reads a script from the source, serves its streams on replicas
 /// of zeros, over lines that the wiring makes, and writes the journal, the replies and the replicas' last lines to the
@@ -113,7 +113,7 @@ fn serve_by<R: Threads + Wait + Sync, W: Wiring, G: Gate + Sync>(
     script: Script,
     wiring: &mut W,
     gate: &G,
-) -> Result<Served, AllocError>
+) -> Result<ServedStreams, AllocError>
     requires { IsRead script }
     ensures served { IfOk result (IsServed script (W.counts wiring.new) (W.carried wiring.new)) }
     ensures turns { IfOk result (λ served. workers ≡ Workers.One → IsServedInTurn script (W.counts wiring.new) served) }

@@ -17,7 +17,7 @@ serve_streams-requires-clause-some g c κs within =
 
 pub serve_streams-requires-clause-taken : goal.serve_streams-requires-clause-taken
 serve_streams-requires-clause-taken g c κs within =
-    subst (All IsTaken) (sym c.into_vec.ensures) (all_taken c.requires.0 c.args.script c.requires.1)
+    subst (All (IsTaken c.args.script.replicas)) (sym c.into_vec.ensures) (all_taken c.requires.0 c.args.script c.requires.1)
 
 pub serve_streams-requires-clause-between : goal.serve_streams-requires-clause-between
 serve_streams-requires-clause-between g c κs within =

@@ -1,25 +1,29 @@
-use Rattle.std.proofs.Common.{◌∙◌, length, subst, sym, ap, refl, arith, slice_index_or}
+use Rattle.std.proofs.Common.{rules, ◌≡◌, ◌∙◌, length, map, subst, sym, ap, refl, arith}
 use Rattle.std.proofs.lemmas.List.{length-map}
 use Rattle.outer_traits.specs.Lines.{AreLinesOf}
-use Rattle.client_worker.specs.Exchanges.{told_in}
 use Rattle.desk_lock.specs.Seats.{last_of}
 use Rattle.world_holder.specs.Laid.{laid}
-use Rattle.stream_turns.specs.Volume.{stream_calls}
-use Rattle.stream_turns.proofs.Channels.{back_whole}
-use Rattle.stream_workers.specs.Ended.{HasEnded}
-use Rattle.stream_workers.specs.Tasks.{ends_in, counts_in, carried_in}
+use Rattle.stream_turns.specs.Turn.{AreNewLines}
 use Rattle.stream_workers.proofs.AtEnd.{some_same}
 use Rattle.stream_workers.proofs.task.work.Goals as goal
 
+pub serve_stream-seat-requires-clause-lines : goal.serve_stream-seat-requires-clause-lines
+serve_stream-seat-requires-clause-lines g c =
+    let task = c.args.task.now in
+    let took : c.replace-channels.result ≡ task.channels = search rules in
+    let seat = some_same c.unwrap-seat.result c.requires.seat c.take.result c.unwrap-seat.ensures (c.take.ensures.value ∙ c.requires.has) in
+    subst (λ v. AreNewLines task.number (length (laid (last_of c.unwrap-seat.result)).nodes)
+    (map (λ x. g.L.Line.ends x.line) v.items) (map (λ x. g.L.Line.count x.line) v.items)
+    (map (λ x. g.L.Line.carried x.line) v.items)) (sym took)
+    (subst (λ s. AreNewLines task.number (length (laid (last_of s)).nodes)
+    (map (λ x. g.L.Line.ends x.line) task.channels.items) (map (λ x. g.L.Line.count x.line) task.channels.items)
+    (map (λ x. g.L.Line.carried x.line) task.channels.items)) (sym seat) c.requires.lines)
+
 pub returns : goal.returns
 returns g c =
-    let as_mut_slice_holds = c.as_mut_slice-channels.ensures.value in
     let task = c.args.task.now in
-    let new = c.serve_stream-seat.new.channels in
+    let took : c.replace-channels.result ≡ task.channels = search rules in
     let done = c.serve_stream-seat.ensures in
-    let whole = back_whole task.channels.len task.channels.items c.as_mut_slice-channels.result.now new task.channels.ok.0
-    as_mut_slice_holds done.count in
-    let ends = done.ends ∙ ap (ends_in g.L.Line.ends) as_mut_slice_holds in
     let seat = some_same c.unwrap-seat.result c.requires.seat c.take.result c.unwrap-seat.ensures (c.take.ensures.value ∙ c.requires.has) in
     record {
       back = λ is. record {
@@ -27,22 +31,18 @@ returns g c =
         has = refl;
         of_desk = (done.seat is).0;
         number = (done.seat is).1;
-        lined = subst (λ cs. AreLinesOf task.number 0 (ends_in g.L.Line.ends cs)) (sym whole)
-            (subst (AreLinesOf task.number 0) (sym ends) c.requires.lines.lined);
+        lined = subst (AreLinesOf task.number 0) (sym (done.ends ∙ ap (λ v. map (λ x. g.L.Line.ends x.line) v.items) took))
+            c.requires.lines.lined;
         many = omega (
           arith,
-          ap length whole,
           done.count,
-          ap length as_mut_slice_holds,
+          ap (λ v. length v.items) took,
           length-map task.channels.items (λ x. g.L.Line.ends x.line),
           c.requires.lines.many,
           done.replicas is,
           ap (λ s. length (laid (last_of s)).nodes) seat,
         );
-        ended = subst (λ cs. HasEnded task.number (stream_calls task.stream)
-            (λ r. slice_index_or (counts_in g.L.Line.count cs) r 0) (told_in (carried_in g.L.Line.carried cs))
-            (laid (last_of c.serve_stream-seat.result.0)))
-            (sym whole) (done.served is);
+        ended = done.served is;
       };
       number = refl;
       stream = refl;

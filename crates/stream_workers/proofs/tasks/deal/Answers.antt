@@ -14,7 +14,7 @@ loop-stream-preserved g c =
     let inv = c.loop-stream.invariant in
     let split = c.split_off-at.ensures in
     let pushed = c.in_ok-push.ensures.items in
-    let taken = at_next (λ k s. IsTaken s) c.args.streams.items yielded c.next.new.self.rest.items
+    let taken = at_next (λ k s. IsTaken c.args.replicas s) c.args.streams.items yielded c.next.new.self.rest.items
     c.loop-stream.stream-iterator.rest.items c.in-Some.stream inv.whole c.in-Some.ensures.steps.0 c.requires.taken in
     let next : c.loop-stream.number ≡ length items = inv.count ∙ sym inv.many in
     record {
