@@ -1,5 +1,5 @@
 -- A replica that is asked acknowledges, or has failed: what stood against each step.
-use Rattle.std.proofs.Common.{arith, ◌≡◌, ◌≢◌, ℕ, ◌<◌, ◌⊎◌, inl, inr, false, List, length, set, is_ok, Result, Ok}
+use Rattle.std.proofs.Common.{arith, ◌≡◌, ◌≢◌, ℕ, ◌<◌, ◌⊎◌, inl, inr, true, false, Option, List, length, set, is_ok, is_err, Result, Ok}
 use Rattle.std.proofs.Common.{Err, OnOk, OnErr, IfErr, subst, sym, refl, ap, ◌∙◌}
 use Rattle.std.proofs.lemmas.List.{get_or-set_same, length-set}
 use Rattle.volume_model.specs.declared.call.Call.{Call}
@@ -17,7 +17,8 @@ use Rattle.stream_steps.specs.Mine.{Mine, OwnCall, IsOwn, entries_in}
 use Rattle.stream_steps.specs.Steps.{IsReadCall, AcksTo}
 use Rattle.stream_steps.specs.Against.{RefusesAck, RefusesFault, RefusesEnd}
 use Rattle.client_worker.specs.Ends.{NoneAcked}
-use Rattle.client_worker.specs.Asking.{HasTaken, HasAcked, AckedOrFailed, AckedOrUnread}
+use Rattle.client_worker.specs.Serving.{KeepsOpen}
+use Rattle.client_worker.specs.Asking.{HasTaken, HasAcked, AckedOrFailed, Falls}
 use Rattle.client_worker.proofs.Going.{one_of}
 
 -- ---- refused
@@ -94,11 +95,8 @@ acked_why (Err x) t r modes o a b own taken ok err why = λ p run.
     let same : p ≡ o = one_of p o (sym run ∙ ap (λ (m : Mine). m.running) err ∙ own.is) in
     subst (λ (y : OwnCall). HasAcked y r ⊎ (mode_of modes r ≡ mode.Err)) (sym same) (not_refused modes o r x taken (why o own))
 
-pub asked_failed : (modes : List Mode) (r : ℕ) (m : Mine) → mode_of modes r ≡ mode.Err → AckedOrFailed modes r m
-asked_failed modes r m e = λ o run. inr e
-
-failed_unread : (modes : List Mode) (r : ℕ) → mode_of modes r ≡ mode.Err → mode_of modes r ≢ mode.Rw
-failed_unread modes r e f = cc
-
-pub unread_acked : (modes : List Mode) (r : ℕ) (m : Mine) → AckedOrFailed modes r m → AckedOrUnread modes r m
-unread_acked modes r m h = λ o run. elim (h o run) [ inl acked ↦ inl acked | inr failed ↦ inr (failed_unread modes r failed) ]
+-- of a replica that has failed
+pub falls_goes : (res : Result (Unit {0}) (Option ℕ)) (modes : List Mode) (r : ℕ) (a b : Mine) → is_err res ≡ true
+    → IfErr res (Falls modes r a b) → KeepsOpen a b
+falls_goes (Ok u) modes r a b e h = absurd cc
+falls_goes (Err next) modes r a b e h = h.goes

@@ -27,14 +27,10 @@ whole_next all xs ys rest x whole is = append_assoc xs (x ∷ []) ys ∙ (ap (λ
 
 -- ---- one call
 
-enrol_told : (t : ℕ) (c : Call) (e : Enrolled) (a b : Mine) → e ≡ enrol.Ticket t → EnrolsTo c e a b → EnrolsAt t c a b × IsWithin c
-enrol_told t c e a b is h = subst (λ x. EnrolsTo c x a b) is h
-
 pub enrol_begun : (t : ℕ) (c : Call) (e : Enrolled) (a b : Mine) → e ≡ enrol.Ticket t → EnrolsTo c e a b → EnrolsAt t c a b
-enrol_begun t c e a b is h = (enrol_told t c e a b is h).0
-
-pub enrol_within : (t : ℕ) (c : Call) (e : Enrolled) (a b : Mine) → e ≡ enrol.Ticket t → EnrolsTo c e a b → IsWithin c
-enrol_within t c e a b is h = (enrol_told t c e a b is h).1
+enrol_begun t c e a b is h =
+    let told : EnrolsAt t c a b × IsWithin c = subst (λ x. EnrolsTo c x a b) is h in
+    told.0
 
 pub enrol_refused : (p : ℕ) (c : Call) (e : Enrolled) (a b : Mine) → e ≡ enrol.OutOfRange p → EnrolsTo c e a b → AnswersNow c a b
 enrol_refused p c e a b is h = subst (λ x. EnrolsTo c x a b) is h

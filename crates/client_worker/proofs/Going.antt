@@ -16,7 +16,7 @@ use Rattle.client_worker.specs.Serving.{IsOwnFault, StaysOpen, KeepsOpen}
 pub no_faults : (stream : ℕ) → All (IsOwnFault stream) []
 no_faults stream = λ k d l. absurd (omega (arith, l))
 
-pub one_fault : (stream r count : ℕ) → All (IsOwnFault stream) (entry.Mark (mark.Fault stream r count) ∷ [])
+one_fault : (stream r count : ℕ) → All (IsOwnFault stream) (entry.Mark (mark.Fault stream r count) ∷ [])
 one_fault stream r count zero d l = refl
 one_fault stream r count (suc k) d l = absurd (omega (arith, l))
 
@@ -35,7 +35,7 @@ after o m m2 g = record o { buffer = g.buffer; parts = g.parts }
 pub goes_running : (o : OwnCall) (m m2 : Mine) (g : StaysOpen o m m2) → m2.running ≡ after o m m2 g ∷ []
 goes_running o m m2 g = ap (λ (x : Mine). x.running) g.is
 
-pub goes_step : (o : OwnCall) (buffer : List ℕ) (parts : List Part) (a b : Mine) → length buffer ≡ length o.buffer
+goes_step : (o : OwnCall) (buffer : List ℕ) (parts : List Part) (a b : Mine) → length buffer ≡ length o.buffer
     → b ≡ with_running a (record o { buffer = buffer; parts = parts } ∷ []) → StaysOpen o a b
 goes_step o buffer parts a b long e =
     record {
@@ -67,7 +67,7 @@ goes_then a b c f h = λ o r.
           ∙ more_twice a g.marks k.marks (after o a b g ∷ []) (after (after o a b g) b c k ∷ []);
     }
 
-pub goes_fault : (r count : ℕ) (a b : Mine) → FaultsTo r count a b → KeepsOpen a b
+goes_fault : (r count : ℕ) (a b : Mine) → FaultsTo r count a b → KeepsOpen a b
 goes_fault r count a b f = λ o e. record {
   marks = fault_placed f.modes a.stream r count ∷ [];
   buffer = o.buffer;

@@ -2,6 +2,7 @@ pub mod Going
 pub mod Counts
 pub mod Told
 pub mod Shown
+pub mod Carrying
 pub mod Asked
 pub mod Served
 pub mod Starting

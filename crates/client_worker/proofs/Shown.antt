@@ -1,11 +1,12 @@
 -- What lines show of the stream, step after step.
-use Rattle.std.proofs.Common.{zero, suc, ◌≡◌, ℕ, ◌<◌, ◌≤◌, ◌⊎◌, inl, inr, List, [], ◌∷◌, get_or, set, Option, IfSome}
+use Rattle.std.proofs.Common.{zero, suc, true, ◌≡◌, ℕ, ◌<◌, ◌≤◌, ◌⊎◌, inl, inr, List, [], ◌∷◌, get_or, set, Option, IfSome}
 use Rattle.std.proofs.Common.{Result, Ok, Err, OnOk, OnErr, subst, sym, refl, ap, ◌∙◌}
 use Rattle.std.proofs.lemmas.List.Elements.{All-push}
 use Rattle.volume_model.specs.declared.call.Call.{Call}
 use Rattle.volume_model.specs.declared.call.Call.TheVariants as call
 use Rattle.volume_model.specs.declared.call.Reply.{Reply}
 use Rattle.volume_model.specs.declared.call.Reply.TheVariants as reply
+use Rattle.volume_model.specs.declared.entry.Answer.{Answer}
 use Rattle.volume_model.specs.declared.mode.Mode.{Mode}
 use Rattle.volume_model.specs.declared.mode.Mode.TheVariants.{Rw}
 use Rattle.volume_model.specs.Modes.{mode_of}
@@ -14,7 +15,7 @@ use Rattle.step_answers.specs.declared.parts.Part.TheVariants.{Taken, Acked}
 use Rattle.step_answers.specs.Parts.{part_at}
 use Rattle.step_answers.specs.declared.answers.Job.{Job}
 use Rattle.stream_steps.specs.Mine.{Placed, Mine, OwnCall, IsOwn, with_more, with_running, answer_placed, fault_placed}
-use Rattle.stream_steps.specs.Steps.{IsUncarried, EnrolsAt, AnswersNow, Answers, Refuses, StartsCall, TakesTo, AcksTo, FaultsTo}
+use Rattle.stream_steps.specs.Steps.{HasStarted, IsUncarried, AnswersNow, Answers, Refuses, StartsCall, TakesTo, AcksTo, FaultsTo}
 use Rattle.client_worker.specs.Exchanges.{told_in, HasPart, AreAcked, CarriedOf, IsCarried, AreCarried}
 use Rattle.client_worker.specs.Serving.{Counted, IsShown}
 use Rattle.client_worker.specs.Ends.{KeepsShown, NoneAcked}
@@ -32,7 +33,7 @@ pub shown_later : (m : Mine) (before now : List ℕ) (told told2 : List (Option 
 shown_later m before now told told2 later on h = record {
   counted = counted_later m before now later h.counted;
   answered = are_carried-on told told2 on m.replicas m.entries h.answered;
-  acked = λ o e. acked-on told told2 on o (h.acked o e);
+  acked = λ o e started. acked-on told told2 on o (h.acked o e started);
 }
 
 -- ---- one entry more
@@ -40,8 +41,8 @@ shown_later m before now told told2 later on h = record {
 -- the stream has one entry more, and these calls open
 pub shown_more : (x : Placed) (os : List OwnCall) (a b : Mine) (counts : List ℕ) (carried : List (Option (List (List ℕ))))
     → b ≡ with_more a (x ∷ []) os → Counted b counts → IsCarried a.replicas (told_in carried) x.modes x.entry
-    → AreCarried a.replicas (told_in carried) a.entries → ((o : OwnCall) → os ≡ o ∷ [] → AreAcked (told_in carried) o)
-    → IsShown b counts carried
+    → AreCarried a.replicas (told_in carried) a.entries
+    → ((o : OwnCall) → os ≡ o ∷ [] → o.started ≡ true → AreAcked (told_in carried) o) → IsShown b counts carried
 shown_more x os a b counts carried e counted here before acked =
     subst (λ (m : Mine). IsShown m counts carried) (sym e) (record {
       counted = counted_same b (with_more a (x ∷ []) os) counts (sym e) counted;
@@ -60,6 +61,11 @@ pub shown_told : {E : Type 0} (res : Result (Unit {0}) E) (r count : ℕ) (a b :
     → count ≤ get_or counts r 0 → IsShown a counts carried → IsShown b counts carried
 shown_told (Ok u) r count a b counts carried ok err low h = shown_fault r count a b counts carried ok low h
 shown_told (Err e) r count a b counts carried ok err low h = shown_same a b err counts carried h
+
+pub told_replicas : {E : Type 0} (res : Result (Unit {0}) E) (r count : ℕ) (a b : Mine) → OnOk res (FaultsTo r count a b)
+    → OnErr res (b ≡ a) → b.replicas ≡ a.replicas
+told_replicas (Ok u) r count a b ok err = ap (λ (m : Mine). m.replicas) ok.is
+told_replicas (Err e) r count a b ok err = ap (λ (m : Mine). m.replicas) err
 
 pub no_call : (o : OwnCall) → [] ≡ o ∷ [] → ⊥
 no_call o e = cc
@@ -106,55 +112,66 @@ answered n told modes call.Ping a parts buffer h done read = tt
 answered n told modes (call.Other k) a parts buffer h done read = tt
 answered n told modes (call.Command c) a parts buffer h done read = tt
 
-shown_answers : (o : OwnCall) (a b : Mine) → a.running ≡ o ∷ [] → Answers o a b → KeepsShown a b
-shown_answers o a b run s = λ counts carried h.
-    shown_more (answer_placed s.modes s.answer) [] a b counts carried s.is (counted_answer s.modes s.answer [] a b counts s.is h.counted)
-    (subst (λ c. CarriedOf a.replicas (told_in carried) s.modes c s.answer.reply) (sym s.call)
-    (answered a.replicas (told_in carried) s.modes o.call s.answer.reply o.parts o.buffer (h.acked o run) s.done s.read))
-    h.answered (λ p e. absurd (no_call p e))
+-- it goes on of as many replicas, and what lines show of the first is shown of the second
+abbrev pub ShowsOn : Mine → Mine → Type 0
+ShowsOn a b = (b.replicas ≡ a.replicas) × KeepsShown a b
 
-pub shown_done : {A E : Type 0} (res : Result A E) (t : ℕ) (a b : Mine) → ((o : OwnCall) × IsOwn t o a)
-    → OnOk res ((o : OwnCall) → IsOwn t o a → Answers o a b) → OnErr res (b ≡ a) → KeepsShown a b
-shown_done (Ok x) t a b op ok err = shown_answers op.0 a b op.1.is (ok op.0 op.1)
-shown_done (Err e) t a b op ok err = shown_same a b err
+pub shows_same : (a b : Mine) → b ≡ a → ShowsOn a b
+shows_same a b e = (ap (λ (m : Mine). m.replicas) e, shown_same a b e)
 
--- with nothing carried, whatever is open
-pub shown_refuses : (o : OwnCall) (a b : Mine) → Refuses o a b → KeepsShown (with_running a []) b
-shown_refuses o a b s = λ counts carried h.
-    shown_more (answer_placed s.ends.modes s.ends.answer) [] (with_running a []) b counts carried s.ends.is
-    (counted_answer s.ends.modes s.ends.answer [] (with_running a []) b counts s.ends.is h.counted)
-    (subst (λ c. CarriedOf a.replicas (told_in carried) s.ends.modes c s.ends.answer.reply) (sym s.ends.call)
-    (uncarried a.replicas (told_in carried) s.ends.modes o.call s.ends.answer.reply s.uncarried))
-    h.answered (λ p e. absurd (no_call p e))
+shows_answers : (o : OwnCall) (a b : Mine) → a.running ≡ o ∷ [] → o.started ≡ true → Answers o a b → ShowsOn a b
+shows_answers o a b run started s = (
+  ap (λ (m : Mine). m.replicas) s.is,
+  λ counts carried h.
+      shown_more (answer_placed s.modes s.answer) [] a b counts carried s.is (counted_answer s.modes s.answer [] a b counts s.is h.counted)
+      (subst (λ c. CarriedOf a.replicas (told_in carried) s.modes c s.answer.reply) (sym s.call)
+      (answered a.replicas (told_in carried) s.modes o.call s.answer.reply o.parts o.buffer (h.acked o run started) s.done s.read))
+      h.answered (λ p e. absurd (no_call p e)),
+)
 
-pub shown_now : (c : Call) (a b : Mine) → AnswersNow c a b → KeepsShown a b
-shown_now c a b s = λ counts carried h.
-    shown_more (answer_placed s.modes s.answer) [] a b counts carried s.is (counted_answer s.modes s.answer [] a b counts s.is h.counted)
-    (subst (λ x. CarriedOf a.replicas (told_in carried) s.modes x s.answer.reply) (sym s.call)
-    (uncarried a.replicas (told_in carried) s.modes c s.answer.reply s.uncarried))
-    h.answered (λ p e. absurd (no_call p e))
+pub shows_done : {A E : Type 0} (res : Result A E) (t : ℕ) (a b : Mine) → ((o : OwnCall) × IsOwn t o a × HasStarted o)
+    → OnOk res ((o : OwnCall) → IsOwn t o a → Answers o a b) → OnErr res (b ≡ a) → ShowsOn a b
+shows_done (Ok x) t a b op ok err = shows_answers op.0 a b op.1.is op.2.0 (ok op.0 op.1)
+shows_done (Err e) t a b op ok err = shows_same a b err
+
+-- with nothing carried, whatever was open
+shows_uncarried : (modes : List Mode) (answer : Answer) (c : Call) (a b : Mine) → b ≡ with_more a (answer_placed modes answer ∷ []) []
+    → answer.call ≡ c → IsUncarried c answer.reply → ShowsOn a b
+shows_uncarried modes answer c a b is call none = (
+  ap (λ (m : Mine). m.replicas) is,
+  λ counts carried h.
+      shown_more (answer_placed modes answer) [] a b counts carried is (counted_answer modes answer [] a b counts is h.counted)
+      (subst (λ x. CarriedOf a.replicas (told_in carried) modes x answer.reply) (sym call)
+      (uncarried a.replicas (told_in carried) modes c answer.reply none))
+      h.answered (λ p e. absurd (no_call p e)),
+)
+
+pub shows_refuses : (o : OwnCall) (a b : Mine) → Refuses o a b → ShowsOn a b
+shows_refuses o a b s = shows_uncarried s.ends.modes s.ends.answer o.call a b s.ends.is s.ends.call s.uncarried
+
+pub shows_now : (c : Call) (a b : Mine) → AnswersNow c a b → ShowsOn a b
+shows_now c a b s = shows_uncarried s.modes s.answer c a b s.is s.call s.uncarried
 
 -- ---- another open call
 
--- where that one shows what it has acknowledged
-shown_running : (o : OwnCall) (a b : Mine) (counts : List ℕ) (carried : List (Option (List (List ℕ))))
-    → b ≡ with_running a (o ∷ []) → Counted a counts → AreCarried a.replicas (told_in carried) a.entries
-    → AreAcked (told_in carried) o → IsShown b counts carried
-shown_running o a b counts carried e counted before acked =
-    subst (λ (m : Mine). IsShown m counts carried) (sym e) (record {
-      counted = counted;
-      answered = before;
-      acked = λ p same. subst (AreAcked (told_in carried)) (one_of o p same) acked;
-    })
+-- where that one shows what it has acknowledged, if it has started
+shown_open : (o : OwnCall) (a b : Mine) (counts : List ℕ) (carried : List (Option (List (List ℕ))))
+    → b ≡ with_running a (o ∷ []) → IsShown a counts carried → (o.started ≡ true → AreAcked (told_in carried) o)
+    → IsShown b counts carried
+shown_open o a b counts carried e h acked = subst (λ (m : Mine). IsShown m counts carried) (sym e) (record {
+  counted = h.counted;
+  answered = h.answered;
+  acked = λ p same. subst (λ (x : OwnCall). x.started ≡ true → AreAcked (told_in carried) x) (one_of o p same) acked;
+})
 
-pub shown_starts : (o : OwnCall) (job : Job) (a b : Mine) → StartsCall o job a b → KeepsShown (with_running a []) b
-shown_starts o job a b s = λ counts carried h. shown_running s.own a b counts carried s.is h.counted h.answered (λ r e. absurd (s.none r e))
+shows_open : (o : OwnCall) (a b : Mine) → b ≡ with_running a (o ∷ [])
+    → ((counts : List ℕ) (carried : List (Option (List (List ℕ)))) → IsShown a counts carried → o.started ≡ true
+    → AreAcked (told_in carried) o) → ShowsOn a b
+shows_open o a b e acked =
+    (ap (λ (m : Mine). m.replicas) e, λ counts carried h. shown_open o a b counts carried e h (acked counts carried h))
 
--- the first had no call open
-pub shown_enrolled : (t : ℕ) (c : Call) (a b : Mine) → a.running ≡ [] → EnrolsAt t c a b → KeepsShown a (with_running b [])
-shown_enrolled t c a b idle s =
-    let same : with_running b [] ≡ a = ap (λ (m : Mine). with_running m []) s.is ∙ ap (with_running a) (sym idle) in
-    shown_same a (with_running b []) same
+pub shows_starts : (o : OwnCall) (job : Job) (a b : Mine) → StartsCall o job a b → ShowsOn a b
+shows_starts o job a b s = shows_open s.own a b s.is (λ counts carried h started r e. absurd (s.none r e))
 
 -- ---- parts
 
@@ -173,28 +190,23 @@ acked_now (p ∷ ps) zero (suc q) e = inr e
 acked_now (p ∷ ps) (suc r) zero e = inr e
 acked_now (p ∷ ps) (suc r) (suc q) e = elim (acked_now ps r q e) [ inl same ↦ inl (ap suc same) | inr was ↦ inr was ]
 
-pub shown_takes : (t r : ℕ) (o : OwnCall) (a b : Mine) → IsOwn t o a → TakesTo o r o.buffer a b → KeepsShown a b
-shown_takes t r o a b own e = λ counts carried h.
-    shown_running (record o { parts = set o.parts r Taken }) a b counts carried e h.counted h.answered
-    (λ q was. h.acked o own.is q (acked_before o.parts r q was))
+pub shows_takes : (t r : ℕ) (o : OwnCall) (a b : Mine) → IsOwn t o a → TakesTo o r o.buffer a b → ShowsOn a b
+shows_takes t r o a b own e = shows_open (record o { parts = set o.parts r Taken }) a b e
+    (λ counts carried h started q was. h.acked o own.is started q (acked_before o.parts r q was))
+
+-- where it took it at all
+pub shows_taken : {E : Type 0} (res : Result (Unit {0}) E) (t r : ℕ) (o : OwnCall) (a b c : Mine) → IsOwn t o a
+    → b ≡ a → OnOk res ((x : OwnCall) → IsOwn t x b → TakesTo x r x.buffer b c) → OnErr res (c ≡ b) → ShowsOn a c
+shows_taken (Ok u) t r o a b c own same ok err =
+    let own2 = subst (IsOwn t o) (sym same) own in
+    subst (λ m. ShowsOn m c) same (shows_takes t r o b c own2 (ok o own2))
+shows_taken (Err e) t r o a b c own same ok err = shows_same a c (err ∙ same)
 
 -- the bytes of a read may change while none has acknowledged it
-pub shown_reads : (t r : ℕ) (buffer : List ℕ) (o : OwnCall) (a b : Mine) → IsOwn t o a → NoneAcked a
-    → TakesTo o r buffer a b → KeepsShown a b
-shown_reads t r buffer o a b own none e = λ counts carried h.
-    shown_running (record o { buffer = buffer; parts = set o.parts r Taken }) a b counts carried e h.counted h.answered
-    (λ q was. absurd (none o own.is q (acked_before o.parts r q was)))
-
-shown_acks : (t r : ℕ) (o : OwnCall) (a b : Mine) (counts : List ℕ) (carried : List (Option (List (List ℕ)))) → IsOwn t o a
-    → AcksTo o r a b → IfSome (told_in carried r) (HasPart o.call o.buffer) → IsShown a counts carried
-    → IsShown b counts carried
-shown_acks t r o a b counts carried own e part h =
-    shown_running (record o { parts = set o.parts r Acked }) a b counts carried e h.counted h.answered
-    (λ q now. by q (acked_now o.parts r q now))
-  where
-    by : (q : ℕ) → (q ≡ r) ⊎ (part_at o.parts q ≡ Acked) → IfSome (told_in carried q) (HasPart o.call o.buffer)
-    by q (inl same) = subst (λ k. IfSome (told_in carried k) (HasPart o.call o.buffer)) (sym same) part
-    by q (inr was) = h.acked o own.is q was
+pub shows_reads : (t r : ℕ) (buffer : List ℕ) (o : OwnCall) (a b : Mine) → IsOwn t o a → NoneAcked a
+    → TakesTo o r buffer a b → ShowsOn a b
+shows_reads t r buffer o a b own none e = shows_open (record o { buffer = buffer; parts = set o.parts r Taken }) a b e
+    (λ counts carried h started q was. absurd (none o own.is q (acked_before o.parts r q was)))
 
 -- the reply of a replica came through
 pub shown_replied : {E : Type 0} (res : Result (Unit {0}) E) (t r : ℕ) (o : OwnCall) (a b : Mine) (counts : List ℕ)
@@ -203,6 +215,11 @@ pub shown_replied : {E : Type 0} (res : Result (Unit {0}) E) (t r : ℕ) (o : Ow
     → OnOk res ((x : OwnCall) → IsOwn t x a → AcksTo x r a b) → OnErr res (b ≡ a) → IsShown a counts carried
     → IsShown b counts carried
 shown_replied (Ok u) t r o a b counts before carried reply own lacks tells ok err h =
-    shown_acks t r o a b counts carried own (ok o own) (has_part o (told_in before r) (told_in carried r) reply tells lacks)
-    h
+    shown_open (record o { parts = set o.parts r Acked }) a b counts carried (ok o own) h
+    (λ started q now. by started q (acked_now o.parts r q now))
+  where
+    by : o.started ≡ true → (q : ℕ) → (q ≡ r) ⊎ (part_at o.parts q ≡ Acked) → IfSome (told_in carried q) (HasPart o.call o.buffer)
+    by started q (inl same) = subst (λ k. IfSome (told_in carried k) (HasPart o.call o.buffer)) (sym same)
+        (has_part o (told_in before r) (told_in carried r) reply tells lacks)
+    by started q (inr was) = h.acked o own.is started q was
 shown_replied (Err e) t r o a b counts before carried reply own lacks tells ok err h = shown_same a b err counts carried h

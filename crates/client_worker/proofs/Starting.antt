@@ -1,12 +1,11 @@
 -- Whether a call starts: what the answer says, behind rounds in which it had to wait.
-use Rattle.std.proofs.Common.{◌≡◌, ℕ, [], ap, subst}
+use Rattle.std.proofs.Common.{◌≡◌, ℕ, ap, subst}
 use Rattle.step_answers.specs.declared.answers.Admit.{Admit}
 use Rattle.step_answers.specs.declared.answers.Admit.TheVariants as admit
 use Rattle.step_answers.specs.declared.answers.Job.{Job}
-use Rattle.stream_steps.specs.Mine.{Mine, OwnCall, IsOwn, with_running}
+use Rattle.stream_steps.specs.Mine.{Mine, OwnCall, IsOwn}
 use Rattle.stream_steps.specs.Steps.{Refuses, AdmitsTo, StartsCall, HasNotStarted}
-use Rattle.client_worker.specs.Ends.{KeepsShown, BeginsAs}
-use Rattle.client_worker.proofs.Shown.{shown_starts, shown_refuses}
+use Rattle.client_worker.specs.Ends.{BeginsAs}
 
 module _ (t : ℕ) (m0 m m2 : Mine) (a : Admit) (same : m ≡ m0) (ok : (o : OwnCall) → IsOwn t o m → AdmitsTo o a m m2) where
   told : (o : OwnCall) → IsOwn t o m0 → AdmitsTo o a m0 m2
@@ -20,13 +19,6 @@ module _ (t : ℕ) (m0 m m2 : Mine) (a : Admit) (same : m ≡ m0) (ok : (o : Own
 
   pub waits : (n : ℕ) → a ≡ admit.After n → ((o : OwnCall) × IsOwn t o m0 × HasNotStarted o) → m2 ≡ m0
   waits n e op = subst (λ b. AdmitsTo op.0 b m0 m2) e (told op.0 op.1)
-
-  pub starts_shown : (job : Job) → a ≡ admit.Go job → ((o : OwnCall) × IsOwn t o m0 × HasNotStarted o) → KeepsShown (with_running m0 []) m2
-  starts_shown job e op = shown_starts op.0 job m0 m2 (starts job e op.0 op.1)
-
-  pub refused_shown : (place : ℕ) → a ≡ admit.NoReplica place → ((o : OwnCall) × IsOwn t o m0 × HasNotStarted o)
-      → KeepsShown (with_running m0 []) m2
-  refused_shown place e op = shown_refuses op.0 m0 m2 (refused place e op.0 op.1)
 
 -- what the start says of the call
 pub begins : (o : OwnCall) (job : Job) (a b : Mine) (s : StartsCall o job a b) → BeginsAs o s.own a b

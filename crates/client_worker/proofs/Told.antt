@@ -205,16 +205,15 @@ body_put before bytes long same =
     ∙ between-put_mid header_length (length before - header_length) before bytes (length before) long same
 
 -- the same of a read, with the bytes that the replica gave
-pub read_lacks : (o p : OwnCall) (s t : Option (List (List ℕ))) (seq : ℕ) (offset : ℤ) (before request reply : List ℕ)
-    (asked said : Head) → CarriesRead o offset before → p.call ≡ o.call → length p.buffer ≡ length o.buffer
-    → asked ≡ read_head seq offset (length before - header_length)
-    → said ≡ read_reply_head seq offset (length before - header_length) → request ≡ header asked
+pub read_lacks : (o p : OwnCall) (s t : Option (List (List ℕ))) (seq : ℕ) (offset : ℤ) (n : ℕ) (before request reply : List ℕ)
+    (asked said : Head) → CarriesRead o offset n before → p.call ≡ o.call → length p.buffer ≡ length o.buffer
+    → asked ≡ read_head seq offset n → said ≡ read_reply_head seq offset n → request ≡ header asked
     → reply ≡ frame said p.buffer → TellsMore s t (request ∷ []) → LacksReply p t reply
-read_lacks o p s t seq offset before request reply asked said c same long a b q r h =
+read_lacks o p s t seq offset n before request reply asked said c same long a b q r h =
     lacks p s t request reply h (λ frames e. subst (λ c. HasPart c p.buffer frames) (sym (same ∙ c.call)) (seq, exchange_is frames e))
   where
-    count : length before - header_length ≡ length p.buffer
-    count = omega (arith, c.count, long)
+    count : n ≡ length p.buffer
+    count = sym (long ∙ c.long)
 
     asks : request ≡ read_request seq offset (length p.buffer)
     asks = q ∙ ap header a ∙ (λ i. header (read_head seq offset (count i))) ∙ header_alone (read_head seq offset (length p.buffer))

@@ -16,14 +16,15 @@ use Rattle.step_answers.specs.Parts.{part_at}
 use Rattle.sparse_image.specs.Listed.{bytes_in}
 use Rattle.step_answers.specs.declared.answers.Job.{Job}
 use Rattle.frame_wire.specs.Spelling.{header_length}
+use Rattle.client_worker.specs.declared.opened.OpenRead.{OpenRead}
 use Rattle.client_worker.specs.declared.rooms.Rooms.{Rooms}
 use Rattle.stream_steps.specs.Mine.{Mine, OwnCall, IsOwn}
 use Rattle.stream_steps.specs.Steps.{Refuses, StartsCall, IsStarted, IsStartedWrite, IsWriteCall, IsRounded, IsJobFor}
 use Rattle.stream_steps.specs.Steps.{HasStarted, IsOnBlocks, IsReadCall, AreBlocksOfCall}
 use Rattle.stream_steps.specs.Seen.{IsNextUp}
-use Rattle.client_worker.specs.Serving.{KeepsOpen}
-use Rattle.client_worker.specs.Ends.{StartsOr, EndsTo, TakesUp}
-use Rattle.client_worker.specs.Rooms.{AreBoxes, CarriesWrite, CarriesRead, HasWriteRoom, HoldsWrite, BeginsIn, BeginsOr, ReadsIn, ReadsOr}
+use Rattle.client_worker.specs.Serving.{StaysOpen, KeepsOpen}
+use Rattle.client_worker.specs.Ends.{NoneAcked, StartsOr, EndsTo, TakesUp}
+use Rattle.client_worker.specs.Rooms.{AreBoxes, CarriesWrite, HasWriteRoom, HoldsWrite, BeginsIn, BeginsOr, IsOpenRead, ReadsIn, ReadsOr}
 use Rattle.client_worker.proofs.Going.{one_of, after, goes_running}
 use Rattle.client_worker.proofs.Served.{takes_refused, takes_started}
 use Rattle.client_worker.proofs.Starting.{begins, begun_own}
@@ -82,16 +83,16 @@ write_on o a b goes t block n own request c = record {
     still_rounded (call.Command x) s = s
 
 pub carries_one : (o : OwnCall) (a b : Mine) (goes : KeepsOpen a b) (t block n r : ℕ) (own : IsOwn t o a)
-    (request request2 : List ℕ) (sets sets2 : List (List (Option (List ℕ)))) (d : List (Option (List ℕ)))
+    (request request2 : List ℕ) (sets : List (List (Option (List ℕ)))) (boxes d : List (Option (List ℕ)))
     → CarriesWrite o block n request → All (AreBoxes n) sets → drop header_length request2 ≡ drop header_length request
-    → length request2 ≡ length request → r < length sets → get_or sets2 r d ≡ get_or sets r d
-    → (x : OwnCall) × (n : ℕ) × IsOwn t x b × CarriesWrite x block n request2 × AreBoxes n (get_or sets2 r d)
-carries_one o a b goes t block n r own request request2 sets sets2 d c boxes same long inside set' = (
+    → length request2 ≡ length request → r < length sets → boxes ≡ get_or sets r d
+    → (x : OwnCall) × (n : ℕ) × IsOwn t x b × CarriesWrite x block n request2 × AreBoxes n boxes
+carries_one o a b goes t block n r own request request2 sets boxes d c are same long inside is = (
   after o a b (goes o own.is),
   n,
   record { is = goes_running o a b (goes o own.is); number = own.number },
   write_same (after o a b (goes o own.is)) block n request request2 same long (write_on o a b goes t block n own request c),
-  subst (AreBoxes n) (sym set') (All-get_or (AreBoxes n) sets r d inside boxes),
+  subst (AreBoxes n) (sym is) (All-get_or (AreBoxes n) sets r d inside are),
 )
 
 -- the sets of the replicas from that one on are as they were
@@ -115,16 +116,6 @@ sets_left modes xs ys zs r x (Some q) left up is = λ k d low high.
 abbrev pub left_from : ℕ → Option ℕ → ℕ
 left_from n None = 0
 left_from n (Some r) = n - r
-
-fewer_left : (modes : List Mode) (n r : ℕ) (next : Option ℕ) → r < n → IsNextUp modes r next → left_from n next < n - r
-fewer_left modes n r None inside up = omega (arith, inside)
-fewer_left modes n r (Some q) inside up = omega (arith, inside, up.0)
-
-pub left_fewer : (modes : List Mode) (n n2 r : ℕ) (now next : Option ℕ) → now ≡ Some r → n2 ≡ n → IfSome now (λ q. q < n)
-    → IsNextUp modes r next → left_from n2 next < left_from n now
-left_fewer modes n n2 r now next e same inside up =
-    subst (λ k. left_from k next < left_from n now) (sym same)
-    (subst (λ x. left_from n next < left_from n x) (sym e) (fewer_left modes n r next (subst (λ x. IfSome x (λ q. q < n)) e inside) up))
 
 -- ---- the start
 
@@ -243,36 +234,14 @@ reads_ends t offset n a b c op s ends o own =
     (takes_started op.0 s.own a b c s.begins (ends s.own (begun_own t op.0 s.own a b op.1 s.begins)))
 
 -- in room for its bytes
-pub reads_own : (t : ℕ) (offset : ℤ) (n : ℕ) (a b : Mine) (reply : List ℕ) (o : OwnCall) → IsOwn t o a → n ≤ 1048576
-    → length reply ≡ header_length + n → ReadsIn o offset n a b → (x : OwnCall) × IsOwn t x b × CarriesRead x offset reply
-reads_own t offset n a b reply o own short fits s = (
-  s.own,
-  begun_own t o s.own a b own s.begins,
-  record {
-    started = s.started;
-    header = omega (arith, fits);
-    few = omega (arith, fits, short);
-    count = omega (arith, fits, s.long);
-    call = s.call ∙ ap (call.Read offset) (sym s.long);
-  },
-)
-
--- a read that goes on is carried as before
-pub reads_on : (o : OwnCall) (a b : Mine) (goes : KeepsOpen a b) (t : ℕ) (own : IsOwn t o a) (offset : ℤ)
-    (reply reply2 : List ℕ) → CarriesRead o offset reply → length reply2 ≡ length reply
-    → (x : OwnCall) × IsOwn t x b × CarriesRead x offset reply2
-reads_on o a b goes t own offset reply reply2 c long =
-    let g = goes o own.is in (
-      after o a b g,
-      record { is = goes_running o a b g; number = own.number },
-      record {
-        started = c.started;
-        header = omega (arith, c.header, long);
-        few = omega (arith, c.few, long);
-        count = omega (arith, c.count, g.long, long);
-        call = c.call ∙ ap (call.Read offset) (sym g.long);
-      },
-    )
+pub reads_own : (read : OpenRead) (a b : Mine) (reply : List ℕ) (o : OwnCall) → IsOwn read.ticket o a
+    → length reply ≡ header_length + read.count → ReadsIn o read.offset read.count a b → IsOpenRead read b reply
+reads_own read a b reply o own fits s = record {
+  own = s.own;
+  is = begun_own read.ticket o s.own a b own s.begins;
+  none = s.none;
+  carries = record { started = s.started; call = s.call; long = s.long; count = fits };
+}
 
 pub goes_replicas : (a b : Mine) (o : OwnCall) → KeepsOpen a b → a.running ≡ o ∷ [] → b.replicas ≡ a.replicas
 goes_replicas a b o goes e = ap (λ (m : Mine). m.replicas) (goes o e).is
@@ -294,18 +263,30 @@ write_started o t block n a b rooms own f goes =
     let g = goes o own.is in
     (after o a b g, record { is = goes_running o a b g; number = own.number }, write_is_started o f.carries.writes)
 
-module _ (t : ℕ) (offset : ℤ) (a b : Mine) (reply : List ℕ) (goes : KeepsOpen a b)
-    (op : (o : OwnCall) × IsOwn t o a × CarriesRead o offset reply) where
-  pub read_started : (x : OwnCall) × IsOwn t x b × HasStarted x
-  read_started = (
-    after op.0 a b (goes op.0 op.1.is),
-    record { is = goes_running op.0 a b (goes op.0 op.1.is); number = op.1.number },
-    (op.2.started, subst IsOnBlocks (sym op.2.call) tt),
-  )
+-- a read that goes on
+module _ (read : OpenRead) (a b : Mine) (reply : List ℕ) (goes : KeepsOpen a b) (h : IsOpenRead read a reply) where
+  on : StaysOpen h.own a b
+  on = goes h.own h.is.is
 
-  pub still_read : (x : OwnCall) × IsOwn t x b × IsReadCall x.call
-  still_read = (
-    after op.0 a b (goes op.0 op.1.is),
-    record { is = goes_running op.0 a b (goes op.0 op.1.is); number = op.1.number },
-    subst IsReadCall (sym op.2.call) tt,
-  )
+  on_own : IsOwn read.ticket (after h.own a b on) b
+  on_own = record { is = goes_running h.own a b on; number = h.is.number }
+
+  pub read_started : (x : OwnCall) × IsOwn read.ticket x b × HasStarted x
+  read_started = (after h.own a b on, on_own, (h.carries.started, subst IsOnBlocks (sym h.carries.call) tt))
+
+  pub still_read : (x : OwnCall) × IsOwn read.ticket x b × IsReadCall x.call
+  still_read = (after h.own a b on, on_own, subst IsReadCall (sym h.carries.call) tt)
+
+  -- it is carried as before
+  pub reads_on : (reply2 : List ℕ) → NoneAcked b → length reply2 ≡ length reply → IsOpenRead read b reply2
+  reads_on reply2 none long = record {
+    own = after h.own a b on;
+    is = on_own;
+    none = none;
+    carries = record {
+      started = h.carries.started;
+      call = h.carries.call;
+      long = on.long ∙ h.carries.long;
+      count = long ∙ h.carries.count;
+    };
+  }

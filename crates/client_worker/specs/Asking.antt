@@ -8,7 +8,9 @@ use Rattle.step_answers.specs.declared.parts.Part.TheVariants.{Owed, Acked}
 use Rattle.step_answers.specs.Parts.{part_at, IsTaken}
 use Rattle.outer_traits.specs.Lines.{TellsMore}
 use Rattle.stream_steps.specs.Mine.{Mine, OwnCall}
+use Rattle.stream_steps.specs.Seen.{IsNextUp}
 use Rattle.client_worker.specs.Exchanges.{told_in, HasPart}
+use Rattle.client_worker.specs.Serving.{KeepsOpen}
 
 -- each line tells what it told before, and maybe more
 abbrev pub TellOn : List (Option (List (List ℕ))) → List (Option (List (List ℕ))) → Type 0
@@ -42,3 +44,17 @@ AckedOrFailed modes r m = (o : OwnCall) → m.running ≡ o ∷ [] → HasAcked 
 -- the same, or as one that is not read
 abbrev pub AckedOrUnread : List Mode → ℕ → Mine → Type 0
 AckedOrUnread modes r m = (o : OwnCall) → m.running ≡ o ∷ [] → HasAcked o r ⊎ (mode_of modes r ≢ Rw)
+
+-- the replica has failed, and the open call goes on; which is next
+pub record Falls (modes : List Mode) (r : ℕ) (m m2 : Mine) (next : Option ℕ) : Type 0 where
+  pub goes : KeepsOpen m m2
+  pub failed : mode_of modes r ≡ Err
+  pub up : IsNextUp modes r next
+  pub inside : IfSome next (λ q. q < m.replicas)
+
+-- the replica was asked: it has acknowledged or has failed, and the open call goes on; which is next
+pub record WasAsked (modes : List Mode) (r : ℕ) (m m2 : Mine) (next : Option ℕ) : Type 0 where
+  pub goes : KeepsOpen m m2
+  pub asked : AckedOrFailed modes r m2
+  pub up : IsNextUp modes r next
+  pub inside : IfSome next (λ q. q < m.replicas)

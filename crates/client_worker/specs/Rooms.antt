@@ -5,8 +5,9 @@ use Rattle.vol_units.specs.declared.size.TheConstants.{BLOCK_BYTES}
 use Rattle.volume_model.specs.declared.call.Call.TheVariants as call
 use Rattle.step_answers.specs.declared.answers.Job.{Job}
 use Rattle.frame_wire.specs.Spelling.{header_length}
+use Rattle.client_worker.specs.declared.opened.OpenRead.{OpenRead}
 use Rattle.client_worker.specs.declared.rooms.Rooms.{Rooms}
-use Rattle.stream_steps.specs.Mine.{Mine, OwnCall}
+use Rattle.stream_steps.specs.Mine.{Mine, OwnCall, IsOwn}
 use Rattle.stream_steps.specs.Steps.{Refuses, IsStarted, IsStartedWrite}
 use Rattle.client_worker.specs.Ends.{BeginsAs, NoneAcked}
 
@@ -27,12 +28,18 @@ pub record CarriesWrite (o : OwnCall) (block n : ℕ) (request : List ℕ) : Typ
   pub size : length o.whole ≡ n * BLOCK_BYTES
 
 -- a reply with room for the bytes of a started read
-pub record CarriesRead (o : OwnCall) (offset : ℤ) (reply : List ℕ) : Type 0 where
+pub record CarriesRead (o : OwnCall) (offset : ℤ) (n : ℕ) (reply : List ℕ) : Type 0 where
   pub started : o.started ≡ true
-  pub header : header_length ≤ length reply
-  pub few : length reply < 2 ^ 32
-  pub count : header_length + length o.buffer ≡ length reply
-  pub call : o.call ≡ call.Read offset (length o.buffer)
+  pub call : o.call ≡ call.Read offset n
+  pub long : length o.buffer ≡ n
+  pub count : length reply ≡ header_length + n
+
+-- that read is the stream's open call, no replica has acknowledged it, and the reply has room for its bytes
+pub record IsOpenRead (read : OpenRead) (m : Mine) (reply : List ℕ) : Type 0 where
+  pub own : OwnCall
+  pub is : IsOwn read.ticket own m
+  pub none : NoneAcked m
+  pub carries : CarriesRead own read.offset read.count reply
 
 -- there is room for a write of so many blocks, on so many replicas
 pub record HasWriteRoom (count replicas : ℕ) (rooms : Rooms) : Type 0 where

@@ -1,5 +1,5 @@
 -- How what a worker knows of its stream grows while it serves its calls.
-use Rattle.std.specs.Prelude.{◌≡◌, ℕ, ◌≤◌, List, [], ◌∷◌, ◌++◌, length, All, Option, slice_index_or, IfSome}
+use Rattle.std.specs.Prelude.{◌≡◌, ℕ, ◌≤◌, true, List, [], ◌∷◌, ◌++◌, length, All, Option, slice_index_or, IfSome}
 use Rattle.volume_model.specs.declared.call.Call.{Call}
 use Rattle.volume_model.specs.declared.call.Reply.TheVariants as reply
 use Rattle.volume_model.specs.declared.entry.Answer.{Answer}
@@ -29,11 +29,12 @@ abbrev pub Counted : Mine → List ℕ → Type 0
 Counted m counts = (r : ℕ) → last_count m.stream r (entries_in m.entries) ≤ slice_index_or counts r 0
 
 -- Of lines that tell these counts, and this of what they carried: none has a mark above its count, and where they tell
--- it, they have carried the exchanges of what was answered, and of what the replicas acknowledged of the open call.
+-- it, they have carried the exchanges of what was answered, and of what the replicas acknowledged of the open call, once
+-- it has started.
 pub record IsShown (m : Mine) (counts : List ℕ) (carried : List (Option (List (List ℕ)))) : Type 0 where
   pub counted : Counted m counts
   pub answered : AreCarried m.replicas (told_in carried) m.entries
-  pub acked : (o : OwnCall) → m.running ≡ o ∷ [] → AreAcked (told_in carried) o
+  pub acked : (o : OwnCall) → m.running ≡ o ∷ [] → o.started ≡ true → AreAcked (told_in carried) o
 
 -- ---- while a call is open
 

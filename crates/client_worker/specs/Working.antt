@@ -10,6 +10,22 @@ pub record Work (C L : Type 0) : Type 0 where
   pub steps : C
   pub channels : List (Channel L)
 
+-- how often each line has failed
+abbrev pub counts_of : {C L : Type 0} → (L → ℕ) → Work C L → List ℕ
+counts_of count w = map (λ c. count c.line) w.channels
+
+-- what each line tells that it carried
+abbrev pub told_by : {C L : Type 0} → (L → Option (List (List ℕ))) → Work C L → List (Option (List (List ℕ)))
+told_by carried w = map (λ c. carried c.line) w.channels
+
+-- the next step can be taken, there is a line to each replica, and what the lines tell is shown
+pub record IsServing {C L : Type 0} (can : C → Type 0) (mine : C → Mine) (count : L → ℕ)
+    (carried : L → Option (List (List ℕ))) (w : Work C L) : Type 0 where
+  pub ready : can w.steps
+  pub few : length w.channels ≤ 8
+  pub lines : length w.channels ≡ (mine w.steps).replicas
+  pub shown : IsShown (mine w.steps) (counts_of count w) (told_by carried w)
+
 -- the next step can be taken, no call is open, there is a line to each replica, and what the lines tell is shown
 pub record IsIdle {C L : Type 0} (can : C → Type 0) (mine : C → Mine) (count : L → ℕ) (carried : L → Option (List (List ℕ)))
     (w : Work C L) : Type 0 where
@@ -28,3 +44,8 @@ pub record KeepsLines {C L : Type 0} (between : L → Ends) (w w2 : Work C L) : 
 pub record Stays {C L H : Type 0} (at : C → H) (between : L → Ends) (w w2 : Work C L) : Type 0 where
   pub home : at w2.steps ≡ at w.steps
   pub lines : KeepsLines between w w2
+
+-- the same over steps alone: no line is touched
+pub record StaysHome {C L H : Type 0} (at : C → H) (w w2 : Work C L) : Type 0 where
+  pub home : at w2.steps ≡ at w.steps
+  pub lines : w2.channels ≡ w.channels

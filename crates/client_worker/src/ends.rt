@@ -1,77 +1,73 @@
 //! How an open call starts, and how it ends.
 
-ghost use Rattle.std.specs.Prelude.{◌≡◌, ℕ, [], true, false, IfOk, OnErr};
+ghost use Rattle.std.specs.Prelude.{◌≡◌, [], true, false, IfOk, OnErr};
 ghost use Rattle.stream_steps.specs.Mine.{OwnCall, IsOwn, with_running};
 ghost use Rattle.stream_steps.specs.Steps.{Answers, HasNotStarted, HasStarted, IsReadCall};
-ghost use Rattle.client_worker.specs.Ends.{KeepsShown, NoneAcked, StartsOr};
+ghost use Rattle.client_worker.specs.Ends.{NoneAcked, StartsOr};
+ghost use Rattle.client_worker.specs.Working.{StaysHome};
 
+use crate::carrier::Carrier;
+use outer_traits::Line;
 use range_turns::TicketNumber;
 use std::alloc::{AllocError, Global};
 use std::sync::Wait;
 use step_answers::{Admit, Job};
 use stream_steps::ClientSteps;
 
-/// Waits until the open call starts, or is answered that there is no replica. Out of memory takes it back.
-pub(crate) fn start<R: Wait, C: ClientSteps>(
-    rt: &R,
-    alloc: Global,
-    steps: &mut C,
-    t: TicketNumber,
-) -> Result<Option<Job>, AllocError>
-    requires ready { C.ready steps.old }
-    requires waits { (o : OwnCall) × IsOwn t o (C.mine steps.old) × HasNotStarted o }
-    ensures ready { C.ready steps.new }
-    ensures home { C.home steps.new ≡ C.home steps.old }
-    // A call that waits has nothing carried.
-    ensures shown { KeepsShown (with_running (C.mine steps.old) []) (C.mine steps.new) }
-    ensures ok { IfOk result (λ job.
-        (o : OwnCall) → IsOwn t o (C.mine steps.old) → StartsOr o job (C.mine steps.old) (C.mine steps.new)) }
-    ensures err { OnErr result (C.mine steps.new ≡ with_running (C.mine steps.old) []) }
-{
-    for _ in rt.forever() {
-        match steps.admit(rt, alloc, t) {
-            Ok(Admit::Go(job)) => return Ok(Some(job)),
-            Ok(Admit::NoReplica(_)) => return Ok(None),
-            Ok(Admit::After(_)) => {}
-            Err(error) => {
-                steps.withdraw(rt, t);
-                return Err(error);
+impl<C: ClientSteps + Drop, L: Line + Drop> Carrier<C, L> {
+    /// Waits until the open call starts, or is answered that there is no replica. Out of memory takes it back.
+    pub(crate) fn start<R: Wait>(
+        &mut self,
+        rt: &R,
+        alloc: Global,
+        t: TicketNumber,
+    ) -> Result<Option<Job>, AllocError>
+        requires waits { (o : OwnCall) × IsOwn t o (C.mine self.old.steps) × HasNotStarted o }
+        ensures stays { StaysHome C.home self.old self.new }
+        ensures ok { IfOk result (λ job. (o : OwnCall) → IsOwn t o (C.mine self.old.steps)
+            → StartsOr o job (C.mine self.old.steps) (C.mine self.new.steps)) }
+        ensures err { OnErr result (C.mine self.new.steps ≡ with_running (C.mine self.old.steps) []) }
+    {
+        for _ in rt.forever() {
+            match self.steps.admit(rt, alloc, t) {
+                Ok(Admit::Go(job)) => return Ok(Some(job)),
+                Ok(Admit::NoReplica(_)) => return Ok(None),
+                Ok(Admit::After(_)) => {}
+                Err(error) => {
+                    self.steps.withdraw(rt, t);
+                    return Err(error);
+                }
             }
         }
+        unreachable!()
     }
-    unreachable!()
-}
 
-/// Whether the open call is answered now.
-pub(crate) fn finish<R: Wait, C: ClientSteps>(rt: &R, steps: &mut C, t: TicketNumber) -> bool
-    requires ready { C.ready steps.old }
-    requires own { (o : OwnCall) × IsOwn t o (C.mine steps.old) × HasStarted o }
-    ensures ready { C.ready steps.new }
-    ensures home { C.home steps.new ≡ C.home steps.old }
-    ensures shown { KeepsShown (C.mine steps.old) (C.mine steps.new) }
-    ensures done { result ≡ true → (o : OwnCall) → IsOwn t o (C.mine steps.old)
-        → Answers o (C.mine steps.old) (C.mine steps.new) }
-    ensures open { result ≡ false → C.mine steps.new ≡ C.mine steps.old }
-    // A read that has to go on was acknowledged by nobody.
-    ensures none { result ≡ false → ((o : OwnCall) × IsOwn t o (C.mine steps.old) × IsReadCall o.call)
-        → NoneAcked (C.mine steps.new) }
-{
-    steps.complete(rt, t).is_ok()
-}
+    /// Whether the open call is answered now.
+    pub(crate) fn finish<R: Wait>(&mut self, rt: &R, t: TicketNumber) -> bool
+        requires own { (o : OwnCall) × IsOwn t o (C.mine self.old.steps) × HasStarted o }
+        ensures stays { StaysHome C.home self.old self.new }
+        ensures done { result ≡ true → (o : OwnCall) → IsOwn t o (C.mine self.old.steps)
+            → Answers o (C.mine self.old.steps) (C.mine self.new.steps) }
+        ensures open { result ≡ false → C.mine self.new.steps ≡ C.mine self.old.steps }
+        // A read that has to go on was acknowledged by nobody.
+        ensures none { result ≡ false → ((o : OwnCall) × IsOwn t o (C.mine self.old.steps) × IsReadCall o.call)
+            → NoneAcked (C.mine self.new.steps) }
+    {
+        self.steps.complete(rt, t).is_ok()
+    }
 
-/// Waits until the open call is answered.
-pub(crate) fn await_end<R: Wait, C: ClientSteps>(rt: &R, steps: &mut C, t: TicketNumber)
-    requires ready { C.ready steps.old }
-    requires own { (o : OwnCall) × IsOwn t o (C.mine steps.old) × HasStarted o }
-    ensures ready { C.ready steps.new }
-    ensures home { C.home steps.new ≡ C.home steps.old }
-    ensures shown { KeepsShown (C.mine steps.old) (C.mine steps.new) }
-    ensures done { (o : OwnCall) → IsOwn t o (C.mine steps.old) → Answers o (C.mine steps.old) (C.mine steps.new) }
-{
-    for _ in rt.forever() {
-        if finish(rt, steps, t) {
-            return;
+    /// Waits until the open call is answered.
+    pub(crate) fn await_end<R: Wait>(&mut self, rt: &R, t: TicketNumber)
+        requires own { (o : OwnCall) × IsOwn t o (C.mine self.old.steps) × HasStarted o }
+        ensures stays { StaysHome C.home self.old self.new }
+        ensures done { (o : OwnCall) → IsOwn t o (C.mine self.old.steps)
+            → Answers o (C.mine self.old.steps) (C.mine self.new.steps) }
+    {
+        for _ in rt.forever() {
+            if self.finish(rt, t) {
+                return;
+            }
         }
+        unreachable!()
     }
-    unreachable!()
 }

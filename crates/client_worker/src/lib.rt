@@ -2,10 +2,12 @@
 #![tactic(auto)]
 
 mod asks;
+mod carrier;
 mod channel;
 mod ends;
 mod frames;
 pub mod laws;
+mod opened;
 mod pass;
 mod rooms;
 mod serve;

@@ -1,34 +1,204 @@
 //! The calls of a stream are carried to the replicas, one after another.
 
-ghost use Rattle.std.specs.Prelude.{◌≡◌, ◌≢◌, ℕ, ℤ, ◌+◌, ◌*◌, ◌≤◌, ◌<◌, ◌^◌, [], length, map, All};
-ghost use Rattle.std.specs.Prelude.{vec_capacity, OnOk, OnErr, IfOk, IfSome, MatchOption};
+ghost use Rattle.std.specs.Prelude.{◌≡◌, ◌≢◌, ℕ, ◌+◌, ◌*◌, ◌≤◌, ◌<◌, [], length, vec_capacity};
+ghost use Rattle.std.specs.Prelude.{OnOk, OnErr, IfOk, IfSome, MatchOption};
 ghost use Rattle.vol_units.specs.Range.{blocks_around, place_of};
 ghost use Rattle.vol_units.specs.declared.size.TheConstants.{BLOCK_BYTES, LARGEST_SIZE};
 ghost use Rattle.volume_model.specs.PlainStep.{longest_call};
 ghost use Rattle.frame_wire.specs.Spelling.{header_length};
-ghost use Rattle.stream_steps.specs.Mine.{OwnCall, IsOwn, with_running};
 ghost use Rattle.step_answers.specs.Parts.{part_at};
+ghost use Rattle.stream_steps.specs.Mine.{OwnCall, IsOwn, with_running};
 ghost use Rattle.stream_steps.specs.Steps.{HasNotStarted, HasPlaces};
 ghost use Rattle.client_worker.specs.Asking.{IsFirstOwed};
-ghost use Rattle.client_worker.specs.Serving.{IsShown, KeepsOpen};
-ghost use Rattle.client_worker.specs.Ends.{KeepsShown, NoneAcked, EndsTo, TakesUp};
-ghost use Rattle.client_worker.specs.Rooms.{AreBoxes, CarriesWrite, CarriesRead, HoldsWrite, HasReadRoom};
-ghost use Rattle.client_worker.specs.Rooms.{BeginsOr, ReadsOr};
+ghost use Rattle.client_worker.specs.Serving.{KeepsOpen};
+ghost use Rattle.client_worker.specs.Ends.{EndsTo, TakesUp};
+ghost use Rattle.client_worker.specs.Rooms.{HoldsWrite, HasReadRoom, BeginsOr, IsOpenRead, ReadsOr};
+ghost use Rattle.client_worker.specs.Working.{Stays, StaysHome};
 
-use crate::asks::{ask_read, ask_write};
-use crate::channel::Channel;
-use crate::ends::{await_end, finish, start};
+use crate::carrier::Carrier;
+use crate::opened::{OpenRead, OpenWrite, WritePart};
 use crate::rooms::{Rooms, fill_request};
 use frame_wire::HEADER_LENGTH;
 use outer_traits::Line;
 use range_turns::TicketNumber;
-use sparse_image::Blocks;
 use std::alloc::{AllocError, Global};
 use std::sync::Wait;
 use step_answers::{Job, Part, Parts};
 use stream_steps::ClientSteps;
 use vol_units::BlockRange;
-use volume_model::{Bytes, Call};
+use volume_model::Call;
+
+impl<C: ClientSteps + Drop, L: Line + Drop> Carrier<C, L> {
+    /// Asks each replica that owes its part of the open write for it, in rising number, unless it has failed by then.
+    fn ask_all<R: Wait>(&mut self, rt: &R, t: TicketNumber, job: &Job, rooms: &mut Rooms)
+        requires own { (o : OwnCall) × IsOwn t o (C.mine self.old.steps)
+            × HoldsWrite o job.now.range.first (length self.old.channels) rooms.old }
+        ensures stays { Stays C.home L.ends self.old self.new }
+        ensures goes { KeepsOpen (C.mine self.old.steps) (C.mine self.new.steps) }
+    {
+        let first = job.range.first;
+        let mut next = first_owed(&job.parts, self.channels.len());
+        while let Some(replica) = next {
+            let part = &WritePart {
+                ticket: t,
+                first,
+                replica,
+            };
+            let blocks = &mut rooms.sets[replica as usize];
+            next = self.ask_write(rt, part, &mut rooms.request, blocks, &mut rooms.arrivals);
+        }
+    }
+
+    /// Carries the open write to its replicas, and waits for its end.
+    fn carry_write<R: Wait>(&mut self, rt: &R, t: TicketNumber, job: &Job, rooms: &mut Rooms)
+        requires own { (o : OwnCall) × IsOwn t o (C.mine self.old.steps)
+            × HoldsWrite o job.now.range.first (length self.old.channels) rooms.old }
+        ensures stays { Stays C.home L.ends self.old self.new }
+        ensures done { (o : OwnCall) → IsOwn t o (C.mine self.old.steps)
+            → EndsTo o (C.mine self.old.steps) (C.mine self.new.steps) }
+    {
+        self.ask_all(rt, t, job, rooms);
+        self.await_end(rt, t);
+    }
+
+    /// Starts the open write, in room that is made before. Out of memory takes it back.
+    fn begin_write<R: Wait>(
+        &mut self,
+        rt: &R,
+        alloc: Global,
+        write: &OpenWrite<'_>,
+        rooms: &mut Rooms,
+    ) -> Result<Option<Job>, AllocError>
+        requires within { HasPlaces write.now.offset (length write.now.bytes.now) }
+        requires waits { (o : OwnCall) × IsOwn write.now.ticket o (C.mine self.old.steps) × HasNotStarted o
+            × (o.call ≡ Call.Write write.now.offset write.now.bytes.now) }
+        ensures stays { StaysHome C.home self.old self.new }
+        ensures ok { IfOk result (λ job. (o : OwnCall) → IsOwn write.now.ticket o (C.mine self.old.steps)
+            → BeginsOr o job (length self.old.channels) rooms.new (C.mine self.old.steps) (C.mine self.new.steps)) }
+        ensures err { OnErr result (C.mine self.new.steps ≡ with_running (C.mine self.old.steps) []) }
+    {
+        let range = touched_by(write.offset, write.bytes.len());
+        let count = (range.end - range.first) as usize;
+        if let Err(error) = rooms.make_for_write(alloc, count, self.channels.len()) {
+            self.steps.withdraw(rt, write.ticket);
+            return Err(error);
+        }
+        let Some(job) = self.start(rt, alloc, write.ticket)? else {
+            return Ok(None);
+        };
+        fill_request(
+            &mut rooms.request,
+            job.front.as_slice(),
+            write.bytes.as_slice(),
+            job.back.as_slice(),
+        );
+        Ok(Some(job))
+    }
+
+    /// Takes the open write to its end. Out of memory takes it back.
+    pub(crate) fn serve_write<R: Wait>(
+        &mut self,
+        rt: &R,
+        alloc: Global,
+        write: &OpenWrite<'_>,
+        rooms: &mut Rooms,
+    ) -> Result<(), AllocError>
+        requires within { HasPlaces write.now.offset (length write.now.bytes.now) }
+        requires waits { (o : OwnCall) × IsOwn write.now.ticket o (C.mine self.old.steps) × HasNotStarted o
+            × (o.call ≡ Call.Write write.now.offset write.now.bytes.now) }
+        ensures stays { Stays C.home L.ends self.old self.new }
+        ensures ok { OnOk result ((o : OwnCall) → IsOwn write.now.ticket o (C.mine self.old.steps)
+            → TakesUp o (C.mine self.old.steps) (C.mine self.new.steps)) }
+        ensures err { OnErr result (C.mine self.new.steps ≡ with_running (C.mine self.old.steps) []) }
+    {
+        let Some(job) = self.begin_write(rt, alloc, write, rooms)? else {
+            return Ok(());
+        };
+        self.carry_write(rt, write.ticket, &job, rooms);
+        Ok(())
+    }
+
+    /// Asks the lowest replica that is read and written for the bytes of the open read.
+    fn read_round<R: Wait>(&mut self, rt: &R, read: &OpenRead, reply: &mut [u8], room: &mut Vec<u8>)
+        requires room { header_length + length reply.old ≤ vec_capacity room.old }
+        requires own { IsOpenRead read.now (C.mine self.old.steps) reply.old }
+        ensures stays { Stays C.home L.ends self.old self.new }
+        ensures room { vec_capacity room.old ≤ vec_capacity room.new }
+        ensures goes { KeepsOpen (C.mine self.old.steps) (C.mine self.new.steps) }
+    {
+        if let Some(replica) = self.steps.source(rt) {
+            self.ask_read(rt, read, replica, reply, room);
+        }
+    }
+
+    /// Carries the open read to the lowest replica that is left, until it is answered.
+    fn carry_read<R: Wait>(&mut self, rt: &R, read: &OpenRead, reply: &mut [u8], room: &mut Vec<u8>)
+        requires room { header_length + length reply.old ≤ vec_capacity room.old }
+        requires own { IsOpenRead read.now (C.mine self.old.steps) reply.old }
+        ensures stays { Stays C.home L.ends self.old self.new }
+        ensures done { (o : OwnCall) → IsOwn read.now.ticket o (C.mine self.old.steps)
+            → EndsTo o (C.mine self.old.steps) (C.mine self.new.steps) }
+    {
+        for _ in rt.forever() {
+            self.read_round(rt, read, reply, room);
+            if self.finish(rt, read.ticket) {
+                return;
+            }
+        }
+        unreachable!()
+    }
+
+    /// Starts the open read, in room that is made before, and says whether it started: where it did not, there is no
+    /// replica. Out of memory takes it back.
+    fn begin_read<R: Wait>(
+        &mut self,
+        rt: &R,
+        alloc: Global,
+        read: &OpenRead,
+        rooms: &mut Rooms,
+    ) -> Result<bool, AllocError>
+        requires waits { (o : OwnCall) × IsOwn read.now.ticket o (C.mine self.old.steps) × HasNotStarted o }
+        ensures stays { StaysHome C.home self.old self.new }
+        ensures room { OnOk result (HasReadRoom read.now.count rooms.new) }
+        ensures ok { IfOk result (λ started. (o : OwnCall) → IsOwn read.now.ticket o (C.mine self.old.steps)
+            → o.call ≡ Call.Read read.now.offset read.now.count
+            → ReadsOr o started read.now.offset read.now.count (C.mine self.old.steps) (C.mine self.new.steps)) }
+        ensures err { OnErr result (C.mine self.new.steps ≡ with_running (C.mine self.old.steps) []) }
+    {
+        if let Err(error) = rooms.make_for_read(read.count) {
+            self.steps.withdraw(rt, read.ticket);
+            return Err(error);
+        }
+        match self.start(rt, alloc, read.ticket)? {
+            Some(_job) => Ok(true),
+            None => Ok(false),
+        }
+    }
+
+    /// Takes the open read to its end. Out of memory takes it back.
+    pub(crate) fn serve_read<R: Wait>(
+        &mut self,
+        rt: &R,
+        alloc: Global,
+        read: &OpenRead,
+        rooms: &mut Rooms,
+    ) -> Result<(), AllocError>
+        requires short { read.now.count ≤ longest_call }
+        requires waits { (o : OwnCall) × IsOwn read.now.ticket o (C.mine self.old.steps) × HasNotStarted o
+            × (o.call ≡ Call.Read read.now.offset read.now.count) }
+        ensures stays { Stays C.home L.ends self.old self.new }
+        ensures ok { OnOk result ((o : OwnCall) → IsOwn read.now.ticket o (C.mine self.old.steps)
+            → TakesUp o (C.mine self.old.steps) (C.mine self.new.steps)) }
+        ensures err { OnErr result (C.mine self.new.steps ≡ with_running (C.mine self.old.steps) []) }
+    {
+        if !self.begin_read(rt, alloc, read, rooms)? {
+            return Ok(());
+        }
+        let reply = &mut rooms.reply[..HEADER_LENGTH + read.count as usize];
+        self.carry_read(rt, read, reply, &mut rooms.arrivals);
+        Ok(())
+    }
+}
 
 /// The first of so many replicas that owes its part.
 fn first_owed(parts: &Parts, replicas: usize) -> Option<u8>
@@ -44,79 +214,6 @@ fn first_owed(parts: &Parts, replicas: usize) -> Option<u8>
     None
 }
 
-/// Asks each replica that owes its part of the open write for it, in rising number, unless it has failed by then.
-fn ask_all<R: Wait, C: ClientSteps, L: Line + Drop>(
-    rt: &R,
-    steps: &mut C,
-    channels: &mut [Channel<L>],
-    t: TicketNumber,
-    job: &Job,
-    request: &mut [u8],
-    sets: &mut [Blocks],
-    room: &mut Vec<u8>,
-)
-    requires ready { C.ready steps.old }
-    requires lines { (length channels.old ≤ 8) × (length channels.old ≡ (C.mine steps.old).replicas)
-        × (length sets.old ≡ length channels.old) }
-    requires room { header_length + length request.old ≤ vec_capacity room.old }
-    requires own { (o : OwnCall) × (n : ℕ) × IsOwn t o (C.mine steps.old)
-        × CarriesWrite o job.now.range.first n request.old × All (AreBoxes n) sets.old }
-    requires shown { IsShown (C.mine steps.old) (map (λ c. L.count c.line) channels.old)
-        (map (λ c. L.carried c.line) channels.old) }
-    ensures ready { C.ready steps.new }
-    ensures home { C.home steps.new ≡ C.home steps.old }
-    ensures count { length channels.new ≡ length channels.old }
-    ensures ends { map (λ c. L.ends c.line) channels.new ≡ map (λ c. L.ends c.line) channels.old }
-    ensures shown { IsShown (C.mine steps.new) (map (λ c. L.count c.line) channels.new)
-        (map (λ c. L.carried c.line) channels.new) }
-    ensures goes { KeepsOpen (C.mine steps.old) (C.mine steps.new) }
-{
-    let first = job.range.first;
-    let mut next = first_owed(&job.parts, channels.len());
-    while let Some(replica) = next {
-        let blocks = &mut sets[replica as usize];
-        next = ask_write(
-            rt, steps, channels, t, replica, first, request, blocks, room,
-        );
-    }
-}
-
-/// Carries the open write to its replicas, and waits for its end.
-fn carry_write<R: Wait, C: ClientSteps, L: Line + Drop>(
-    rt: &R,
-    steps: &mut C,
-    channels: &mut [Channel<L>],
-    t: TicketNumber,
-    job: &Job,
-    rooms: &mut Rooms,
-)
-    requires ready { C.ready steps.old }
-    requires lines { (length channels.old ≤ 8) × (length channels.old ≡ (C.mine steps.old).replicas) }
-    requires own { (o : OwnCall) × IsOwn t o (C.mine steps.old)
-        × HoldsWrite o job.now.range.first (length channels.old) rooms.old }
-    requires shown { IsShown (C.mine steps.old) (map (λ c. L.count c.line) channels.old)
-        (map (λ c. L.carried c.line) channels.old) }
-    ensures ready { C.ready steps.new }
-    ensures home { C.home steps.new ≡ C.home steps.old }
-    ensures count { length channels.new ≡ length channels.old }
-    ensures ends { map (λ c. L.ends c.line) channels.new ≡ map (λ c. L.ends c.line) channels.old }
-    ensures shown { IsShown (C.mine steps.new) (map (λ c. L.count c.line) channels.new)
-        (map (λ c. L.carried c.line) channels.new) }
-    ensures done { (o : OwnCall) → IsOwn t o (C.mine steps.old) → EndsTo o (C.mine steps.old) (C.mine steps.new) }
-{
-    ask_all(
-        rt,
-        steps,
-        channels,
-        t,
-        job,
-        &mut rooms.request,
-        &mut rooms.sets,
-        &mut rooms.arrivals,
-    );
-    await_end(rt, steps, t);
-}
-
 /// The blocks in which the bytes of a write lie.
 fn touched_by(offset: i64, length: usize) -> BlockRange
     requires { HasPlaces offset length }
@@ -125,211 +222,4 @@ fn touched_by(offset: i64, length: usize) -> BlockRange
     ensures inside { result.end * BLOCK_BYTES ≤ LARGEST_SIZE }
 {
     BlockRange::touched(offset as usize, length)
-}
-
-/// Starts the open write, in room that is made before. Out of memory takes it back.
-fn begin_write<R: Wait, C: ClientSteps>(
-    rt: &R,
-    alloc: Global,
-    steps: &mut C,
-    t: TicketNumber,
-    offset: i64,
-    bytes: &Bytes,
-    replicas: usize,
-    rooms: &mut Rooms,
-) -> Result<Option<Job>, AllocError>
-    requires ready { C.ready steps.old }
-    requires within { HasPlaces offset (length bytes.now) }
-    requires waits { (o : OwnCall) × IsOwn t o (C.mine steps.old) × HasNotStarted o
-        × (o.call ≡ Call.Write offset bytes.now) }
-    ensures ready { C.ready steps.new }
-    ensures home { C.home steps.new ≡ C.home steps.old }
-    ensures shown { KeepsShown (with_running (C.mine steps.old) []) (C.mine steps.new) }
-    ensures ok { IfOk result (λ job. (o : OwnCall) → IsOwn t o (C.mine steps.old)
-        → BeginsOr o job replicas rooms.new (C.mine steps.old) (C.mine steps.new)) }
-    ensures err { OnErr result (C.mine steps.new ≡ with_running (C.mine steps.old) []) }
-{
-    let range = touched_by(offset, bytes.len());
-    let count = (range.end - range.first) as usize;
-    if let Err(error) = rooms.make_for_write(alloc, count, replicas) {
-        steps.withdraw(rt, t);
-        return Err(error);
-    }
-    let Some(job) = start(rt, alloc, steps, t)? else {
-        return Ok(None);
-    };
-    fill_request(
-        &mut rooms.request,
-        job.front.as_slice(),
-        bytes.as_slice(),
-        job.back.as_slice(),
-    );
-    Ok(Some(job))
-}
-
-/// Takes the open write to its end. Out of memory takes it back.
-pub(crate) fn serve_write<R: Wait, C: ClientSteps, L: Line + Drop>(
-    rt: &R,
-    alloc: Global,
-    steps: &mut C,
-    channels: &mut [Channel<L>],
-    rooms: &mut Rooms,
-    t: TicketNumber,
-    offset: i64,
-    bytes: &Bytes,
-) -> Result<(), AllocError>
-    requires ready { C.ready steps.old }
-    requires lines { (length channels.old ≤ 8) × (length channels.old ≡ (C.mine steps.old).replicas) }
-    requires within { HasPlaces offset (length bytes.now) }
-    requires waits { (o : OwnCall) × IsOwn t o (C.mine steps.old) × HasNotStarted o
-        × (o.call ≡ Call.Write offset bytes.now) }
-    requires shown { IsShown (with_running (C.mine steps.old) []) (map (λ c. L.count c.line) channels.old)
-        (map (λ c. L.carried c.line) channels.old) }
-    ensures ready { C.ready steps.new }
-    ensures home { C.home steps.new ≡ C.home steps.old }
-    ensures count { length channels.new ≡ length channels.old }
-    ensures ends { map (λ c. L.ends c.line) channels.new ≡ map (λ c. L.ends c.line) channels.old }
-    ensures shown { IsShown (C.mine steps.new) (map (λ c. L.count c.line) channels.new)
-        (map (λ c. L.carried c.line) channels.new) }
-    ensures ok { OnOk result ((o : OwnCall) → IsOwn t o (C.mine steps.old)
-        → TakesUp o (C.mine steps.old) (C.mine steps.new)) }
-    ensures err { OnErr result (C.mine steps.new ≡ with_running (C.mine steps.old) []) }
-{
-    let replicas = channels.len();
-    let Some(job) = begin_write(rt, alloc, steps, t, offset, bytes, replicas, rooms)? else {
-        return Ok(());
-    };
-    carry_write(rt, steps, channels, t, &job, rooms);
-    Ok(())
-}
-
-/// Asks the lowest replica that is read and written for the bytes of the open read.
-fn read_round<R: Wait, C: ClientSteps, L: Line + Drop>(
-    rt: &R,
-    steps: &mut C,
-    channels: &mut [Channel<L>],
-    t: TicketNumber,
-    offset: i64,
-    reply: &mut [u8],
-    room: &mut Vec<u8>,
-)
-    requires ready { C.ready steps.old }
-    requires lines { length channels.old ≡ (C.mine steps.old).replicas }
-    requires room { header_length + length reply.old ≤ vec_capacity room.old }
-    requires own { (o : OwnCall) × IsOwn t o (C.mine steps.old) × CarriesRead o offset reply.old }
-    requires none { NoneAcked (C.mine steps.old) }
-    requires shown { IsShown (C.mine steps.old) (map (λ c. L.count c.line) channels.old)
-        (map (λ c. L.carried c.line) channels.old) }
-    ensures ready { C.ready steps.new }
-    ensures home { C.home steps.new ≡ C.home steps.old }
-    ensures count { length channels.new ≡ length channels.old }
-    ensures ends { map (λ c. L.ends c.line) channels.new ≡ map (λ c. L.ends c.line) channels.old }
-    ensures room { vec_capacity room.old ≤ vec_capacity room.new }
-    ensures shown { IsShown (C.mine steps.new) (map (λ c. L.count c.line) channels.new)
-        (map (λ c. L.carried c.line) channels.new) }
-    ensures goes { KeepsOpen (C.mine steps.old) (C.mine steps.new) }
-{
-    if let Some(replica) = steps.source(rt) {
-        ask_read(rt, steps, channels, t, replica, offset, reply, room);
-    }
-}
-
-/// Carries the open read to the lowest replica that is left, until it is answered.
-fn carry_read<R: Wait, C: ClientSteps, L: Line + Drop>(
-    rt: &R,
-    steps: &mut C,
-    channels: &mut [Channel<L>],
-    t: TicketNumber,
-    offset: i64,
-    reply: &mut [u8],
-    room: &mut Vec<u8>,
-)
-    requires ready { C.ready steps.old }
-    requires lines { length channels.old ≡ (C.mine steps.old).replicas }
-    requires room { header_length + length reply.old ≤ vec_capacity room.old }
-    requires own { (o : OwnCall) × IsOwn t o (C.mine steps.old) × CarriesRead o offset reply.old }
-    requires none { NoneAcked (C.mine steps.old) }
-    requires shown { IsShown (C.mine steps.old) (map (λ c. L.count c.line) channels.old)
-        (map (λ c. L.carried c.line) channels.old) }
-    ensures ready { C.ready steps.new }
-    ensures home { C.home steps.new ≡ C.home steps.old }
-    ensures count { length channels.new ≡ length channels.old }
-    ensures ends { map (λ c. L.ends c.line) channels.new ≡ map (λ c. L.ends c.line) channels.old }
-    ensures shown { IsShown (C.mine steps.new) (map (λ c. L.count c.line) channels.new)
-        (map (λ c. L.carried c.line) channels.new) }
-    ensures done { (o : OwnCall) → IsOwn t o (C.mine steps.old) → EndsTo o (C.mine steps.old) (C.mine steps.new) }
-{
-    for _ in rt.forever() {
-        read_round(rt, steps, channels, t, offset, reply, room);
-        if finish(rt, steps, t) {
-            return;
-        }
-    }
-    unreachable!()
-}
-
-/// Starts the open read, in room that is made before, and says whether it started: where it did not, there is no
-/// replica. Out of memory takes it back.
-fn begin_read<R: Wait, C: ClientSteps>(
-    rt: &R,
-    alloc: Global,
-    steps: &mut C,
-    t: TicketNumber,
-    count: u32,
-    rooms: &mut Rooms,
-) -> Result<bool, AllocError>
-    requires ready { C.ready steps.old }
-    requires waits { (o : OwnCall) × IsOwn t o (C.mine steps.old) × HasNotStarted o }
-    ensures ready { C.ready steps.new }
-    ensures home { C.home steps.new ≡ C.home steps.old }
-    ensures shown { KeepsShown (with_running (C.mine steps.old) []) (C.mine steps.new) }
-    ensures room { OnOk result (HasReadRoom count rooms.new) }
-    ensures ok { IfOk result (λ started. (o : OwnCall) (offset : ℤ) → IsOwn t o (C.mine steps.old)
-        → o.call ≡ Call.Read offset count → ReadsOr o started offset count (C.mine steps.old) (C.mine steps.new)) }
-    ensures err { OnErr result (C.mine steps.new ≡ with_running (C.mine steps.old) []) }
-{
-    if let Err(error) = rooms.make_for_read(count) {
-        steps.withdraw(rt, t);
-        return Err(error);
-    }
-    match start(rt, alloc, steps, t)? {
-        Some(_job) => Ok(true),
-        None => Ok(false),
-    }
-}
-
-/// Takes the open read to its end. Out of memory takes it back.
-pub(crate) fn serve_read<R: Wait, C: ClientSteps, L: Line + Drop>(
-    rt: &R,
-    alloc: Global,
-    steps: &mut C,
-    channels: &mut [Channel<L>],
-    rooms: &mut Rooms,
-    t: TicketNumber,
-    offset: i64,
-    count: u32,
-) -> Result<(), AllocError>
-    requires ready { C.ready steps.old }
-    requires lines { length channels.old ≡ (C.mine steps.old).replicas }
-    requires short { count ≤ longest_call }
-    requires waits { (o : OwnCall) × IsOwn t o (C.mine steps.old) × HasNotStarted o
-        × (o.call ≡ Call.Read offset count) }
-    requires shown { IsShown (with_running (C.mine steps.old) []) (map (λ c. L.count c.line) channels.old)
-        (map (λ c. L.carried c.line) channels.old) }
-    ensures ready { C.ready steps.new }
-    ensures home { C.home steps.new ≡ C.home steps.old }
-    ensures count { length channels.new ≡ length channels.old }
-    ensures ends { map (λ c. L.ends c.line) channels.new ≡ map (λ c. L.ends c.line) channels.old }
-    ensures shown { IsShown (C.mine steps.new) (map (λ c. L.count c.line) channels.new)
-        (map (λ c. L.carried c.line) channels.new) }
-    ensures ok { OnOk result ((o : OwnCall) → IsOwn t o (C.mine steps.old)
-        → TakesUp o (C.mine steps.old) (C.mine steps.new)) }
-    ensures err { OnErr result (C.mine steps.new ≡ with_running (C.mine steps.old) []) }
-{
-    if !begin_read(rt, alloc, steps, t, count, rooms)? {
-        return Ok(());
-    }
-    let reply = &mut rooms.reply[..HEADER_LENGTH + count as usize];
-    carry_read(rt, steps, channels, t, offset, reply, &mut rooms.arrivals);
-    Ok(())
 }

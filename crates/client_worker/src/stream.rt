@@ -1,16 +1,17 @@
 //! One call of a stream.
 
-ghost use Rattle.std.specs.Prelude.{◌≡◌, ℕ, ◌+◌, ◌<◌, ◌≤◌, [], length, map, true, false, OnOk, OnErr};
+ghost use Rattle.std.specs.Prelude.{◌≡◌, [], true, false, OnOk, OnErr};
 ghost use Rattle.step_answers.specs.Asked.{IsNow, IsOnRange};
 ghost use Rattle.stream_steps.specs.Mine.{OwnCall, IsOwn, with_running};
 ghost use Rattle.stream_steps.specs.Steps.{HasNotStarted, IsFrameCall, IsWithin};
 ghost use Rattle.client_worker.specs.Asks.{IsShort};
-ghost use Rattle.client_worker.specs.Serving.{IsShown, GrewBy};
+ghost use Rattle.client_worker.specs.Serving.{GrewBy};
 ghost use Rattle.client_worker.specs.Ends.{TakesUp};
+ghost use Rattle.client_worker.specs.Working.{Stays};
 
-use crate::channel::Channel;
+use crate::carrier::Carrier;
+use crate::opened::{OpenRead, OpenWrite};
 use crate::rooms::Rooms;
-use crate::serve::{serve_read, serve_write};
 use outer_traits::Line;
 use range_turns::TicketNumber;
 use std::alloc::{AllocError, Global};
@@ -20,76 +21,69 @@ use stream_steps::ClientSteps;
 use vol_units::LONGEST_CALL;
 use volume_model::Call;
 
-/// Takes one call of the stream to its answer, in room that is lent. Out of memory leaves it unasked.
-pub(crate) fn serve_one<R: Wait, C: ClientSteps, L: Line + Drop>(
-    rt: &R,
-    alloc: Global,
-    steps: &mut C,
-    channels: &mut [Channel<L>],
-    rooms: &mut Rooms,
-    call: Call,
-) -> Result<(), AllocError>
-    requires ready { C.ready steps.old }
-    requires lines { (length channels.old ≤ 8) × (length channels.old ≡ (C.mine steps.old).replicas) }
-    requires idle { (C.mine steps.old).running ≡ [] }
-    requires frame { IsFrameCall call }
-    requires short { IsShort call }
-    requires shown { IsShown (C.mine steps.old) (map (λ c. L.count c.line) channels.old)
-        (map (λ c. L.carried c.line) channels.old) }
-    ensures ready { C.ready steps.new }
-    ensures home { C.home steps.new ≡ C.home steps.old }
-    ensures count { length channels.new ≡ length channels.old }
-    ensures ends { map (λ c. L.ends c.line) channels.new ≡ map (λ c. L.ends c.line) channels.old }
-    ensures shown { IsShown (C.mine steps.new) (map (λ c. L.count c.line) channels.new)
-        (map (λ c. L.carried c.line) channels.new) }
-    ensures ok { OnOk result (GrewBy call (C.mine steps.old) (C.mine steps.new)) }
-    ensures err { OnErr result (C.mine steps.new ≡ C.mine steps.old) }
-{
-    if is_now(&call) {
-        steps.answer_now(rt, alloc, &call)?;
-        return Ok(());
+impl<C: ClientSteps + Drop, L: Line + Drop> Carrier<C, L> {
+    /// Takes one call of the stream to its answer, in room that is lent. Out of memory leaves it unasked.
+    pub(crate) fn serve_one<R: Wait>(
+        &mut self,
+        rt: &R,
+        alloc: Global,
+        call: Call,
+        rooms: &mut Rooms,
+    ) -> Result<(), AllocError>
+        requires idle { (C.mine self.old.steps).running ≡ [] }
+        requires frame { IsFrameCall call }
+        requires short { IsShort call }
+        ensures stays { Stays C.home L.ends self.old self.new }
+        ensures ok { OnOk result (GrewBy call (C.mine self.old.steps) (C.mine self.new.steps)) }
+        ensures err { OnErr result (C.mine self.new.steps ≡ C.mine self.old.steps) }
+    {
+        if is_now(&call) {
+            self.steps.answer_now(rt, alloc, &call)?;
+            return Ok(());
+        }
+        match self.steps.enrol(rt, alloc, &call)? {
+            Enrolled::OutOfRange(_) => Ok(()),
+            Enrolled::Ticket(t) => self.serve_open(rt, alloc, t, &call, rooms),
+        }
     }
-    match steps.enrol(rt, alloc, &call)? {
-        Enrolled::OutOfRange(_) => Ok(()),
-        Enrolled::Ticket(t) => serve_open(rt, alloc, steps, channels, rooms, t, &call),
-    }
-}
 
-/// Takes the open call to its answer. Out of memory takes it back.
-fn serve_open<R: Wait, C: ClientSteps, L: Line + Drop>(
-    rt: &R,
-    alloc: Global,
-    steps: &mut C,
-    channels: &mut [Channel<L>],
-    rooms: &mut Rooms,
-    t: TicketNumber,
-    call: &Call,
-) -> Result<(), AllocError>
-    requires ready { C.ready steps.old }
-    requires lines { (length channels.old ≤ 8) × (length channels.old ≡ (C.mine steps.old).replicas) }
-    requires range { IsOnRange call.now }
-    requires within { IsWithin call.now }
-    requires waits { (o : OwnCall) × IsOwn t o (C.mine steps.old) × HasNotStarted o × (o.call ≡ call.now) }
-    requires shown { IsShown (with_running (C.mine steps.old) []) (map (λ c. L.count c.line) channels.old)
-        (map (λ c. L.carried c.line) channels.old) }
-    ensures ready { C.ready steps.new }
-    ensures home { C.home steps.new ≡ C.home steps.old }
-    ensures count { length channels.new ≡ length channels.old }
-    ensures ends { map (λ c. L.ends c.line) channels.new ≡ map (λ c. L.ends c.line) channels.old }
-    ensures shown { IsShown (C.mine steps.new) (map (λ c. L.count c.line) channels.new)
-        (map (λ c. L.carried c.line) channels.new) }
-    ensures ok { OnOk result ((o : OwnCall) → IsOwn t o (C.mine steps.old)
-        → TakesUp o (C.mine steps.old) (C.mine steps.new)) }
-    ensures err { OnErr result (C.mine steps.new ≡ with_running (C.mine steps.old) []) }
-{
-    match call {
-        Call::Read { offset, length } => {
-            serve_read(rt, alloc, steps, channels, rooms, t, *offset, *length)
+    /// Takes the open call to its answer. Out of memory takes it back.
+    fn serve_open<R: Wait>(
+        &mut self,
+        rt: &R,
+        alloc: Global,
+        t: TicketNumber,
+        call: &Call,
+        rooms: &mut Rooms,
+    ) -> Result<(), AllocError>
+        requires range { IsOnRange call.now }
+        requires within { IsWithin call.now }
+        requires waits { (o : OwnCall) × IsOwn t o (C.mine self.old.steps) × HasNotStarted o
+            × (o.call ≡ call.now) }
+        ensures stays { Stays C.home L.ends self.old self.new }
+        ensures ok { OnOk result ((o : OwnCall) → IsOwn t o (C.mine self.old.steps)
+            → TakesUp o (C.mine self.old.steps) (C.mine self.new.steps)) }
+        ensures err { OnErr result (C.mine self.new.steps ≡ with_running (C.mine self.old.steps) []) }
+    {
+        match call {
+            Call::Read { offset, length } => {
+                let read = &OpenRead {
+                    ticket: t,
+                    offset: *offset,
+                    count: *length,
+                };
+                self.serve_read(rt, alloc, read, rooms)
+            }
+            Call::Write { offset, bytes } => {
+                let write = &OpenWrite {
+                    ticket: t,
+                    offset: *offset,
+                    bytes,
+                };
+                self.serve_write(rt, alloc, write, rooms)
+            }
+            Call::Ping | Call::Other(_) | Call::Command(_) => unreachable!(),
         }
-        Call::Write { offset, bytes } => {
-            serve_write(rt, alloc, steps, channels, rooms, t, *offset, bytes)
-        }
-        Call::Ping | Call::Other(_) | Call::Command(_) => unreachable!(),
     }
 }
 

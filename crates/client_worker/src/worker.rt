@@ -8,9 +8,9 @@ ghost use Rattle.client_worker.specs.Asks.{IsAsked, IsShort};
 ghost use Rattle.client_worker.specs.Serving.{GrewBy, Grew, GrewSome};
 ghost use Rattle.client_worker.specs.Working.{IsIdle, Stays};
 
+use crate::carrier::Carrier;
 use crate::channel::Channel;
 use crate::rooms::Rooms;
-use crate::stream::serve_one;
 use frame_stream::{Asked, Frame, of_frame};
 use outer_traits::Line;
 use script_text::Frames;
@@ -20,24 +20,23 @@ use std::sync::Wait;
 use stream_steps::ClientSteps;
 use volume_model::Call;
 
-/// What serves a stream: the steps of its core, a line to each replica, and the memory of its calls, which stays from
-/// call to call. Between two of them none is open.
+/// What serves a stream: what carries its calls, and their memory, which stays from call to call. Between two of them
+/// none is open.
 #[derive(Drop)]
 pub struct Worker<C: ClientSteps + Drop, L: Line + Drop> {
-    steps: C,
-    channels: Vec<Channel<L>>,
+    carrier: Carrier<C, L>,
     rooms: Rooms,
 }
 
 impl<C: ClientSteps + Drop, L: Line + Drop> Model for Worker<C, L> {
-    ghost use Rattle.client_worker.specs.Working.{Work, IsIdle};
+    ghost use Rattle.std.specs.Prelude.{◌≡◌, []};
+    ghost use Rattle.client_worker.specs.Working.{Work};
 
     ghost Value = { Work C L };
 
-    ghost view = { λ w. record { steps = w.steps; channels = w.channels.items } };
+    ghost view = { λ w. w.carrier };
 
-    ghost invariant = { λ w. IsIdle C.ready C.mine L.count L.carried
-        (record { steps = w.steps; channels = w.channels.items }) };
+    ghost invariant = { λ w. (C.mine w.carrier.steps).running ≡ [] };
 }
 
 impl<C: ClientSteps + Drop, L: Line + Drop> Worker<C, L> {
@@ -47,8 +46,7 @@ impl<C: ClientSteps + Drop, L: Line + Drop> Worker<C, L> {
         ensures { result ≡ record { steps = steps; channels = channels.items } }
     {
         Worker {
-            steps,
-            channels,
+            carrier: Carrier { steps, channels },
             rooms: Rooms::new(alloc),
         }
     }
@@ -58,7 +56,8 @@ impl<C: ClientSteps + Drop, L: Line + Drop> Worker<C, L> {
         ensures parts { self ≡ record { steps = result.0; channels = result.1.items } }
         ensures idle { IsIdle C.ready C.mine L.count L.carried self }
     {
-        (self.steps, self.channels)
+        let carrier = self.carrier;
+        (carrier.steps, carrier.channels)
     }
 
     /// Takes the calls of a stream's frames one after another, and carries each to the replicas. Out of memory leaves
@@ -75,7 +74,7 @@ impl<C: ClientSteps + Drop, L: Line + Drop> Worker<C, L> {
         ensures err { OnErr result (GrewSome (map call_of frames.now) (C.mine self.old.steps) (C.mine self.new.steps)) }
     {
         // What holds of the worker between its calls, a proof learns here.
-        let _ = &self.steps;
+        let _ = &self.carrier;
         let mut left = frames.reader()?;
         while let Some(frame) = left.next()? {
             self.serve_call(rt, alloc, call_in(frame))?;
@@ -96,8 +95,7 @@ impl<C: ClientSteps + Drop, L: Line + Drop> Worker<C, L> {
         ensures ok { OnOk result (GrewBy call (C.mine self.old.steps) (C.mine self.new.steps)) }
         ensures err { OnErr result (C.mine self.new.steps ≡ C.mine self.old.steps) }
     {
-        let channels = &mut self.channels;
-        serve_one(rt, alloc, &mut self.steps, channels, &mut self.rooms, call)
+        self.carrier.serve_one(rt, alloc, call, &mut self.rooms)
     }
 }
 

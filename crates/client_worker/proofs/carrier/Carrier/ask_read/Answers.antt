@@ -1,0 +1,121 @@
+use Rattle.std.proofs.Common.{rules, arith, ◌≡◌, ◌-◌, ◌≤◌, map, drop, length, slice_set, is_err, refl, ap, sym, subst, ◌∙◌, false}
+use Rattle.frame_wire.specs.Spelling.{header_length, frame}
+use Rattle.step_answers.specs.declared.parts.Part.TheVariants.{Taken}
+use Rattle.stream_steps.specs.Mine.{IsOwn}
+use Rattle.stream_steps.specs.Steps.{TakesTo, IsOnBlocks}
+use Rattle.volume_model.specs.Modes.{IsSource}
+use Rattle.client_worker.specs.Exchanges.{told_in}
+use Rattle.client_worker.specs.Ends.{NoneAcked}
+use Rattle.client_worker.proofs.Asked.{has_taken, falls_goes}
+use Rattle.client_worker.proofs.Carrying.{serving_on, serving_same, stays_lent, stays_step, stays_then, steps_back}
+use Rattle.client_worker.proofs.Going.{goes_then, goes_same, goes_takes, taken_own, done_well}
+use Rattle.client_worker.proofs.Shown.{shows_reads, shows_same}
+use Rattle.client_worker.proofs.Told.{body_put, read_lacks}
+use Rattle.client_worker.proofs.carrier.Carrier.ask_read.Goals as goal
+
+pub invariant_of-self : goal.invariant_of-self
+invariant_of-self g c =
+    serving_same c.self.inside.steps
+    c.self.inside.channels.items c.deref_mut.result.now c.next_exchange-seq.new.channels
+    (drop (length c.next_exchange-seq.new.channels) c.self.inside.channels.items) c.self.inside.channels.len c.self.invariant
+    c.deref_mut.ensures.value c.next_exchange-seq.ensures.count c.next_exchange-seq.ensures.faults c.next_exchange-seq.ensures.carried
+    (search rules)
+
+pub returns-then-is_err-clause-goes : goal.returns-then-is_err-clause-goes
+returns-then-is_err-clause-goes g c =
+    rw (← c.self.view_is) (falls_goes c.pass.result (g.C.ClientSteps.modes c.pass.new.self.steps) c.args.replica
+    (g.C.ClientSteps.mine c.self.inside.steps) (g.C.ClientSteps.mine c.pass.new.self.steps) (search rules) c.pass.ensures.falls)
+
+pub apply_read-requires-clause-source : goal.apply_read-requires-clause-source
+apply_read-requires-clause-source g c =
+    let back = steps_back _ _ _ _ c.self-2.view_is (done_well c.pass.result (search rules) c.pass.ensures.same) c.self.view_is in
+    subst (λ s. IsSource (g.C.ClientSteps.modes s) c.args.replica) (sym back) c.requires.source
+
+pub invariant_of-self-then-is_err-2 : goal.invariant_of-self-then-is_err-2
+invariant_of-self-then-is_err-2 g c = serving_on c.self-2.inside.steps c.apply_read.new.self c.self-2.inside.channels.items
+    c.self-2.invariant c.apply_read.ensures.ready
+    (shows_same (g.C.ClientSteps.mine c.self-2.inside.steps) (g.C.ClientSteps.mine c.apply_read.new.self) (search rules))
+
+pub returns-then-is_err-2-clause-stays : goal.returns-then-is_err-2-clause-stays
+returns-then-is_err-2-clause-stays g c =
+    let passed = stays_then c.args.self.now _ c.pass.new.self
+    (stays_lent {at = g.C.ClientSteps.home} {between = g.L.Line.ends} c.args.self.now _ c.deref_mut.result.now
+    c.next_exchange-seq.new.channels
+    (drop (length c.next_exchange-seq.new.channels) c.self.inside.channels.items) c.self.inside.channels.len c.self.view_is
+    c.deref_mut.ensures.value c.next_exchange-seq.ensures.count c.next_exchange-seq.ensures.ends (search rules)) c.pass.ensures.stays in
+    stays_step c.args.self.now c.pass.new.self _ c.apply_read.new.self passed
+    c.self-2.view_is c.apply_read.ensures.home
+
+pub returns-then-is_err-2-clause-goes : goal.returns-then-is_err-2-clause-goes
+returns-then-is_err-2-clause-goes g c =
+    let back = steps_back _ _ _ _ c.self-2.view_is (done_well c.pass.result (search rules) c.pass.ensures.same) c.self.view_is in
+    let same : g.C.ClientSteps.mine c.apply_read.new.self ≡ g.C.ClientSteps.mine c.self-2.inside.steps = search rules in
+    goes_same (g.C.ClientSteps.mine c.args.self.now.steps) (g.C.ClientSteps.mine c.apply_read.new.self)
+    (same ∙ ap g.C.ClientSteps.mine back)
+
+pub invariant_of-self-2 : goal.invariant_of-self-2
+invariant_of-self-2 g c =
+    let before = g.C.ClientSteps.mine c.self-2.inside.steps in
+    let h = c.requires.own in
+    let back = steps_back _ _ _ _ c.self-2.view_is (done_well c.pass.result (search rules) c.pass.ensures.same) c.self.view_is in
+    let own : IsOwn c.args.read.now.ticket h.own before =
+    subst (IsOwn c.args.read.now.ticket h.own) (ap g.C.ClientSteps.mine (sym back)) h.is in
+    let yes : is_err c.apply_read.result ≡ false = search rules in
+    serving_on c.self-2.inside.steps c.apply_read.new.self c.self-2.inside.channels.items c.self-2.invariant c.apply_read.ensures.ready
+    (shows_reads c.args.read.now.ticket c.args.replica c.apply_read.new.into h.own before (g.C.ClientSteps.mine c.apply_read.new.self) own
+    (subst NoneAcked (ap g.C.ClientSteps.mine (sym back)) h.none) (done_well c.apply_read.result yes c.apply_read.ensures.ok h.own own))
+
+pub reply_with-requires-clause-own : goal.reply_with-requires-clause-own
+reply_with-requires-clause-own g c =
+    let into = c.apply_read.new.into in
+    let before = g.C.ClientSteps.mine c.self-2.inside.steps in
+    let after = g.C.ClientSteps.mine c.apply_read.new.self in
+    let h = c.requires.own in
+    let back = steps_back _ _ _ _ c.self-2.view_is (done_well c.pass.result (search rules) c.pass.ensures.same) c.self.view_is in
+    let own : IsOwn c.args.read.now.ticket h.own before =
+    subst (IsOwn c.args.read.now.ticket h.own) (ap g.C.ClientSteps.mine (sym back)) h.is in
+    let yes : is_err c.apply_read.result ≡ false = search rules in
+    let took : TakesTo h.own c.args.replica into before after = done_well c.apply_read.result yes c.apply_read.ensures.ok h.own own in
+    let long : length into ≡ length h.own.buffer = search rules in
+    let body : length into ≡ length c.args.reply.now - header_length = omega (arith, long, h.carries.long, h.carries.count) in
+    let room : header_length ≤ length c.args.reply.now = omega (arith, h.carries.count) in
+    rw (ap (λ w. w.channels) c.self-2.view_is) (
+      record h.own { buffer = into; parts = slice_set h.own.parts c.args.replica Taken },
+      taken_own c.args.read.now.ticket c.args.replica into h.own before after own took,
+      (h.carries.started, subst IsOnBlocks (sym h.carries.call) tt),
+      has_taken h.own c.args.replica into,
+      read_lacks h.own (record h.own { buffer = into; parts = slice_set h.own.parts c.args.replica Taken }) _
+          (told_in (map (λ x. g.L.Line.carried x.line) c.pass.new.self.channels) c.args.replica)
+          c.next_exchange-seq.result c.args.read.now.offset c.args.read.now.count c.args.reply.now c.encode_header-request.result
+          c.put_header.new.bytes c.read_head.result c.read_reply_head.result h.carries refl long
+          (search rules) (search rules) (search rules)
+          (c.put_header.ensures ∙ ap (frame c.read_reply_head.result) (body_put c.args.reply.now into room body))
+          (done_well c.pass.result (search rules) c.pass.ensures.carried),
+    )
+
+pub returns-clause-stays : goal.returns-clause-stays
+returns-clause-stays g c =
+    let passed = stays_then c.args.self.now _ c.pass.new.self
+    (stays_lent {at = g.C.ClientSteps.home} {between = g.L.Line.ends} c.args.self.now _ c.deref_mut.result.now
+    c.next_exchange-seq.new.channels
+    (drop (length c.next_exchange-seq.new.channels) c.self.inside.channels.items) c.self.inside.channels.len c.self.view_is
+    c.deref_mut.ensures.value c.next_exchange-seq.ensures.count c.next_exchange-seq.ensures.ends (search rules)) c.pass.ensures.stays in
+    stays_then c.args.self.now _ c.reply_with.new.self
+    (stays_step c.args.self.now c.pass.new.self _ c.apply_read.new.self passed
+    c.self-2.view_is c.apply_read.ensures.home) c.reply_with.ensures.stays
+
+pub returns-clause-goes : goal.returns-clause-goes
+returns-clause-goes g c =
+    let first = g.C.ClientSteps.mine c.args.self.now.steps in
+    let before = g.C.ClientSteps.mine c.self-2.inside.steps in
+    let after = g.C.ClientSteps.mine c.apply_read.new.self in
+    let h = c.requires.own in
+    let back = steps_back _ _ _ _ c.self-2.view_is (done_well c.pass.result (search rules) c.pass.ensures.same) c.self.view_is in
+    let own : IsOwn c.args.read.now.ticket h.own before =
+    subst (IsOwn c.args.read.now.ticket h.own) (ap g.C.ClientSteps.mine (sym back)) h.is in
+    let yes : is_err c.apply_read.result ≡ false = search rules in
+    let long : length c.apply_read.new.into ≡ length h.own.buffer = search rules in
+    goes_then first before (g.C.ClientSteps.mine c.reply_with.new.self.steps) (goes_same first before (ap g.C.ClientSteps.mine back))
+    (goes_then before after (g.C.ClientSteps.mine c.reply_with.new.self.steps)
+    (goes_takes c.args.read.now.ticket c.args.replica c.apply_read.new.into h.own before after own long
+    (done_well c.apply_read.result yes c.apply_read.ensures.ok h.own own)) c.reply_with.ensures.asked.goes)
