@@ -26,10 +26,7 @@ use Rattle.step_answers.specs.declared.whole_op.WholeOp.TheVariants as whole
 use Rattle.stream_steps.specs.Maint.{HasWhole, StartsBarrier}
 use Rattle.stream_steps.specs.Add.{HasAdd, Promotes, EndsAborted, LeavesAdd}
 use Rattle.stream_steps.proofs.MineLemmas.{entries_none, entries_twice}
-use Rattle.client_worker.specs.Ends.{KeepsShown}
-use Rattle.client_worker.specs.Serving.{IsShown}
-use Rattle.client_worker.proofs.Shown.{shown_same}
-use Rattle.control_worker.proofs.ShownLemmas.{idle_of, idle_answer}
+use Rattle.control_worker.proofs.ShownLemmas.{StaysShown, stays_running, stays_answer}
 use Rattle.control_worker.specs.OwnAnswers.{answers_in}
 use Rattle.control_worker.specs.Purges.{MayComeBefore, AreFalls}
 use Rattle.control_worker.specs.Serving.{GrewByCommand, LeftUndone}
@@ -379,22 +376,18 @@ adding_has t r o a b h g =
           h.started;
     }
 
-pub leaves_shown : (r : ℕ) (o : OwnCall) (a b : Mine) → o.call ≡ call.Command (command.Add r) → LeavesAdd o a b
-    → KeepsShown (with_running a []) b
-leaves_shown r o a b is (inl gone) = shown_same (with_running a []) b gone
-leaves_shown r o a b is (inr w) = idle_answer (command.Add r) w.modes w.answer (w.marks ++ entry.Answer w.answer ∷ []) a b
+-- what lines show is shown still
+pub leaves_stays : (r : ℕ) (o : OwnCall) (a b : Mine) → o.call ≡ call.Command (command.Add r) → LeavesAdd o a b → StaysShown a b
+leaves_stays r o a b is (inl gone) = stays_running [] a b gone
+leaves_stays r o a b is (inr w) = stays_answer (command.Add r) w.modes w.answer (w.marks ++ entry.Answer w.answer ∷ []) a b
     w.is (w.call ∙ is)
 
-pub ends_shown : (t r : ℕ) (o : OwnCall) (a b : Mine) → HasAdd t r o a → EndsRebuild r o a b
-    → KeepsShown (with_running a []) (with_running b [])
-ends_shown t r o a b h (inl p) = λ counts carried k.
-    subst (λ (m : Mine). IsShown m counts carried) (idle_of b (ap (λ (m : Mine). m.running) p.is))
-    (idle_answer (command.Add r) p.modes p.answer (entry.Mark (mark.Promoted r) ∷ entry.Answer p.answer ∷ []) a b p.is
-    (p.call ∙ h.call) counts carried k)
-ends_shown t r o a b h (inr e) = λ counts carried k.
+pub ends_stays : (t r : ℕ) (o : OwnCall) (a b : Mine) → HasAdd t r o a → EndsRebuild r o a b → StaysShown a b
+ends_stays t r o a b h (inl p) = stays_answer (command.Add r) p.modes p.answer
+    (entry.Mark (mark.Promoted r) ∷ entry.Answer p.answer ∷ []) a b p.is (p.call ∙ h.call)
+ends_stays t r o a b h (inr e) =
     let w = e.1.answers in
-    subst (λ (m : Mine). IsShown m counts carried) (idle_of b (ap (λ (m : Mine). m.running) w.is))
-    (idle_answer (command.Add r) w.modes w.answer (entry.Answer w.answer ∷ []) a b w.is (w.call ∙ h.call) counts carried k)
+    stays_answer (command.Add r) w.modes w.answer (entry.Answer w.answer ∷ []) a b w.is (w.call ∙ h.call)
 
 pub on_ok : {T E : Type 0} (r : Result T E) {P : Type 0} → P → OnOk r P
 on_ok (Ok x) h = h

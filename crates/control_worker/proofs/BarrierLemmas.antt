@@ -9,11 +9,11 @@ use Rattle.stream_steps.specs.declared.add.AdmitBarrier.{AdmitBarrier}
 use Rattle.stream_steps.specs.declared.add.AdmitBarrier.TheVariants as barrier
 use Rattle.stream_steps.specs.Add.{AdmitsBarrier, BeginsBy, IfBegun, IsFromOther, IsStillUnbegun}
 use Rattle.control_worker.specs.Whole.{IsWhole, RefusedWhole}
-use Rattle.control_worker.proofs.PartLemmas.{admitted_idle}
-use Rattle.control_worker.proofs.ShownLemmas.{KeepsIdle}
+use Rattle.control_worker.proofs.PartLemmas.{admitted_stays}
+use Rattle.control_worker.proofs.ShownLemmas.{StaysShown}
 use Rattle.control_worker.specs.Adding.{StartsBy}
 
-module _ (t : ℕ) (m0 m m2 : Mine) (a : AdmitBarrier) (same : m ≡ m0)
+module _ {t : ℕ} {m0 m : Mine} (m2 : Mine) (a : AdmitBarrier) (same : m ≡ m0)
     (ok : (r : ℕ) (turn : List OwnCall) (o : OwnCall) → HasWhole t (whole.Barrier r) turn o m → AdmitsBarrier r turn o a m m2) where
   told : (r : ℕ) (turn : List OwnCall) (o : OwnCall) → HasWhole t (whole.Barrier r) turn o m0 → AdmitsBarrier r turn o a m0 m2
   told = subst (λ (x : Mine). (r : ℕ) (turn : List OwnCall) (o : OwnCall) → HasWhole t (whole.Barrier r) turn o x
@@ -29,25 +29,28 @@ module _ (t : ℕ) (m0 m m2 : Mine) (a : AdmitBarrier) (same : m ≡ m0)
       let x = subst (λ b. AdmitsBarrier r turn o b m0 m2) e (told r turn o h) in
       record { why = x.0; answers = x.1; right = x.2 }
 
-  pub waits : (n : ℕ) → a ≡ barrier.After n → ((r : ℕ) × IsWhole false t (whole.Barrier r) m0) → m2 ≡ m0
-  waits n e w = subst (λ b. AdmitsBarrier w.0 w.1.0 w.1.1 b m0 m2) e (told w.0 w.1.0 w.1.1 w.1.2)
+  pub waits : (n : ℕ) → a ≡ barrier.After n → ((r : ℕ) × IsWhole false t (whole.Barrier r) m0) → m2 ≡ m
+  waits n e w = subst (λ b. AdmitsBarrier w.0 w.1.0 w.1.1 b m m2) e
+      (ok w.0 w.1.0 w.1.1 (subst (HasWhole t (whole.Barrier w.0) w.1.0 w.1.1) (sym same) w.1.2))
 
-  pub admits_shown : ((r : ℕ) × IsWhole false t (whole.Barrier r) m0) → KeepsIdle m0 m2
-  admits_shown w = idle w.0 w.1.0 w.1.1 w.1.2 a (told w.0 w.1.0 w.1.1 w.1.2)
+  pub admits_stays : ((r : ℕ) × IsWhole false t (whole.Barrier r) m0) → StaysShown m m2
+  admits_stays w =
+      let h : HasWhole t (whole.Barrier w.0) w.1.0 w.1.1 m = subst (HasWhole t (whole.Barrier w.0) w.1.0 w.1.1) (sym same) w.1.2 in
+      stays w.0 w.1.0 w.1.1 m h a (ok w.0 w.1.0 w.1.1 h)
     where
-      idle : (r : ℕ) (turn : List OwnCall) (o : OwnCall) → HasWhole t (whole.Barrier r) turn o m0 → (x : AdmitBarrier)
-          → AdmitsBarrier r turn o x m0 m2 → KeepsIdle m0 m2
-      idle r turn o h (barrier.Go added) s = admitted_idle t (whole.Barrier r) turn o admit.Go m0 m2 h s.starts
-      idle r turn o h (barrier.After n) s = admitted_idle t (whole.Barrier r) turn o (admit.After n) m0 m2 h s
-      idle r turn o h barrier.Never s = admitted_idle t (whole.Barrier r) turn o admit.Never m0 m2 h s
-      idle r turn o h barrier.Refused s = admitted_idle t (whole.Barrier r) turn o (admit.Refused s.0 0) m0 m2 h (s.1, s.2)
+      stays : (r : ℕ) (turn : List OwnCall) (o : OwnCall) (b : Mine) → HasWhole t (whole.Barrier r) turn o b → (x : AdmitBarrier)
+          → AdmitsBarrier r turn o x b m2 → StaysShown b m2
+      stays r turn o b h (barrier.Go added) s = admitted_stays t (whole.Barrier r) turn o admit.Go b m2 h s.starts
+      stays r turn o b h (barrier.After n) s = admitted_stays t (whole.Barrier r) turn o (admit.After n) b m2 h s
+      stays r turn o b h barrier.Never s = admitted_stays t (whole.Barrier r) turn o admit.Never b m2 h s
+      stays r turn o b h barrier.Refused s = admitted_stays t (whole.Barrier r) turn o (admit.Refused s.0 0) b m2 h (s.1, s.2)
 
-pub begins : (t : ℕ) (m0 m : Mine) (a : AdmitBarrier) → m ≡ m0 → (added : Added) → a ≡ barrier.Go added
+pub begins : {t : ℕ} {m0 m : Mine} (a : AdmitBarrier) → m ≡ m0 → (added : Added) → a ≡ barrier.Go added
     → (begun : ℕ → ℕ → Type 0)
     → ((r : ℕ) (turn : List OwnCall) (o : OwnCall) → HasWhole t (whole.Barrier r) turn o m → IfBegun a r m.replicas begun)
     → (r : ℕ) (turn : List OwnCall) (o : OwnCall) → HasWhole t (whole.Barrier r) turn o m0
     → IsFromOther added.source r m0.replicas begun
-begins t m0 m a same added e begun tells r turn o h =
+begins {t = t} {m = m} a same added e begun tells r turn o h =
     subst (λ (x : Mine). IsFromOther added.source r x.replicas begun) same
     (subst (λ b. IfBegun b r m.replicas begun) e (tells r turn o (subst (HasWhole t (whole.Barrier r) turn o) (sym same) h)))
 
@@ -65,9 +68,9 @@ pub refused_by : (s : Option Added) (r : ℕ) (turn : List OwnCall) (o : OwnCall
     → StartsBy s r turn o a b → RefusedWhole o a b
 refused_by s r turn o a b e h = subst (λ x. StartsBy x r turn o a b) e h
 
-pub two_lines : (count source r : ℕ) (a b : Mine) (begun : ℕ → ℕ → Type 0) → b.replicas ≡ a.replicas → count ≡ a.replicas
-    → IsFromOther source r b.replicas begun → (source < count) × (r < count) × (source ≢ r)
-two_lines count source r a b begun same is h = (
+pub two_lines : (count source r before now : ℕ) (begun : ℕ → ℕ → Type 0) → now ≡ before → count ≡ before
+    → IsFromOther source r now begun → (source < count) × (r < count) × (source ≢ r)
+two_lines count source r before now begun same is h = (
   subst (λ n. source < n) (same ∙ sym is) h.from,
   subst (λ n. r < n) (same ∙ sym is) h.to,
   h.apart,

@@ -1,5 +1,5 @@
 -- A command from its call to its answer.
-use Rattle.std.proofs.Common.{◌≡◌, ℕ, Bool, true, false, List, [], ◌∷◌, Option, IfSome, Result, Ok, Err, OnOk, OnErr}
+use Rattle.std.proofs.Common.{◌≡◌, ℕ, Bool, true, false, List, [], ◌∷◌, IfSome, Result, Ok, Err, OnOk, OnErr}
 use Rattle.std.proofs.Common.{subst, sym, refl, ap, ◌∙◌}
 use Rattle.volume_model.specs.declared.call.Call.TheVariants as call
 use Rattle.volume_model.specs.declared.command.Command.{Command}
@@ -12,32 +12,12 @@ use Rattle.stream_steps.specs.Mine.{Mine, OwnCall, with_running, log_length}
 use Rattle.stream_steps.specs.Steps.{EnrolsAt}
 use Rattle.stream_steps.specs.Maint.{IsMaint, IsNoAdd, HasTurn, AwaitsTurn, TurnsTo, HasWhole, EnrolsWhole}
 use Rattle.stream_steps.specs.Maint.{EnrolsUnder, StartsWhole, StartsAs}
-use Rattle.client_worker.specs.Serving.{IsShown}
-use Rattle.client_worker.specs.Ends.{KeepsShown}
 use Rattle.client_worker.proofs.Going.{one_of}
-use Rattle.client_worker.proofs.Shown.{shown_same}
 use Rattle.control_worker.specs.Serving.{GrewByCommand}
 use Rattle.control_worker.specs.Whole.{IsWhole, IsNoPart, StartsOr, EndsBehind, AnswersCall, TurnBegins}
 use Rattle.control_worker.proofs.AnswerLemmas.{grew_call, refused_call, started_call}
 use Rattle.control_worker.proofs.PartLemmas.{started_whole, starts_plainly}
-use Rattle.control_worker.proofs.ShownLemmas.{idle_of}
-
--- ---- none open, and one open
-
-pub shown_open : (os : List OwnCall) (a b : Mine) → a.running ≡ [] → b ≡ with_running a os → KeepsShown a (with_running b [])
-shown_open os a b idle e = shown_same a (with_running b []) (ap (λ (m : Mine). with_running m []) e ∙ sym (idle_of a idle))
-
-pub shown_closed : (a : Mine) (counts : List ℕ) (carried : List (Option (List (List ℕ)))) → a.running ≡ []
-    → IsShown (with_running a []) counts carried → IsShown a counts carried
-shown_closed a counts carried idle h = subst (λ (m : Mine). IsShown m counts carried) (sym (idle_of a idle)) h
-
-pub grew_closed : (c : Command) (a b : Mine) → GrewByCommand c a b → b.running ≡ []
-grew_closed c a b g = ap (λ (m : Mine). m.running) g.is
-
-pub done_closed : {E : Type 0} (res : Result (Unit {0}) E) (c : Command) (a b : Mine) → a.running ≡ []
-    → OnOk res (GrewByCommand c a b) → OnErr res (b ≡ a) → b.running ≡ []
-done_closed (Ok u) c a b idle ok err = grew_closed c a b ok
-done_closed (Err e) c a b idle ok err = ap (λ (m : Mine). m.running) err ∙ idle
+use Rattle.control_worker.proofs.ShownLemmas.{StaysShown, stays_same, stays_running, idle_of}
 
 -- ---- enrolled
 
@@ -108,18 +88,29 @@ with_turn o = record o { started = true }
 pub has_turn : (t : ℕ) (c : Command) (o : OwnCall) (a b : Mine) → AwaitsTurn t c o a → TurnBegins o a b → HasTurn t c (with_turn o) b
 has_turn t c o a b w e = record { is = ap (λ (m : Mine). m.running) e; number = w.number; call = w.call; wants = w.wants; started = refl }
 
-pub turn_begins : (t : ℕ) (m0 m m2 : Mine) (x : MayStart) → m ≡ m0 → x ≡ may.Yes
-    → ((c : Command) (o : OwnCall) → AwaitsTurn t c o m → TurnsTo o x m m2) → (c : Command) (o : OwnCall)
-    → AwaitsTurn t c o m0 → TurnBegins o m0 m2
-turn_begins t m0 m m2 x same is ok c o w =
-    subst (λ y. TurnsTo o y m0 m2) is
-    (subst (λ (z : Mine). (c : Command) (o : OwnCall) → AwaitsTurn t c o z → TurnsTo o x z m2) same ok c o w)
+module _ {t : ℕ} {m0 m : Mine} (m2 : Mine) (x : MayStart) (same : m ≡ m0)
+    (ok : (c : Command) (o : OwnCall) → AwaitsTurn t c o m → TurnsTo o x m m2) where
+  pub turn_begins : x ≡ may.Yes → (c : Command) (o : OwnCall) → AwaitsTurn t c o m0 → TurnBegins o m0 m2
+  turn_begins is c o w =
+      subst (λ y. TurnsTo o y m0 m2) is
+      (subst (λ (z : Mine). (c : Command) (o : OwnCall) → AwaitsTurn t c o z → TurnsTo o x z m2) same ok c o w)
 
-pub turn_waits : (t : ℕ) (m0 m m2 : Mine) (x : MayStart) → m ≡ m0 → (x ≡ may.Yes → ⊥)
-    → ((c : Command) (o : OwnCall) → AwaitsTurn t c o m → TurnsTo o x m m2)
-    → ((c : Command) × (o : OwnCall) × AwaitsTurn t c o m0) → m2 ≡ m0
-turn_waits t m0 m m2 may.Yes same other ok w = absurd (other refl)
-turn_waits t m0 m m2 (may.After n) same other ok w = ok w.0 w.1 (subst (AwaitsTurn t w.0 w.1) (sym same) w.2) ∙ same
+  turned : ((c : Command) × (o : OwnCall) × AwaitsTurn t c o m0) → (o : OwnCall) × TurnsTo o x m m2
+  turned w = (w.1, ok w.0 w.1 (subst (AwaitsTurn t w.0 w.1) (sym same) w.2))
+
+  pub turn_waits : (x ≡ may.Yes → ⊥) → ((c : Command) × (o : OwnCall) × AwaitsTurn t c o m0) → m2 ≡ m
+  turn_waits other w = let e = turned w in waits e.0 x other e.1
+    where
+      waits : (o : OwnCall) (y : MayStart) → (y ≡ may.Yes → ⊥) → TurnsTo o y m m2 → m2 ≡ m
+      waits o may.Yes not e = absurd (not refl)
+      waits o (may.After n) not e = e
+
+  pub turn_stays : ((c : Command) × (o : OwnCall) × AwaitsTurn t c o m0) → StaysShown m m2
+  turn_stays w = let e = turned w in stays e.0 x e.1
+    where
+      stays : (o : OwnCall) (y : MayStart) → TurnsTo o y m m2 → StaysShown m m2
+      stays o may.Yes e = stays_running (with_turn o ∷ []) m m2 e
+      stays o (may.After n) e = stays_same m m2 e
 
 pub turn_grew : {E : Type 0} (res : Result (Unit {0}) E) (t n : ℕ) (op : WholeOp) (part : IsNoPart op) (a b c d f : Mine)
     → (e : EnrolsAt t (call.Command (command_of op)) a b) → TurnBegins e.own b c → EnrolsUnder n op (with_turn e.own) c d

@@ -20,6 +20,8 @@ use Rattle.stream_steps.specs.Mine.{Mine, OwnCall, with_running}
 use Rattle.stream_steps.specs.Add as step
 use Rattle.stream_steps.specs.Add.{HasAdd}
 use Rattle.client_worker.specs.Serving.{IsShown}
+use Rattle.client_worker.specs.declared.channel.Channel.{Channel}
+use Rattle.client_worker.specs.Working.{Work, IsServing}
 use Rattle.control_worker.specs.Whole.{GoesOn}
 use Rattle.std.proofs.lemmas.List.{length-map, map-set, get_or-set_other, get_or-set_same}
 use Rattle.stream_steps.specs.Steps.{FallsTo}
@@ -218,13 +220,21 @@ count_here count xs i x within =
     let low : i < length (map count xs) = omega (arith, within, length-map xs count) in
     ap (λ l. get_or l i 0) (map-set count xs i x) ∙ get_or-set_same (map count xs) i (count x) 0 low
 
-pub shown_moved : (a b : Mine) (counts counts2 : List ℕ) (carried carried2 : List (Option (List (List ℕ)))) → b ≡ a
-    → counts2 ≡ counts → carried2 ≡ carried → IsShown (with_running a []) counts carried
-    → IsShown (with_running b []) counts2 carried2
-shown_moved a b counts counts2 carried carried2 e f k h =
-    subst (λ (x : List ℕ). IsShown (with_running b []) x carried2) (sym f)
-    (subst (λ (x : List (Option (List (List ℕ)))). IsShown (with_running b []) counts x) (sym k)
-    (shown_still a b counts carried e h))
+-- ---- what holds behind it
+
+-- the next step can be taken again
+pub serving_on : {C L : Type 0} (can : C → Type 0) (mine : C → Mine) (count : L → ℕ)
+    (carried : L → Option (List (List ℕ))) (w : Work C L) (steps : C) (xs : List (Channel L))
+    → IsServing can (λ s. with_running (mine s) []) count carried w → can steps → length xs ≡ length w.channels
+    → GoesOn (mine w.steps) (mine steps)
+    → IsShown (with_running (mine steps) []) (map (λ c. count c.line) xs) (map (λ c. carried c.line) xs)
+    → IsServing can (λ s. with_running (mine s) []) count carried (record { steps = steps; channels = xs })
+serving_on can mine count carried w steps xs h ready long g shown = record {
+  ready = ready;
+  few = subst (λ n. n ≤ 8) (sym long) h.few;
+  lines = long ∙ h.lines ∙ sym (ap (λ (m : Mine). m.replicas) g.is);
+  shown = shown;
+}
 
 -- ---- how it ends
 

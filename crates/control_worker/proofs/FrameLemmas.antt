@@ -42,9 +42,8 @@ pair_asks word first second before request asks long few_word few_first few_seco
     let all : length request ≡ length before + length (codes " " ++ second) = ap length made ∙ length-append before (codes " " ++ second) in
     let count : length request ≡ length before + (1 + length second) = omega (arith, all, length-append (codes " ") second) in
     record {
-      header = omega (arith, count, asks.header);
-      few = omega (arith, count, long, few_word, few_first, few_second);
-      tells = ap (drop 26) made ∙ drop-append-le 26 before (codes " " ++ second) asks.header
+      is = record { header = omega (arith, count, asks.is.header); few = omega (arith, count, long, few_word, few_first, few_second) };
+      tells = ap (drop 26) made ∙ drop-append-le 26 before (codes " " ++ second) asks.is.header
           ∙ ap (λ t. t ++ (codes " " ++ second)) asks.tells
           ∙ append_assoc word first (codes " " ++ second);
     }

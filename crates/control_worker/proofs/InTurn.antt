@@ -1,30 +1,49 @@
 -- A command is answered, and then the next.
 use Rattle.std.proofs.Common.{◌≡◌, ℕ, zero, suc, arith, inl, ◌+◌, ◌<◌, List, [], ◌∷◌, ◌++◌, length, take, drop}
-use Rattle.std.proofs.Common.{Option, Result, Ok, Err, OnErr, subst, sym, refl, ap, ◌∙◌, append_assoc, append-nil}
+use Rattle.std.proofs.Common.{Option, IfSome, Result, Ok, Err, OnOk, OnErr, subst, sym, refl, ap, ◌∙◌, append_assoc, append-nil}
 use Rattle.std.specs.Prelude.{All}
 use Rattle.std.proofs.lemmas.List.{take_more, take-append-drop}
 use Rattle.std.proofs.Math.ListN.{get_or}
 use Rattle.volume_model.specs.declared.command.Command.{Command}
 use Rattle.volume_model.specs.declared.entry.Entry.{Entry}
-use Rattle.stream_steps.specs.Mine.{Mine, Log, with_entries, with_running, longer}
+use Rattle.volume_model.specs.declared.call.Call.TheVariants as call
+use Rattle.stream_steps.specs.Mine.{Mine, OwnCall, Log, with_entries, with_running, longer, log_length}
+use Rattle.stream_steps.specs.Steps.{EnrolsAt}
+use Rattle.stream_steps.specs.Maint.{IsMaint, AwaitsTurn, HasTurn}
 use Rattle.stream_steps.proofs.MineLemmas.{entries_none, entries_twice, longer_none, longer_twice}
 use Rattle.control_worker.specs.OwnAnswers.{answers_in}
 use Rattle.control_worker.specs.Purges.{MayComeBefore}
 use Rattle.control_worker.specs.Serving.{Commands, AreCommanded, GrewByCommand, GaveUp, EndsUndone, LeftUndone}
 use Rattle.control_worker.specs.Serving.{IsFirstLeft, Commanded, CommandedSome}
+use Rattle.control_worker.specs.Whole.{TurnBegins}
+use Rattle.control_worker.proofs.CommandLemmas.{awaits, has_turn, with_turn}
 use Rattle.control_worker.proofs.Goes.{none_come}
 use Rattle.control_worker.proofs.OwnAnswers.{has_both}
 
-pub commanded_none : (m : Mine) → m.running ≡ [] → Commanded [] m m
-commanded_none m idle = record { own = []; all = []; is = ap (with_running m) idle ∙ sym (entries_none m []); same = refl; done = refl }
+-- ---- the turn
 
--- none is open behind them
-pub commanded_idle : (cs : List Command) (a b : Mine) → Commanded cs a b → b.running ≡ []
-commanded_idle cs a b g = ap (λ (m : Mine). m.running) g.is
+-- the command has the turn, and no other call is open
+pub record TakesTurn (t : ℕ) (c : Command) (m m2 : Mine) : Type 0 where
+  pub own : OwnCall
+  pub is : m2 ≡ with_running m (own ∷ [])
+  pub call : own.call ≡ call.Command c
+  pub saw : IfSome (log_length m) (λ place. own.saw ≡ place)
+  pub has : HasTurn t c own m2
 
--- there are as many replicas as before
-pub commanded_replicas : (cs : List Command) (a b : Mine) → Commanded cs a b → b.replicas ≡ a.replicas
-commanded_replicas cs a b g = ap (λ (m : Mine). m.replicas) g.is
+pub takes_turn : (t : ℕ) (c : Command) → IsMaint c → (a b d : Mine) → EnrolsAt t (call.Command c) a b
+    → ((c : Command) (o : OwnCall) → AwaitsTurn t c o b → TurnBegins o b d) → TakesTurn t c a d
+takes_turn t c wants a b d e begins =
+    let w = awaits t c wants a b e in
+    let begin = begins c e.own w in
+    record {
+      own = with_turn e.own;
+      is = begin ∙ ap (λ (m : Mine). with_running m (with_turn e.own ∷ [])) e.is;
+      call = e.call;
+      saw = e.saw;
+      has = has_turn t c e.own b d w begin;
+    }
+
+-- ---- the answers
 
 -- a command behind others
 commanded_push : (stream : ℕ) (log : Option Log) (cs : List Command) (c : Command) (es fs : List Entry)
@@ -129,3 +148,9 @@ commanded_stopped cs m idle = record {
   more = none_come m.stream;
   next = none_left m.stream (longer m.log []) cs;
 }
+
+-- none is open behind those that were answered
+pub none_open : {T E : Type 0} (res : Result T E) (cs : List Command) (a b : Mine) → OnOk res (Commanded cs a b)
+    → OnErr res (CommandedSome cs a b) → b.running ≡ []
+none_open (Ok x) cs a b ok err = ap (λ (m : Mine). m.running) ok.is
+none_open (Err e) cs a b ok err = ap (λ (m : Mine). m.running) err.is

@@ -1,6 +1,7 @@
 pub mod OwnAnswers
 pub mod Goes
 pub mod ShownLemmas
+pub mod CarrierLemmas
 pub mod PartLemmas
 pub mod FrameLemmas
 pub mod AnswerLemmas

@@ -21,17 +21,16 @@ use Rattle.step_answers.specs.declared.answers.AdmitWhole.{AdmitWhole}
 use Rattle.step_answers.specs.declared.answers.AdmitWhole.TheVariants as admit
 use Rattle.outer_traits.specs.Lines.{TellsMore}
 use Rattle.stream_steps.specs.Mine.{Mine, OwnCall, entries_in, with_running, answer_placed}
-use Rattle.stream_steps.specs.Maint.{HasWhole, AnswersWhole, StartsWhole, StartsAs, AdmitsWhole, PartsTo, AcksWhole}
+use Rattle.stream_steps.specs.Maint.{HasWhole, AnswersWhole, StartsWhole, StartsAs, AdmitsWhole}
 use Rattle.stream_steps.specs.Maint.{AgainstPart, AgainstAckWhole, WholeEnds}
 use Rattle.client_worker.specs.Exchanges.{told_in, HasExchange}
 use Rattle.client_worker.specs.Asking.{TellOn, TellsFrame}
-use Rattle.client_worker.specs.Serving.{IsShown}
 use Rattle.client_worker.proofs.Told.{exchange-more, exchange-now, still}
 use Rattle.control_worker.specs.Frames.{part_request, part_reply, ask_request, done_reply, HasAsked, HasPartAsked, IsPartText}
 use Rattle.control_worker.specs.Whole.{Goes, GoesOn, OwesNoMore, OwesNone, AwaitsNone, KeepsWhole, IsWhole, AreAsked}
-use Rattle.control_worker.specs.Whole.{IsAskedLast, IsNoPart, WholeShown, RefusedWhole, EndsBehind}
+use Rattle.control_worker.specs.Whole.{IsAskedLast, IsNoPart, PartsShown, RefusedWhole, EndsBehind}
 use Rattle.control_worker.proofs.Goes.{goes_running, goes_to, goes_same, goes_then}
-use Rattle.control_worker.proofs.ShownLemmas.{KeepsIdle, idle_of, idle_same, idle_running, idle_then, idle_others, idle_answer}
+use Rattle.control_worker.proofs.ShownLemmas.{StaysShown, stays_same, stays_running, stays_others, stays_answer}
 
 -- ---- the operation that there is
 
@@ -46,17 +45,9 @@ last-push d x (y ∷ ys) = last-push y x ys
 pub one_end : (xs ys : List OwnCall) (x y : OwnCall) → xs ++ x ∷ [] ≡ ys ++ y ∷ [] → x ≡ y
 one_end xs ys x y e = sym (last-push x x xs) ∙ ap (last_or x) e ∙ last-push x y ys
 
-some_same : (x y : WholeOp) → Some x ≡ Some y → x ≡ y
-some_same x y e = cc
-
 pub whole_call : (t : ℕ) (op op2 : WholeOp) (turn turn2 : List OwnCall) (o o2 : OwnCall) (m : Mine) → HasWhole t op turn o m
     → HasWhole t op2 turn2 o2 m → o ≡ o2
 whole_call t op op2 turn turn2 o o2 m h k = one_end turn turn2 o o2 (sym h.is ∙ k.is)
-
-pub whole_op : (t : ℕ) (op op2 : WholeOp) (turn turn2 : List OwnCall) (o o2 : OwnCall) (m : Mine) → HasWhole t op turn o m
-    → HasWhole t op2 turn2 o2 m → op ≡ op2
-whole_op t op op2 turn turn2 o o2 m h k =
-    some_same op op2 (sym h.does ∙ ap (λ (x : OwnCall). x.op) (whole_call t op op2 turn turn2 o o2 m h k) ∙ k.does)
 
 pub whole_after : (t : ℕ) (op : WholeOp) (turn : List OwnCall) (o : OwnCall) (parts : List Part) (a b : Mine)
     → HasWhole t op turn o a → Goes (turn ++ record o { parts = parts } ∷ []) a b
@@ -91,10 +82,10 @@ whole_kept t s op a b k w =
     let x = k op w.0 w.1 w.2 in
     (w.0, record w.1 { parts = x.0 }, whole_after t op w.0 w.1 x.0 a b w.2 x.2, w.3)
 
-not_taken : Taken ≢ Owed
+pub not_taken : Taken ≢ Owed
 not_taken e = cc
 
-not_acked : Acked ≢ Owed
+pub not_acked : Acked ≢ Owed
 not_acked e = cc
 
 -- one that has another part now owes none
@@ -105,27 +96,35 @@ owed_before (x ∷ xs) zero p other (suc q) e = e
 owed_before (x ∷ xs) (suc r) p other zero e = e
 owed_before (x ∷ xs) (suc r) p other (suc q) e = owed_before xs r p other q e
 
-pub keeps_parts : {E : Type 0} (res : Result (Unit {0}) E) (t r : ℕ) (a b : Mine)
-    → OnOk res ((op : WholeOp) (turn : List OwnCall) (o : OwnCall) → HasWhole t op turn o a → PartsTo turn o r a b)
-    → OnErr res (b ≡ a) → KeepsWhole t a b
-keeps_parts (Ok u) t r a b ok err =
-    λ op turn o h. (
-      set o.parts r Taken,
-      owed_before o.parts r Taken not_taken,
-      goes_to (turn ++ record o { parts = set o.parts r Taken } ∷ []) a b (ok op turn o h),
-    )
-keeps_parts (Err e) t r a b ok err = keeps_same t a b err
+-- a replica has another part now, or all is as it was
+abbrev pub IfSet : {E : Type 0} → Result (Unit {0}) E → Part → ℕ → ℕ → Mine → Mine → Type 0
+IfSet res p t r a b = OnOk res ((op : WholeOp) (turn : List OwnCall) (o : OwnCall) → HasWhole t op turn o a
+    → b ≡ with_running a (turn ++ record o { parts = set o.parts r p } ∷ []))
 
-pub keeps_acks : {E : Type 0} (res : Result (Unit {0}) E) (t r : ℕ) (a b : Mine)
-    → OnOk res ((op : WholeOp) (turn : List OwnCall) (o : OwnCall) → HasWhole t op turn o a → AcksWhole turn o r a b)
+-- with the other part it is there still
+set_whole : (p : Part) (t r : ℕ) (op : WholeOp) (a b : Mine) (w : IsWhole true t op a)
+    → ((op : WholeOp) (turn : List OwnCall) (o : OwnCall) → HasWhole t op turn o a
+    → b ≡ with_running a (turn ++ record o { parts = set o.parts r p } ∷ []))
+    → HasWhole t op w.0 (record w.1 { parts = set w.1.parts r p }) b
+set_whole p t r op a b w ok =
+    let ps = set w.1.parts r p in
+    whole_after t op w.0 w.1 ps a b w.2 (goes_to (w.0 ++ record w.1 { parts = ps } ∷ []) a b (ok op w.0 w.1 w.2))
+
+pub keeps_set : {E : Type 0} (res : Result (Unit {0}) E) (p : Part) → p ≢ Owed → (t r : ℕ) (a b : Mine) → IfSet res p t r a b
     → OnErr res (b ≡ a) → KeepsWhole t a b
-keeps_acks (Ok u) t r a b ok err =
+keeps_set (Ok u) p other t r a b ok err =
     λ op turn o h. (
-      set o.parts r Acked,
-      owed_before o.parts r Acked not_acked,
-      goes_to (turn ++ record o { parts = set o.parts r Acked } ∷ []) a b (ok op turn o h),
+      set o.parts r p,
+      owed_before o.parts r p other,
+      goes_to (turn ++ record o { parts = set o.parts r p } ∷ []) a b (ok op turn o h),
     )
-keeps_acks (Err e) t r a b ok err = keeps_same t a b err
+keeps_set (Err e) p other t r a b ok err = keeps_same t a b err
+
+pub stays_set : {E : Type 0} (res : Result (Unit {0}) E) (p : Part) (t r : ℕ) (op : WholeOp) (a b : Mine) → IsWhole true t op a
+    → IfSet res p t r a b → OnErr res (b ≡ a) → StaysShown a b
+stays_set (Ok u) p t r op a b w ok err =
+    stays_running (w.0 ++ record w.1 { parts = set w.1.parts r p } ∷ []) a b (ok op w.0 w.1 w.2)
+stays_set (Err e) p t r op a b w ok err = stays_same a b err
 
 -- ---- who owes its part
 
@@ -156,13 +155,10 @@ part_is (x ∷ xs) (suc r) p other there apart e = part_is xs r p other there ap
 
 -- it took its part
 pub part_taken : (res : Result (Unit {0}) NotThis) → is_err res ≡ false → (t r : ℕ) (op : WholeOp) (a b : Mine) → IsWhole true t op a
-    → OnOk res ((op : WholeOp) (turn : List OwnCall) (o : OwnCall) → HasWhole t op turn o a → PartsTo turn o r a b) → OwesNone t op r b
+    → IfSet res Taken t r a b → OwesNone t op r b
 part_taken (Ok u) was t r op a b w ok =
-    let o = w.1 in
-    let ps = set o.parts r Taken in
-    owes_none_of t r op w.0 (record o { parts = ps }) b
-    (whole_after t op w.0 o ps a b w.2 (goes_to (w.0 ++ record o { parts = ps } ∷ []) a b (ok op w.0 o w.2)))
-    (part_is o.parts r Taken Owed there not_taken)
+    owes_none_of t r op w.0 (record w.1 { parts = set w.1.parts r Taken }) b (set_whole Taken t r op a b w ok)
+    (part_is w.1.parts r Taken Owed there not_taken)
   where
     there : Owed ≢ Apart
     there e = cc
@@ -170,7 +166,7 @@ part_taken (Err x) was t r op a b w ok = absurd cc
 
 -- or owed none, or has failed
 pub part_asked : (res : Result (Unit {0}) NotThis) (t r : ℕ) (op : WholeOp) (a b : Mine) (modes : List Mode) → IsWhole true t op a
-    → OnOk res ((op : WholeOp) (turn : List OwnCall) (o : OwnCall) → HasWhole t op turn o a → PartsTo turn o r a b)
+    → IfSet res Taken t r a b
     → IfErr res (λ why. (op : WholeOp) (turn : List OwnCall) (o : OwnCall) → HasWhole t op turn o a → AgainstPart modes o r why)
     → OnErr res (b ≡ a)
     → OwesNone t op r b ⊎ (mode_of modes r ≡ Failed)
@@ -194,15 +190,12 @@ not_untaken p un e = un (subst IsTaken (sym e) tt)
 
 -- it has acknowledged its part, or had not taken it
 pub part_replied : (res : Result (Unit {0}) NotThis) (t r : ℕ) (op : WholeOp) (a b : Mine) → IsWhole true t op a
-    → OnOk res ((op : WholeOp) (turn : List OwnCall) (o : OwnCall) → HasWhole t op turn o a → AcksWhole turn o r a b)
+    → IfSet res Acked t r a b
     → IfErr res (λ why. (op : WholeOp) (turn : List OwnCall) (o : OwnCall) → HasWhole t op turn o a → AgainstAckWhole o r why)
     → OnErr res (b ≡ a) → AwaitsNone t op r b
 part_replied (Ok u) t r op a b w ok why err =
-    let o = w.1 in
-    let ps = set o.parts r Acked in
-    awaits_none_of t r op w.0 (record o { parts = ps }) b
-    (whole_after t op w.0 o ps a b w.2 (goes_to (w.0 ++ record o { parts = ps } ∷ []) a b (ok op w.0 o w.2)))
-    (part_is o.parts r Acked Taken there other)
+    awaits_none_of t r op w.0 (record w.1 { parts = set w.1.parts r Acked }) b (set_whole Acked t r op a b w ok)
+    (part_is w.1.parts r Acked Taken there other)
   where
     there : Taken ≢ Apart
     there e = cc
@@ -234,14 +227,11 @@ acked_now (p ∷ ps) (suc r) zero e = inr e
 acked_now (p ∷ ps) (suc r) (suc q) e = elim (acked_now ps r q e) [ inl same ↦ inl (ap suc same) | inr was ↦ inr was ]
 
 -- what is shown of the one that there is
-pub whole_shown : (t : ℕ) (op : WholeOp) (turn : List OwnCall) (o : OwnCall) (m : Mine) (counts : List ℕ)
-    (carried : List (Option (List (List ℕ))))
-    → HasWhole t op turn o m → IsShown (with_running m []) counts carried → AreAsked (told_in carried) op o → WholeShown t m counts carried
-whole_shown t op turn o m counts carried h lines acked = record {
-  lines = lines;
-  acked = λ op2 turn2 o2 k.
-      subst (λ (x : WholeOp). AreAsked (told_in carried) x o2) (whole_op t op op2 turn turn2 o o2 m h k)
-      (subst (λ (x : OwnCall). AreAsked (told_in carried) op x) (whole_call t op op2 turn turn2 o o2 m h k) acked);
+pub parts_shown : (t : ℕ) (op : WholeOp) (turn : List OwnCall) (o : OwnCall) (m : Mine) (carried : List (Option (List (List ℕ))))
+    → HasWhole t op turn o m → o.started ≡ true → AreAsked (told_in carried) op o → PartsShown t op m carried
+parts_shown t op turn o m carried h is acked = record {
+  started = (turn, o, h, is);
+  acked = λ turn2 o2 k. subst (λ (x : OwnCall). AreAsked (told_in carried) op x) (whole_call t op op turn turn2 o o2 m h k) acked;
 }
 
 asked-more : (text : List ℕ) (xs ys : List (List ℕ)) → HasAsked (pos 0) text xs → HasAsked (pos 0) text (xs ++ ys)
@@ -255,49 +245,31 @@ asked-on : (before now : List (Option (List (List ℕ)))) (op : WholeOp) (o : Ow
 asked-on before now op o on h = λ r e. still (HasPartAsked op) (part-more op) (told_in before r) (told_in now r) (on r).0 (on r).1 (h r e)
 
 -- behind carries, with the lines that failed told
-pub shown_on : (t : ℕ) (a b : Mine) (counts now : List ℕ) (before carried : List (Option (List (List ℕ)))) → GoesOn a b
-    → TellOn before carried → WholeShown t a counts before → IsShown (with_running b []) now carried
-    → WholeShown t b now carried
-shown_on t a b counts now before carried g on h lines = record {
-  lines = lines;
-  acked = λ op turn o k. asked-on before carried op o on
-      (h.acked op turn o (record {
+pub shown_on : (t : ℕ) (op : WholeOp) (a b : Mine) (before carried : List (Option (List (List ℕ)))) → GoesOn a b
+    → TellOn before carried → PartsShown t op a before → PartsShown t op b carried
+shown_on t op a b before carried g on h = record {
+  started = whole_kept t true op a b (keeps_on t a b g) h.started;
+  acked = λ turn o k. asked-on before carried op o on
+      (h.acked turn o (record {
         is = sym (goes_running a.running a b g) ∙ k.is;
         number = k.number;
         call = k.call;
-        does =
-            k.does;
+        does = k.does;
       }));
 }
 
-pub shown_same : (t : ℕ) (a b : Mine) (counts : List ℕ) (carried : List (Option (List (List ℕ)))) → b ≡ a
-    → WholeShown t a counts carried → WholeShown t b counts carried
-shown_same t a b counts carried e h = subst (λ (m : Mine). WholeShown t m counts carried) (sym e) h
+shown_same : (t : ℕ) (op : WholeOp) (a b : Mine) (carried : List (Option (List (List ℕ)))) → b ≡ a
+    → PartsShown t op a carried → PartsShown t op b carried
+shown_same t op a b carried e h = subst (λ (m : Mine). PartsShown t op m carried) (sym e) h
 
-idle_lines : (os : List OwnCall) (a b : Mine) (counts : List ℕ) (carried : List (Option (List (List ℕ))))
-    → b ≡ with_running a os → IsShown (with_running a []) counts carried → IsShown (with_running b []) counts carried
-idle_lines os a b counts carried e h = idle_running os a b e counts carried h
-
--- before a carry: an exchange was begun, and the modes were looked at
-pub shown_seq : (t : ℕ) (a b : Mine) (counts counts2 : List ℕ) (carried carried2 : List (Option (List (List ℕ)))) → b ≡ a
-    → counts2 ≡ counts → carried2 ≡ carried → WholeShown t a counts carried → WholeShown t b counts2 carried2
-shown_seq t a b counts counts2 carried carried2 e f k h =
-    subst (λ (x : List ℕ). WholeShown t b x carried2) (sym f)
-    (subst (λ (x : List (Option (List (List ℕ)))). WholeShown t b counts x) (sym k)
-    (shown_same t a b counts carried e h))
-
-pub shown_parts : {E : Type 0} (res : Result (Unit {0}) E) (t r : ℕ) (op : WholeOp) (a b : Mine) (counts : List ℕ)
-    (carried : List (Option (List (List ℕ)))) → IsWhole true t op a
-    → OnOk res ((op : WholeOp) (turn : List OwnCall) (o : OwnCall) → HasWhole t op turn o a → PartsTo turn o r a b)
-    → OnErr res (b ≡ a) → WholeShown t a counts carried → WholeShown t b counts carried
-shown_parts (Ok u) t r op a b counts carried w ok err h =
-    let o = w.1 in
-    let e = ok op w.0 o w.2 in
-    let os = w.0 ++ record o { parts = set o.parts r Taken } ∷ [] in
-    whole_shown t op w.0 (record o { parts = set o.parts r Taken }) b counts carried
-    (whole_after t op w.0 o (set o.parts r Taken) a b w.2 (goes_to os a b e))
-    (idle_lines os a b counts carried e h.lines) (λ q was. h.acked op w.0 o w.2 q (acked_before o.parts r q was))
-shown_parts (Err x) t r op a b counts carried w ok err h = shown_same t a b counts carried err h
+pub shown_parts : {E : Type 0} (res : Result (Unit {0}) E) (t r : ℕ) (op : WholeOp) (a b : Mine)
+    (carried : List (Option (List (List ℕ)))) → IfSet res Taken t r a b → OnErr res (b ≡ a) → PartsShown t op a carried
+    → PartsShown t op b carried
+shown_parts (Ok u) t r op a b carried ok err h =
+    let w = h.started in
+    parts_shown t op w.0 (record w.1 { parts = set w.1.parts r Taken }) b carried (set_whole Taken t r op a b w ok) w.3
+    (λ q was. h.acked w.0 w.1 w.2 q (acked_before w.1.parts r q was))
+shown_parts (Err x) t r op a b carried ok err h = shown_same t op a b carried err h
 
 -- the request is told last, so that the reply makes the exchange
 asked_now : (seq : ℕ) (op : WholeOp) (s t : Option (List (List ℕ))) → IsAskedLast seq op s
@@ -314,23 +286,18 @@ asked_now seq op (Some before) (Some now) last h = (
   ),
 )
 
-pub shown_acks : {E : Type 0} (res : Result (Unit {0}) E) (t r seq : ℕ) (op : WholeOp) (a b : Mine) (counts : List ℕ)
-    (before carried : List (Option (List (List ℕ)))) (reply : List ℕ) → IsWhole true t op a
+pub shown_acks : {E : Type 0} (res : Result (Unit {0}) E) (t r seq : ℕ) (op : WholeOp) (a b : Mine)
+    (before carried : List (Option (List (List ℕ)))) (reply : List ℕ)
     → IsAskedLast seq op (told_in before r) → reply ≡ part_reply seq → TellsFrame before carried r reply
-    → OnOk res ((op : WholeOp) (turn : List OwnCall) (o : OwnCall) → HasWhole t op turn o a → AcksWhole turn o r a b)
-    → OnErr res (b ≡ a) → WholeShown t a counts carried → WholeShown t b counts carried
-shown_acks (Ok u) t r seq op a b counts before carried reply w last is tells ok err h =
-    let o = w.1 in
-    let e = ok op w.0 o w.2 in
-    let os = w.0 ++ record o { parts = set o.parts r Acked } ∷ [] in
+    → IfSet res Acked t r a b → OnErr res (b ≡ a) → PartsShown t op a carried → PartsShown t op b carried
+shown_acks (Ok u) t r seq op a b before carried reply last is tells ok err h =
+    let w = h.started in
     let here = asked_now seq op (told_in before r) (told_in carried r) last
     (subst (λ f. TellsMore (told_in before r) (told_in carried r) (f ∷ [])) is tells) in
-    whole_shown t op w.0 (record o { parts = set o.parts r Acked }) b counts carried
-    (whole_after t op w.0 o (set o.parts r Acked) a b w.2 (goes_to os a b e))
-    (idle_lines os a b counts carried e h.lines)
+    parts_shown t op w.0 (record w.1 { parts = set w.1.parts r Acked }) b carried (set_whole Acked t r op a b w ok) w.3
     (λ q now. ⊎_elim (λ (same : q ≡ r). subst (λ k. IfSome (told_in carried k) (HasPartAsked op)) (sym same) here)
-    (λ was. h.acked op w.0 o w.2 q was) (acked_now o.parts r q now))
-shown_acks (Err x) t r seq op a b counts before carried reply w last is tells ok err h = shown_same t a b counts carried err h
+    (λ was. h.acked w.0 w.1 w.2 q was) (acked_now w.1.parts r q now))
+shown_acks (Err x) t r seq op a b before carried reply last is tells ok err h = shown_same t op a b carried err h
 
 -- a request that came through is told last
 pub asked_last : (seq : ℕ) (op : WholeOp) (text request : List ℕ) (s t : Option (List (List ℕ))) → IsPartText op text
@@ -341,7 +308,7 @@ asked_last seq op text request (Some before) (Some now) is e h = (before, text, 
 
 -- ---- its start
 
-module _ (t : ℕ) (m0 m m2 : Mine) (a : AdmitWhole) (same : m ≡ m0)
+module _ {t : ℕ} {m0 m : Mine} (m2 : Mine) (a : AdmitWhole) (same : m ≡ m0)
     (ok : (op : WholeOp) (turn : List OwnCall) (o : OwnCall) → HasWhole t op turn o m → AdmitsWhole op turn o a m m2) where
   told : (op : WholeOp) (turn : List OwnCall) (o : OwnCall) → HasWhole t op turn o m0 → AdmitsWhole op turn o a m0 m2
   told = subst (λ (x : Mine). (op : WholeOp) (turn : List OwnCall) (o : OwnCall) → HasWhole t op turn o x
@@ -356,8 +323,9 @@ module _ (t : ℕ) (m0 m m2 : Mine) (a : AdmitWhole) (same : m ≡ m0)
       let r = subst (λ b. AdmitsWhole op turn o b m0 m2) e (told op turn o h) in
       record { why = why; answers = r.0; right = r.1 }
 
-  pub waits : (n : ℕ) → a ≡ admit.After n → ((op : WholeOp) × IsWhole false t op m0) → m2 ≡ m0
-  waits n e w = subst (λ b. AdmitsWhole w.0 w.1.0 w.1.1 b m0 m2) e (told w.0 w.1.0 w.1.1 w.1.2)
+  pub waits : (n : ℕ) → a ≡ admit.After n → ((op : WholeOp) × IsWhole false t op m0) → m2 ≡ m
+  waits n e w = subst (λ b. AdmitsWhole w.0 w.1.0 w.1.1 b m m2) e
+      (ok w.0 w.1.0 w.1.1 (subst (HasWhole t w.0 w.1.0 w.1.1) (sym same) w.1.2))
 
 -- the operation that has started
 pub started_whole : (t : ℕ) (op : WholeOp) (turn : List OwnCall) (o : OwnCall) (a b : Mine) → HasWhole t op turn o a
@@ -375,7 +343,7 @@ pub record Started (t : ℕ) (op : WholeOp) (turn : List OwnCall) (a b : Mine) :
   pub has : HasWhole t op turn own b
   pub started : own.started ≡ true
   pub none : (r : ℕ) → part_at own.parts r ≢ Acked
-  pub idle : KeepsIdle a b
+  pub stays : StaysShown a b
 
 plainly : (t : ℕ) (op : WholeOp) (turn : List OwnCall) (o : OwnCall) (a b : Mine) → HasWhole t op turn o a
     → StartsWhole turn o a b → Started t op turn a b
@@ -384,7 +352,7 @@ plainly t op turn o a b h s = record {
   has = started_whole t op turn o a b h s;
   started = ap (λ (x : OwnCall). x.started) s.same;
   none = s.none;
-  idle = idle_running (turn ++ s.own ∷ []) a b s.is;
+  stays = stays_running (turn ++ s.own ∷ []) a b s.is;
 }
 
 pub has_started : (t : ℕ) (op : WholeOp) (turn : List OwnCall) (o : OwnCall) (a b : Mine) → HasWhole t op turn o a
@@ -403,7 +371,7 @@ has_started t (whole.Barrier r) turn o a b h s = record {
   };
   started = ap (λ (x : OwnCall). x.started) s.same;
   none = s.none;
-  idle = idle_others (entry.Mark (mark.Added r s.source s.name) ∷ []) (turn ++ s.own ∷ []) a b s.is;
+  stays = stays_others (entry.Mark (mark.Added r s.source s.name) ∷ []) (turn ++ s.own ∷ []) a b s.is;
 }
 
 -- of an operation that is no part
@@ -415,72 +383,60 @@ starts_plainly (whole.Revert name) n turn o a b s = s
 starts_plainly (whole.Purge f) n turn o a b s = absurd n
 starts_plainly (whole.Barrier r) n turn o a b s = absurd n
 
-pub started_is : (t : ℕ) (op : WholeOp) (turn : List OwnCall) (o : OwnCall) (a b : Mine) → HasWhole t op turn o a
-    → StartsAs op turn o a b → IsWhole true t op b
-started_is t op turn o a b h s = let x = has_started t op turn o a b h s in (turn, x.own, x.has, x.started)
-
 -- ---- what lines show of its start and its end
 
-answered_idle : (op : WholeOp) (turn : List OwnCall) (o : OwnCall) (r : _) (t : ℕ) (a b : Mine) → HasWhole t op turn o a
-    → AnswersWhole o r a b → KeepsIdle a b
-answered_idle op turn o r t a b h s =
-    idle_then a b b (λ counts carried k. shown_idle b counts carried
-    (idle_answer (command_of op) s.modes s.answer (entries_in (answer_placed s.modes s.answer ∷ [])) a b s.is
-    (s.call ∙ h.call) counts carried k)) (idle_same b b refl)
-  where
-    closed : b.running ≡ []
-    closed = ap (λ (m : Mine). m.running) s.is
+answered_stays : (op : WholeOp) (turn : List OwnCall) (o : OwnCall) (r : _) (t : ℕ) (a b : Mine) → HasWhole t op turn o a
+    → AnswersWhole o r a b → StaysShown a b
+answered_stays op turn o r t a b h s =
+    stays_answer (command_of op) s.modes s.answer (entries_in (answer_placed s.modes s.answer ∷ [])) a b s.is (s.call ∙ h.call)
 
-    shown_idle : (m : Mine) (counts : List ℕ) (carried : List (Option (List (List ℕ)))) → IsShown b counts carried
-        → IsShown (with_running b []) counts carried
-    shown_idle m counts carried k = subst (λ (x : Mine). IsShown x counts carried) (idle_of b closed) k
+pub admitted_stays : (t : ℕ) (op : WholeOp) (turn : List OwnCall) (o : OwnCall) (x : AdmitWhole) (a b : Mine)
+    → HasWhole t op turn o a → AdmitsWhole op turn o x a b → StaysShown a b
+admitted_stays t op turn o admit.Go a b h s = (has_started t op turn o a b h s).stays
+admitted_stays t op turn o (admit.After n) a b h s = stays_same a b s
+admitted_stays t op turn o admit.Never a b h s = stays_same a b s
+admitted_stays t op turn o (admit.Refused why place) a b h s = answered_stays op turn o (reply.Refused why) t a b h s.0
 
-pub admitted_idle : (t : ℕ) (op : WholeOp) (turn : List OwnCall) (o : OwnCall) (x : AdmitWhole) (a b : Mine)
-    → HasWhole t op turn o a → AdmitsWhole op turn o x a b → KeepsIdle a b
-admitted_idle t op turn o admit.Go a b h s = (has_started t op turn o a b h s).idle
-admitted_idle t op turn o (admit.After n) a b h s = idle_same a b s
-admitted_idle t op turn o admit.Never a b h s = idle_same a b s
-admitted_idle t op turn o (admit.Refused why place) a b h s = answered_idle op turn o (reply.Refused why) t a b h s.0
-
-pub ended_idle : (t : ℕ) (op : WholeOp) (turn : List OwnCall) (o : OwnCall) (a b : Mine) → HasWhole t op turn o a
-    → WholeEnds op turn o a b → KeepsIdle a b
-ended_idle t (whole.Purge f) turn o a b h s = idle_others s.marks turn a b s.is
-ended_idle t (whole.Barrier r) turn o a b h s = idle_running turn a b s
-ended_idle t (whole.Snapshot name) turn o a b h s = answered_idle (whole.Snapshot name) turn o s.reply t a b h s.answers
-ended_idle t (whole.Remove name) turn o a b h s = answered_idle (whole.Remove name) turn o s.reply t a b h s.answers
-ended_idle t (whole.Revert name) turn o a b h s = answered_idle (whole.Revert name) turn o s.reply t a b h s.answers
+pub ended_stays : (t : ℕ) (op : WholeOp) (turn : List OwnCall) (o : OwnCall) (a b : Mine) → HasWhole t op turn o a
+    → WholeEnds op turn o a b → StaysShown a b
+ended_stays t (whole.Purge f) turn o a b h s = stays_others s.marks turn a b s.is
+ended_stays t (whole.Barrier r) turn o a b h s = stays_running turn a b s
+ended_stays t (whole.Snapshot name) turn o a b h s = answered_stays (whole.Snapshot name) turn o s.reply t a b h s.answers
+ended_stays t (whole.Remove name) turn o a b h s = answered_stays (whole.Remove name) turn o s.reply t a b h s.answers
+ended_stays t (whole.Revert name) turn o a b h s = answered_stays (whole.Revert name) turn o s.reply t a b h s.answers
 
 -- one that starts has been acknowledged by no replica
-pub starts_shown : (t : ℕ) (op : WholeOp) (turn : List OwnCall) (o : OwnCall) (a b : Mine) (counts : List ℕ)
-    (carried : List (Option (List (List ℕ)))) → HasWhole t op turn o a → StartsAs op turn o a b
-    → IsShown (with_running b []) counts carried → WholeShown t b counts carried
-starts_shown t op turn o a b counts carried h s lines =
+pub starts_shown : (t : ℕ) (op : WholeOp) (turn : List OwnCall) (o : OwnCall) (a b : Mine)
+    (carried : List (Option (List (List ℕ)))) → HasWhole t op turn o a → StartsAs op turn o a b → PartsShown t op b carried
+starts_shown t op turn o a b carried h s =
     let x = has_started t op turn o a b h s in
-    whole_shown t op turn x.own b counts carried x.has lines (λ r e. absurd (x.none r e))
+    parts_shown t op turn x.own b carried x.has x.started (λ r e. absurd (x.none r e))
 
 -- what asking for its start shows, behind rounds in which it had to wait
-pub admits_shown : (t : ℕ) (m0 m m2 : Mine) (a : AdmitWhole) → m ≡ m0
+pub admits_stays : {t : ℕ} {m0 m m2 : Mine} (a : AdmitWhole) → m ≡ m0
     → ((op : WholeOp) (turn : List OwnCall) (o : OwnCall) → HasWhole t op turn o m → AdmitsWhole op turn o a m m2)
-    → ((op : WholeOp) × IsWhole false t op m0) → KeepsIdle m0 m2
-admits_shown t m0 m m2 a same ok w =
+    → ((op : WholeOp) × IsWhole false t op m0) → StaysShown m m2
+admits_stays {t = t} {m = m} {m2 = m2} a same ok w =
     let h : HasWhole t w.0 w.1.0 w.1.1 m = subst (HasWhole t w.0 w.1.0 w.1.1) (sym same) w.1.2 in
-    subst (λ (x : Mine). KeepsIdle x m2) same (admitted_idle t w.0 w.1.0 w.1.1 a m m2 h (ok w.0 w.1.0 w.1.1 h))
+    admitted_stays t w.0 w.1.0 w.1.1 a m m2 h (ok w.0 w.1.0 w.1.1 h)
 
-pub waits_still : (t : ℕ) (s : Bool) (a b : Mine) → b ≡ a → ((op : WholeOp) × IsWhole s t op a) → (op : WholeOp) × IsWhole s t op b
-waits_still t s a b e w = subst (λ (x : Mine). (op : WholeOp) × IsWhole s t op x) (sym e) w
+pub waits_still : {t : ℕ} {s : Bool} {a b : Mine} → b ≡ a → ((op : WholeOp) × IsWhole s t op a) → (op : WholeOp) × IsWhole s t op b
+waits_still {t = t} {s = s} e w = subst (λ (x : Mine). (op : WholeOp) × IsWhole s t op x) (sym e) w
 
 -- the end, whose asking may have been refused before
-pub ends_still : (t : ℕ) (m0 m m2 : Mine) → m ≡ m0
+pub ends_still : {t : ℕ} {m0 m m2 : Mine} → m ≡ m0
     → ((op : WholeOp) (turn : List OwnCall) (o : OwnCall) → HasWhole t op turn o m → WholeEnds op turn o m m2)
     → (op : WholeOp) (turn : List OwnCall) (o : OwnCall) → HasWhole t op turn o m0 → WholeEnds op turn o m0 m2
-ends_still t m0 m m2 same ok =
+ends_still {t = t} {m2 = m2} same ok =
     subst (λ (x : Mine). (op : WholeOp) (turn : List OwnCall) (o : OwnCall) → HasWhole t op turn o x
     → WholeEnds op turn o x m2) same ok
 
-pub ends_shown : (t : ℕ) (m0 m m2 : Mine) → m ≡ m0
+pub ends_stays : {t : ℕ} {m0 m m2 : Mine} → m ≡ m0
     → ((op : WholeOp) (turn : List OwnCall) (o : OwnCall) → HasWhole t op turn o m → WholeEnds op turn o m m2)
-    → ((op : WholeOp) × IsWhole true t op m0) → KeepsIdle m0 m2
-ends_shown t m0 m m2 same ok w = ended_idle t w.0 w.1.0 w.1.1 m0 m2 w.1.2 (ends_still t m0 m m2 same ok w.0 w.1.0 w.1.1 w.1.2)
+    → ((op : WholeOp) × IsWhole true t op m0) → StaysShown m m2
+ends_stays {t = t} {m = m} {m2 = m2} same ok w =
+    let h : HasWhole t w.0 w.1.0 w.1.1 m = subst (HasWhole t w.0 w.1.0 w.1.1) (sym same) w.1.2 in
+    ended_stays t w.0 w.1.0 w.1.1 m m2 h (ok w.0 w.1.0 w.1.1 h)
 
 -- what stands of a step that was done
 pub ok_of : {A E P : Type 0} (res : Result A E) → is_ok res ≡ true → OnOk res P → P

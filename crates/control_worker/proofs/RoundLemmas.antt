@@ -5,7 +5,6 @@ use Rattle.std.proofs.Common.{subst, sym, refl, ap, ◌∙◌}
 use Rattle.std.specs.Prelude.{All}
 use Rattle.std.proofs.lemmas.Bool.{cases_eq}
 use Rattle.vol_units.specs.declared.size.TheConstants.{PAGE_BYTES}
-use Rattle.volume_model.specs.declared.call.Call.TheVariants as call
 use Rattle.volume_model.specs.declared.call.Refusal.TheVariants.{NoReplica}
 use Rattle.volume_model.specs.declared.call.Reply.{Reply}
 use Rattle.volume_model.specs.declared.call.Reply.TheVariants as reply
@@ -15,15 +14,13 @@ use Rattle.step_answers.specs.declared.whole_op.WholeOp.TheVariants as whole
 use Rattle.step_answers.specs.declared.answers.NextPart.{NextPart}
 use Rattle.step_answers.specs.declared.answers.NextPart.TheVariants as next
 use Rattle.stream_steps.specs.Mine.{Mine, OwnCall, Log, entries_in, with_entries, with_running, answer_placed}
-use Rattle.stream_steps.specs.Steps.{EnrolsAt}
-use Rattle.stream_steps.specs.Maint.{HasTurn, HasWhole, AnswersWhole, EnrolsUnder, StartsWhole, IsNext}
+use Rattle.stream_steps.specs.Maint.{HasTurn, AnswersWhole, EnrolsUnder, StartsWhole, IsNext}
 use Rattle.control_worker.specs.Purges.{MayComeBefore, IsPurgeReply, PurgesOn, PurgeEnds, PurgesWhole, GoesNext, RoundTo}
 use Rattle.control_worker.specs.Serving.{GrewByCommand, GaveUp}
-use Rattle.control_worker.specs.Whole.{Goes, GoesOn, RefusedWhole, EndsBehind, TurnBegins}
-use Rattle.control_worker.proofs.CommandLemmas.{enrolled_has, with_turn}
+use Rattle.control_worker.specs.Whole.{Goes, GoesOn, RefusedWhole, EndsBehind}
+use Rattle.control_worker.proofs.InTurn.{TakesTurn}
 use Rattle.control_worker.proofs.Goes.{goes_to, goes_then, goes_running}
-use Rattle.client_worker.specs.Serving.{IsShown}
-use Rattle.control_worker.proofs.ShownLemmas.{KeepsIdle, idle_of, idle_same, idle_answer}
+use Rattle.control_worker.proofs.ShownLemmas.{StaysShown, stays_same, stays_answer}
 use Rattle.control_worker.proofs.PurgeLemmas.{on_none, on_goes, on_part, on_then, ends_now, ends_refused, grew_purge}
 
 pub some_of : {A : Type 0} (x : Option A) (a : A) (P : A → Type 0) → x ≡ Some a → IfSome x P → P a
@@ -60,9 +57,6 @@ module _ (t : ℕ) (o : OwnCall) (a0 a : Mine) (f : FoldOrDrop) (h : HasTurn t c
     enrolled : Goes open_now a0 b
     enrolled = goes_then (o ∷ []) open_now a0 a b folded (goes_to open_now a b w.whole.is)
 
-    pub under_has : HasWhole n (whole.Purge f) (o ∷ []) w.whole.own b
-    under_has = enrolled_has n (whole.Purge f) (o ∷ []) a b w.whole
-
     -- it was taken back
     pub out_left : (c : Mine) → c ≡ with_running b (o ∷ []) → PurgesOn (o ∷ []) a0 c
     out_left c e = on_goes (o ∷ []) a0 c (goes_then open_now (o ∷ []) a0 b c enrolled (goes_to (o ∷ []) b c e))
@@ -81,11 +75,8 @@ module _ (t : ℕ) (o : OwnCall) (a0 a : Mine) (f : FoldOrDrop) (h : HasTurn t c
 
 -- ---- the answer
 
-none_open : (t : ℕ) (o : OwnCall) (a b : Mine) → HasTurn t command.Purge o a → b ≡ a → PurgesOn (o ∷ []) a b
+pub none_open : (t : ℕ) (o : OwnCall) (a b : Mine) → HasTurn t command.Purge o a → b ≡ a → PurgesOn (o ∷ []) a b
 none_open t o a b h e = on_none (o ∷ []) a b (e ∙ ap (with_running a) h.is)
-
-pub round_waits : (t : ℕ) (o : OwnCall) (a b : Mine) → HasTurn t command.Purge o a → b ≡ a → PurgesOn (o ∷ []) a b
-round_waits t o a b h e = none_open t o a b h e
 
 -- the end was asked for
 pub round_ends : {A E : Type 0} (res : Result A E) (t : ℕ) (o : OwnCall) (r : Reply) (a b c : Mine)
@@ -95,15 +86,12 @@ round_ends (Ok x) t o r a b c h e right ok err = ends_now o o r a b c e (ok o (s
 round_ends (Err x) t o r a b c h e right ok err = none_open t o a c h (err ∙ e)
 
 -- and what lines show is shown still
-pub round_shown : {A E : Type 0} (res : Result A E) (t : ℕ) (r : Reply) (a b c : Mine)
-    → ((o : OwnCall) × HasTurn t command.Purge o a) → b ≡ a
-    → OnOk res ((o : OwnCall) → HasTurn t command.Purge o b → AnswersWhole o r b c) → OnErr res (c ≡ b) → KeepsIdle a c
-round_shown (Ok x) t r a b c op e ok err = λ counts carried h.
-    let s = ok op.0 (subst (HasTurn t command.Purge op.0) (sym e) op.1) in
-    subst (λ (m : Mine). IsShown m counts carried) (idle_of c (ap (λ (m : Mine). m.running) s.is))
-    (idle_answer command.Purge s.modes s.answer (entries_in (answer_placed s.modes s.answer ∷ [])) b c s.is
-    (s.call ∙ op.1.call) counts carried (idle_same a b e counts carried h))
-round_shown (Err x) t r a b c op e ok err = idle_same a c (err ∙ e)
+pub round_stays : {A E : Type 0} (res : Result A E) (t : ℕ) (r : Reply) (b c : Mine) → ((o : OwnCall) × HasTurn t command.Purge o b)
+    → OnOk res ((o : OwnCall) → HasTurn t command.Purge o b → AnswersWhole o r b c) → OnErr res (c ≡ b) → StaysShown b c
+round_stays (Ok x) t r b c op ok err =
+    let s = ok op.0 op.1 in
+    stays_answer command.Purge s.modes s.answer (entries_in (answer_placed s.modes s.answer ∷ [])) b c s.is (s.call ∙ op.1.call)
+round_stays (Err x) t r b c op ok err = stays_same b c err
 
 -- what goes next says how it may end
 pub next_done : (log : Option Log) (x : NextPart) → x ≡ next.Nothing → IfSome log (IsNext x)
@@ -140,31 +128,21 @@ rounds_end t a b c f g o h = record { mid = b; on = f o h; ends = g o (on_turn t
 
 -- ---- from its call to its answer
 
-pub purge_grew : {E : Type 0} (res : Result (Unit {0}) E) (t : ℕ) (a b c d : Mine)
-    → (e : EnrolsAt t (call.Command command.Purge) a b) → TurnBegins e.own b c → HasTurn t command.Purge (with_turn e.own) c
+pub purge_grew : {E : Type 0} (res : Result (Unit {0}) E) (t : ℕ) (a c d : Mine) → TakesTurn t command.Purge a c
     → OnOk res ((o : OwnCall) → HasTurn t command.Purge o c → PurgesWhole o c d) → OnOk res (GrewByCommand command.Purge a d)
-purge_grew (Ok u) t a b c d e turn h done =
-    let o = with_turn e.own in
-    let s = done o h in
-    let since = on_none (o ∷ []) a c (turn ∙ ap (λ (m : Mine). with_running m (o ∷ [])) e.is) in
-    grew_purge o (o ∷ []) a s.mid d (on_then (o ∷ []) (o ∷ []) a c s.mid since s.on) s.ends e.call e.saw
-purge_grew (Err x) t a b c d e turn h done = tt
+purge_grew (Ok u) t a c d k done =
+    let s = done k.own k.has in
+    let os = k.own ∷ [] in
+    grew_purge k.own os a s.mid d (on_then os os a c s.mid (on_none os a c k.is) s.on) s.ends k.call k.saw
+purge_grew (Err x) t a c d k done = tt
 
-pub purge_left : {E : Type 0} (res : Result (Unit {0}) E) (t : ℕ) (a b c d : Mine)
-    → (e : EnrolsAt t (call.Command command.Purge) a b) → TurnBegins e.own b c
+pub purge_left : {E : Type 0} (res : Result (Unit {0}) E) (t : ℕ) (a c d : Mine) → TakesTurn t command.Purge a c
     → OnErr res (GaveUp c d) → OnErr res (GaveUp a d)
-purge_left (Ok u) t a b c d e turn left = tt
-purge_left (Err x) t a b c d e turn left =
-    let from : c ≡ with_running a (with_turn e.own ∷ []) = turn ∙ ap (λ (m : Mine). with_running m (with_turn e.own ∷ [])) e.is in
-    record {
-      own = left.own;
-      marks = left.marks;
-      is = left.is ∙ ap (λ (m : Mine). with_entries m left.own left.marks []) from;
-      same = left.same;
-      are = subst (λ n. All (MayComeBefore n) left.marks) (ap (λ (m : Mine). m.stream) from) left.are;
-    }
-
-pub purge_closed : {E : Type 0} (res : Result (Unit {0}) E) (a d : Mine) → OnOk res (GrewByCommand command.Purge a d)
-    → OnErr res (GaveUp a d) → d.running ≡ []
-purge_closed (Ok u) a d ok err = ap (λ (m : Mine). m.running) ok.is
-purge_closed (Err x) a d ok err = ap (λ (m : Mine). m.running) err.is
+purge_left (Ok u) t a c d k left = tt
+purge_left (Err x) t a c d k left = record {
+  own = left.own;
+  marks = left.marks;
+  is = left.is ∙ ap (λ (m : Mine). with_entries m left.own left.marks []) k.is;
+  same = left.same;
+  are = subst (λ n. All (MayComeBefore n) left.marks) (ap (λ (m : Mine). m.stream) k.is) left.are;
+}

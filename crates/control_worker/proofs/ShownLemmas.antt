@@ -17,21 +17,7 @@ use Rattle.client_worker.specs.Ends.{KeepsShown}
 use Rattle.client_worker.proofs.Counts.{counted_answer}
 use Rattle.client_worker.proofs.Shown.{shown_same, shown_more, shown_told, no_call}
 
--- with no call open
-abbrev pub KeepsIdle : Mine → Mine → Type 0
-KeepsIdle a b = KeepsShown (with_running a []) (with_running b [])
-
-pub idle_same : (a b : Mine) → b ≡ a → KeepsIdle a b
-idle_same a b e = shown_same (with_running a []) (with_running b []) (ap (λ (m : Mine). with_running m []) e)
-
--- other calls are open
-pub idle_running : (os : List OwnCall) (a b : Mine) → b ≡ with_running a os → KeepsIdle a b
-idle_running os a b e = shown_same (with_running a []) (with_running b []) (ap (λ (m : Mine). with_running m []) e)
-
-pub idle_then : (a b c : Mine) → KeepsIdle a b → KeepsIdle b c → KeepsIdle a c
-idle_then a b c f k = λ counts carried h. k counts carried (f counts carried h)
-
--- where none is
+-- where no call is open
 pub idle_of : (m : Mine) → m.running ≡ [] → m ≡ with_running m []
 idle_of m e = ap (with_running m) e
 
@@ -39,6 +25,49 @@ idle_of m e = ap (with_running m) e
 pub shown_log : (a : Mine) (own : List Placed) (es fs : List Entry) (counts : List ℕ) (carried : List (Option (List (List ℕ))))
     → IsShown (with_entries a own es []) counts carried → IsShown (with_entries a own fs []) counts carried
 shown_log a own es fs counts carried h = record { counted = h.counted; answered = h.answered; acked = h.acked }
+
+-- ---- while no call is open
+
+-- there are as many replicas, and with no call open, lines show what they showed before
+pub record StaysShown (a b : Mine) : Type 0 where
+  pub replicas : b.replicas ≡ a.replicas
+  pub shown : KeepsShown (with_running a []) (with_running b [])
+
+stays_idle : (a b : Mine) → with_running b [] ≡ with_running a [] → StaysShown a b
+stays_idle a b e = record {
+  replicas = ap (λ (m : Mine). m.replicas) e;
+  shown = shown_same (with_running a []) (with_running b []) e;
+}
+
+pub stays_same : (a b : Mine) → b ≡ a → StaysShown a b
+stays_same a b e = stays_idle a b (ap (λ (m : Mine). with_running m []) e)
+
+-- other calls are open
+pub stays_running : (os : List OwnCall) (a b : Mine) → b ≡ with_running a os → StaysShown a b
+stays_running os a b e = stays_idle a b (ap (λ (m : Mine). with_running m []) e)
+
+pub stays_others : (es : List Entry) (os : List OwnCall) (a b : Mine) → b ≡ with_entries a [] es os → StaysShown a b
+stays_others es os a b e = record {
+  replicas = ap (λ (m : Mine). m.replicas) e;
+  shown = λ counts carried h. subst (λ (m : Mine). IsShown m counts carried) (sym (ap (λ (m : Mine). with_running m []) e))
+      (shown_log a [] [] es counts carried (subst (λ (m : Mine). IsShown m counts carried) (sym (entries_none a [])) h));
+}
+
+-- a command is answered, whatever other entries came
+pub stays_answer : (c : Command) (modes : List Mode) (answer : Answer) (es : List Entry) (a b : Mine)
+    → b ≡ with_entries a (answer_placed modes answer ∷ []) es [] → answer.call ≡ call.Command c → StaysShown a b
+stays_answer c modes answer es a b e is =
+    let own = answer_placed modes answer ∷ [] in
+    record {
+      replicas = ap (λ (m : Mine). m.replicas) e;
+      shown = λ counts carried h.
+          subst (λ (m : Mine). IsShown m counts carried) (sym (ap (λ (m : Mine). with_running m []) e))
+          (shown_log (with_running a []) own (entries_in own) es counts carried
+          (shown_more (answer_placed modes answer) [] (with_running a []) (with_more (with_running a []) own []) counts carried refl
+          (counted_answer modes answer [] (with_running a []) (with_more (with_running a []) own []) counts refl h.counted)
+          (subst (λ (x : Call). CarriedOf a.replicas (told_in carried) modes x answer.reply) (sym is) tt)
+          h.answered (λ p no. absurd (no_call p no))));
+    }
 
 -- a line failed
 pub idle_told : {E : Type 0} (res : Result (Unit {0}) E) (r count : ℕ) (a b : Mine) (counts : List ℕ)
@@ -50,22 +79,4 @@ idle_told (Ok u) r count a b counts carried ok err low h =
     subst (λ (m : Mine). IsShown m counts carried) (sym (ap (λ (m : Mine). with_running m []) ok.is))
     (shown_log a own (entries_in own) (entry.Mark (mark.Fault a.stream r count) ∷ ok.aborted) counts carried
     (shown_told done r count (with_running a []) (with_more a own []) counts carried (record { modes = ok.modes; is = refl }) tt low h))
-idle_told (Err e) r count a b counts carried ok err low h = idle_same a b err counts carried h
-
-pub idle_others : (es : List Entry) (os : List OwnCall) (a b : Mine) → b ≡ with_entries a [] es os → KeepsIdle a b
-idle_others es os a b e = λ counts carried h.
-    subst (λ (m : Mine). IsShown m counts carried) (sym (ap (λ (m : Mine). with_running m []) e))
-    (shown_log a [] [] es counts carried (subst (λ (m : Mine). IsShown m counts carried) (sym (entries_none a [])) h))
-
--- a command is answered, whatever other entries came
-pub idle_answer : (c : Command) (modes : List Mode) (answer : Answer) (es : List Entry) (a b : Mine)
-    → b ≡ with_entries a (answer_placed modes answer ∷ []) es [] → answer.call ≡ call.Command c
-    → KeepsShown (with_running a []) b
-idle_answer c modes answer es a b e is = λ counts carried h.
-    let own = answer_placed modes answer ∷ [] in
-    subst (λ (m : Mine). IsShown m counts carried) (sym e)
-    (shown_log (with_running a []) own (entries_in own) es counts carried
-    (shown_more (answer_placed modes answer) [] (with_running a []) (with_more (with_running a []) own []) counts carried refl
-    (counted_answer modes answer [] (with_running a []) (with_more (with_running a []) own []) counts refl h.counted)
-    (subst (λ (x : Call). CarriedOf a.replicas (told_in carried) modes x answer.reply) (sym is) tt)
-    h.answered (λ p no. absurd (no_call p no))))
+idle_told (Err e) r count a b counts carried ok err low h = (stays_same a b err).shown counts carried h

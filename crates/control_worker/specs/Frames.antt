@@ -73,11 +73,20 @@ HasAsked offset text frames = (seq : ℕ) × HasExchange (ask_request seq offset
 abbrev pub HasPartAsked : WholeOp → List (List ℕ) → Type 0
 HasPartAsked op frames = (text : List ℕ) × IsPartText op text × HasAsked (pos 0) text frames
 
--- behind a place for its header, a request has that text
-pub record AsksBy (text request : List ℕ) : Type 0 where
+-- a place for its header, and a text that is not too long
+pub record IsRequest (request : List ℕ) : Type 0 where
   pub header : header_length ≤ length request
   pub few : length request ≤ header_length + longest_text
+
+-- behind the place for its header, a request has that text
+pub record AsksBy (text request : List ℕ) : Type 0 where
+  pub is : IsRequest request
   pub tells : drop header_length request ≡ text
+
+-- it is a request still, with the same text
+pub record KeepsText (request request2 : List ℕ) : Type 0 where
+  pub is : IsRequest request2
+  pub text : drop header_length request2 ≡ drop header_length request
 
 -- it asks for a replica's part
 abbrev pub AsksPart : WholeOp → List ℕ → Type 0

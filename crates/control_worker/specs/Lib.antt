@@ -2,6 +2,7 @@ pub mod OwnAnswers
 pub mod Serving
 pub mod Frames
 pub mod Rooms
+pub mod Carrying
 pub mod Whole
 pub mod Purges
 pub mod Adding

@@ -19,7 +19,6 @@ use Rattle.stream_steps.specs.Mine.{Mine, OwnCall, Placed, with_entries, with_ru
 use Rattle.stream_steps.specs.Steps.{AreMarks}
 use Rattle.stream_steps.specs.Maint.{HasWhole, StartsAs, AnswersWhole, WholeEnds}
 use Rattle.client_worker.specs.Exchanges.{told_in}
-use Rattle.client_worker.specs.Serving.{IsShown}
 use Rattle.control_worker.specs.Frames.{part_request, IsPartText, HasPartAsked}
 use Rattle.control_worker.specs.OwnAnswers.{HasAnswers}
 use Rattle.control_worker.specs.Purges.{AreFalls}
@@ -76,11 +75,15 @@ IsAskedLast seq op told =
     IfSome told (λ frames. (before : List (List ℕ)) × (text : List ℕ) × IsPartText op text
     × (frames ≡ before ++ part_request seq text ∷ []))
 
--- of lines that tell these counts, and this of what they carried
-pub record WholeShown (t : ℕ) (m : Mine) (counts : List ℕ) (carried : List (Option (List (List ℕ)))) : Type 0 where
-  pub lines : IsShown (with_running m []) counts carried
-  pub acked : (op : WholeOp) (turn : List OwnCall) (o : OwnCall) → HasWhole t op turn o m
-      → AreAsked (told_in carried) op o
+-- The operation has started, and where the lines tell what they carried, each replica that has acknowledged its part was
+-- asked for it.
+pub record PartsShown (t : ℕ) (op : WholeOp) (m : Mine) (carried : List (Option (List (List ℕ)))) : Type 0 where
+  pub started : IsWhole true t op m
+  pub acked : (turn : List OwnCall) (o : OwnCall) → HasWhole t op turn o m → AreAsked (told_in carried) op o
+
+-- a rebuild of the replica that was begun is past its barrier
+abbrev pub PassesBarrier : {C : Type 0} → (C → Bool → ℕ → ℕ → Type 0) → ℕ → C → C → Type 0
+PassesBarrier begun r c c2 = (source : ℕ) → begun c false source r → begun c2 true source r
 
 -- ---- its start and its end
 

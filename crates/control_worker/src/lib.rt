@@ -4,13 +4,13 @@
 
 mod add;
 mod barrier;
+mod carrier;
 mod commands;
 mod control;
 mod copier;
 mod frames;
 mod line;
 mod parts;
-mod pass;
 mod purge;
 mod rooms;
 mod worker;

@@ -4,7 +4,8 @@ ghost use Rattle.std.specs.Prelude.{◌≡◌, length, false, All, IfOk, OnOk, O
 ghost use Rattle.client_worker.specs.Working.{IsIdle, KeepsLines};
 ghost use Rattle.control_worker.specs.Serving.{Commanded, CommandedSome, IsForWorker};
 
-use crate::control::{Served, answer_all};
+use crate::carrier::Carrier;
+use crate::control::Served;
 use client_worker::{Channel, Line};
 use std::alloc::{AllocError, Global};
 use std::marker::Model;
@@ -14,19 +15,18 @@ use stream_steps::{AddSteps, Command};
 /// What answers a stream's commands: the steps of its core, and a line to each replica.
 #[derive(Drop)]
 pub struct ControlWorker<C: AddSteps + Drop, L: Line + Drop> {
-    steps: C,
-    channels: Vec<Channel<L>>,
+    carrier: Carrier<C, L>,
 }
 
 impl<C: AddSteps + Drop, L: Line + Drop> Model for ControlWorker<C, L> {
-    ghost use Rattle.client_worker.specs.Working.{Work, IsIdle};
+    ghost use Rattle.std.specs.Prelude.{◌≡◌, []};
+    ghost use Rattle.client_worker.specs.Working.{Work};
 
     ghost Value = { Work C L };
 
-    ghost view = { λ w. record { steps = w.steps; channels = w.channels.items } };
+    ghost view = { λ w. w.carrier };
 
-    ghost invariant = { λ w. IsIdle C.ready C.mine L.count L.carried
-        (record { steps = w.steps; channels = w.channels.items }) };
+    ghost invariant = { λ w. (C.mine w.carrier.steps).running ≡ [] };
 }
 
 impl<C: AddSteps + Drop, L: Line + Drop> ControlWorker<C, L> {
@@ -35,7 +35,9 @@ impl<C: AddSteps + Drop, L: Line + Drop> ControlWorker<C, L> {
         requires { IsIdle C.ready C.mine L.count L.carried (record { steps = steps; channels = channels.items }) }
         ensures { result ≡ record { steps = steps; channels = channels.items } }
     {
-        ControlWorker { steps, channels }
+        ControlWorker {
+            carrier: Carrier::new(steps, channels),
+        }
     }
 
     /// The steps and the lines, once no more is to be answered.
@@ -43,7 +45,7 @@ impl<C: AddSteps + Drop, L: Line + Drop> ControlWorker<C, L> {
         ensures parts { self ≡ record { steps = result.0; channels = result.1.items } }
         ensures idle { IsIdle C.ready C.mine L.count L.carried self }
     {
-        (self.steps, self.channels)
+        (self.carrier.steps, self.carrier.channels)
     }
 
     /// Answers the commands of a stream one after another. Out of memory leaves none of them open, and what was done
@@ -62,7 +64,6 @@ impl<C: AddSteps + Drop, L: Line + Drop> ControlWorker<C, L> {
         ensures fault { IfOk result (λ s. s.target_fault ≡ false) }
         ensures err { OnErr result (CommandedSome commands.now (C.mine self.old.steps) (C.mine self.new.steps)) }
     {
-        let channels = &mut self.channels;
-        answer_all(rt, alloc, &mut self.steps, channels, commands)
+        self.carrier.answer_all(rt, alloc, commands)
     }
 }

@@ -1,29 +1,24 @@
-use Rattle.std.proofs.Common.{rules, refl, map}
+use Rattle.std.proofs.Common.{rules, refl}
 use Rattle.control_worker.proofs.Goes.{goes_same}
-use Rattle.control_worker.proofs.CopierLemmas.{shown_moved, ends_as}
+use Rattle.control_worker.proofs.CopierLemmas.{ends_as, serving_on}
 use Rattle.control_worker.proofs.copier.copy_over.Goals as goal
 
-pub returns-clause-shown : goal.returns-clause-shown
-returns-clause-shown g c =
-    shown_moved (g.C.CommandSteps.mine c.copy_all.new.steps.steps.now) (g.C.CommandSteps.mine c.steps-1.given.0)
-    (map (λ x. g.L.Line.count x.line) c.copy_all.new.steps.channels.now)
-    (map (λ x. g.L.Line.count x.line) c.channels-1.given.0)
-    (map (λ x. g.L.Line.carried x.line) c.copy_all.new.steps.channels.now)
-    (map (λ x. g.L.Line.carried x.line) c.channels-1.given.0)
-    (search rules) (search rules) (search rules) c.copy_all.ensures.ready.1.shown
+pub returns-clause-serving : goal.returns-clause-serving
+returns-clause-serving g c =
+    let before = g.C.CommandSteps.mine c.args.steps.now in
+    let serving = serving_on g.C.CommandSteps.ready g.C.CommandSteps.mine g.L.Line.count g.L.Line.carried
+    (record { steps = c.args.steps.now; channels = c.args.channels.now }) c.copy_all.new.steps.steps.now
+    c.copy_all.new.steps.channels.now c.requires.serving c.copy_all.ensures.ready.0 (search rules)
+    (c.copy_all.ensures.stays before (goes_same before before refl)) c.copy_all.ensures.ready.1.shown in
+    search rules
 
 pub returns-clause-goes : goal.returns-clause-goes
 returns-clause-goes g c =
-    let mine_before = g.C.CommandSteps.mine c.args.steps.now in
-    let goes = c.copy_all.ensures.stays mine_before (goes_same mine_before mine_before refl) in
+    let before = g.C.CommandSteps.mine c.args.steps.now in
+    let goes = c.copy_all.ensures.stays before (goes_same before before refl) in
     search rules
 
 pub returns-clause-ended : goal.returns-clause-ended
 returns-clause-ended g c =
     let ended = ends_as c.copy_all.result _ _ _ _ c.copy_all.ensures.ok in
-    search rules
-
-pub returns-clause-begun : goal.returns-clause-begun
-returns-clause-begun g c =
-    let begun = c.copy_all.ensures.ready.1.rebuild in
     search rules

@@ -1,8 +1,7 @@
-use Rattle.std.proofs.Common.{map, subst, sym}
-use Rattle.client_worker.specs.Serving.{IsShown}
+use Rattle.control_worker.proofs.InTurn.{none_open}
 use Rattle.control_worker.proofs.worker.ControlWorker.run_control.Goals as goal
 
-pub answer_all-requires-clause-shown : goal.answer_all-requires-clause-shown
-answer_all-requires-clause-shown g c =
-    subst (λ cs. IsShown (g.C.CommandSteps.mine c.self.inside.steps) (map (λ x. g.L.Line.count x.line) cs)
-    (map (λ x. g.L.Line.carried x.line) cs)) (sym c.deref_mut.ensures.value) c.self.invariant.shown
+pub invariant_of-self : goal.invariant_of-self
+invariant_of-self g c =
+    none_open c.answer_all.result c.args.commands.now (g.C.CommandSteps.mine c.self.inside.carrier.steps)
+    (g.C.CommandSteps.mine c.answer_all.new.self.steps) c.answer_all.ensures.ok c.answer_all.ensures.err

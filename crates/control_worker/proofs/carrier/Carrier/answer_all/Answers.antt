@@ -1,0 +1,40 @@
+use Rattle.std.proofs.Common.{◌≡◌, arith, sym, subst}
+use Rattle.std.proofs.lemmas.Grind.{common_steps}
+use Rattle.std.proofs.Math.ListN.{get_or}
+use Rattle.control_worker.specs.Serving.{GrewByCommand, LeftUndone}
+use Rattle.control_worker.proofs.CarrierLemmas.{stays_both}
+use Rattle.control_worker.proofs.CommandLemmas.{on_err}
+use Rattle.control_worker.proofs.InTurn.{commanded_more, commanded_some, commanded_stopped}
+use Rattle.control_worker.proofs.carrier.Carrier.answer_all.Goals as goal
+
+pub returns-in_err-rooms-clause-err : goal.returns-in_err-rooms-clause-err
+returns-in_err-rooms-clause-err g c =
+    on_err c.from_residual.result
+    (commanded_stopped c.args.commands.now (g.C.CommandSteps.mine c.args.self.now.steps) c.requires.idle)
+
+pub returns-in_err-answer-clause-err : goal.returns-in_err-answer-clause-err
+returns-in_err-answer-clause-err g c =
+    let mine_loop = g.C.CommandSteps.mine c.loop-command.self.steps in
+    let mine_answer = g.C.CommandSteps.mine c.answer.new.self.steps in
+    let i = c.loop-command.command-index in
+    let x = c.command-item.result in
+    let at : get_or c.args.commands.now i x ≡ x = grind (arith, common_steps) in
+    on_err c.from_residual-in_err-answer.result
+    (commanded_some c.args.commands.now i x (g.C.CommandSteps.mine c.args.self.now.steps) mine_loop mine_answer
+    c.loop-command-test.true c.loop-command.invariant.done
+    (subst (λ y. LeftUndone y mine_loop mine_answer) (sym at) c.in_err-answer.ensures.err))
+
+pub loop-command-preserved : goal.loop-command-preserved
+loop-command-preserved g c =
+    let mine_loop = g.C.CommandSteps.mine c.loop-command.self.steps in
+    let mine_answer = g.C.CommandSteps.mine c.answer.new.self.steps in
+    let i = c.loop-command.command-index in
+    let x = c.command-item.result in
+    let at : get_or c.args.commands.now i x ≡ x = grind (arith, common_steps) in
+    record {
+      stays = stays_both c.args.self.now c.loop-command.self c.answer.new.self c.loop-command.invariant.stays
+          (record { home = c.in_ok-answer.ensures.home; lines = c.answer.ensures.lines });
+      done = commanded_more c.args.commands.now i x (g.C.CommandSteps.mine c.args.self.now.steps) mine_loop mine_answer
+          c.loop-command-test.true c.loop-command.invariant.done
+          (subst (λ y. GrewByCommand y mine_loop mine_answer) (sym at) c.in_ok-answer.ensures.ok);
+    }

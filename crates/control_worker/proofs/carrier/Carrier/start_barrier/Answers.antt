@@ -1,0 +1,62 @@
+use Rattle.std.proofs.Common.{rules, ◌≡◌, ◌∙◌, ap, sym, subst}
+use Rattle.step_answers.specs.declared.whole_op.WholeOp.TheVariants as whole
+use Rattle.stream_steps.specs.declared.add.AdmitBarrier.TheVariants as barrier
+use Rattle.stream_steps.specs.Mine.{Mine, with_running}
+use Rattle.stream_steps.specs.Maint.{HasWhole}
+use Rattle.client_worker.specs.Working.{Work}
+use Rattle.control_worker.proofs.BarrierLemmas.{goes, refused, waits, begins, unbegun_still, admits_stays}
+use Rattle.control_worker.proofs.CarrierLemmas.{serves_step, unchanged_first, unchanged_next}
+use Rattle.control_worker.proofs.ShownLemmas.{stays_running}
+use Rattle.control_worker.proofs.carrier.Carrier.start_barrier.Goals as goal
+
+pub loop-init : goal.loop-init
+loop-init g c = record {
+  unchanged = unchanged_first _ _ c.self.view_is c.self.invariant;
+  unbegun = subst (λ (w : Work g.row.C.Denot g.row.L.Denot). g.C.CommandSteps.unbegun w.steps) (sym c.self.view_is) c.requires.unbegun;
+}
+
+pub invariant_of-self : goal.invariant_of-self
+invariant_of-self g c =
+    serves_step g.C.CommandSteps.mine _ _ c.in-Ok-Go.ensures.ready
+    (admits_stays _ c.in-Ok-Go.field-0 c.loop.invariant.unchanged.same c.in-Ok-Go.ensures.ok
+    (c.requires.waits.0, c.requires.waits.1)) c.loop.invariant.unchanged.serves
+
+pub returns-in-Ok-Go-clause-ok : goal.returns-in-Ok-Go-clause-ok
+returns-in-Ok-Go-clause-ok g c =
+    let e : c.in-Ok-Go.field-0 ≡ barrier.Go c.in-Ok-Go.added = search rules in
+    goes _ c.in-Ok-Go.field-0 c.loop.invariant.unchanged.same c.in-Ok-Go.ensures.ok c.in-Ok-Go.added e
+
+pub returns-in-Ok-Go-clause-begun : goal.returns-in-Ok-Go-clause-begun
+returns-in-Ok-Go-clause-begun g c =
+    let e : c.in-Ok-Go.field-0 ≡ barrier.Go c.in-Ok-Go.added = search rules in
+    begins c.in-Ok-Go.field-0 c.loop.invariant.unchanged.same c.in-Ok-Go.added e _ c.in-Ok-Go.ensures.begun
+
+pub invariant_of-self-in-Ok-Refused : goal.invariant_of-self-in-Ok-Refused
+invariant_of-self-in-Ok-Refused g c =
+    serves_step g.C.CommandSteps.mine _ _ c.in-Ok-Refused.ensures.ready
+    (admits_stays _ c.in-Ok-Refused.field-0 c.loop.invariant.unchanged.same c.in-Ok-Refused.ensures.ok
+    (c.requires.waits.0, c.requires.waits.1)) c.loop.invariant.unchanged.serves
+
+pub returns-in-Ok-Refused-clause-ok : goal.returns-in-Ok-Refused-clause-ok
+returns-in-Ok-Refused-clause-ok g c =
+    let e : c.in-Ok-Refused.field-0 ≡ barrier.Refused = search rules in
+    refused _ c.in-Ok-Refused.field-0 c.loop.invariant.unchanged.same c.in-Ok-Refused.ensures.ok e
+
+pub loop-preserved : goal.loop-preserved
+loop-preserved g c =
+    let e : c.in-Ok-After.field-0 ≡ barrier.After c.in-Ok-After.field-0-0 = search rules in
+    record {
+      unchanged = unchanged_next _ _ _ c.in-Ok-After.ensures.ready c.in-Ok-After.ensures.home
+          (waits _ c.in-Ok-After.field-0 c.loop.invariant.unchanged.same c.in-Ok-After.ensures.ok c.in-Ok-After.field-0-0 e
+          (c.requires.waits.0, c.requires.waits.1)) c.loop.invariant.unchanged;
+      unbegun = unbegun_still c.in-Ok-After.field-0 c.in-Ok-After.field-0-0 e _ _ c.in-Ok-After.ensures.unbegun c.loop.invariant.unbegun;
+    }
+
+pub invariant_of-self-in-Err : goal.invariant_of-self-in-Err
+invariant_of-self-in-Err g c =
+    let r = c.requires.waits.0 in
+    let w = c.requires.waits.1 in
+    let left = c.withdraw_whole.ensures.gone (whole.Barrier r) w.0 w.1
+    (subst (HasWhole c.args.t (whole.Barrier r) w.0 w.1) (sym (c.in-Err.ensures.err ∙ c.loop.invariant.unchanged.same)) w.2) in
+    serves_step g.C.CommandSteps.mine _ _ c.withdraw_whole.ensures.ready
+    (stays_running w.0 _ _ (left ∙ ap (λ (m : Mine). with_running m w.0) c.in-Err.ensures.err)) c.loop.invariant.unchanged.serves

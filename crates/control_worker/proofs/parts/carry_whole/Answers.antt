@@ -1,6 +1,0 @@
-use Rattle.control_worker.specs.Frames.{part_text}
-use Rattle.control_worker.proofs.FrameLemmas.{part_is_text}
-use Rattle.control_worker.proofs.parts.carry_whole.Goals as goal
-
-pub carry_filled-requires-clause-asks : goal.carry_filled-requires-clause-asks
-carry_filled-requires-clause-asks g c = (part_text c.args.op.now, part_is_text c.args.op.now, c.fill_part.ensures.asks)
