@@ -3,3 +3,5 @@ pub mod OneValue
 pub mod Lists
 pub mod OneAnswer
 pub mod LinePlansLemmas
+pub mod Known
+pub mod EachLine

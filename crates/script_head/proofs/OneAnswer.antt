@@ -37,12 +37,11 @@ same_head d a b p q =
     (same_value _ p.size.0 q.size.0) replicas
 
 -- these members are all good
-AreGood : Data → List Member → Type 0
+abbrev pub AreGood : Data → List Member → Type 0
 AreGood d [] = Unit {0}
 AreGood d (m ∷ ms) = IsGood d m × AreGood d ms
 
 all_good : (d : Data) (head : ScriptHead) → IsScriptHead d head → AreGood d in_order
-unfolding AreGood
 all_good d head is = (
   (head.volume, is.volume),
   (
@@ -67,7 +66,6 @@ all_good d head is = (
 )
 
 none_bad : (ms : List Member) (d : Data) (m : Member) → AreGood d ms → IsFirstBadOf ms d m → ⊥
-unfolding AreGood
 none_bad [] d m good bad = bad
 none_bad (n ∷ ns) d m (good, more) (inl (same, bad)) = bad good
 none_bad (n ∷ ns) d m (good, more) (inr (fine, bad)) = none_bad ns d m more bad

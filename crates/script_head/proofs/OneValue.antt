@@ -35,16 +35,16 @@ one_list IsItem one (item d ds) (x ∷ xs) (y ∷ ys) (is, are) (too, also) = bo
     both : {A : Type 0} {x y : A} {xs ys : List A} → x ≡ y → xs ≡ ys → x ∷ xs ≡ y ∷ ys
     both p q = cc
 
-same_list : {A : Type 0} (IsItem : Data → A → Type 0) → ((d : Data) (a b : A) → IsItem d a → IsItem d b → a ≡ b)
+pub same_list : {A : Type 0} (IsItem : Data → A → Type 0) → ((d : Data) (a b : A) → IsItem d a → IsItem d b → a ≡ b)
     → (found : Option Data) (xs ys : List A) → HasItems IsItem found xs → HasItems IsItem found ys → xs ≡ ys
 same_list IsItem one found xs ys (ds, there, are) (es, here, also) =
     one_list IsItem one ds xs ys are (subst (λ items. AreItems IsItem items ys) (same_value _ here there) also)
 
-one_command : (replicas : ℕ) (d : Data) (a b : Command) → IsCommandItem replicas d a → IsCommandItem replicas d b → a ≡ b
+pub one_command : (replicas : ℕ) (d : Data) (a b : Command) → IsCommandItem replicas d a → IsCommandItem replicas d b → a ≡ b
 one_command replicas d a b (text, there, is, names) (other, here, too, also) =
     same_text text a b is (subst (λ t. IsCommand t b) (same_value _ here there) too)
 
-one_stream : (replicas : ℕ) (d : Data) (a b : StreamHead) → IsStreamItem replicas d a → IsStreamItem replicas d b → a ≡ b
+pub one_stream : (replicas : ℕ) (d : Data) (a b : StreamHead) → IsStreamItem replicas d a → IsStreamItem replicas d b → a ≡ b
 one_stream replicas d (Frames m) (Frames n) is too = ap Frames (same_value _ is.0 too.0)
 one_stream replicas d (Frames m) (Control cs) is too = absurd (missing _ _ is.0 too.2)
 one_stream replicas d (Control cs) (Frames n) is too = absurd (missing _ _ too.0 is.2)

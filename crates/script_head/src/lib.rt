@@ -3,6 +3,7 @@
 
 mod error;
 mod head;
+pub mod laws;
 pub mod limits;
 mod line_plan;
 mod lines;
