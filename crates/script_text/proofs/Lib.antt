@@ -6,3 +6,5 @@ pub mod OneStream
 pub mod OneAnswer
 pub mod KeptLemmas
 pub mod GoodLemmas
+pub mod KnownFrames
+pub mod EachInput

@@ -203,6 +203,30 @@ pub one_truth : (input : List ℕ) (a b : Result Script ScriptError) → a ≢ E
     → AnswersInput input a → AnswersInput input b → a ≡ b
 one_truth input a b told also is too = one_source input a b (comes input a told is) (comes input b also too)
 
+pub not_both : (input : List ℕ) (script : Script) (place : ℕ) (why : What) → IsScript input script → IsNoScript input place why → ⊥
+not_both input script place why is none = apart (one_truth input (Ok script) (Err (Bad place why)) ok_memory script_memory is none)
+  where
+    apart : ◌≡◌ {A = Result Script ScriptError} (Ok script) (Err (Bad place why)) → ⊥
+    apart e = cc
+
+pub one_script : (input : List ℕ) (a b : Script) → IsScript input a → IsScript input b → a ≡ b
+one_script input a b is too = inside (one_truth input (Ok a) (Ok b) ok_memory ok_memory is too)
+  where
+    inside : ◌≡◌ {A = Result Script ScriptError} (Ok a) (Ok b) → a ≡ b
+    inside e = cc
+
+pub one_refusal : (input : List ℕ) (p q : ℕ) (v w : What) → IsNoScript input p v → IsNoScript input q w → (p ≡ q) × (v ≡ w)
+one_refusal input p q v w is too = inside (one_truth input (Err (Bad p v)) (Err (Bad q w)) script_memory script_memory is too)
+  where
+    place : ◌≡◌ {A = Result Script ScriptError} (Err (Bad p v)) (Err (Bad q w)) → p ≡ q
+    place e = cc
+
+    reason : ◌≡◌ {A = Result Script ScriptError} (Err (Bad p v)) (Err (Bad q w)) → v ≡ w
+    reason e = cc
+
+    inside : ◌≡◌ {A = Result Script ScriptError} (Err (Bad p v)) (Err (Bad q w)) → (p ≡ q) × (v ≡ w)
+    inside e = (place e, reason e)
+
 pub one_answer : (input : List ℕ) (a : Result Script ScriptError) → AnswersInput input a → IsOnlyAnswer NoMemory (AnswersInput input) a
 one_answer input (Ok script) is = λ b told too. inl (one_truth input _ b ok_memory told is too)
 one_answer input (Err (Bad place why)) is = λ b told too. inl (one_truth input _ b script_memory told is too)

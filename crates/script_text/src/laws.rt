@@ -1,21 +1,25 @@
 //! What follows from the definitions alone. Each law is a contract.
 
-ghost use Rattle.std.specs.Prelude.{◌≡◌, ◌≢◌, ◌≤◌, List, ℕ, length, All, Err, Result};
+ghost use Rattle.std.specs.Prelude.{◌≡◌, ◌⊎◌, ◌≤◌, List, ℕ, length, All};
 ghost use Rattle.frame_stream.specs.Asked.{asked_of, call_of};
 ghost use Rattle.script_head.specs.LinePlans.{NoPairTwice, planned};
 ghost use Rattle.script_text.specs.Good.{IsGoodStream, AreCarries, IsGoodPlan};
-ghost use Rattle.script_text.specs.Script.{IsScript, AnswersInput};
+ghost use Rattle.script_text.specs.Script.{IsScript, IsNoScript};
 ghost use Rattle.script_text.specs.Streams.{IsStream};
 ghost use Rattle.frame_stream.specs.declared.asked.Asked.TheVariants as asked;
-ghost use Rattle.script_text.specs.declared.error.ScriptError.{ScriptError};
-ghost use Rattle.script_text.specs.declared.error.ScriptError.TheVariants.{NoMemory};
 ghost use Rattle.frame_stream.specs.declared.frame.Frame.{Frame};
 ghost use Rattle.script_text.specs.declared.script.Script.{Script};
+ghost use Rattle.script_text.specs.declared.what.What.{What};
 
 /// An input is one script, or is none for one reason at one place, and never both.
 pub fn an_input_has_one_answer()
-    ensures { (input : List ℕ) (a b : Result Script ScriptError)
-        → a ≢ Err NoMemory → b ≢ Err NoMemory → AnswersInput input a → AnswersInput input b → a ≡ b }
+    ensures either { (input : List ℕ) → ((script : Script) × IsScript input script)
+        ⊎ ((place : ℕ) × (why : What) × IsNoScript input place why) }
+    ensures not_both { (input : List ℕ) (script : Script) (place : ℕ) (why : What)
+        → IsScript input script → IsNoScript input place why → ⊥ }
+    ensures one_script { (input : List ℕ) (a b : Script) → IsScript input a → IsScript input b → a ≡ b }
+    ensures one_refusal { (input : List ℕ) (p q : ℕ) (v w : What)
+        → IsNoScript input p v → IsNoScript input q w → (p ≡ q) × (v ≡ w) }
 {}
 
 /// The frames of a stream ask calls.
