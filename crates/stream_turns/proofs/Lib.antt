@@ -1,4 +1,5 @@
 pub mod Own
+pub mod RunLemmas
 pub mod Exchanged
 pub mod Counted
 pub mod Groups

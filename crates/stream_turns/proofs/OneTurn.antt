@@ -27,26 +27,20 @@ use Rattle.stream_steps.specs.Steps.{IsFrameCall}
 use Rattle.client_worker.specs.Exchanges.{CarriedOf, IsCarried, AreCarried, HasRead, HasWrite}
 use Rattle.client_worker.specs.Serving.{AreServed}
 use Rattle.control_worker.specs.Serving.{AreCommanded}
-use Rattle.world_holder.specs.View.{is_own_mark, is_own, own_entries}
+use Rattle.world_holder.specs.View.{is_own, own_entries}
 use Rattle.stream_turns.specs.Turns.{AreWell, IsTurn}
 use Rattle.world_holder.proofs.Entries.{own_counts}
 use Rattle.stream_turns.proofs.Counted.{none_counted}
+use Rattle.stream_turns.proofs.Own.{not_some, none_behind}
 use Rattle.stream_turns.proofs.Groups.{served_groups, commanded_groups, groups_own, groups_calls}
 use Rattle.stream_turns.proofs.Turns.{log_at, frames_turn, commands_turn, back_none}
 
 -- ---- before its turn a stream has no entry
 
-not_some : {A : Type 0} (x : A) (xs : List A) → x ∷ xs ≡ [] → ⊥
-not_some x xs e = cc
-
 no_answer : (b : Bool) (p : Placed) (q : ℕ × Answer) (ps : List Placed) (qs : List (ℕ × Answer)) → cond b (p ∷ ps) ps ≡ []
     → (ps ≡ [] → qs ≡ []) → cond b (q ∷ qs) qs ≡ []
 no_answer true p q ps qs e more = absurd (not_some p ps e)
 no_answer false p q ps qs e more = more e
-
-tail_none : (b : Bool) (p : Placed) (ps : List Placed) → cond b (p ∷ ps) ps ≡ [] → ps ≡ []
-tail_none true p ps e = absurd (not_some p ps e)
-tail_none false p ps e = e
 
 pub none_answered : (w place : ℕ) (modes : List Mode) (es : List Entry) → own_entries w modes es ≡ [] → answers_from w place es ≡ []
 none_answered w place modes [] none = refl
@@ -54,9 +48,7 @@ none_answered w place modes (entry.Answer a ∷ es) none =
     no_answer (eqb a.stream w) (record { modes = modes; entry = entry.Answer a }) (place, a) (own_entries w modes es)
     (answers_from w (suc place) es) none (none_answered w (suc place) modes es)
 none_answered w place modes (entry.Mark m ∷ es) none =
-    let after = modes_after_entry modes (entry.Mark m) in
-    none_answered w (suc place) after es
-    (tail_none (is_own_mark w m) (record { modes = modes; entry = entry.Mark m }) (own_entries w after es) none)
+    none_answered w (suc place) (modes_after_entry modes (entry.Mark m)) es (none_behind w modes (entry.Mark m) es none)
 
 -- ---- what is behind a part of a legal journal
 

@@ -1,5 +1,5 @@
 -- What a stream adds to a journal, other streams do not see: neither answers, nor faults, nor entries of their own.
-use Rattle.std.proofs.Common.{◌≡◌, ◌≢◌, ℕ, suc, Bool, false, cond, eqb, ◌&&◌, List, [], ◌∷◌, refl, sym, ap, ◌∙◌, ne_eqb}
+use Rattle.std.proofs.Common.{◌≡◌, ◌≢◌, ℕ, suc, Bool, true, false, cond, eqb, ◌&&◌, List, [], ◌∷◌, refl, sym, ap, ◌∙◌, ne_eqb}
 use Rattle.volume_model.specs.declared.entry.Entry.{Entry}
 use Rattle.volume_model.specs.declared.entry.Entry.TheVariants as entry
 use Rattle.volume_model.specs.declared.mark.Mark.{Mark}
@@ -9,7 +9,8 @@ use Rattle.volume_model.specs.Faults.{count_first, fault_counts}
 use Rattle.volume_model.specs.History.{answers_from}
 use Rattle.volume_model.specs.Modes.{modes_after_entry}
 use Rattle.volume_core.specs.Streams.{MayAppend, MayAppendMark}
-use Rattle.world_holder.specs.View.{is_own_mark, own_entries}
+use Rattle.stream_steps.specs.Mine.{Placed}
+use Rattle.world_holder.specs.View.{is_own_mark, is_own, own_entries}
 
 -- ---- of another stream
 
@@ -63,3 +64,25 @@ none_own w v modes (entry.Mark m ∷ es) apart own =
     let more = own_entries v after es in
     cond_false (is_own_mark v m) (record { modes = modes; entry = entry.Mark m } ∷ more) more
     (not_own_mark w v m apart own.0) ∙ none_own w v after es apart own.1
+
+-- ---- of a stream that has no entries
+
+pub not_some : {A : Type 0} (x : A) (xs : List A) → x ∷ xs ≡ [] → ⊥
+not_some x xs e = cc
+
+tail_none : (b : Bool) (p : Placed) (ps : List Placed) → cond b (p ∷ ps) ps ≡ [] → ps ≡ []
+tail_none true p ps e = absurd (not_some p ps e)
+tail_none false p ps e = e
+
+-- the first is not its own
+pub none_first : (v : ℕ) (modes : List Mode) (e : Entry) (es : List Entry) → is_own v e ≡ true → own_entries v modes (e ∷ es) ≡ [] → ⊥
+none_first v modes e es own none =
+    let p : Placed = record { modes = modes; entry = e } in
+    let more = own_entries v (modes_after_entry modes e) es in
+    not_some p more (sym (ap (λ b. cond b (p ∷ more) more) own) ∙ none)
+
+-- and none is behind it
+pub none_behind : (v : ℕ) (modes : List Mode) (e : Entry) (es : List Entry) → own_entries v modes (e ∷ es) ≡ []
+    → own_entries v (modes_after_entry modes e) es ≡ []
+none_behind v modes e es none =
+    tail_none (is_own v e) (record { modes = modes; entry = e }) (own_entries v (modes_after_entry modes e) es) none

@@ -28,10 +28,12 @@ use Rattle.script_text.specs.declared.script.Stream.{Stream}
 use Rattle.world_holder.specs.View.{own_entries}
 use Rattle.stream_turns.specs.declared.serving.ServedStreams.{ServedStreams}
 use Rattle.stream_turns.specs.Turn.{IsTaken, IsBetween, HasNoEntry, KeepsOrigin, HasTurn, HaveTurns}
+use Rattle.stream_turns.specs.Run.{NamesLine}
 use Rattle.stream_turns.specs.Serving.{IsServed, IsServedInTurn}
 use Rattle.stream_turns.specs.Turns.{IsTurn, AreTurns, TellsOthers}
 use Rattle.stream_turns.specs.Volume.{opening_of as begins, stream_calls, heads_of}
 use Rattle.stream_turns.proofs.Exchanged.{exchanged}
+use Rattle.stream_turns.proofs.RunLemmas.{lines_named}
 use Rattle.stream_turns.proofs.Turned.{same_opening, same_replicas}
 use Rattle.stream_turns.proofs.Replicas.{replicas_are, as_many}
 use Rattle.stream_turns.proofs.Counted.{faults_shown}
@@ -200,26 +202,36 @@ module _ (script : Script) (w : World) (s : ServedStreams) (streams : List Strea
   abbrev entries : List Entry
   entries = s.world.journal.entries
 
+  as_many_modes : length (opening_of (state_of w)).modes ≡ script.replicas
+  as_many_modes = ap (λ (o : Spot). length o.modes) start ∙ length-replicate script.replicas Rw
+
   pub served_is : (counts : ℕ → ℕ → ℕ) (told : ℕ → ℕ → Option (List (List ℕ)))
+      → ((v : ℕ) → length (map stream_calls streams) ≤ v → own_entries v (opening_of (state_of w)).modes entries ≡ [])
       → ((v : ℕ) → calls_of v entries ≡ stream_of (map stream_calls streams) v)
       → ((v r : ℕ) → last_count v r entries ≤ counts v r)
       → ((v : ℕ) → AreCarried (length w.nodes.items) (told v) (own_entries v (opening_of (state_of w)).modes entries))
       → s.heads.items ≡ map heads_of streams → IsServed script counts told s
-  served_is counts told calls counted carried heads = record {
+  served_is counts told none calls counted carried heads = record {
     heads = heads ∙ ap (map heads_of) same;
     opening = ap (λ (o : Opening). o.modes) opened;
     layers = ap (λ (o : Opening). o.layers) opened;
     names = ap (λ (o : Opening). o.names) opened;
-    history = record {
-      legal = subst (λ (o : Spot). IsLegal o entries) start legal;
-      fell = between.sound.fell between.gave_up;
-      order = between.sound.on.told.ordered.order;
-      each_once = subst (λ (ss : List Stream). (v : ℕ) → calls_of v entries ≡ stream_of (map stream_calls ss) v) same calls;
-      faults = faults_shown counts entries between.sound.on.told.ordered.rise counted;
+    run = record {
+      history = record {
+        legal = subst (λ (o : Spot). IsLegal o entries) start legal;
+        fell = between.sound.fell between.gave_up;
+        order = between.sound.on.told.ordered.order;
+        each_once = subst (λ (ss : List Stream). (v : ℕ) → calls_of v entries ≡ stream_of (map stream_calls ss) v) same calls;
+        faults = faults_shown counts entries between.sound.on.told.ordered.rise counted;
+      };
+      faults = subst (λ m. All (NamesLine m script.replicas) entries) (ap length same)
+          (subst (λ m. All (NamesLine (length streams) m) entries) as_many_modes
+          (lines_named (opening_of (state_of w)) (length streams) [] entries (opening_of (state_of w)).modes
+          (λ v past. none v (omega (arith, past, length-map streams stream_calls))) legal));
+      carried = subst (λ ms. ExchangesShown script.replicas told ms entries) (ap (λ (o : Spot). o.modes) start)
+          (subst (λ m. ExchangesShown m told (opening_of (state_of w)).modes entries) many
+          (exchanged (length w.nodes.items) told (opening_of (state_of w)).modes entries carried));
     };
-    carried = subst (λ ms. ExchangesShown script.replicas told ms entries) (ap (λ (o : Spot). o.modes) start)
-        (subst (λ m. ExchangesShown m told (opening_of (state_of w)).modes entries) many
-        (exchanged (length w.nodes.items) told (opening_of (state_of w)).modes entries carried));
     many = as_many (state_of s.world) between.sound;
     replicas = λ r up. replicas_are (state_of s.world) between.sound between.rest r up
         ∙ ap (λ (o : Spot). (replay o.state entries).volume) (same_opening (state_of w) (state_of s.world) origin ∙ start);
@@ -227,10 +239,13 @@ module _ (script : Script) (w : World) (s : ServedStreams) (streams : List Strea
 
   pub served_in_turn : (counts : ℕ → ℕ → ℕ) (told : ℕ → ℕ → Option (List (List ℕ)))
       → HaveTurns (map stream_calls streams) w s.world counts told → IsServedInTurn script counts s
-  served_in_turn counts told turns well =
-      turns.turns (λ v low r here. well v r (omega (arith, low, length-map streams stream_calls, ap length same))
-      (omega (arith, here, many)))
-      ∙ (λ i. served (start i) (map stream_calls (same i)))
+  served_in_turn counts told turns = record {
+    order = turns.order;
+    is = λ well.
+        turns.turns (λ v low r here. well v r (omega (arith, low, length-map streams stream_calls, ap length same))
+        (omega (arith, here, many)))
+        ∙ (λ i. served (start i) (map stream_calls (same i)));
+  }
 
 pub each_served : {E : Type 0} (script : Script) (w : World) (res : Result ServedStreams E) (streams : List Stream)
     (counts : ℕ → ℕ → ℕ) (told : ℕ → ℕ → Option (List (List ℕ))) (n : ℕ)
@@ -240,7 +255,7 @@ pub each_served : {E : Type 0} (script : Script) (w : World) (res : Result Serve
     → streams ≡ script.streams
     → IfOk res (λ s. s.heads.items ≡ map heads_of streams) → IfOk res (IsServed script counts told)
 each_served script w (Ok s) streams counts told n begun between origin turns same heads =
-    served_is script w s streams n begun between origin same counts told turns.calls turns.counted turns.carried heads
+    served_is script w s streams n begun between origin same counts told turns.none turns.calls turns.counted turns.carried heads
 each_served script w (Failed e) streams counts told n begun between origin turns same heads = tt
 
 pub each_in_turn : {E : Type 0} (script : Script) (w : World) (res : Result ServedStreams E) (streams : List Stream)

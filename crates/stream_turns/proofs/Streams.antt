@@ -16,9 +16,11 @@ use Rattle.volume_model.proofs.LegalLemmas.{answers_from-append}
 use Rattle.volume_model.proofs.ServedLemmas.{behind-streams, served_streams-push}
 use Rattle.client_worker.specs.Exchanges.{AreCarried}
 use Rattle.world_holder.specs.View.{own_entries}
+use Rattle.stream_turns.specs.Run.{StandInTurn}
 use Rattle.stream_turns.specs.Turns.{AreWell, IsTurn, AreTurns}
 use Rattle.world_holder.proofs.Entries.{own-append}
 use Rattle.stream_turns.proofs.Own.{no_faults, no_answers, none_own}
+use Rattle.stream_turns.proofs.RunLemmas.{more_in_turn}
 use Rattle.std.proofs.lemmas.List.Elements.{All-nil}
 use Rattle.stream_steps.specs.Mine.{Placed}
 use Rattle.client_worker.specs.Exchanges.{IsCarried}
@@ -66,6 +68,7 @@ no_turns opening replicas counts carried = record {
   calls = λ w. refl;
   counted = λ w r. omega arith;
   carried = λ w. All-nil (λ (p : Placed). IsCarried replicas (carried w) p.modes p.entry);
+  order = tt;
   turns = λ well. refl;
 }
 
@@ -140,5 +143,7 @@ module _ (opening : Spot) (replicas : ℕ) (css : List (List Call)) (cs : List C
           (subst (λ told. AreCarried replicas told (own_entries w opening.modes before))
           (λ i r. sym (same_carried w r other.1) i) (turns.carried w))
     ];
+    order = subst (StandInTurn 0) (sym one.is) (
+        more_in_turn (length css) 0 opening.modes before one.added (omega arith) turns.none one.own turns.order);
     turns = all_turns;
   }

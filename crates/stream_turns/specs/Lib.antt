@@ -1,4 +1,5 @@
 pub mod Turns
 pub mod Volume
+pub mod Run
 pub mod Turn
 pub mod Serving

@@ -8,6 +8,7 @@ use Rattle.volume_model.specs.OneWorker.{behind_entries, served_from, served, st
 use Rattle.volume_core.specs.Streams.{MayAppend}
 use Rattle.client_worker.specs.Exchanges.{AreCarried}
 use Rattle.world_holder.specs.View.{own_entries}
+use Rattle.stream_turns.specs.Run.{StandInTurn}
 
 -- the stream's lines to the replicas have not failed
 abbrev pub AreWell : ℕ → (ℕ → ℕ) → Type 0
@@ -27,14 +28,15 @@ pub record IsTurn (opening : Spot) (replicas w : ℕ) (asked : List Call) (befor
   pub turn : AreWell replicas counts
       → added ≡ served_from (behind_entries opening before) w (length before) 0 asked
 
--- The journal has the calls of these streams, the first of which has the number 0, and nothing of other streams. Each
--- stream's lines tell what they tell of its turn.
+-- The journal has the calls of these streams, the first of which has the number 0, in that order, and nothing of other
+-- streams. Each stream's lines tell what they tell of its turn.
 pub record AreTurns (opening : Spot) (replicas : ℕ) (streams : List (List Call)) (entries : List Entry)
     (counts : ℕ → ℕ → ℕ) (told : ℕ → ℕ → Option (List (List ℕ))) : Type 0 where
   pub none : (w : ℕ) → length streams ≤ w → own_entries w opening.modes entries ≡ []
   pub calls : (w : ℕ) → calls_of w entries ≡ stream_of streams w
   pub counted : (w r : ℕ) → last_count w r entries ≤ counts w r
   pub carried : (w : ℕ) → AreCarried replicas (told w) (own_entries w opening.modes entries)
+  pub order : StandInTurn 0 entries
   pub turns : ((w : ℕ) → w < length streams → AreWell replicas (counts w)) → entries ≡ served opening streams
 
 -- of each other stream's lines the same is told as before
