@@ -36,6 +36,9 @@ module _ (css : List (List Call)) (counts : ℕ → ℕ → ℕ) (told : ℕ →
   none_past : (v : ℕ) → length css ≤ v → own_entries v w2.journal.opening.modes entries ≡ []
   none_past v past = ended.none v past
 
+  each_none : (v : ℕ) → length css ≤ v → own_entries v (opening_of (state_of w)).modes entries ≡ []
+  each_none v past = subst (λ (o : Origin). own_entries v o.opening.modes entries ≡ []) origin (none_past v past)
+
   each_asked : (v : ℕ) → calls_of v entries ≡ stream_of css v
   each_asked v = elim (cases_lt v (length css)) [
     | inl low ↦ (ended.each v low).asked
@@ -69,6 +72,7 @@ pub each_served : {E : Type 0} (script : Script) (w : World) (res : Result Serve
     → IfOk res (λ s. s.heads.items ≡ map heads_of streams) → IfOk res (IsServed script counts told)
 each_served script w (Ok s) streams counts told n begun between origin ended same heads =
     let css = map stream_calls streams in
-    served_is script w s streams n begun between origin same counts told (each_asked css counts told w s.world origin ended)
-    (each_counted css counts told w s.world origin ended) (each_carried css counts told w s.world origin ended) heads
+    served_is script w s streams n begun between origin same counts told (each_none css counts told w s.world origin ended)
+    (each_asked css counts told w s.world origin ended) (each_counted css counts told w s.world origin ended)
+    (each_carried css counts told w s.world origin ended) heads
 each_served script w (Failed e) streams counts told n begun between origin ended same heads = tt
