@@ -1,6 +1,6 @@
 -- What a run has read, and what it leaves in its sink.
-use Rattle.std.proofs.Common.{◌≡◌, ℕ, ◌≤◌, ◌<◌, List, [], ◌++◌, length, replicate, Option, Some, None, Result, Ok}
-use Rattle.std.proofs.Common.{Err, refl, sym, ap, subst, ◌∙◌, inl, inr, OnOk, arith, length-append, map}
+use Rattle.std.proofs.Common.{◌≡◌, ℕ, ◌≤◌, ◌<◌, List, length, Option, Some, None, Result, Ok}
+use Rattle.std.proofs.Common.{Err, refl, ap, subst, ◌∙◌, inl, inr, OnOk, arith, length-append, map}
 use Rattle.std.proofs.lemmas.List.{length-replicate}
 use Rattle.std.specs.Io.KnownBytes.{Consumes, IsAtEnd, Appends}
 use Rattle.std.proofs.KnownBytes.{Consumes-whole}
@@ -10,6 +10,8 @@ use Rattle.replica_node.specs.Node.{blank}
 use Rattle.replica_node.specs.Volume.{volume_of_node}
 use Rattle.report_writer.specs.Written.{written_text}
 use Rattle.report_writer.proofs.SameVolume.{written_is_report}
+use Rattle.program_words.specs.declared.words.Workers.{Workers}
+use Rattle.program_words.specs.declared.words.Words.TheVariants.{Run}
 use Rattle.run_report.specs.Report.{report_of}
 use Rattle.script_text.specs.declared.script.Script.{Script}
 use Rattle.script_text.specs.declared.what.What.{What}
@@ -22,7 +24,7 @@ use Rattle.volume_model.specs.declared.mode.Mode.TheVariants.{Rw}
 use Rattle.journal_book.specs.Book.{modes_of}
 use Rattle.volume_model.proofs.OneWorkerLemmas.{length-modes_after}
 use Rattle.stream_turns.specs.declared.serving.ServedStreams.{ServedStreams}
-use Rattle.stream_turns.specs.Volume.{opening_of, heads_in}
+use Rattle.stream_turns.specs.Volume.{opening_of}
 use Rattle.stream_turns.specs.Serving.{IsServed}
 use Rattle.volume_cli.specs.declared.stop.Stop.{Stop}
 use Rattle.volume_cli.specs.declared.stop.Stop.TheVariants.{BadScript, ReadFault, WriteFault, NoMemory}
@@ -84,6 +86,9 @@ pub written_is : (script : Script) (counted : ℕ → ℕ → ℕ) (carried : �
 written_is script counted carried s done =
     written_is_report s.heads.items s.world.journal (opening_of script) s.world.nodes.items (blank 0) done.opening done.many done.replicas
     ∙ ap (λ (hs : List (List Head)). report_of hs (opening_of script) s.world.journal.entries) done.heads
+
+pub same_workers : (asked given : Workers) → Some (Run asked) ≡ Some (Run given) → asked ≡ given
+same_workers asked given is = cc
 
 -- what is written of the report of a run
 pub leaves : {T : Type 0} (Runs : RunFact) (result : Result T Stop) (same : Type 0) (left old new : Option (List ℕ))

@@ -1,23 +1,24 @@
 -- What the status of the program tells.
 use Rattle.std.specs.Prelude.{◌≡◌, ℕ, ◌⊎◌, List, map, Option, Some, None, string_bytes, String}
 use Rattle.program_words.specs.declared.words.Workers.{Workers}
+use Rattle.program_words.specs.declared.words.Words.{Words}
 use Rattle.program_words.specs.declared.words.Words.TheVariants.{Run}
 use Rattle.program_words.specs.Asked.{asked_by}
 use Rattle.volume_cli.specs.declared.status.Status.{Status}
 use Rattle.volume_cli.specs.declared.status.Status.TheVariants.{Done, Usage, Script, ReadFault, WriteFault, NoMemory}
 use Rattle.volume_cli.specs.Stops.{RunFact, HadNoScript, Prints, PrintsPrefix}
 
+-- what the words ask for, if they ask for anything that there is
+abbrev pub asked_for : {A : Type 0} → List (String A) → Option Words
+asked_for words = asked_by (map string_bytes words)
+
 -- the words ask for a run
 abbrev pub AskRun : {A : Type 0} → List (String A) → Type 0
-AskRun words = (workers : Workers) × (asked_by (map string_bytes words) ≡ Some (Run workers))
-
--- they ask for a run by these workers
-abbrev pub AskRunBy : {A : Type 0} → Workers → List (String A) → Type 0
-AskRunBy workers words = asked_by (map string_bytes words) ≡ Some (Run workers)
+AskRun words = (workers : Workers) × (asked_for words ≡ Some (Run workers))
 
 -- the words are a usage error: they ask for nothing that there is
 abbrev pub IsUsageError : {A : Type 0} → List (String A) → Type 0
-IsUsageError words = asked_by (map string_bytes words) ≡ None
+IsUsageError words = asked_for words ≡ None
 
 -- it is the answer, unless memory ran out
 abbrev pub IsStatus : Status → Status → Type 0

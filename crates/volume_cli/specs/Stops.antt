@@ -1,11 +1,12 @@
 -- How a run can end before its end, and what each way says of the counts of faults, of the input and of the sink.
-use Rattle.std.specs.Prelude.{◌≡◌, ℕ, ◌⊎◌, List, Option, IfSome, Result, Ok, Err}
+use Rattle.std.specs.Prelude.{◌≡◌, ℕ, ◌⊎◌, List, Option, Some, IfSome, Result, Ok, Err}
 use Rattle.std.specs.Io.KnownBytes.{Appends}
 use Rattle.outer_traits.specs.Causes.{Rose}
 use Rattle.outer_traits.specs.Passing.{WritesPrefix}
 use Rattle.volume_model.specs.declared.entry.Entry.{Entry}
-use Rattle.volume_model.specs.History.{IsHistory}
-use Rattle.volume_model.specs.OneWorker.{stream_of, served}
+use Rattle.program_words.specs.declared.words.Workers.TheVariants.{One}
+use Rattle.program_words.specs.declared.words.Words.{Words}
+use Rattle.program_words.specs.declared.words.Words.TheVariants.{Run}
 use Rattle.run_report.specs.Report.{report_of}
 use Rattle.script_text.specs.declared.error.ScriptError.{ScriptError}
 use Rattle.script_text.specs.declared.error.ScriptError.TheVariants as script_error
@@ -14,9 +15,8 @@ use Rattle.script_text.specs.declared.what.What.{What}
 use Rattle.script_text.specs.Script.{IsScript, IsNoScript}
 use Rattle.volume_cli.specs.declared.stop.Stop.{Stop}
 use Rattle.volume_cli.specs.declared.stop.Stop.TheVariants.{BadScript, ReadFault, WriteFault, NoMemory}
-use Rattle.client_worker.specs.Exchanges.{ExchangesShown}
-use Rattle.stream_turns.specs.Volume.{opening_of, calls_in, heads_in}
-use Rattle.stream_turns.specs.Serving.{HaveNotFailed}
+use Rattle.stream_turns.specs.Volume.{opening_of, heads_in}
+use Rattle.stream_turns.specs.Run.{IsRun, IsOneWorkersRun}
 
 -- the way to stop that a refusal of a script is
 abbrev pub stop_of : ScriptError → Stop
@@ -67,19 +67,12 @@ HadScript left script = (input : List ℕ) × IsScript input script × IfSome le
 abbrev pub RunFact : Type 1
 RunFact = Script → List Entry → Type 0
 
--- the journal is one legal history of the script's calls, over lines that counted these faults, by stream and replica
-abbrev pub IsRun : (ℕ → ℕ → ℕ) → RunFact
-IsRun counted script journal = IsHistory (opening_of script) counted (stream_of (calls_in script)) journal
-
--- Where none of these lines has failed, it is the one that a single worker makes: one stream after another, in the order
--- of their numbers. Of streams that are served side by side nothing of the kind is so.
-abbrev pub IsOneWorkersRun : (ℕ → ℕ → ℕ) → RunFact
-IsOneWorkersRun counted script journal =
-    HaveNotFailed counted script → journal ≡ served (opening_of script) (calls_in script)
-
--- what it tells as read and written was carried, of lines that tell what they have carried, by stream and replica
-abbrev pub IsCarriedRun : (ℕ → ℕ → Option (List (List ℕ))) → RunFact
-IsCarriedRun carried script journal = ExchangesShown script.replicas carried (opening_of script).modes journal
+-- The journal is that of a run of the script, over lines that counted these faults and told that they carried this. Where
+-- one worker was asked for, it is one worker's.
+pub record IsRunOf (asked : Option Words) (counted : ℕ → ℕ → ℕ) (told : ℕ → ℕ → Option (List (List ℕ)))
+    (script : Script) (journal : List Entry) : Type 0 where
+  pub run : IsRun counted told script journal
+  pub turns : asked ≡ Some (Run One) → IsOneWorkersRun counted script journal
 
 -- what such a run prints
 abbrev pub report_text : Script → List Entry → List ℕ

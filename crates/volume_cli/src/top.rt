@@ -1,13 +1,15 @@
-ghost use Rattle.std.specs.Prelude.{◌≡◌, ◌<◌, ◌-◌, ◌^◌, ◌↔◌, ℕ, IfOk, IfSome, OnOk};
+ghost use Rattle.std.specs.Prelude.{◌≡◌, ◌<◌, ◌-◌, ◌^◌, ◌↔◌, ℕ, Some, IfOk, IfSome, OnOk};
 ghost use Rattle.std.specs.Io.KnownBytes.{IsAtEnd};
 ghost use Rattle.outer_traits.specs.Passing.{GivesAtMost};
 ghost use Rattle.script_text.specs.Script.{IsScript, IsNoScript};
 ghost use Rattle.script_text.specs.declared.script.Script.{Script};
 ghost use Rattle.script_text.specs.declared.what.What.{What};
 ghost use Rattle.program_words.specs.declared.words.Workers.{Workers};
-ghost use Rattle.volume_cli.specs.Headline.{AskRun, AskRunBy, IsUsageError, ExactlyWhere, ScriptRefusal, Leaves, IsStatus};
+ghost use Rattle.program_words.specs.declared.words.Words.TheVariants.{Run};
+ghost use Rattle.volume_cli.specs.Headline.{asked_for, AskRun, IsUsageError, IsStatus};
+ghost use Rattle.volume_cli.specs.Headline.{ExactlyWhere, ScriptRefusal, Leaves};
 ghost use Rattle.stream_turns.specs.Serving.{IsRead, IsServed, IsServedInTurn};
-ghost use Rattle.volume_cli.specs.Stops.{Counts, IsCarriedRun, IsOneWorkersRun, IsRun, RunLeaves};
+ghost use Rattle.volume_cli.specs.Stops.{Counts, IsRunOf, RunLeaves};
 
 use crate::edge::{read_input, write_output};
 use crate::status::Status;
@@ -57,18 +59,14 @@ pub fn longhorn<R: Threads + Wait + Sync, S: Source, K: Sink, W: Wiring, G: Gate
     ensures unread { result ≡ Status.Usage → source.new ≡ source.old }
     ensures most { GivesAtMost (S.left source.old) (S.left source.new) 268435457 }
 
-    // However the workers' steps interleave, at Done the sink has the report of one legal history of the script's calls,
-    // and its fault marks are faults that the lines counted. After a write fault it has a prefix of it, and after a
-    // refusal and a read fault it is as it was.
-    ensures printed { Leaves (IsRun (W.counts wiring.new)) result (sink.new ≡ sink.old) (S.left source.old) (K.contents sink.old) (K.contents sink.new) }
-
-    // Where the lines tell what they carried, each write that was done was carried whole to each replica that is read
-    // and written there, and the bytes of each read from one.
-    ensures carried { Leaves (IsCarriedRun (W.carried wiring.new)) result (sink.new ≡ sink.old) (S.left source.old) (K.contents sink.old) (K.contents sink.new) }
-
-    // Where one worker was asked for, and no line has failed, that history is the one that it makes: one stream after
-    // another, by their numbers.
-    ensures turns { AskRunBy Workers.One words.now → Leaves (IsOneWorkersRun (W.counts wiring.new)) result (sink.new ≡ sink.old) (S.left source.old) (K.contents sink.old) (K.contents sink.new) }
+    // However the workers' steps interleave, at Done the sink has the report of one journal. It is one legal history of
+    // the script's calls, and its fault marks are faults that the run's own lines counted. Where the lines tell what
+    // they carried, each write that was done was carried whole to each replica that is read and written there, and the
+    // bytes of each read from one. One worker, where it was asked for, answers stream after stream, by their numbers,
+    // and while no line has failed the journal is a function of the script. After a write fault the sink has a prefix
+    // of the report, and after a refusal and a read fault it is as it was.
+    ensures printed { Leaves (IsRunOf (asked_for words.now) (W.counts wiring.new) (W.carried wiring.new))
+        result (sink.new ≡ sink.old) (S.left source.old) (K.contents sink.old) (K.contents sink.new) }
 {
     match read_words(alloc, words) {
         Ok(Words::Run { workers }) => match run(rt, alloc, workers, source, sink, wiring, gate) {
@@ -95,9 +93,8 @@ fn run<R: Threads + Wait + Sync, S: Source, K: Sink, W: Wiring, G: Gate + Sync>(
     ensures counts { Counts result (S.faults source.old) (S.faults source.new) (K.faults sink.old) (K.faults sink.new) }
     ensures whole { OnOk result (IsAtEnd (S.left source.new)) }
     ensures most { GivesAtMost (S.left source.old) (S.left source.new) 268435457 }
-    ensures printed { RunLeaves (IsRun (W.counts wiring.new)) result (sink.new ≡ sink.old) (S.left source.old) (K.contents sink.old) (K.contents sink.new) }
-    ensures carried { RunLeaves (IsCarriedRun (W.carried wiring.new)) result (sink.new ≡ sink.old) (S.left source.old) (K.contents sink.old) (K.contents sink.new) }
-    ensures turns { workers ≡ Workers.One → RunLeaves (IsOneWorkersRun (W.counts wiring.new)) result (sink.new ≡ sink.old) (S.left source.old) (K.contents sink.old) (K.contents sink.new) }
+    ensures printed { RunLeaves (IsRunOf (Some (Run workers)) (W.counts wiring.new) (W.carried wiring.new))
+        result (sink.new ≡ sink.old) (S.left source.old) (K.contents sink.old) (K.contents sink.new) }
 {
     let input = read_input(alloc, source)?;
     let script = read_script(alloc, &input)?;

@@ -1,5 +1,4 @@
 use Rattle.std.proofs.Common.{◌≡◌}
-use Rattle.volume_cli.specs.Stops.{IsRun}
 use Rattle.volume_cli.proofs.Refusals.{asks_run, stopped_at, stopped_writing, no_refusal, one_refusal, no_completion}
 use Rattle.volume_cli.proofs.top.longhorn.Goals as goal
 
@@ -19,7 +18,7 @@ returns-in-Ok-clause-done g c = λ is. (
 pub returns-in-Err-BadScript-clause-script_only : goal.returns-in-Err-BadScript-clause-script_only
 returns-in-Err-BadScript-clause-script_only g c = (
   asks_run _ c.read_words.result c.in-Ok-Run.field-0 c.in-Ok-Run.is c.read_words.ensures.found,
-  stopped_at (IsRun (g.W.Wiring.counts c.run.new.wiring)) c.in-Err-BadScript.field-0 c.in-Err-BadScript.place
+  stopped_at _ c.in-Err-BadScript.field-0 c.in-Err-BadScript.place
       c.in-Err-BadScript.what (c.run.new.sink ≡ c.args.sink.now)
       (g.S.Source.left c.args.source.now) (g.K.Sink.contents c.args.sink.now) (g.K.Sink.contents c.run.new.sink)
       c.in-Err-BadScript.field-0-is c.in-Err-BadScript.ensures.printed,
@@ -37,7 +36,7 @@ returns-in-Err-BadScript-clause-complete g c =
 
 pub returns-in-Err-WriteFault-clause-script : goal.returns-in-Err-WriteFault-clause-script
 returns-in-Err-WriteFault-clause-script g c =
-    let t = stopped_writing (IsRun (g.W.Wiring.counts c.run.new.wiring)) c.in-Err-WriteFault.field-0
+    let t = stopped_writing _ c.in-Err-WriteFault.field-0
     (c.run.new.sink ≡ c.args.sink.now) (g.S.Source.left c.args.source.now)
     (g.K.Sink.contents c.args.sink.now) (g.K.Sink.contents c.run.new.sink) c.in-Err-WriteFault.field-0-is
     c.in-Err-WriteFault.ensures.printed in

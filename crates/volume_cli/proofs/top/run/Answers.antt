@@ -1,31 +1,17 @@
-use Rattle.std.proofs.Common.{◌≡◌, refl, subst}
+use Rattle.std.proofs.Common.{Some, refl, subst}
+use Rattle.program_words.specs.declared.words.Workers.TheVariants.{One}
+use Rattle.program_words.specs.declared.words.Words.TheVariants.{Run}
 use Rattle.script_text.specs.Script.{RefusesInput}
-use Rattle.volume_cli.specs.Stops.{RunFact, HadNoScript, IsRun, IsOneWorkersRun, IsCarriedRun}
-use Rattle.volume_cli.proofs.Run.{had_no_script, had_script, few_modes, written_is, leaves, run_counts, on_ok}
+use Rattle.volume_cli.specs.Stops.{IsRunOf}
+use Rattle.volume_cli.proofs.Run.{same_workers, had_no_script, had_script, few_modes, written_is, leaves, run_counts, on_ok}
 use Rattle.volume_cli.proofs.Refusals.{refused_leaves}
 use Rattle.volume_cli.proofs.top.run.Goals as goal
 
 pub returns-in_err-script-clause-printed : goal.returns-in_err-script-clause-printed
 returns-in_err-script-clause-printed g c =
     let fault = c.in_err-script.field-0.0 in
-    refused_leaves (IsRun (g.W.Wiring.counts c.args.wiring.now)) c.from_residual-in_err-script.result fault _ _ _ _
-    c.from_residual-in_err-script.ensures.1 refl
-    (λ place why is. had_no_script _ _ c.in_ok-input.input place why c.in_ok-input.ensures.bytes c.in_ok-input.ensures.whole
-    (subst (RefusesInput c.in_ok-input.input) is c.in_err-script.ensures.refused))
-
-pub returns-in_err-script-clause-carried : goal.returns-in_err-script-clause-carried
-returns-in_err-script-clause-carried g c =
-    let fault = c.in_err-script.field-0.0 in
-    refused_leaves (IsCarriedRun (g.W.Wiring.carried c.args.wiring.now)) c.from_residual-in_err-script.result fault _ _ _ _
-    c.from_residual-in_err-script.ensures.1 refl
-    (λ place why is. had_no_script _ _ c.in_ok-input.input place why c.in_ok-input.ensures.bytes c.in_ok-input.ensures.whole
-    (subst (RefusesInput c.in_ok-input.input) is c.in_err-script.ensures.refused))
-
-pub returns-in_err-script-clause-turns : goal.returns-in_err-script-clause-turns
-returns-in_err-script-clause-turns g c = λ one.
-    let fault = c.in_err-script.field-0.0 in
-    refused_leaves (IsOneWorkersRun (g.W.Wiring.counts c.args.wiring.now)) c.from_residual-in_err-script.result fault _ _ _
-    _ c.from_residual-in_err-script.ensures.1 refl
+    refused_leaves (IsRunOf (Some (Run c.args.workers)) (g.W.Wiring.counts c.args.wiring.now) (g.W.Wiring.carried c.args.wiring.now))
+    c.from_residual-in_err-script.result fault _ _ _ _ c.from_residual-in_err-script.ensures.1 refl
     (λ place why is. had_no_script _ _ c.in_ok-input.input place why c.in_ok-input.ensures.bytes c.in_ok-input.ensures.whole
     (subst (RefusesInput c.in_ok-input.input) is c.in_err-script.ensures.refused))
 
@@ -34,35 +20,15 @@ returns-clause-printed g c =
     let script = c.in_ok-script.script in
     let served = c.in_ok-served.served in
     let counts = g.W.Wiring.counts c.serve_by.new.wiring in
-    leaves (IsRun counts) c.write_output.result _ _ _ _ script served.world.journal.entries _
+    let carried = g.W.Wiring.carried c.serve_by.new.wiring in
+    leaves (IsRunOf (Some (Run c.args.workers)) counts carried) c.write_output.result _ _ _ _ script served.world.journal.entries _
     (g.K.Sink.faults c.args.sink.now) (g.K.Sink.faults c.write_output.new.sink)
     (had_script _ _ c.in_ok-input.input script c.in_ok-input.ensures.bytes c.in_ok-input.ensures.whole c.in_ok-script.ensures.found)
-    c.in_ok-served.ensures.served.history
-    (written_is script counts (g.W.Wiring.carried c.serve_by.new.wiring) served c.in_ok-served.ensures.served)
-    c.write_output.ensures.whole c.write_output.ensures.prefix c.write_output.ensures.counts
-
-pub returns-clause-carried : goal.returns-clause-carried
-returns-clause-carried g c =
-    let script = c.in_ok-script.script in
-    let served = c.in_ok-served.served in
-    let counts = g.W.Wiring.counts c.serve_by.new.wiring in
-    leaves (IsCarriedRun (g.W.Wiring.carried c.serve_by.new.wiring)) c.write_output.result _ _ _ _ script
-    served.world.journal.entries _ (g.K.Sink.faults c.args.sink.now) (g.K.Sink.faults c.write_output.new.sink)
-    (had_script _ _ c.in_ok-input.input script c.in_ok-input.ensures.bytes c.in_ok-input.ensures.whole c.in_ok-script.ensures.found)
-    c.in_ok-served.ensures.served.carried
-    (written_is script counts (g.W.Wiring.carried c.serve_by.new.wiring) served c.in_ok-served.ensures.served)
-    c.write_output.ensures.whole c.write_output.ensures.prefix c.write_output.ensures.counts
-
-pub returns-clause-turns : goal.returns-clause-turns
-returns-clause-turns g c = λ one.
-    let script = c.in_ok-script.script in
-    let served = c.in_ok-served.served in
-    let counts = g.W.Wiring.counts c.serve_by.new.wiring in
-    leaves (IsOneWorkersRun counts) c.write_output.result _ _ _ _ script served.world.journal.entries _
-    (g.K.Sink.faults c.args.sink.now) (g.K.Sink.faults c.write_output.new.sink)
-    (had_script _ _ c.in_ok-input.input script c.in_ok-input.ensures.bytes c.in_ok-input.ensures.whole c.in_ok-script.ensures.found)
-    (c.in_ok-served.ensures.turns one)
-    (written_is script counts (g.W.Wiring.carried c.serve_by.new.wiring) served c.in_ok-served.ensures.served)
+    (record {
+      run = c.in_ok-served.ensures.served.run;
+      turns = λ asked. c.in_ok-served.ensures.turns (same_workers c.args.workers One asked);
+    })
+    (written_is script counts carried served c.in_ok-served.ensures.served)
     c.write_output.ensures.whole c.write_output.ensures.prefix c.write_output.ensures.counts
 
 pub returns-clause-counts : goal.returns-clause-counts
