@@ -1,0 +1,71 @@
+-- Entries whose numbers fit their types: no number has more than 64 bits, and bytes have eight.
+use Rattle.std.specs.Prelude.{ℕ, ◌^◌, ◌<◌, List, length, FitsSigned}
+use Rattle.std.specs.Int.{w64}
+use Rattle.std.specs.List.{All}
+use Rattle.volume_model.specs.declared.call.Call.{Call}
+use Rattle.volume_model.specs.declared.call.Call.TheVariants as call
+use Rattle.volume_model.specs.declared.call.Reply.{Reply}
+use Rattle.volume_model.specs.declared.call.Reply.TheVariants as reply
+use Rattle.volume_model.specs.declared.command.Command.{Command}
+use Rattle.volume_model.specs.declared.command.Command.TheVariants.{Fail, Add}
+use Rattle.volume_model.specs.declared.entry.Answer.{Answer}
+use Rattle.volume_model.specs.declared.entry.Entry.{Entry}
+use Rattle.volume_model.specs.declared.entry.Entry.TheVariants as entry
+use Rattle.volume_model.specs.declared.mark.Mark.{Mark}
+use Rattle.volume_model.specs.declared.mark.Mark.TheVariants as mark
+
+-- a number of at most 64 bits
+abbrev pub Fits64 : ℕ → Type 0
+Fits64 n = n < 2 ^ 64
+
+-- bytes, and no more than such a number counts
+pub record AreBytes (bytes : List ℕ) : Type 0 where
+  pub each : All (λ b. b < 256) bytes
+  pub few : Fits64 (length bytes)
+
+-- the replica that a command names
+abbrev pub CommandFits : Command → Type 0
+CommandFits (Fail r) = Fits64 r
+CommandFits (Add r) = Fits64 r
+CommandFits c = Unit {0}
+
+-- what a call asks
+abbrev pub CallFits : Call → Type 0
+CallFits (call.Read offset n) = FitsSigned w64 offset × Fits64 n
+CallFits (call.Write offset bytes) = FitsSigned w64 offset × AreBytes bytes
+CallFits call.Ping = Unit {0}
+CallFits (call.Other kind) = Fits64 kind
+CallFits (call.Command c) = CommandFits c
+
+-- what a call is answered
+abbrev pub ReplyFits : Reply → Type 0
+ReplyFits (reply.Read bytes) = AreBytes bytes
+ReplyFits (reply.Status layers modes) = Fits64 layers
+ReplyFits (reply.Aborted place) = Fits64 place
+ReplyFits r = Unit {0}
+
+-- an answer, with its place in its stream and what it saw
+pub record AnswerFits (a : Answer) : Type 0 where
+  pub saw : Fits64 a.saw
+  pub stream : Fits64 a.stream
+  pub index : Fits64 a.index
+  pub call : CallFits a.call
+  pub reply : ReplyFits a.reply
+
+-- what a mark tells
+abbrev pub MarkFits : Mark → Type 0
+MarkFits (mark.Purged part) = Unit {0}
+MarkFits (mark.Fault stream r count) = Fits64 stream × Fits64 r × Fits64 count
+MarkFits (mark.Failed r) = Fits64 r
+MarkFits (mark.Added r source name) = Fits64 r × Fits64 source
+MarkFits (mark.Promoted r) = Fits64 r
+MarkFits (mark.Aborted r) = Fits64 r
+
+-- each number in an entry fits
+abbrev pub EntryFits : Entry → Type 0
+EntryFits (entry.Answer a) = AnswerFits a
+EntryFits (entry.Mark m) = MarkFits m
+
+-- each number in these entries fits
+abbrev pub HaveNumbers : List Entry → Type 0
+HaveNumbers entries = All EntryFits entries

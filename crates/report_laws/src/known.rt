@@ -1,0 +1,144 @@
+ghost use Rattle.report_laws.specs.Names.{CallNames, CommandNames, EntryNames, HaveNames, MarkNames, PartNames};
+ghost use Rattle.report_laws.specs.Numbers.{AnswerFits, AreBytes, CallFits, CommandFits, EntryFits, HaveNumbers};
+ghost use Rattle.report_laws.specs.Numbers.{MarkFits, ReplyFits};
+ghost use Rattle.vol_units.specs.Name.{IsName};
+
+use volume_model::{Answer, Call, Command, Entry, FoldOrDrop, LayerName, Mark, Reply};
+
+/// Entries that a program holds have names and numbers, since each value is one of its type. A law ranges over all
+/// lists of bytes and all numbers, so this looks at each field once, and does nothing.
+pub fn know_entries(entries: &[Entry])
+    ensures names { HaveNames entries.now }
+    ensures numbers { HaveNumbers entries.now }
+{
+    for entry in entries {
+        know_entry(entry);
+    }
+}
+
+fn know_entry(entry: &Entry)
+    ensures names { EntryNames entry.now }
+    ensures numbers { EntryFits entry.now }
+{
+    match entry {
+        Entry::Answer(answer) => know_answer(answer),
+        Entry::Mark(mark) => know_mark(mark),
+    }
+}
+
+fn know_answer(answer: &Answer)
+    ensures names { CallNames answer.now.call }
+    ensures numbers { AnswerFits answer.now }
+{
+    know_call(&answer.call);
+    know_reply(&answer.reply);
+    let _saw = answer.saw;
+    let _stream = answer.stream;
+    let _index = answer.index;
+}
+
+fn know_call(call: &Call)
+    ensures names { CallNames call.now }
+    ensures numbers { CallFits call.now }
+{
+    match call {
+        Call::Read { offset, length } => {
+            let _offset = *offset;
+            let _length = *length;
+        }
+        Call::Write { offset, bytes } => {
+            let _offset = *offset;
+            know_bytes(bytes.as_slice());
+        }
+        Call::Ping => {}
+        Call::Other(kind) => {
+            let _kind = *kind;
+        }
+        Call::Command(command) => know_command(command),
+    }
+}
+
+fn know_command(command: &Command)
+    ensures names { CommandNames command.now }
+    ensures numbers { CommandFits command.now }
+{
+    match command {
+        Command::Snapshot(name) => {
+            let _bytes = name.as_bytes();
+        }
+        Command::Remove(name) | Command::Revert(name) => know_layer(name),
+        Command::Purge | Command::Status => {}
+        Command::Fail(replica) | Command::Add(replica) => {
+            let _replica = *replica;
+        }
+    }
+}
+
+fn know_reply(reply: &Reply)
+    ensures { ReplyFits reply.now }
+{
+    match reply {
+        Reply::Read(bytes) => know_bytes(bytes.as_slice()),
+        Reply::Status { layers, .. } => {
+            let _layers = *layers;
+        }
+        Reply::Aborted(place) => {
+            let _place = *place;
+        }
+        Reply::Done | Reply::Refused(_) => {}
+    }
+}
+
+fn know_mark(mark: &Mark)
+    ensures names { MarkNames mark.now }
+    ensures numbers { MarkFits mark.now }
+{
+    match mark {
+        Mark::Purged(part) => know_part(part),
+        Mark::Fault {
+            stream,
+            replica,
+            count,
+        } => {
+            let _stream = *stream;
+            let _replica = *replica;
+            let _count = *count;
+        }
+        Mark::Added {
+            replica,
+            source,
+            name,
+        } => {
+            let _replica = *replica;
+            let _source = *source;
+            know_layer(name);
+        }
+        Mark::Failed(replica) | Mark::Promoted(replica) | Mark::Aborted(replica) => {
+            let _replica = *replica;
+        }
+    }
+}
+
+fn know_part(part: &FoldOrDrop)
+    ensures { PartNames part.now }
+{
+    match part {
+        FoldOrDrop::Fold { parent, child } => {
+            know_layer(parent);
+            know_layer(child);
+        }
+        FoldOrDrop::Drop(name) => know_layer(name),
+    }
+}
+
+fn know_layer(name: &LayerName)
+    ensures { IsName name.now }
+{
+    let _bytes = name.as_bytes();
+}
+
+fn know_bytes(bytes: &[u8])
+    ensures { AreBytes bytes.now }
+{
+    let _length = bytes.len();
+}
