@@ -88,6 +88,7 @@ class Checker:
                 self.check_entry(line)
             else:
                 self.check_mark(line)
+        self.check_askers()
         self.check_replies()
         self.check_end()
 
@@ -260,6 +261,18 @@ class Checker:
         if children != list(mark.words[2:]):
             self.say(mark, 'takes %s away, on which %s', gone, ('stands ' + ', '.join(children)) if children else 'no layer stands')
 
+    def check_askers(self):
+        """A mark that a call alone makes stands between what such a call saw and its answer."""
+        # What the calls behind a line saw, the least for each.
+        seen = {}
+        for line in reversed(self.journal if self.is_whole and not self.is_front else []):
+            if isinstance(line, Mark):
+                asker = asker_of(line)
+                if asker and not seen.get(asker, line.place + 1) <= line.place:
+                    self.say(line, 'stands in no `%s` that saw what is before it and is answered behind it', ' '.join(asker))
+            elif line.kind in ('add', 'purge'):
+                seen[line.call] = min(line.saw, seen.get(line.call, line.saw))
+
     def check_replies(self):
         """Each call by a frame has one reply line, which says what its entry says."""
         asked = {(entry.stream, entry.index): entry for entry in self.report.entries if entry.kind in FRAME_CALLS}
@@ -311,8 +324,6 @@ class Checker:
             self.say(modes[0], 'begins modes of %s, where each replica has one, in order',
                      replicas_text([line.replica for line in modes]))
         self.check_last_modes(modes)
-        for target in self.replay.unanswered if self.is_whole else ():
-            self.say(None, 'has a rebuild of r%d, and no `add r%d` behind it', target, target)
         wanted = [line.replica for line in modes if line.value == RW]
         for group in ('chain', 'head'):
             self.check_sameness([line for line in lines if line.group == group], group, wanted)
@@ -348,6 +359,13 @@ class Checker:
             if line.value != digest:
                 self.say(line, 'gives r%d the digest %s, and a plain disk has %s', line.replica, shorten(line.value, 17),
                          shorten(digest, 17))
+
+
+def asker_of(mark):
+    """The call that alone makes a mark, or None."""
+    if mark.kind == 'added':
+        return 'add', mark.words[1]
+    return ('purge',) if mark.kind in LAYER_MARKS else None
 
 
 def is_carried(entry):

@@ -76,7 +76,7 @@ class Replay:
         if entry.answer == 'ok' and entry.kind in LAYER_CHANGES:
             self.change_layers(entry.kind, entry.call[1])
         if entry.kind == 'add':
-            self.unanswered.clear()
+            self.unanswered.pop(replica_number(entry.call[1]), None)
 
     def change_layers(self, kind, name):
         """A snapshot, a mark or a revert that was done."""

@@ -7,6 +7,7 @@ from collections import Counter
 
 import asked
 import journal
+import one_worker
 import script
 from built_program import LAUNCHER, ProgramTest
 from generated_runs import rebuild_text, run_text
@@ -68,6 +69,13 @@ class Each(ProgramTest):
 
     def test_workers_side_by_side_print_one_journal_of_the_script(self):
         self.judge_all([], TIMES, LEAST_EACH)
+
+    def test_a_worker_that_is_alone_serves_commands_as_one_worker_does(self):
+        for seed in range(SEEDS):
+            text = run_text(random.Random(seed), 1)
+            given = script.make(text)
+            with self.subTest(seed=seed):
+                self.assertEqual(self.printed(given, ['--workers', 'each']), one_worker.report_of(asked.read_script(given)), text)
 
     def test_sixteen_workers_are_served(self):
         def sixteen(chance):

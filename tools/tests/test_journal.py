@@ -138,7 +138,21 @@ chain r0 head
 head r0 %s
 ''' % AB_HEAD
 
-GOOD = (ONE_STREAM, COMMANDS, REBUILD, ABORTED, SAVED, SIDE_BY_SIDE)
+# While a rebuild that is aborted has no answer yet, an `add` of another replica is refused.
+OTHER_ADD = '''0 mark failed r1
+1 0 0 0 fail r1 ok
+2 mark added r1 r0 sys-0
+3 mark fault 0 r1 1
+4 mark aborted r1
+5 2 1 0 add r0 error in use
+6 2 0 1 add r1 error aborted 4
+mode r0 RW
+mode r1 ERR
+chain r0 head sys-0
+head r0 %s
+''' % HEAD
+
+GOOD = (ONE_STREAM, COMMANDS, REBUILD, ABORTED, SAVED, SIDE_BY_SIDE, OTHER_ADD)
 # A report, a text of it, what stands there instead, and what is found, with the number of its line.
 BREAKS = [
     (ONE_STREAM, '2 2 0 2 ping', '3 2 0 2 ping', 'line 3: has place 3, where 2 comes next'),
@@ -179,6 +193,8 @@ BREAKS = [
     (COMMANDS, '9 9 0 8 revert t ok', '9 9 0 8 status ok layers 3 modes RW', 'line 12: takes u away, on which the head stands'),
     (COMMANDS, '11 mark dropped u\n12 11 0 10', '11 11 0 10', 'line 12: is `ok`, but there is still to fold or to drop: u'),
     (COMMANDS, '6 mark folded s t\n7 6 0 6 purge ok\n8 8', '6 6 0 6 purge ok\n7 7', 'line 7: is `ok`, but there is still to fold or to drop: s'),
+    (COMMANDS, '7 6 0 6 purge ok', '7 7 0 6 purge ok', 'line 7: stands in no `purge` that saw what is before it'),
+    (COMMANDS, '12 11 0 10 purge ok', '12 11 0 10 snapshot v ok', 'line 12: stands in no `purge` that saw what is before it'),
     (REBUILD, '11 10 2 2 write 0 1 63*1 error no replica', '11 mark dropped sys-0', 'line 12: takes sys-0 away, but no replica is RW'),
     (REBUILD, 'error no replica', 'ok', 'line 12: is `ok`, but no replica is RW'),
     (REBUILD, 'read 0 1 ok 61*1', 'read 0 1 error no replica', 'line 10: is refused as `no replica`, but r1 is RW'),
@@ -191,7 +207,7 @@ BREAKS = [
     (REBUILD, 'promoted r1', 'promoted r0', 'line 6: ends a rebuild of r0, and none has begun'),
     (REBUILD, '1 mark failed r1', '1 mark promoted r1', 'line 2: takes r1 to RW, which is RW and not WO'),
     (REBUILD, '6 3 1 1 add r1 ok', '6 3 1 1 add r1 error in use', 'line 6: has no `add r1 ok` behind it'),
-    (REBUILD, '6 3 1 1 add r1 ok', '6 3 1 1 status ok layers 2 modes RW,RW', 'the report has a rebuild of r1, and no `add r1` behind it'),
+    (REBUILD, '6 3 1 1 add r1 ok', '6 3 1 1 status ok layers 2 modes RW,RW', 'line 4: stands in no `add r1` that saw'),
     (ABORTED, 'add r2 error in use', 'add r2 ok', 'line 3: is answered `ok`, and the journal makes it `error in use`'),
     (ABORTED, 'added r1 r0 sys-0', 'added r2 r0 sys-0', 'line 4: begins with r2 as RW, and not as ERR'),
     (ABORTED, 'added r1 r0 sys-0', 'added r1 r0 t', 'line 4: is no line of a report'),
@@ -200,6 +216,7 @@ BREAKS = [
     (ABORTED, '5 mark aborted r1', '5 mark fault 1 r2 1', 'line 5: has no `fail r0 ok` behind it'),
     (ABORTED, '4 mark failed r0', '4 mark fault 1 r2 1', 'line 6: has no mark before it by which r1 or r0 fell'),
     (ABORTED, '4 mark failed r0', '4 2 1 0 ping ok', 'line 6: has no mark before it by which r1 or r0 fell'),
+    (ABORTED, '7 3 0 2 add r1', '7 4 0 2 add r1', 'line 4: stands in no `add r1` that saw what is before it'),
     (ABORTED, 'error aborted 5', 'error aborted 4', 'line 8: is answered `error aborted 4`, and the'),
     (ABORTED, 'error aborted 5', 'ok', 'line 8: is answered `ok`, and the journal makes it `error aborted 5`'),
     (ABORTED, 'r2 sys-1', 'r2 sys-0', 'line 9: names its layer sys-0, and the head has the number 1'),
@@ -210,6 +227,7 @@ BREAKS = [
     (ABORTED, '10 mark promoted r1\n11', '10', 'line 11: is answered `ok`, but the rebuild of r1 has not ended'),
     (ABORTED, '11 8 0 3 add r1 ok', '11 8 0 3 add r1 error aborted 10', 'line 12: is answered `error aborted 10`, and the'),
     (ABORTED, 'add r1 error no replica', 'add r1 error in use', 'line 16: is answered `error in use`, and'),
+    (OTHER_ADD, 'add r1 error aborted 4', 'add r1 error in use', 'line 7: is answered `error in use`, and the journal makes it `error aborted 4`'),
     (SIDE_BY_SIDE, '3 3 1 1 read 0 2 ok 61*1,62*1', '3 3 1 0 write 1 1 62*1 ok', 'line 4: is call 0 of stream 1, where call 1 comes'),
     (SIDE_BY_SIDE, '3 3 1 1 read 0 2 ok 61*1,62*1', '3 3 1 1 read 0 2 ok 61*2',
      'line 4: reads `61*2`, and a plain disk has `61*1,62*1` there'),
@@ -277,6 +295,17 @@ class Check(unittest.TestCase):
             # Place and SAW stay where they are, and two calls of a stream change their places.
             lines[one], lines[other] = (' '.join([*words[here][:2], words[there][2]]) for here, there in ((one, other), (other, one)))
             self.assertNotEqual(journal.check(read_report('\n'.join(lines)), its), '', seed)
+
+    def test_a_stream_that_is_given_up_is_found(self):
+        for seed in range(10):
+            chance = random.Random(seed)
+            its = asked.read_script(script.make(chance.choice([run_text, rebuild_text])(chance)))
+            for is_given_up in (lambda calls: calls[0].seq is None), (lambda calls: calls[0].seq is not None):
+                given_up = [stream for stream, calls in enumerate(its.streams) if is_given_up(calls)]
+                left = its._replace(streams=[[] if stream in given_up else calls for stream, calls in enumerate(its.streams)])
+                lines = journal.check(read_report(report_of(left, chance)), its).splitlines()
+                self.assertEqual(lines, ['the report has 0 of the %d calls of stream %d' % (len(its.streams[stream]), stream)
+                                         for stream in given_up], seed)
 
     def test_a_script_is_read_as_its_calls(self):
         its = asked.read_script(script.make(SIDE_BY_SIDE_TEXT))
