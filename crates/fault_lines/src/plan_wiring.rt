@@ -43,6 +43,8 @@ impl Wiring for PlanWiring {
 
     ghost carried = { λ _ _ _. None };
 
+    ghost asked = { λ _. None };
+
     fn line(&mut self, worker: u8, replica: u8, fail: &[u32]) -> Result<PlanLine, AllocError>
         ensures fresh { IfOk result (λ line. IsNewLine line.ends line.plan.count None worker replica) }
         ensures same { self.new ≡ self.old }

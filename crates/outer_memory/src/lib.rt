@@ -18,7 +18,7 @@ pub use limited_sink::LimitedSink;
 pub use memory_line::{MemoryLine, Told};
 pub use memory_sink::MemorySink;
 pub use memory_source::MemorySource;
-pub use memory_wiring::MemoryWiring;
+pub use memory_wiring::{LineAsk, MemoryWiring};
 pub use no_fault_line::{NoFaultLine, NoFaultWiring};
 pub use no_fault_sink::NoFaultSink;
 pub use no_fault_source::NoFaultSource;

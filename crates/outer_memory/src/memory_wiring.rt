@@ -1,7 +1,7 @@
-ghost use Rattle.std.specs.Prelude.{◌≡◌, ℕ, [], None, Some, IfOk, MatchOption};
-ghost use Rattle.outer_traits.specs.Lines.{IsNewLine, told_between};
+ghost use Rattle.std.specs.Prelude.{◌≡◌, ◌++◌, ◌∷◌, ℕ, [], None, Some, IfOk, OnErr, OnOk, MatchOption, map};
+ghost use Rattle.outer_traits.specs.Lines.{IsNewLine, ask_of_line, told_between};
 ghost use Rattle.outer_memory.specs.Frames.{told_frames};
-ghost use Rattle.outer_memory.specs.Told.{faults_told, frames_of};
+ghost use Rattle.outer_memory.specs.Told.{ask_of, faults_told, frames_of};
 
 use crate::fault_plan::FaultPlan;
 use crate::kept_frames::{Frame, KeptFrames};
@@ -9,7 +9,15 @@ use crate::memory_line::{MemoryLine, Told};
 use outer_traits::{Ends, TakenBack, Wiring};
 use std::alloc::{AllocError, Global};
 
-/// The wiring of lines in memory. It tells how often each of them failed, and what it carried.
+/// A line that was asked for: between these ends, to fail at the calls with these numbers.
+#[derive(Debug, Drop)]
+pub struct LineAsk {
+    pub ends: Ends,
+    pub fails: Vec<u64>,
+}
+
+/// The wiring of lines in memory. It tells which lines it was asked for, how often each of them failed, and what it
+/// carried.
 #[derive(Debug, Drop)]
 pub struct MemoryWiring {
     alloc: Global,
@@ -19,6 +27,8 @@ pub struct MemoryWiring {
     pub longest: usize,
     /// What the lines told that were taken back.
     pub told: TakenBack<Told>,
+    /// The lines that it was asked for, in order.
+    pub asked: Vec<LineAsk>,
 }
 
 impl MemoryWiring {
@@ -27,12 +37,14 @@ impl MemoryWiring {
         ensures room { result.room ≡ room }
         ensures longest { result.longest ≡ longest }
         ensures told { result.told ≡ [] }
+        ensures asked { result.asked.items ≡ [] }
     {
         MemoryWiring {
             alloc,
             room,
             longest,
             told: TakenBack::new(),
+            asked: Vec::new(alloc),
         }
     }
 
@@ -72,10 +84,15 @@ impl Wiring for MemoryWiring {
 
     ghost carried = { λ w worker replica. frames_of (told_between w.told worker replica) };
 
+    ghost asked = { λ w. Some (map ask_of w.asked.items) };
+
     fn line(&mut self, worker: u8, replica: u8, fail: &[u32]) -> Result<MemoryLine, AllocError>
         ensures fresh { IfOk result (λ line. IsNewLine
             line.ends line.faults (told_frames line.faults line.kept.frames) worker replica) }
-        ensures same { self.new ≡ self.old }
+        ensures told { self.new.told ≡ self.old.told }
+        ensures asked { OnOk result (map ask_of self.new.asked.items
+            ≡ map ask_of self.old.asked.items ++ ask_of_line worker replica fail.now ∷ []) }
+        ensures unmade { OnErr result (self.new.asked.items ≡ self.old.asked.items) }
 
         // When it fails, and what room it has.
         ensures plan { IfOk result (λ line. line.plan ≡ record { fails = fail.now; calls = 0 }) }
@@ -87,7 +104,11 @@ impl Wiring for MemoryWiring {
     {
         let plan = FaultPlan::new(wide(self.alloc, fail)?);
         let kept = KeptFrames::new(self.alloc, self.room, self.longest)?;
-        MemoryLine::new(self.alloc, Ends { worker, replica }, plan, kept)
+        let ends = Ends { worker, replica };
+        let line = MemoryLine::new(self.alloc, ends, plan, kept)?;
+        let fails = wide(self.alloc, fail)?;
+        self.asked.push(LineAsk { ends, fails })?;
+        Ok(line)
     }
 
     fn take_back(&mut self, line: MemoryLine) {

@@ -45,6 +45,8 @@ impl Wiring for NoFaultWiring {
 
     ghost carried = { λ _ _ _. None };
 
+    ghost asked = { λ _. None };
+
     fn line(&mut self, worker: u8, replica: u8, _fail: &[u32]) -> Result<NoFaultLine, AllocError> {
         Ok(NoFaultLine {
             ends: Ends { worker, replica },

@@ -8,10 +8,18 @@ use Rattle.std.proofs.lemmas.List.{map-append, length-map}
 use Rattle.outer_traits.specs.declared.ends.Ends.{Ends}
 use Rattle.outer_traits.specs.Lines.{AreLinesOf, TellsMore, Records, RecordsOf}
 
--- a line that carried nothing tells the same
-pub TellsMore-nil : (told : Option (List (List ℕ))) → TellsMore told told []
+-- what adds nothing tells the same
+pub TellsMore-nil : {T : Type 0} (told : Option (List T)) → TellsMore told told []
 TellsMore-nil None = tt
-TellsMore-nil (Some frames) = sym (append-nil frames)
+TellsMore-nil (Some all) = sym (append-nil all)
+
+-- what is told, one after another
+pub TellsMore-trans : {T : Type 0} (s t u : Option (List T)) (xs ys : List T) → TellsMore s t xs → TellsMore t u ys
+    → TellsMore s u (xs ++ ys)
+TellsMore-trans s t None xs ys p q = tt
+TellsMore-trans s None (Some u) xs ys p q = absurd q
+TellsMore-trans None (Some t) (Some u) xs ys p q = absurd p
+TellsMore-trans (Some s) (Some t) (Some u) xs ys p q = q ∙ ap (λ l. l ++ ys) p ∙ append_assoc s xs ys
 
 -- a line more was taken back
 pub RecordsOf-push : (T : Type 0) (f g h : ℕ → ℕ → T) (worker : ℕ) (told : List T) (e : Ends) (t : T)

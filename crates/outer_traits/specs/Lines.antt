@@ -4,8 +4,8 @@ use Rattle.std.specs.Prelude.{◌++◌, Option, None, Some, Result, OnOk, OnErr,
 use Rattle.outer_traits.specs.declared.ends.Ends.{Ends}
 use Rattle.outer_traits.specs.declared.taken_back.LineRecord.{LineRecord}
 
--- What a line tells that it carried is what it told before, and these frames. It may tell no more, for good.
-abbrev pub TellsMore : Option (List (List ℕ)) → Option (List (List ℕ)) → List (List ℕ) → Type 0
+-- What is told is what was told before, and these. It may be told no more, for good.
+abbrev pub TellsMore : {T : Type 0} → Option (List T) → Option (List T) → List T → Type 0
 TellsMore before None more = Unit {0}
 TellsMore None (Some now) more = ⊥
 TellsMore (Some before) (Some now) more = now ≡ before ++ more
@@ -15,6 +15,15 @@ pub record Carries {T E : Type 0} (before now : Option (List (List ℕ))) (frame
     : Type 0 where
   pub ok : OnOk result (TellsMore before now (frame ∷ []))
   pub err : OnErr result (TellsMore before now [])
+
+-- a line was asked for between these ends, to fail at the carries with these numbers
+pub record Asked : Type 0 where
+  pub ends : Ends
+  pub fails : List ℕ
+
+-- the same of a worker's line to a replica
+abbrev pub ask_of_line : ℕ → ℕ → List ℕ → Asked
+ask_of_line worker replica fails = record { ends = record { worker = worker; replica = replica }; fails = fails }
 
 -- a line between these two that has not failed, and has carried nothing
 pub record IsNewLine (ends : Ends) (count : ℕ) (carried : Option (List (List ℕ))) (worker replica : ℕ)

@@ -7,6 +7,7 @@ use Rattle.frame_wire.specs.declared.head.Head.{Head}
 use Rattle.frame_wire.specs.Spelling.{frame, header, IsHead}
 use Rattle.page_text.specs.Text.{blocks_of, map_of, page_text}
 use Rattle.outer_traits.specs.Lines.{TellsMore}
+use Rattle.outer_traits.proofs.Lines.{TellsMore-nil, TellsMore-trans}
 use Rattle.vol_units.specs.declared.page_ref.PageRef.{PageRef}
 use Rattle.rebuild_worker.specs.Frames.{ask_head, done_head, give_head, send_head, response_kind, source_request}
 use Rattle.rebuild_worker.specs.Frames.{source_reply, target_request, target_reply}
@@ -17,17 +18,11 @@ use Rattle.rebuild_worker.specs.Told.{SendsPage, TakesPage, TellPages, to_source
 
 -- ---- told one after another
 
-pub tells_both : (a b c : Option (List (List ℕ))) (xs ys : List (List ℕ)) → TellsMore a b xs → TellsMore b c ys → TellsMore a c (xs ++ ys)
-tells_both a b None xs ys p q = tt
-tells_both a None (Some c) xs ys p q = absurd q
-tells_both None (Some b) (Some c) xs ys p q = absurd p
-tells_both (Some a) (Some b) (Some c) xs ys p q = q ∙ ap (λ l. l ++ ys) p ∙ append_assoc a xs ys
-
 pub tells_still : (a b c : Option (List (List ℕ))) (xs : List (List ℕ)) → TellsMore a b xs → TellsMore b c [] → TellsMore a c xs
-tells_still a b c xs p q = subst (λ l. TellsMore a c l) (append-nil xs) (tells_both a b c xs [] p q)
+tells_still a b c xs p q = subst (λ l. TellsMore a c l) (append-nil xs) (TellsMore-trans a b c xs [] p q)
 
 pub tells_later : (a b c : Option (List (List ℕ))) (xs : List (List ℕ)) → TellsMore a b [] → TellsMore b c xs → TellsMore a c xs
-tells_later a b c xs p q = tells_both a b c [] xs p q
+tells_later a b c xs p q = TellsMore-trans a b c [] xs p q
 
 -- ---- an exchange
 
@@ -48,7 +43,8 @@ exchange a b c request asked reply replied h k body text p q is_request is_reply
     let first : asked ≡ frame (numbered b.seq h) body = p.spelled h body is_request in
     let same : c.seq ≡ b.seq = q.number k text fits is_reply ∙ ap (λ n. number_after b.seq n) kind in
     let second : replied ≡ frame (numbered b.seq k) text = q.spelled k text is_reply ∙ ap (λ n. frame (numbered n k) text) same in
-    let told : TellsMore a.told c.told (asked ∷ replied ∷ []) = tells_both a.told b.told c.told (asked ∷ []) (replied ∷ []) p.told q.told in
+    let told : TellsMore a.told c.told (asked ∷ replied ∷ []) =
+    TellsMore-trans a.told b.told c.told (asked ∷ []) (replied ∷ []) p.told q.told in
     subst (λ x. TellsMore a.told c.told (x ∷ frame (numbered b.seq k) text ∷ [])) first
     (subst (λ x. TellsMore a.told c.told (asked ∷ x ∷ [])) second told)
 
@@ -159,10 +155,6 @@ kept_on a a2 a3 t t2 t3 p q = record {
 pub kept_here : (a : ℕ → Type 0) (t : PageRef → List ℕ → Type 0) → AreKept a a t t
 kept_here a t = record { ended = λ place is. is; texts = λ page text is. is }
 
-tells_none : (a : Option (List (List ℕ))) → TellsMore a a []
-tells_none None = tt
-tells_none (Some a) = sym (append-nil a)
-
 of_more : (f : ℕ → PageRef → List ℕ → List (List ℕ)) (ps qs : List CopiedPage) (xs ys : List (List ℕ)) → AreOf f ps xs
     → AreOf f qs ys → AreOf f (ps ++ qs) (xs ++ ys)
 of_more f [] qs xs ys p q = subst (λ l. AreOf f qs (l ++ ys)) (sym p) q
@@ -175,8 +167,8 @@ tell_more ps qs a b c p q = record {
   target_frames = p.target_frames ++ q.target_frames;
   of_source = of_more to_source ps qs p.source_frames q.source_frames p.of_source q.of_source;
   of_target = of_more to_target ps qs p.target_frames q.target_frames p.of_target q.of_target;
-  source = tells_both a.source.told b.source.told c.source.told p.source_frames q.source_frames p.source q.source;
-  target = tells_both a.target.told b.target.told c.target.told p.target_frames q.target_frames p.target q.target;
+  source = TellsMore-trans a.source.told b.source.told c.source.told p.source_frames q.source_frames p.source q.source;
+  target = TellsMore-trans a.target.told b.target.told c.target.told p.target_frames q.target_frames p.target q.target;
 }
 
 tell_none : (a b : Copying) → AreQuiet a b → TellPages [] a b
@@ -209,8 +201,8 @@ copies_none t a = record {
     target_frames = [];
     of_source = refl;
     of_target = refl;
-    source = tells_none a.source.told;
-    target = tells_none a.target.told;
+    source = TellsMore-nil a.source.told;
+    target = TellsMore-nil a.target.told;
   };
 }
 

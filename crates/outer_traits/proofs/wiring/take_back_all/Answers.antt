@@ -1,4 +1,4 @@
-use Rattle.std.proofs.Common.{◌≡◌, ◌++◌, ◌∷◌, []}
+use Rattle.std.proofs.Common.{◌≡◌, ◌++◌, ◌∷◌, ◌∙◌, []}
 use Rattle.outer_traits.proofs.Lines.{RecordsOf-step, cut_further}
 use Rattle.outer_traits.proofs.wiring.take_back_all.Goals as goal
 
@@ -16,4 +16,5 @@ loop-line-preserved g c =
       carried = λ worker lined. RecordsOf-step _ _ g.W.L.Line.ends g.W.L.Line.carried _ _ _ worker c.args.lines.items
           c.loop-line.yielded c.in-Some.line items_next cut lined (c.loop-line.invariant.carried worker lined)
           c.take_back.ensures.carried;
+      asked = c.take_back.ensures.asked ∙ c.loop-line.invariant.asked;
     }

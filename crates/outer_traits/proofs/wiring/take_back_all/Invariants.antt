@@ -9,4 +9,5 @@ invariant-loop-line g l = record {
       → RecordsOf (g.W.Wiring.counts l.fn.wiring) (g.W.Wiring.counts l.wiring) worker (map g.W.L.Line.count l.yielded);
   carried : (worker : ℕ) → AreLinesOf worker 0 (map g.W.L.Line.ends l.fn.lines.items)
       → RecordsOf (g.W.Wiring.carried l.fn.wiring) (g.W.Wiring.carried l.wiring) worker (map g.W.L.Line.carried l.yielded);
+  asked : g.W.Wiring.asked l.wiring ≡ g.W.Wiring.asked l.fn.wiring;
 }
