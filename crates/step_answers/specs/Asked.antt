@@ -1,6 +1,6 @@
--- What a step is asked: which calls are of a range, which are answered at once, and the command that asks for what is done
--- to the whole volume.
-use Rattle.std.specs.Prelude.{◌<◌, ◌≤◌, length}
+-- What a step is asked: which calls are of a range, which are answered at once, of which replica they are, and the command
+-- that asks for what is done to the whole volume.
+use Rattle.std.specs.Prelude.{ℕ, ◌<◌, ◌≤◌, length}
 use Rattle.volume_model.specs.declared.command.Command.{Command}
 use Rattle.volume_model.specs.declared.command.Command.TheVariants as command
 use Rattle.volume_model.specs.declared.call.Call.{Call}
@@ -23,6 +23,17 @@ IsNow (call.Other kind) = Unit {0}
 IsNow (call.Command (command.Fail r)) = Unit {0}
 IsNow (call.Command command.Status) = Unit {0}
 IsNow c = ⊥
+
+-- a command is of no replica, or of one that is there
+abbrev pub NamesReplica : ℕ → Command → Type 0
+NamesReplica replicas (command.Fail r) = r < replicas
+NamesReplica replicas (command.Add r) = r < replicas
+NamesReplica replicas c = Unit {0}
+
+-- and so a call
+abbrev pub AsksReplica : ℕ → Call → Type 0
+AsksReplica replicas (call.Command c) = NamesReplica replicas c
+AsksReplica replicas c = Unit {0}
 
 -- the command that asks for what is done to the whole volume
 abbrev pub command_of : WholeOp → Command

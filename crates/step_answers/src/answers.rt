@@ -8,9 +8,9 @@ use volume_model::{FoldOrDrop, Mode, Refusal};
 pub enum NotThis {
     /// The ticket is not in the state that the step needs.
     Ticket,
-    /// The replica has that mode.
+    /// The replica has that mode. Of the reply to a command: the modes stand against it, and one is `RW`, or else `ERR`.
     Mode(Mode),
-    /// The page is not one of a frozen layer, or is listed already, or may not be copied yet.
+    /// A page, a layer or a name is not in the state that the step or the reply needs.
     Page,
     /// That replica has still to acknowledge.
     Pending(u8),

@@ -87,9 +87,9 @@ MayEndPurge reply.Done log = IsNext next.Nothing log
 MayEndPurge (reply.Refused why) log = (why ≡ NoReplica) × IsNext next.NoReplica log
 MayEndPurge r log = ⊥
 
--- it is not answered so: it may not be, or an operation on the whole volume has started
+-- it is not answered so: it may not be, or it would be done and an operation on the whole volume has started
 abbrev pub RefusesEndPurge : Reply → Seen → Type 0
-RefusesEndPurge r s = MayEndPurge r s.log → s.whole ≢ None
+RefusesEndPurge r s = MayEndPurge r s.log → (r ≡ reply.Done) × (s.whole ≢ None)
 
 -- a part of a purge cannot go, though a replica is read: it is none that can be done once each of those has folded it
 abbrev pub CannotGo : WholeOp → (FoldOrDrop → Type 0) → List Mode → Type 0
@@ -103,5 +103,5 @@ HasNoFold p page v = (length v.disk ≤ page * PAGE_BYTES) ⊎ ((c : List ℕ) �
 -- a replica does not fold the page: it is not read, or there is nothing to fold in the volume
 abbrev pub RefusesFold : ℕ → List ℕ → ℕ → List Mode → Log → NotThis → Type 0
 RefusesFold r p page modes log (against.Mode m) = (m ≡ mode_of modes r) × (m ≢ Rw)
-RefusesFold r p page modes log against.Ticket = HasNoFold p page log.spot.state.volume
+RefusesFold r p page modes log against.Page = HasNoFold p page log.spot.state.volume
 RefusesFold r p page modes log why = ⊥

@@ -6,7 +6,7 @@ ghost use Rattle.vol_units.specs.declared.size.TheConstants.{PAGE_BYTES};
 ghost use Rattle.volume_model.specs.declared.call.Call.TheVariants as call;
 ghost use Rattle.volume_model.specs.declared.call.Reply.{Reply};
 ghost use Rattle.volume_model.specs.Modes.{mode_of};
-ghost use Rattle.step_answers.specs.Asked.{command_of};
+ghost use Rattle.step_answers.specs.Asked.{command_of, NamesReplica};
 ghost use Rattle.stream_steps.specs.Mine.{Mine, OwnCall, with_running};
 ghost use Rattle.stream_steps.specs.Against.{RefusesFault};
 ghost use Rattle.stream_steps.specs.Steps.{CommandsTo, EnrolsAt, FallsTo, IsAtOnce};
@@ -68,6 +68,7 @@ pub trait CommandSteps {
         requires ready { ready self.old }
         requires idle { (mine self.old).running ≡ [] }
         requires once { IsAtOnce command.now }
+        requires there { NamesReplica (mine self.old).replicas command.now }
         ensures ready { ready self.new }
         ensures home { home self.new ≡ home self.old }
         ensures ok { OnOk result (CommandsTo command.now (mine self.old) (mine self.new)) }
@@ -113,6 +114,7 @@ pub trait CommandSteps {
         requires ready { ready self.old }
         requires idle { (mine self.old).running ≡ [] }
         requires wants { IsMaint command.now }
+        requires there { NamesReplica (mine self.old).replicas command.now }
         ensures ready { ready self.new }
         ensures home { home self.new ≡ home self.old }
         ensures ok { IfOk result (λ t. EnrolsAt t (call.Command command.now) (mine self.old) (mine self.new)) }
