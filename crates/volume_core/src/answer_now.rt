@@ -8,7 +8,7 @@ ghost use Rattle.volume_core.specs.State.{state_of, modes_in, told_of};
 ghost use Rattle.volume_core.specs.Steps.{marks_of_fall};
 ghost use Rattle.volume_core.specs.Sound.{IsSound};
 ghost use Rattle.volume_core.specs.Streams.{MayGo, Stays, IsAnsweredTo};
-ghost use Rattle.step_answers.specs.Asked.{IsNow};
+ghost use Rattle.step_answers.specs.Asked.{IsNow, AsksReplica};
 ghost use Rattle.volume_core.specs.Answers.{IsAnsweredNow, failed_by, after_fail};
 
 use crate::world::World;
@@ -24,6 +24,7 @@ impl World {
         requires idle { IsIdle stream self.old.calls.items }
         requires free { HasNoCommand stream self.old.commands.items }
         requires now { IsNow call.now }
+        requires there { AsksReplica (length self.old.nodes.items) call.now }
         ensures sound { IsSound (state_of self.new) }
         ensures ok { IfOk result (λ place.
             IsAnsweredNow (state_of self.old) stream call.now place (state_of self.new)) }

@@ -18,6 +18,7 @@ impl World {
     /// source or the target of the rebuild that is open, the rebuild is aborted. It takes no memory.
     pub fn fault(&mut self, stream: u8, replica: u8, count: u64) -> Result<(), NotThis>
         requires sound { IsSound (state_of self.old) }
+        requires stream { stream < length self.old.indices.items }
         ensures sound { IsSound (state_of self.new) }
         ensures ok { OnOk result (state_of self.new ≡ faulted (state_of self.old) stream replica count) }
         ensures guard { OnOk result ((mode_of (modes_in (state_of self.old)) replica ≢ Mode.Err)

@@ -11,7 +11,7 @@ use crate::world::World;
 
 impl World {
     /// The stream gives up the rebuild that is open, of that target, which fails by it: the place of the mark that tells
-    /// so. It takes no memory.
+    /// so. It is for `abandon` of volume_maint alone, which gives the turn back in the same step. It takes no memory.
     pub fn give_up(&mut self, stream: u8, target: u8) -> u64
         requires sound { IsSound (state_of self.old) }
         requires stream { stream < length self.old.indices.items }

@@ -37,8 +37,9 @@ pub fn is_idle(world: &World, stream: u8) -> bool
     true
 }
 
-/// Ends the first command with that reply, in a place that was made before, and gives the place of its answer. It is a
-/// part of a step, and not a step: whether the command may be answered so, its caller knows. It takes no memory.
+/// Ends the first command with that reply, in a place that was made before, and gives the place of its answer. It is no
+/// step, but a part of those of volume_maint and volume_rebuild that end a command, and for them alone: whether it may be
+/// answered so, they know. It takes no memory.
 pub fn end_first(world: &mut World, reply: Reply) -> u64
     requires ticket { 0 < length world.old.maint.tickets }
     requires command { 0 < length world.old.commands.items }
@@ -54,7 +55,7 @@ pub fn end_first(world: &mut World, reply: Reply) -> u64
     world.push_answer(call.stream, call.saw, Call::Command(call.command), reply)
 }
 
-/// Takes the command at k out.
+/// Takes the command at k out: a part of `end_first`, and of the steps of volume_maint that take one back or end one.
 pub fn take_command(world: &mut World, k: usize) -> MaintCall
     requires ticket { k < length world.old.maint.tickets }
     requires command { k < length world.old.commands.items }

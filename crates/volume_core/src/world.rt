@@ -72,8 +72,9 @@ impl World {
         self.journal.reserve(self.journal.spare() + 1)
     }
 
-    /// The answer of a stream's next call, in a place that was made before. It is a part of a step, and not a step:
-    /// whether the call may be answered so, its caller knows. It takes no memory.
+    /// The answer of a stream's next call, in a place that was made before. It is no step, but a part of those that end
+    /// a call, here and in volume_maint, and for them alone: whether the call may be answered so, they know. It takes
+    /// no memory.
     pub fn push_answer(&mut self, stream: u8, saw: u64, call: Call, reply: Reply) -> u64
         requires stream { stream < length self.old.indices.items }
         requires few { index_at self.old.indices.items stream ≤ length self.old.journal.entries }
