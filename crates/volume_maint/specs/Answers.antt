@@ -6,12 +6,13 @@ use Rattle.volume_model.specs.declared.command.Command.{Command}
 use Rattle.volume_model.specs.declared.command.Command.TheVariants as command
 use Rattle.volume_model.specs.declared.call.Call.TheVariants as call
 use Rattle.volume_model.specs.declared.call.Refusal.{Refusal}
-use Rattle.volume_model.specs.declared.call.Refusal.TheVariants.{NoReplica}
+use Rattle.volume_model.specs.declared.call.Refusal.TheVariants.{NoReplica, InUse, ChainFull}
 use Rattle.volume_model.specs.declared.call.Reply.{Reply}
 use Rattle.volume_model.specs.declared.call.Reply.TheVariants as reply
 use Rattle.volume_model.specs.declared.mark.FoldOrDrop.{FoldOrDrop}
 use Rattle.volume_model.specs.declared.mark.FoldOrDrop.TheVariants as part
-use Rattle.volume_model.specs.declared.mode.Mode.TheVariants.{Rw, Err}
+use Rattle.volume_model.specs.declared.mode.Mode.{Mode}
+use Rattle.volume_model.specs.declared.mode.Mode.TheVariants.{Rw, Wo, Err}
 use Rattle.volume_model.specs.Modes.{mode_of, HasSource, HasNoSource, IsSource}
 use Rattle.volume_model.specs.OneWorker.{refused_at}
 use Rattle.volume_model.specs.Purge.{CanFold, next_of}
@@ -83,6 +84,56 @@ pub record EndsTurn (s : State) (t : ℕ) (r : Reply) (s2 : State) : Type 0 wher
   pub turn : IsFreeTurn s t
   pub may : MayEnd s (command_at s.commands 0).command r
   pub state : s2 ≡ turn_ended s r
+
+-- ---- why it does not
+
+-- the first command of the turn is in the state that the reply needs: no rebuild of it was begun, or it is a purge, or its
+-- rebuild was aborted in the mark at that place
+abbrev pub IsReadyFor : State → Command → Reply → Type 0
+IsReadyFor s c (reply.Refused why) = HasNoRebuild s c
+IsReadyFor s c reply.Done = c ≡ command.Purge
+IsReadyFor s c (reply.Aborted place) =
+    (r : ℕ) × (c ≡ command.Add r) × (s.ended ≡ Some (record { target = r; place = place }))
+IsReadyFor s c r = ⊥
+
+-- the modes stand against that refusal of the command, whatever the volume is
+abbrev pub AreModesAgainst : State → Command → Refusal → Type 0
+AreModesAgainst s c NoReplica = HasSource (modes_in s)
+AreModesAgainst s (command.Add r) InUse = mode_of (modes_in s) r ≡ Err
+AreModesAgainst s (command.Add r) ChainFull = mode_of (modes_in s) r ≢ Err
+AreModesAgainst s c why = ⊥
+
+-- and so against the reply: a purge is not done without a replica
+abbrev pub FailsByModes : State → Command → Reply → Type 0
+FailsByModes s c (reply.Refused why) = AreModesAgainst s c why
+FailsByModes s c reply.Done = HasNoSource (modes_in s)
+FailsByModes s c r = ⊥
+
+-- what is left of the replicas: `RW` where one is read, and else `ERR`
+abbrev pub IsModeLeft : List Mode → Mode → Type 0
+IsModeLeft modes Rw = HasSource modes
+IsModeLeft modes Wo = ⊥
+IsModeLeft modes Err = HasNoSource modes
+
+-- It cannot end so: it has not the turn, or something enrolled, or may not be answered so. While a call on the whole volume
+-- is started, neither can a purge that would be done.
+abbrev pub CannotEnd : State → ℕ → Reply → Type 0
+CannotEnd s t r = IsFreeTurn s t → MayEnd s (command_at s.commands 0).command r → (r ≡ reply.Done) × (s.whole ≢ None)
+
+-- the modes stand against the reply, or what it says of the volume, and the modes do not
+abbrev pub IsAgainstReply : State → Command → Reply → NotThis → Type 0
+IsAgainstReply s c r (against.Mode m) = FailsByModes s c r × IsModeLeft (modes_in s) m
+IsAgainstReply s c r against.Page = FailsByModes s c r → ⊥
+IsAgainstReply s c r why = ⊥
+
+-- the ticket does, or, where it does not, one of those
+abbrev pub IsEndReason : State → ℕ → Command → Reply → NotThis → Type 0
+IsEndReason s t c r against.Ticket = IsFreeTurn s t → IsReadyFor s c r → ⊥
+IsEndReason s t c r why = IsFreeTurn s t × IsReadyFor s c r × IsAgainstReply s c r why
+
+pub record AgainstEndTurn (s : State) (t : ℕ) (r : Reply) (why : NotThis) : Type 0 where
+  pub cannot : CannotEnd s t r
+  pub reason : IsEndReason s t (command_at s.commands 0).command r why
 
 -- ---- the whole volume
 
@@ -267,6 +318,10 @@ pub record WantsFold (s : State) (r : ℕ) (p : List ℕ) (page : ℕ) : Type 0 
   pub can : CanFold (tree_of (node_at s.nodes r)) (node_at s.nodes r).on p c
   pub has : HasBlockOf (node_at s.nodes r) c page
 
+-- a purge has the turn, and nothing enrolled for the whole volume
+abbrev pub IsFreePurge : State → Type 0
+IsFreePurge s = IsTurnOf s command.Purge × IsIdle (command_at s.commands 0).stream s.calls
+
 -- a replica folds the page: a purge has the turn with nothing enrolled, and p can be folded into c in the volume
 pub record FoldsPage (s : State) (r : ℕ) (p : List ℕ) (page : ℕ) (s2 : State) : Type 0 where
   pub c : List ℕ
@@ -276,14 +331,11 @@ pub record FoldsPage (s : State) (r : ℕ) (p : List ℕ) (page : ℕ) (s2 : Sta
   pub can : CanFold (snapshots_told s).tree (snapshots_told s).on p c
   pub state : s2 ≡ folded_on s r p c page
 
--- it does not
-abbrev pub AgainstFold : State → ℕ → List ℕ → ℕ → NotThis → Type 0
-AgainstFold s r p page against.Ticket = (s2 : State) → FoldsPage s r p page s2 → ⊥
-AgainstFold s r p page (against.Mode m) = (m ≡ mode_of (modes_in s) r) × (m ≢ Rw)
-AgainstFold s r p page why = ⊥
-
--- ---- why a command does not end
-
--- it has not the turn, or something enrolled, or may not be answered so, or a call on the whole volume is started
-abbrev pub AgainstEndTurn : State → ℕ → Reply → Type 0
-AgainstEndTurn s t r = IsFreeTurn s t → MayEnd s (command_at s.commands 0).command r → s.whole ≢ None
+-- it does not: there is no such purge, or the replica is not read, or p can be folded into none in the volume; that is told
+-- first which stands first
+abbrev pub AgainstFold : State → ℕ → List ℕ → NotThis → Type 0
+AgainstFold s r p against.Ticket = IsFreePurge s → ⊥
+AgainstFold s r p (against.Mode m) = IsFreePurge s × (m ≡ mode_of (modes_in s) r) × (m ≢ Rw)
+AgainstFold s r p against.Page = IsFreePurge s × (mode_of (modes_in s) r ≡ Rw)
+    × ((c : List ℕ) → CanFold (snapshots_told s).tree (snapshots_told s).on p c → ⊥)
+AgainstFold s r p why = ⊥

@@ -13,8 +13,7 @@ ghost use Rattle.volume_core.specs.State.{state_of, modes_in};
 ghost use Rattle.volume_core.specs.Sound.{IsSound};
 ghost use Rattle.volume_core.specs.Streams.{MayGo};
 ghost use Rattle.volume_maint.specs.Steps.{folded_on};
-ghost use Rattle.volume_maint.specs.Places.{IsTurnOf};
-ghost use Rattle.volume_maint.specs.Answers.{snapshots_told, IsNew, IsOntoNew, HasNoChild, child_of, IsNextPart, WantsFold, FoldsPage, AgainstFold};
+ghost use Rattle.volume_maint.specs.Answers.{snapshots_told, IsNew, IsOntoNew, HasNoChild, child_of, IsNextPart, WantsFold, IsFreePurge, FoldsPage, AgainstFold};
 
 use open_calls::{FoldOrDrop, LayerName, WholeOp};
 use step_answers::NextPart;
@@ -177,7 +176,8 @@ fn child_of(part: &FoldOrDrop) -> Option<LayerName>
     }
 }
 
-/// A replica folds a page of the layer's one child onto the layer, for the purge that has the turn. It takes no memory.
+/// A replica folds a page of the layer's one child onto the layer, for the purge that has the turn. Else it tells what
+/// stands against it: the turn, the replica's mode, or that the layer can be folded into none. It takes no memory.
 pub fn fold_page(
     world: &mut World,
     replica: u8,
@@ -188,23 +188,23 @@ pub fn fold_page(
     requires page { page * PAGE_BYTES < world.old.size }
     ensures sound { IsSound (state_of world.new) }
     ensures ok { OnOk result (FoldsPage (state_of world.old) replica parent.now page (state_of world.new)) }
-    ensures why { IfErr result (AgainstFold (state_of world.old) replica parent.now page) }
+    ensures why { IfErr result (AgainstFold (state_of world.old) replica parent.now) }
     ensures err { OnErr result (state_of world.new ≡ state_of world.old) }
     ensures may { MayGo (command_at world.old.commands.items 0).stream (state_of world.old) (state_of world.new) }
 {
+    if !is_purging(world) {
+        return Err(NotThis::Ticket);
+    }
     let mode = world.journal.mode(replica);
     if mode != Mode::Rw {
         return Err(NotThis::Mode(mode));
-    }
-    if !is_purging(world) {
-        return Err(NotThis::Ticket);
     }
     match child_on(world, replica, parent) {
         Some(child) if !is_new(world, &child) => {
             fold_on(world, replica, parent, &child, page);
             Ok(())
         }
-        _ => Err(NotThis::Ticket),
+        _ => Err(NotThis::Page),
     }
 }
 
@@ -222,10 +222,8 @@ fn fold_on(world: &mut World, replica: u8, parent: &LayerName, child: &LayerName
 /// Whether a purge has the turn, and nothing enrolled for the whole volume.
 fn is_purging(world: &World) -> bool
     requires sound { IsSound (state_of world.now) }
-    ensures purging { result ≡ true → IsTurnOf (state_of world.now) Command.Purge
-        × IsIdle (command_at world.now.commands.items 0).stream world.now.calls.items }
-    ensures not { result ≡ false → IsTurnOf (state_of world.now) Command.Purge
-        → IsIdle (command_at world.now.commands.items 0).stream world.now.calls.items → ⊥ }
+    ensures purging { result ≡ true → IsFreePurge (state_of world.now) }
+    ensures not { result ≡ false → IsFreePurge (state_of world.now) → ⊥ }
 {
     if world.commands.is_empty() {
         return false;

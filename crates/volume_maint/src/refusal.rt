@@ -9,12 +9,12 @@ ghost use Rattle.open_calls.specs.Maint.{command_at};
 ghost use Rattle.volume_core.specs.State.{state_of, told_of, modes_in};
 ghost use Rattle.volume_core.specs.Sound.{IsSound};
 ghost use Rattle.volume_maint.specs.Places.{IsWholeCommand};
-ghost use Rattle.volume_maint.specs.Answers.{refused_in, HasNoRebuild, MayEnd};
+ghost use Rattle.volume_maint.specs.Answers.{refused_in, HasNoRebuild, MayEnd, IsReadyFor, AreModesAgainst, FailsByModes, IsAgainstReply, IsModeLeft};
 
 use crate::fold::fold_next;
 use step_answers::NextPart;
 use vol_units::{LayerName, MOST_LAYERS};
-use volume_core::{Command, EndedRebuild, Mode, Refusal, Reply, World};
+use volume_core::{Command, EndedRebuild, Mode, NotThis, Refusal, Reply, World};
 
 /// What stands against a command, as the journal tells it, the first in the order in which refusals are tried.
 pub(crate) fn refusal(world: &World, command: &Command) -> Option<Refusal>
@@ -88,24 +88,93 @@ fn name_refusal(world: &World, name: &LayerName) -> Option<Refusal>
     }
 }
 
-/// Whether the first command of the turn may be answered so, as far as that shows now.
+/// Whether the first command of the turn is in the state that the reply needs.
+pub(crate) fn is_ready_for(world: &World, reply: &Reply) -> bool
+    requires some { 0 < length world.now.commands.items }
+    ensures ready { result ≡ true
+        → IsReadyFor (state_of world.now) (command_at world.now.commands.items 0).command reply.now }
+    ensures not { result ≡ false
+        → IsReadyFor (state_of world.now) (command_at world.now.commands.items 0).command reply.now → ⊥ }
+{
+    let command = world.commands[0].command;
+    match reply {
+        Reply::Refused(_) => !has_rebuild(world, &command),
+        Reply::Done => command == Command::Purge,
+        Reply::Aborted(place) => was_aborted(world, &command, *place),
+        Reply::Read(_) | Reply::Status { .. } => false,
+    }
+}
+
+/// Whether it may be answered so where it is ready for that, as far as that shows now.
 pub(crate) fn may_end(world: &World, reply: &Reply) -> bool
     requires sound { IsSound (state_of world.now) }
     requires some { 0 < length world.now.commands.items }
+    requires ready { IsReadyFor (state_of world.now) (command_at world.now.commands.items 0).command reply.now }
     ensures may { result ≡ true
         → MayEnd (state_of world.now) (command_at world.now.commands.items 0).command reply.now }
     ensures not { result ≡ false
         → MayEnd (state_of world.now) (command_at world.now.commands.items 0).command reply.now
-        → (state_of world.now).whole ≢ None }
+        → (reply.now ≡ Reply.Done) × ((state_of world.now).whole ≢ None) }
 {
     let command = world.commands[0].command;
     match reply {
-        Reply::Refused(why) => {
-            !has_rebuild(world, &command) && refusal(world, &command) == Some(*why)
-        }
-        Reply::Done => command == Command::Purge && fold_next(world) == NextPart::Nothing,
-        Reply::Aborted(place) => was_aborted(world, &command, *place),
-        Reply::Read(_) | Reply::Status { .. } => false,
+        Reply::Refused(why) => refusal(world, &command) == Some(*why),
+        Reply::Done => fold_next(world) == NextPart::Nothing,
+        Reply::Aborted(_) => true,
+        Reply::Read(_) | Reply::Status { .. } => unreachable!(),
+    }
+}
+
+/// What stands against a reply for which it is ready: the modes, or what the reply says of the volume.
+pub(crate) fn why_not(world: &World, reply: &Reply) -> NotThis
+    requires sound { IsSound (state_of world.now) }
+    requires some { 0 < length world.now.commands.items }
+    ensures { IsAgainstReply (state_of world.now) (command_at world.now.commands.items 0).command reply.now result }
+{
+    let command = world.commands[0].command;
+    if fails_by_modes(world, &command, reply) {
+        return NotThis::Mode(mode_left(world));
+    }
+    NotThis::Page
+}
+
+/// `RW` where a replica is read, and else `ERR`.
+fn mode_left(world: &World) -> Mode
+    ensures { IsModeLeft (modes_in (state_of world.now)) result }
+{
+    match world.journal.source() {
+        Some(_) => Mode::Rw,
+        None => Mode::Err,
+    }
+}
+
+/// Whether the modes stand against the reply.
+fn fails_by_modes(world: &World, command: &Command, reply: &Reply) -> bool
+    ensures fails { result ≡ true → FailsByModes (state_of world.now) command.now reply.now }
+    ensures not { result ≡ false → FailsByModes (state_of world.now) command.now reply.now → ⊥ }
+{
+    match reply {
+        Reply::Refused(why) => are_modes_against(world, command, *why),
+        Reply::Done => mode_left(world) == Mode::Err,
+        Reply::Aborted(_) | Reply::Read(_) | Reply::Status { .. } => false,
+    }
+}
+
+fn are_modes_against(world: &World, command: &Command, why: Refusal) -> bool
+    ensures against { result ≡ true → AreModesAgainst (state_of world.now) command.now why }
+    ensures not { result ≡ false → AreModesAgainst (state_of world.now) command.now why → ⊥ }
+{
+    match why {
+        Refusal::NoReplica => mode_left(world) == Mode::Rw,
+        Refusal::InUse => match command {
+            Command::Add(replica) => world.mode(*replica) == Mode::Err,
+            _ => false,
+        },
+        Refusal::ChainFull => match command {
+            Command::Add(replica) => world.mode(*replica) != Mode::Err,
+            _ => false,
+        },
+        _ => false,
     }
 }
 

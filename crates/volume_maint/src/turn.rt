@@ -2,6 +2,7 @@
 
 ghost use Rattle.std.specs.Prelude.{◌≡◌, ℕ, ◌<◌, length, IfOk, IfErr, OnOk, OnErr};
 ghost use Rattle.range_turns.specs.Order.{IsFresh};
+ghost use Rattle.step_answers.specs.Asked.{NamesReplica};
 ghost use Rattle.open_calls.specs.Clients.{IsIdle};
 ghost use Rattle.open_calls.specs.Maint.{HasNoCommand, IsMaint};
 ghost use Rattle.volume_core.specs.State.{state_of};
@@ -13,7 +14,7 @@ ghost use Rattle.volume_maint.specs.Places.{AwaitsTurn};
 ghost use Rattle.volume_maint.specs.Answers.{TurnsTo, EndsTurn, AgainstEndTurn};
 
 use crate::places::waiting_command_at;
-use crate::refusal::may_end;
+use crate::refusal::{is_ready_for, may_end, why_not};
 use open_calls::MaintCall;
 use range_turns::{BlockRange, Kind, MayStart, TicketNumber};
 use std::alloc::AllocError;
@@ -31,6 +32,7 @@ pub fn enrol_maint(
     requires idle { IsIdle stream world.old.calls.items }
     requires free { HasNoCommand stream world.old.commands.items }
     requires wants { IsMaint command.now }
+    requires there { NamesReplica (length world.old.nodes.items) command.now }
     ensures sound { IsSound (state_of world.new) }
     ensures fresh { IfOk result (IsFresh world.old.maint.tickets) }
     ensures ok { IfOk result (λ number. state_of world.new ≡ maint_enrolled (state_of world.old) number
@@ -82,18 +84,22 @@ pub fn withdraw_maint(world: &mut World, t: TicketNumber)
 }
 
 /// Ends the command that has the turn with that reply, where it may be answered so, and gives the place of the answer.
-/// It takes no memory.
+/// Else it tells what stands against it: the ticket, where it has not the turn or is never answered so; the modes; or
+/// what the reply says of the volume. It takes no memory.
 pub fn end_maint(world: &mut World, t: TicketNumber, reply: Reply) -> Result<u64, NotThis>
     requires sound { IsSound (state_of world.old) }
     ensures sound { IsSound (state_of world.new) }
     ensures place { IfOk result (λ place. place ≡ length world.old.journal.entries) }
     ensures ok { OnOk result (EndsTurn (state_of world.old) t reply (state_of world.new)) }
-    ensures why { IfErr result (λ why. (why ≡ NotThis.Ticket) × AgainstEndTurn (state_of world.old) t reply) }
+    ensures why { IfErr result (AgainstEndTurn (state_of world.old) t reply) }
     ensures err { OnErr result (state_of world.new ≡ state_of world.old) }
     ensures may { ForAsker (state_of world.old) t (λ stream. MayGo stream (state_of world.old) (state_of world.new)) }
 {
-    if !free_turn_at(world, t) || !may_end(world, &reply) {
+    if !free_turn_at(world, t) || !is_ready_for(world, &reply) {
         return Err(NotThis::Ticket);
+    }
+    if !may_end(world, &reply) {
+        return Err(why_not(world, &reply));
     }
     Ok(end_first(world, reply))
 }
