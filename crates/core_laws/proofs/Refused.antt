@@ -6,7 +6,6 @@ use Rattle.volume_model.specs.Modes.{mode_of}
 use Rattle.open_calls.specs.Calls.{open_at}
 use Rattle.step_answers.specs.Parts.{IsTaken, part_at}
 use Rattle.step_answers.specs.declared.answers.NotThis.{NotThis}
-use Rattle.step_answers.specs.declared.answers.NotThis.TheVariants as against
 use Rattle.volume_core.specs.Against.{AgainstWrite, AgainstRead, AgainstAck}
 use Rattle.volume_core.specs.Places.{IsWriteAt, IsReadAt, IsCallAt}
 use Rattle.volume_core.specs.State.{State, modes_in}
@@ -46,11 +45,11 @@ module _ {A : Type 0} (s s2 : State) (t : ℕ) (res : Result A NotThis) (same : 
       by (Ok a) stays taken why = inl taken
       by (Failed e) stays taken why = inr ((e, why), stays)
 
-  pub end_made : (r : Reply) → OnOk res (EndsTurn s t r s2)
-      → IfErr res (λ why. (why ≡ against.Ticket) × AgainstEndTurn s t r) → MakesMaint (maint_step.End t r) s s2
+  pub end_made : (r : Reply) → OnOk res (EndsTurn s t r s2) → IfErr res (AgainstEndTurn s t r)
+      → MakesMaint (maint_step.End t r) s s2
   end_made r = by res same
     where
       by : (x : Result A NotThis) → OnErr x (s2 ≡ s) → OnOk x (EndsTurn s t r s2)
-          → IfErr x (λ why. (why ≡ against.Ticket) × AgainstEndTurn s t r) → MakesMaint (maint_step.End t r) s s2
+          → IfErr x (AgainstEndTurn s t r) → MakesMaint (maint_step.End t r) s s2
       by (Ok a) stays taken why = inl taken
-      by (Failed e) stays taken why = inr (why.1, stays)
+      by (Failed e) stays taken why = inr ((e, why), stays)

@@ -3,17 +3,19 @@ use Rattle.std.specs.Prelude.{ℕ, ◌<◌, ◌*◌, length}
 use Rattle.vol_units.specs.declared.size.TheConstants.{PAGE_BYTES}
 use Rattle.volume_model.specs.declared.command.Command.{Command}
 use Rattle.step_answers.specs.declared.whole_op.WholeOp.{WholeOp}
+use Rattle.step_answers.specs.Asked.{NamesReplica}
 use Rattle.open_calls.specs.Clients.{IsIdle}
 use Rattle.open_calls.specs.Maint.{IsMaint}
 use Rattle.volume_core.specs.State.{State}
 use Rattle.volume_maint.specs.Places.{AwaitsTurn, AwaitsWhole}
 use Rattle.volume_maint.specs.Answers.{MayAsk}
-use Rattle.core_laws.specs.Guards.{IsFreeStream}
+use Rattle.core_laws.specs.Guards.{IsStream, IsFreeStream}
 
--- the stream may enrol the command: one that wants the turn
+-- the stream may enrol the command: one that wants the turn, and is of no replica that is not there
 pub record MayWant (s : State) (stream : ℕ) (c : Command) : Type 0 where
   pub free : IsFreeStream s stream
   pub wants : IsMaint c
+  pub there : NamesReplica (length s.nodes) c
 
 -- the ticket is one of a command that waits for the turn
 abbrev pub IsAwaitingTurn : State → ℕ → Type 0
@@ -21,7 +23,7 @@ IsAwaitingTurn s t = (k : ℕ) × AwaitsTurn s t k
 
 -- the stream, which has nothing open, may enrol the operation
 pub record MayEnrolWhole (s : State) (stream : ℕ) (op : WholeOp) : Type 0 where
-  pub within : stream < length s.indices
+  pub within : IsStream s stream
   pub idle : IsIdle stream s.calls
   pub asks : MayAsk s stream op
 

@@ -38,7 +38,7 @@ abbrev pub IsAgainstMaint : MaintStep → State → Type 0
 IsAgainstMaint (step.Enrol stream c) s = MayWant s stream c → ⊥
 IsAgainstMaint (step.Admit t) s = IsAwaitingTurn s t → ⊥
 IsAgainstMaint (step.Withdraw t) s = IsAwaitingTurn s t → ⊥
-IsAgainstMaint (step.End t r) s = AgainstEndTurn s t r
+IsAgainstMaint (step.End t r) s = (why : NotThis) × AgainstEndTurn s t r why
 IsAgainstMaint (step.Abandon t) s = IsFreeTurn s t → ⊥
 IsAgainstMaint (step.EnrolWhole stream op) s = MayEnrolWhole s stream op → ⊥
 IsAgainstMaint (step.AdmitWhole t) s = IsAwaitingWhole s t → ⊥
@@ -47,7 +47,7 @@ IsAgainstMaint (step.Part t r) s = (why : NotThis) × AgainstPart s t r why
 IsAgainstMaint (step.AckWhole t r) s = (why : NotThis) × AgainstAckPart s t r why
 IsAgainstMaint (step.CompleteWhole t) s = (why : NotThis) × AgainstEndWhole s t why
 IsAgainstMaint (step.FoldPage r parent page) s =
-    (HasPage s page → ⊥) ⊎ ((why : NotThis) × AgainstFold s r parent page why)
+    (HasPage s page → ⊥) ⊎ ((why : NotThis) × AgainstFold s r parent why)
 
 -- the step is taken, or something stands against it, and it is skipped
 abbrev pub MakesMaint : MaintStep → State → State → Type 0

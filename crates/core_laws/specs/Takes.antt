@@ -14,7 +14,7 @@ use Rattle.volume_core.specs.State.{State, modes_in}
 use Rattle.volume_core.specs.Steps.{without_call, wrote, has_read, acked, faulted}
 use Rattle.core_laws.specs.declared.step.Step.{Step}
 use Rattle.core_laws.specs.declared.step.Step.TheVariants as step
-use Rattle.core_laws.specs.Guards.{MayEnrol, MayAnswer, IsWaiting, MayFault}
+use Rattle.core_laws.specs.Guards.{MayEnrol, MayAnswer, IsWaiting, IsStream, MayFault}
 use Rattle.core_laws.specs.MaintTakes.{TakesMaint, IsAgainstMaint}
 use Rattle.core_laws.specs.RebuildTakes.{TakesRebuild, IsAgainstRebuild}
 
@@ -44,7 +44,8 @@ IsAgainst (step.Withdraw t) s = IsWaiting s t → ⊥
 IsAgainst (step.ApplyWrite t r) s = (why : NotThis) × AgainstWrite s t r why
 IsAgainst (step.ApplyRead t r) s = (why : NotThis) × AgainstRead s t r why
 IsAgainst (step.Ack t r) s = (why : NotThis) × AgainstAck s t r why
-IsAgainst (step.Fault stream r count) s = (why : NotThis) × AgainstFault s stream r count why
+IsAgainst (step.Fault stream r count) s =
+    (IsStream s stream → ⊥) ⊎ ((why : NotThis) × AgainstFault s stream r count why)
 IsAgainst (step.Complete t) s = (why : NotThis) × AgainstEnd s t why
 IsAgainst (step.Maint x) s = IsAgainstMaint x s
 IsAgainst (step.Rebuild x) s = IsAgainstRebuild x s

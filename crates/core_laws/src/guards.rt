@@ -2,9 +2,9 @@
 
 ghost use Rattle.std.specs.Prelude.{◌≡◌, ℕ, ◌<◌, length, true, false};
 ghost use Rattle.open_calls.specs.Maint.{HasNoCommand};
-ghost use Rattle.step_answers.specs.Asked.{IsOnRange, IsNow};
+ghost use Rattle.step_answers.specs.Asked.{IsOnRange, IsNow, NamesReplica, AsksReplica};
 ghost use Rattle.volume_core.specs.State.{state_of};
-ghost use Rattle.core_laws.specs.Guards.{IsFreeStream, MayEnrol, MayAnswer, IsWaiting};
+ghost use Rattle.core_laws.specs.Guards.{IsFreeStream, MayEnrol, MayAnswer, IsWaiting, IsStream};
 
 use vol_units::LONGEST_CALL;
 use volume_core::{Call, Command, Kind, TicketNumber, World, is_idle};
@@ -22,7 +22,7 @@ pub(crate) fn may_answer(world: &World, stream: u8, call: &Call) -> bool
     ensures yes { result ≡ true → MayAnswer (state_of world.now) stream call.now }
     ensures no { result ≡ false → MayAnswer (state_of world.now) stream call.now → ⊥ }
 {
-    is_free(world, stream) && is_now(call)
+    is_free(world, stream) && is_now(call) && asks_replica(world, call)
 }
 
 /// Whether the ticket is one of a call that waits.
@@ -42,9 +42,15 @@ pub(crate) fn is_free(world: &World, stream: u8) -> bool
     ensures yes { result ≡ true → IsFreeStream (state_of world.now) stream }
     ensures no { result ≡ false → IsFreeStream (state_of world.now) stream → ⊥ }
 {
+    is_stream(world, stream) && is_idle(world, stream) && has_no_command(world, stream)
+}
+
+/// Whether the stream is one of the World's.
+pub(crate) fn is_stream(world: &World, stream: u8) -> bool
+    ensures yes { result ≡ true → IsStream (state_of world.now) stream }
+    ensures no { result ≡ false → IsStream (state_of world.now) stream → ⊥ }
+{
     (stream as usize) < world.indices.len()
-        && is_idle(world, stream)
-        && has_no_command(world, stream)
 }
 
 pub(crate) fn has_no_command(world: &World, stream: u8) -> bool
@@ -79,6 +85,32 @@ fn is_now(call: &Call) -> bool
         Call::Write { .. } => false,
         Call::Ping | Call::Other(_) => true,
         Call::Command(command) => is_command_now(command),
+    }
+}
+
+/// Whether the call is of no replica, or of one that is there.
+fn asks_replica(world: &World, call: &Call) -> bool
+    ensures yes { result ≡ true → AsksReplica (length world.now.nodes.items) call.now }
+    ensures no { result ≡ false → AsksReplica (length world.now.nodes.items) call.now → ⊥ }
+{
+    match call {
+        Call::Command(command) => names_replica(world, command),
+        Call::Read { .. } | Call::Write { .. } | Call::Ping | Call::Other(_) => true,
+    }
+}
+
+/// Whether the command is of no replica, or of one that is there.
+pub(crate) fn names_replica(world: &World, command: &Command) -> bool
+    ensures yes { result ≡ true → NamesReplica (length world.now.nodes.items) command.now }
+    ensures no { result ≡ false → NamesReplica (length world.now.nodes.items) command.now → ⊥ }
+{
+    match command {
+        Command::Fail(replica) | Command::Add(replica) => (*replica as usize) < world.nodes.len(),
+        Command::Snapshot(_)
+        | Command::Remove(_)
+        | Command::Revert(_)
+        | Command::Purge
+        | Command::Status => true,
     }
 }
 

@@ -7,7 +7,7 @@ ghost use Rattle.volume_core.specs.State.{state_of};
 ghost use Rattle.volume_maint.specs.Answers.{MayAsk};
 ghost use Rattle.core_laws.specs.MaintGuards.{MayWant, IsAwaitingTurn, MayEnrolWhole, IsAwaitingWhole, HasPage};
 
-use crate::guards::{has_no_command, is_free};
+use crate::guards::{has_no_command, is_free, is_stream, names_replica};
 use vol_units::PAGE_BYTES;
 use volume_core::{Command, Kind, TicketNumber, World, is_idle};
 use volume_maint::WholeOp;
@@ -17,7 +17,7 @@ pub(crate) fn may_want(world: &World, stream: u8, command: &Command) -> bool
     ensures yes { result ≡ true → MayWant (state_of world.now) stream command.now }
     ensures no { result ≡ false → MayWant (state_of world.now) stream command.now → ⊥ }
 {
-    is_free(world, stream) && is_maint(command)
+    is_free(world, stream) && is_maint(command) && names_replica(world, command)
 }
 
 fn is_maint(command: &Command) -> bool
@@ -47,7 +47,7 @@ pub(crate) fn may_enrol_whole(world: &World, stream: u8, op: &WholeOp) -> bool
     ensures yes { result ≡ true → MayEnrolWhole (state_of world.now) stream op.now }
     ensures no { result ≡ false → MayEnrolWhole (state_of world.now) stream op.now → ⊥ }
 {
-    (stream as usize) < world.indices.len() && is_idle(world, stream) && may_ask(world, stream, op)
+    is_stream(world, stream) && is_idle(world, stream) && may_ask(world, stream, op)
 }
 
 fn may_ask(world: &World, stream: u8, op: &WholeOp) -> bool

@@ -9,7 +9,7 @@ ghost use Rattle.volume_core.specs.Sound.{IsSound};
 ghost use Rattle.volume_core.specs.State.{state_of};
 ghost use Rattle.core_laws.specs.Takes.{Makes};
 
-use crate::guards::{is_waiting, may_answer, may_enrol};
+use crate::guards::{is_stream, is_waiting, may_answer, may_enrol};
 use crate::step::Step;
 use crate::take_maint::take_maint_step;
 use crate::take_rebuild::take_rebuild_step;
@@ -42,7 +42,7 @@ pub(crate) fn take_step(world: &mut World, alloc: Global, step: &Step) -> Result
             replica,
             count,
         } => {
-            let _ = world.fault(*stream, *replica, *count);
+            fault(world, *stream, *replica, *count);
             Ok(())
         }
         Step::Complete(ticket) => {
@@ -172,4 +172,14 @@ fn apply_read(
     let mut into = vec![in alloc; 0; world.calls[place].length as usize]?;
     let _ = world.apply_read(ticket, replica, &mut into);
     Ok(())
+}
+
+fn fault(world: &mut World, stream: u8, replica: u8, count: u64)
+    requires { IsSound (state_of world.old) }
+    ensures sound { IsSound (state_of world.new) }
+    ensures ok { Makes (Step.Fault stream replica count) (state_of world.old) (state_of world.new) }
+{
+    if is_stream(world, stream) {
+        let _ = world.fault(stream, replica, count);
+    }
 }
