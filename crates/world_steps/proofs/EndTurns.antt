@@ -155,13 +155,13 @@ module _ (a : Bool) (n t at : ℕ) (s x y : State) (found : IsFound a n s x) (re
     abort_still e = subst (IsStillKnown s) (sym (left ∙ none e)) (add_known a n t s x found add)
 
     -- an operation on the whole volume has started, if it was aborted there
-    pub abort_why : (res ≡ None → world.AgainstEndTurn x t (reply.Aborted at)) → res ≡ None → IsEndedAt u at
+    pub abort_why : (res ≡ None → world.CannotEnd x t (reply.Aborted at)) → res ≡ None → IsEndedAt u at
         → (seen_of u).whole ≢ None
     abort_why why e is =
         let same = left ∙ none e in
         subst (λ (z : State). (seen_of z).whole ≢ None) (sym same)
-        (λ nothing. why e (add_free a n t s x found add)
-        (aborted_there x at found.sound (subst (λ (z : State). IsEndedAt z at) same is)) (none_kept x.whole nothing))
+        (λ nothing. (why e (add_free a n t s x found add)
+        (aborted_there x at found.sound (subst (λ (z : State). IsEndedAt z at) same is))).1 (none_kept x.whole nothing))
 
 -- ---- its turn is given back
 

@@ -30,7 +30,7 @@ use Rattle.step_answers.specs.declared.parts.Part.{Part}
 use Rattle.step_answers.specs.declared.parts.Part.TheVariants.{Taken, Acked}
 use Rattle.open_calls.proofs.Forms.{length-forms}
 use Rattle.step_answers.specs.declared.answers.Enrolled.{Enrolled}
-use Rattle.step_answers.specs.Asked.{IsOnRange, IsNow}
+use Rattle.step_answers.specs.Asked.{IsOnRange, IsNow, AsksReplica}
 use Rattle.volume_core.specs.Answers.{EnrolsAs, Completes, IsAnsweredNow, failed_by, after_fail}
 use Rattle.volume_core.specs.Answers.{IsRoomier}
 use Rattle.volume_core.specs.State.{State, modes_in, index_at, told_of}
@@ -217,6 +217,14 @@ now_row a n c r s s2 spare may sees turns e un =
     known : (b : Bool) → IfSome (log_length (view b n s)) (λ place. length s.book.entries ≡ place)
     known true = refl
     known false = tt
+
+-- a call of a frame names no replica
+pub frame_there : (k : ℕ) (c : Call) → IsFrameCall c → AsksReplica k c
+frame_there k (call.Read offset count) f = tt
+frame_there k (call.Write offset bytes) f = tt
+frame_there k call.Ping f = tt
+frame_there k (call.Other x) f = tt
+frame_there k (call.Command c) f = absurd f
 
 no_failed : (c : Call) → IsFrameCall c → failed_by c ≡ None
 no_failed (call.Read offset count) f = refl

@@ -1,7 +1,7 @@
 -- Each step of a command that is answered at once, of the maintenance turn and of a purge in one turn: the World that was
 -- seen as s is found as x, left as y, and seen so as u.
 use Rattle.std.proofs.Common.{◌≡◌, ℕ, Bool, true, false, List, [], Result, Ok, OnOk, OnErr, IfOk, IfErr, IfSome, subst, sym, refl, ap, ◌∙◌}
-use Rattle.std.proofs.Common.{arith}
+use Rattle.std.proofs.Common.{arith, length}
 use Rattle.std.proofs.Common.{Err as Failed}
 use Rattle.volume_model.specs.declared.command.Command.{Command}
 use Rattle.volume_model.specs.declared.command.Command.TheVariants as command
@@ -10,14 +10,14 @@ use Rattle.range_turns.specs.declared.turns.MayStart.TheVariants as may_start
 use Rattle.volume_model.specs.declared.call.Call.TheVariants as call
 use Rattle.volume_model.specs.declared.call.Reply.{Reply}
 use Rattle.volume_model.specs.declared.mark.FoldOrDrop.TheVariants as part
+use Rattle.step_answers.specs.Asked.{NamesReplica}
 use Rattle.open_calls.specs.Clients.{IsIdle}
 use Rattle.open_calls.specs.Maint.{HasNoCommand, command_at}
 use Rattle.step_answers.specs.declared.answers.NotThis.{NotThis}
-use Rattle.step_answers.specs.declared.answers.NotThis.TheVariants as against
 use Rattle.volume_core.specs.Answers.{IsAnsweredNow}
 use Rattle.volume_core.specs.State.{State, gave_up_at, modes_in}
 use Rattle.volume_core.specs.Steps.{faulted}
-use Rattle.volume_core.specs.Streams.{MayGo, IsAnsweredTo, turning}
+use Rattle.volume_core.specs.Streams.{MayGo, IsAnsweredTo, turning, Origin}
 use Rattle.volume_core.specs.Turn.{without_command, ForAsker, IsFreeTurn}
 use Rattle.volume_maint.specs.Steps.{maint_enrolled, turn_abandoned}
 use Rattle.volume_maint.specs.Answers as world
@@ -63,6 +63,10 @@ counted_same n x y e = counted_as n x y (ap (λ (z : State). z.rebuild) e) (ap (
 module _ (a : Bool) (n : ℕ) (s x : State) (found : IsFound a n s x) where
   found_none : (view a n s).running ≡ [] → (view a n x).running ≡ []
   found_none = found_in a n s x found (λ (m : Mine). m.running ≡ [])
+
+  -- a replica that a command names is there, as it was seen last
+  pub found_there : (c : Command) → NamesReplica (view a n s).replicas c → NamesReplica (length x.nodes) c
+  found_there c there = subst (λ k. NamesReplica k c) (sym (ap (λ (o : Origin). o.replicas) found.later.origin)) there
 
   pub found_unasked : (view a n s).running ≡ [] → HasNoCommand n x.commands
   found_unasked idle = has_no_command n x found.sound (has_none n x (found_none idle)).turns
@@ -251,19 +255,18 @@ module _ {E : Type 0} (a : Bool) (n t : ℕ) (r : Reply) (s x y : State) (found 
 
 module _ (a : Bool) (n t : ℕ) (r : Reply) (s x y : State) (found : IsFound a n s x) (res : Result ℕ NotThis)
     (h : IsInTurn t command.Purge (view a n s)) (err : OnErr res (y ≡ x)) where
-  pub ends_why : (u : State) → u ≡ y → IfErr res (λ why. (why ≡ against.Ticket) × world.AgainstEndTurn x t r)
-      → OnErr res (RefusesEndPurge r (seen_of u))
+  pub ends_why : (u : State) → u ≡ y → IfErr res (world.AgainstEndTurn x t r) → OnErr res (RefusesEndPurge r (seen_of u))
   ends_why u left why = subst (λ (z : State). OnErr res (RefusesEndPurge r (seen_of z))) (sym left) (by res why err)
     where
-      by : (q : Result ℕ NotThis) → IfErr q (λ why. (why ≡ against.Ticket) × world.AgainstEndTurn x t r) → OnErr q (y ≡ x)
+      by : (q : Result ℕ NotThis) → IfErr q (world.AgainstEndTurn x t r) → OnErr q (y ≡ x)
           → OnErr q (RefusesEndPurge r (seen_of y))
       by (Ok at) why same = tt
       by (Failed e) why same = subst (λ (z : State). RefusesEndPurge r (seen_of z)) (sym same)
-          (λ may none.
+          (λ may.
           let f = found_turn a n t command.Purge s x y found h in
-          why.1 (free_turn a n t x found.sound command.Purge f.0 f.1)
-          (purge_ends x (command_at x.commands 0).command (turn_command a n t x found.sound command.Purge f.0 f.1) r may)
-          (none_kept x.whole none))
+          let held = why.cannot (free_turn a n t x found.sound command.Purge f.0 f.1)
+          (purge_ends x (command_at x.commands 0).command (turn_command a n t x found.sound command.Purge f.0 f.1) r may) in
+          (held.0, λ none. held.1 (none_kept x.whole none)))
 
 -- ---- it is given back
 

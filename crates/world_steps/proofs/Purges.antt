@@ -79,12 +79,11 @@ unwanted x r page p c within can wants =
 
 -- a replica that is read folds what can be folded in the volume
 pub refuses_fold : (s : State) (r page : ℕ) (p : List ℕ) → place.IsTurnOf s command.Purge × IsIdle (command_at s.commands 0).stream s.calls
-    → mode_of (modes_in s) r ≡ Rw → (res : Result (Unit {0}) NotThis) → IfErr res (world.AgainstFold s r p page)
+    → mode_of (modes_in s) r ≡ Rw → (res : Result (Unit {0}) NotThis) → IfErr res (world.AgainstFold s r p)
     → IfErr res (RefusesFold r p page (modes_in s) (seen_of s).log)
 refuses_fold s r page p purges read (Ok v) z = tt
-refuses_fold s r page p purges read (Failed against.Ticket) z = inr (λ c can. z (folded_on s r p c page)
-    (record { c = c; turn = purges.0; idle = purges.1; read = read; can = can; state = refl }))
-refuses_fold s r page p purges read (Failed (against.Mode m)) z = z
-refuses_fold s r page p purges read (Failed against.Page) z = absurd z
+refuses_fold s r page p purges read (Failed against.Ticket) z = absurd (z purges)
+refuses_fold s r page p purges read (Failed (against.Mode m)) z = (z.1, z.2)
+refuses_fold s r page p purges read (Failed against.Page) z = inr z.2
 refuses_fold s r page p purges read (Failed (against.Pending q)) z = absurd z
 refuses_fold s r page p purges read (Failed (against.Count c)) z = absurd z

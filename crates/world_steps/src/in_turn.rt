@@ -45,7 +45,7 @@ pub(crate) fn fold_in(
         return Err(NotThis::Mode(mode));
     }
     if page >= world.size.page_count() {
-        return Err(NotThis::Ticket);
+        return Err(NotThis::Page);
     }
     volume_maint::fold_page(world, replica, parent, page)
 }

@@ -1,6 +1,6 @@
 //! What a turn does for the rebuild of the add that has the maintenance turn, on the World in hand.
 
-ghost use Rattle.std.specs.Prelude.{◌≡◌, ◌≢◌, ◌⊎◌, ℕ, ◌<◌, List, [], ◌∷◌, ◌++◌, true, Some, None, IfOk, OnErr, IfSome, MatchOption};
+ghost use Rattle.std.specs.Prelude.{◌≡◌, ◌≢◌, ◌⊎◌, ℕ, ◌<◌, List, [], ◌∷◌, ◌++◌, length, true, Some, None, IfOk, OnErr, IfSome, MatchOption};
 ghost use Rattle.sparse_image.specs.Image.{IsLent};
 ghost use Rattle.volume_model.specs.declared.call.Reply.TheVariants as reply;
 ghost use Rattle.volume_model.specs.declared.entry.Entry.TheVariants as entry;
@@ -15,7 +15,7 @@ ghost use Rattle.volume_core.specs.Sound.{IsSound};
 ghost use Rattle.volume_core.specs.Steps.{faulted};
 ghost use Rattle.volume_core.specs.Streams.{MayGo};
 ghost use Rattle.volume_maint.specs.Places.{AwaitsWhole, ForCaller};
-ghost use Rattle.volume_maint.specs.Answers.{EndsTurn, AgainstEndTurn};
+ghost use Rattle.volume_maint.specs.Answers.{EndsTurn, CannotEnd};
 ghost use Rattle.volume_core.specs.Turn.{ForAsker};
 ghost use Rattle.volume_rebuild.specs.Answers.{Promotes};
 ghost use Rattle.world_steps.specs.Rebuild.{AdmitsBarrierIn, IsToldBegun, IsEndOf, AwaitsPromotion, IsPageIn, IsAbortedAt, AwaitsAt, IsEndedAt, IsNextIn, IsOutIn, PutsAt};
@@ -138,6 +138,7 @@ fn ended_place(world: &World) -> u64
 /// the aborted mark of the rebuild stands.
 pub(crate) fn fall_in(world: &mut World, stream: u8, replica: u8, count: u64) -> u64
     requires sound { IsSound (state_of world.old) }
+    requires stream { stream < length world.old.indices.items }
     requires part { IsEndOf (state_of world.old) replica }
     requires above { last_count stream replica world.old.journal.entries < count }
     ensures fell { (state_of world.new ≡ faulted (state_of world.old) stream replica count)
@@ -167,7 +168,7 @@ pub(crate) fn promote_in(world: &mut World, t: TicketNumber) -> Option<u64>
 pub(crate) fn end_in(world: &mut World, t: TicketNumber, place: u64) -> Option<u64>
     requires sound { IsSound (state_of world.old) }
     ensures done { IfSome result (λ at. EndsTurn (state_of world.old) t (reply.Aborted place) (state_of world.new)) }
-    ensures why { result ≡ None → AgainstEndTurn (state_of world.old) t (reply.Aborted place) }
+    ensures why { result ≡ None → CannotEnd (state_of world.old) t (reply.Aborted place) }
     ensures none { result ≡ None → state_of world.new ≡ state_of world.old }
     ensures may { ForAsker (state_of world.old) t (λ stream. MayGo stream (state_of world.old) (state_of world.new)) }
 {

@@ -1,6 +1,6 @@
 use Rattle.world_holder.proofs.Taken.{found_as, owes_as}
 use Rattle.world_steps.proofs.FrameTurns.{found_idle}
-use Rattle.world_steps.proofs.MaintTurns.{found_unasked, once_flag, once_owes, once_same, once_to}
+use Rattle.world_steps.proofs.MaintTurns.{found_there, found_unasked, once_flag, once_owes, once_same, once_to}
 use Rattle.world_steps.proofs.GaveUp.{home_kept}
 use Rattle.world_steps.proofs.commands.StepsCommandSteps.answer_at_once.Goals as goal
 
@@ -11,6 +11,10 @@ answer_now-answer-requires-clause-idle g c =
 pub answer_now-answer-requires-clause-free : goal.answer_now-answer-requires-clause-free
 answer_now-answer-requires-clause-free g c =
     found_unasked _ _ _ _ (found_as c.deref_mut.ensures.value c.take-world.ensures.found) c.requires.idle
+
+pub answer_now-answer-requires-clause-there : goal.answer_now-answer-requires-clause-there
+answer_now-answer-requires-clause-there g c =
+    found_there _ _ _ _ (found_as c.deref_mut.ensures.value c.take-world.ensures.found) c.args.command.now c.requires.there
 
 pub put-requires-clause-owes : goal.put-requires-clause-owes
 put-requires-clause-owes g c =

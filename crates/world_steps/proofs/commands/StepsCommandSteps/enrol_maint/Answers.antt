@@ -1,6 +1,6 @@
 use Rattle.world_holder.proofs.Taken.{found_as, owes_as}
 use Rattle.world_steps.proofs.FrameTurns.{found_idle}
-use Rattle.world_steps.proofs.MaintTurns.{found_unasked, asks_flag, asks_owes, asks_same, asks_to}
+use Rattle.world_steps.proofs.MaintTurns.{found_there, found_unasked, asks_flag, asks_owes, asks_same, asks_to}
 use Rattle.world_steps.proofs.Turns.{wants_maint}
 use Rattle.world_steps.proofs.GaveUp.{home_kept}
 use Rattle.world_steps.proofs.commands.StepsCommandSteps.enrol_maint.Goals as goal
@@ -16,6 +16,10 @@ enrol_maint-answer-requires-clause-free g c =
 pub enrol_maint-answer-requires-clause-wants : goal.enrol_maint-answer-requires-clause-wants
 enrol_maint-answer-requires-clause-wants g c =
     wants_maint c.args.command.now c.requires.wants
+
+pub enrol_maint-answer-requires-clause-there : goal.enrol_maint-answer-requires-clause-there
+enrol_maint-answer-requires-clause-there g c =
+    found_there _ _ _ _ (found_as c.deref_mut.ensures.value c.take-world.ensures.found) c.args.command.now c.requires.there
 
 pub put-requires-clause-owes : goal.put-requires-clause-owes
 put-requires-clause-owes g c =

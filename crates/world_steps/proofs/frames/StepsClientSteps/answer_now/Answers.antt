@@ -1,5 +1,6 @@
 use Rattle.world_holder.proofs.Taken.{found_as, owes_as}
 use Rattle.world_steps.proofs.FrameTurns.{now_owes, now_free, now_to, now_same, found_idle, found_free}
+use Rattle.world_steps.proofs.FrameRows.{frame_there}
 use Rattle.world_steps.proofs.frames.StepsClientSteps.answer_now.Goals as goal
 
 pub answer_now-answer-requires-clause-idle : goal.answer_now-answer-requires-clause-idle
@@ -9,6 +10,9 @@ answer_now-answer-requires-clause-idle g c =
 pub answer_now-answer-requires-clause-free : goal.answer_now-answer-requires-clause-free
 answer_now-answer-requires-clause-free g c =
     found_free _ _ _ _ (found_as c.deref_mut.ensures.value c.take-world.ensures.found) c.requires.ready.1
+
+pub answer_now-answer-requires-clause-there : goal.answer_now-answer-requires-clause-there
+answer_now-answer-requires-clause-there g c = frame_there _ c.args.call.now c.requires.frame
 
 pub put-requires-clause-owes : goal.put-requires-clause-owes
 put-requires-clause-owes g c =
