@@ -120,6 +120,9 @@ shown_still a b counts carried e h = subst (λ (m : Mine). IsShown (with_running
 pub stays_same : (m a b : Mine) → b ≡ a → GoesOn m a → GoesOn m b
 stays_same m a b e g = subst (GoesOn m) (sym e) g
 
+-- by these a step keeps what is in hand
+pub ruleset copy_step = (quiet_same, texts_kept, stays_same, add_same, shown_still, hand_none, hand_unread, hand_read, hand_kept)
+
 -- ---- a frame that came through
 
 pub carries_to : (side : CopySide) (source target : ℕ) → source ≢ target
@@ -223,13 +226,12 @@ count_here count xs i x within =
 -- ---- what holds behind it
 
 -- the next step can be taken again
-pub serving_on : {C L : Type 0} (can : C → Type 0) (mine : C → Mine) (count : L → ℕ)
-    (carried : L → Option (List (List ℕ))) (w : Work C L) (steps : C) (xs : List (Channel L))
-    → IsServing can (λ s. with_running (mine s) []) count carried w → can steps → length xs ≡ length w.channels
-    → GoesOn (mine w.steps) (mine steps)
+pub serving_on : {C L : Type 0} {can : C → Type 0} {count : L → ℕ} {carried : L → Option (List (List ℕ))} (mine : C → Mine)
+    (w : Work C L) (steps : C) (xs : List (Channel L)) → IsServing can (λ s. with_running (mine s) []) count carried w → can steps
+    → length xs ≡ length w.channels → GoesOn (mine w.steps) (mine steps)
     → IsShown (with_running (mine steps) []) (map (λ c. count c.line) xs) (map (λ c. carried c.line) xs)
     → IsServing can (λ s. with_running (mine s) []) count carried (record { steps = steps; channels = xs })
-serving_on can mine count carried w steps xs h ready long g shown = record {
+serving_on mine w steps xs h ready long g shown = record {
   ready = ready;
   few = subst (λ n. n ≤ 8) (sym long) h.few;
   lines = long ∙ h.lines ∙ sym (ap (λ (m : Mine). m.replicas) g.is);

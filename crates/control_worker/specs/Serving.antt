@@ -9,16 +9,17 @@ use Rattle.volume_model.specs.declared.call.Reply.TheVariants as reply
 use Rattle.volume_model.specs.declared.entry.Answer.{Answer}
 use Rattle.volume_model.specs.declared.entry.Entry.{Entry}
 use Rattle.volume_model.specs.declared.entry.Entry.TheVariants as entry
+use Rattle.step_answers.specs.Asked.{NamesReplica}
 use Rattle.stream_steps.specs.Mine.{Mine, Placed, Log, with_entries, longer, length_of}
 use Rattle.stream_steps.specs.Steps.{AreMarks, IsCommandAt}
 use Rattle.control_worker.specs.OwnAnswers.{HasAnswers}
 use Rattle.control_worker.specs.Purges.{MayComeBefore}
 
--- A command that a worker of so many lines takes: a snapshot has a name that a user may give, and an add names a line.
+-- A command that a worker of so many lines takes: a snapshot has a name that a user may give, and one that names a replica
+-- names a line.
 abbrev pub IsForWorker : ℕ → Command → Type 0
 IsForWorker lines (command.Snapshot name) = begins_sys name ≡ false
-IsForWorker lines (command.Add r) = r < lines
-IsForWorker lines c = Unit {0}
+IsForWorker lines c = NamesReplica lines c
 
 -- The entries are marks, and then the answer of a command that was taken up behind that journal. Where no line failed,
 -- they are those that one worker makes of it there.

@@ -96,7 +96,7 @@ impl<'a, C: AddSteps, L: Line + Drop> CopySteps for Copier<'a, C, L> {
         (C.begun s.steps.now true s.copy.source s.copy.target) (C.awaits s.steps.now) (C.is_page s.steps.now)
         s.hand s.read s.rooms.now.page };
 
-    #[tactic(auto, using(crate::proofs::CopierLemmas::quiet_same, crate::proofs::CopierLemmas::texts_kept, crate::proofs::CopierLemmas::stays_same, crate::proofs::CopierLemmas::add_same, crate::proofs::CopierLemmas::shown_still, crate::proofs::CopierLemmas::hand_unread, crate::proofs::CopierLemmas::hand_kept))]
+    #[tactic(auto, using(crate::proofs::CopierLemmas::copy_step))]
     fn next<R: Wait>(&mut self, rt: &R) -> CopyNext {
         let next = self.steps.copy_next(rt, self.copy.turn);
         match &next {
@@ -131,7 +131,7 @@ impl<'a, C: AddSteps, L: Line + Drop> CopySteps for Copier<'a, C, L> {
         Ok(Carried::Ended(place))
     }
 
-    #[tactic(auto, using(crate::proofs::CopierLemmas::quiet_same, crate::proofs::CopierLemmas::texts_kept, crate::proofs::CopierLemmas::stays_same, crate::proofs::CopierLemmas::add_same, crate::proofs::CopierLemmas::shown_still, crate::proofs::CopierLemmas::hand_unread, crate::proofs::CopierLemmas::hand_read, crate::proofs::CopierLemmas::hand_kept))]
+    #[tactic(auto, using(crate::proofs::CopierLemmas::copy_step))]
     fn out<R: Wait>(
         &mut self,
         rt: &R,
@@ -159,7 +159,7 @@ impl<'a, C: AddSteps, L: Line + Drop> CopySteps for Copier<'a, C, L> {
         }
     }
 
-    #[tactic(auto, using(crate::proofs::CopierLemmas::quiet_same, crate::proofs::CopierLemmas::texts_kept, crate::proofs::CopierLemmas::stays_same, crate::proofs::CopierLemmas::add_same, crate::proofs::CopierLemmas::shown_still, crate::proofs::CopierLemmas::hand_none))]
+    #[tactic(auto, using(crate::proofs::CopierLemmas::copy_step))]
     fn put<R: Wait>(
         &mut self,
         rt: &R,
@@ -175,7 +175,7 @@ impl<'a, C: AddSteps, L: Line + Drop> CopySteps for Copier<'a, C, L> {
         }
     }
 
-    #[tactic(auto, using(crate::proofs::CopierLemmas::quiet_same, crate::proofs::CopierLemmas::texts_kept, crate::proofs::CopierLemmas::stays_same, crate::proofs::CopierLemmas::add_same, crate::proofs::CopierLemmas::shown_still, crate::proofs::CopierLemmas::hand_kept))]
+    #[tactic(auto, using(crate::proofs::CopierLemmas::copy_step))]
     fn ended<R: Wait>(&mut self, rt: &R) -> Option<u64> {
         self.steps.aborted(rt, self.copy.turn)
     }

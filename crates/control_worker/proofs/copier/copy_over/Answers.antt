@@ -5,11 +5,9 @@ use Rattle.control_worker.proofs.copier.copy_over.Goals as goal
 
 pub returns-clause-serving : goal.returns-clause-serving
 returns-clause-serving g c =
-    let before = g.C.CommandSteps.mine c.args.steps.now in
-    let serving = serving_on g.C.CommandSteps.ready g.C.CommandSteps.mine g.L.Line.count g.L.Line.carried
-    (record { steps = c.args.steps.now; channels = c.args.channels.now }) c.copy_all.new.steps.steps.now
-    c.copy_all.new.steps.channels.now c.requires.serving c.copy_all.ensures.ready.0 (search rules)
-    (c.copy_all.ensures.stays before (goes_same before before refl)) c.copy_all.ensures.ready.1.shown in
+    let serving = serving_on g.C.CommandSteps.mine _ c.copy_all.new.steps.steps.now c.copy_all.new.steps.channels.now
+    c.requires.serving c.copy_all.ensures.ready.0 (search rules) (c.copy_all.ensures.stays _ (goes_same _ _ refl))
+    c.copy_all.ensures.ready.1.shown in
     search rules
 
 pub returns-clause-goes : goal.returns-clause-goes

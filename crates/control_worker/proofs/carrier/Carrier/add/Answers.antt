@@ -18,12 +18,8 @@ use Rattle.control_worker.proofs.carrier.Carrier.add.Goals.{After-await_turn, Af
 -- the add has the turn
 turn : (g : Over) (c : After-await_turn g) → TakesTurn c.in_ok-t.t (command.Add c.args.replica)
     (g.C.CommandSteps.mine c.args.self.now.steps) (g.C.CommandSteps.mine c.await_turn.new.self.steps)
-turn g c =
-    subst (λ (w : Work g.row.C.Denot g.row.L.Denot). TakesTurn c.in_ok-t.t (command.Add c.args.replica)
-    (g.C.CommandSteps.mine w.steps) (g.C.CommandSteps.mine c.await_turn.new.self.steps)) c.self.view_is
-    (takes_turn c.in_ok-t.t (command.Add c.args.replica) tt (g.C.CommandSteps.mine c.self.inside.steps)
-    (g.C.CommandSteps.mine c.enrol_maint.new.self) (g.C.CommandSteps.mine c.await_turn.new.self.steps) c.in_ok-t.ensures.ok
-    c.await_turn.ensures.turn)
+turn g c = rw (← c.self.view_is)
+    (takes_turn c.in_ok-t.t (command.Add c.args.replica) tt _ _ _ c.in_ok-t.ensures.ok c.await_turn.ensures.turn)
 
 -- memory ran out
 goes : (g : Over) (c : After-abandon_add g) → (k : TakesTurn c.in_ok-t.t (command.Add c.args.replica)
@@ -40,36 +36,22 @@ leaves : (g : Over) (c : After-abandon_add g) → (k : TakesTurn c.in_ok-t.t (co
     → LeavesAdd k.own (g.C.CommandSteps.mine c.self-2.inside.steps) (g.C.CommandSteps.mine c.abandon_add.new.self)
 leaves g c k =
     c.abandon_add.ensures.left c.args.replica k.own
-    (adding_has c.in_ok-t.t c.args.replica k.own (g.C.CommandSteps.mine c.await_turn.new.self.steps)
-    (g.C.CommandSteps.mine c.self-2.inside.steps) k.has (goes g c k))
+    (adding_has c.in_ok-t.t c.args.replica k.own _ _ k.has (goes g c k))
 
 pub returns-in_err-t-clause-err : goal.returns-in_err-t-clause-err
 returns-in_err-t-clause-err g c =
-    let mine_enrol_maint = g.C.CommandSteps.mine c.enrol_maint.new.self in
     on_err c.from_residual.result
-    (left_of (command.Add c.args.replica) (g.C.CommandSteps.mine c.args.self.now.steps) mine_enrol_maint
-    (gave_none (g.C.CommandSteps.mine c.args.self.now.steps) mine_enrol_maint c.requires.idle
-    (c.in_err-t.ensures.err ∙ ap (λ (w : Work g.row.C.Denot g.row.L.Denot). g.C.CommandSteps.mine w.steps) c.self.view_is)))
+    (left_of (command.Add c.args.replica) _ _ (gave_none _ _ c.requires.idle (rw (← c.self.view_is) c.in_err-t.ensures.err)))
 
 pub invariant_of-self-2 : goal.invariant_of-self-2
 invariant_of-self-2 g c =
     let e = c.in_ok-t.ensures.ok in
-    serves_step g.C.CommandSteps.mine (record { steps = c.self.inside.steps; channels = c.self.inside.channels.items })
-    c.enrol_maint.new.self c.in_ok-t.ensures.ready
-    (stays_running (e.own ∷ []) (g.C.CommandSteps.mine c.self.inside.steps) (g.C.CommandSteps.mine c.enrol_maint.new.self) e.is)
-    c.self.invariant
+    serves_step g.C.CommandSteps.mine _ _ c.in_ok-t.ensures.ready (stays_running (e.own ∷ []) _ _ e.is) c.self.invariant
 
 pub await_turn-requires : goal.await_turn-requires
 await_turn-requires g c =
     let e = c.in_ok-t.ensures.ok in
-    record {
-      waits = (
-        command.Add c.args.replica,
-        e.own,
-        awaits c.in_ok-t.t (command.Add c.args.replica) tt (g.C.CommandSteps.mine c.self.inside.steps)
-            (g.C.CommandSteps.mine c.enrol_maint.new.self) e,
-      );
-    }
+    record { waits = (command.Add c.args.replica, e.own, awaits _ (command.Add c.args.replica) tt _ _ e) }
 
 pub rebuild-done-requires-clause-there : goal.rebuild-done-requires-clause-there
 rebuild-done-requires-clause-there g c =
@@ -91,8 +73,7 @@ abandon_add-requires-clause-turn g c =
       k.own,
       subst (λ (w : Work g.row.C.Denot g.row.L.Denot). HasAdd c.in_ok-t.t c.args.replica k.own (g.C.CommandSteps.mine w.steps))
           (sym c.self-2.view_is)
-          (adding_has c.in_ok-t.t c.args.replica k.own (g.C.CommandSteps.mine c.await_turn.new.self.steps)
-          (g.C.CommandSteps.mine c.rebuild-done.new.self.steps) k.has
+          (adding_has c.in_ok-t.t c.args.replica k.own _ _ k.has
           (err_of c.rebuild-done.result failed c.rebuild-done.ensures.err k.own k.has)),
     )
 
@@ -100,10 +81,8 @@ pub invariant_of-self-then-is_err : goal.invariant_of-self-then-is_err
 invariant_of-self-then-is_err g c =
     let at = goal.at.invariant_of-self-then-is_err g c in
     let k = turn g at.After-await_turn in
-    serves_step g.C.CommandSteps.mine (record { steps = c.self-2.inside.steps; channels = c.self-2.inside.channels.items })
-    c.abandon_add.new.self c.abandon_add.ensures.ready
-    (leaves_stays c.args.replica k.own (g.C.CommandSteps.mine c.self-2.inside.steps)
-    (g.C.CommandSteps.mine c.abandon_add.new.self) k.call (leaves g at.After-abandon_add k)) c.self-2.invariant
+    serves_step g.C.CommandSteps.mine _ _ c.abandon_add.ensures.ready
+    (leaves_stays c.args.replica k.own _ _ k.call (leaves g at.After-abandon_add k)) c.self-2.invariant
 
 pub returns-then-is_err-clause-home : goal.returns-then-is_err-clause-home
 returns-then-is_err-clause-home g c =
@@ -115,9 +94,7 @@ returns-then-is_err-clause-err g c =
     let at = goal.at.returns-then-is_err-clause-err g c in
     let k = turn g at.After-await_turn in
     on_err c.rebuild-done.result
-    (left_added c.args.replica k.own (g.C.CommandSteps.mine c.args.self.now.steps)
-    (g.C.CommandSteps.mine c.await_turn.new.self.steps) (g.C.CommandSteps.mine c.self-2.inside.steps) k.is k.call k.saw
-    (g.C.CommandSteps.mine c.abandon_add.new.self) (goes g at.After-abandon_add k) (leaves g at.After-abandon_add k))
+    (left_added c.args.replica k.own _ _ _ k.is k.call k.saw _ (goes g at.After-abandon_add k) (leaves g at.After-abandon_add k))
 
 pub returns-else-is_err-clause-home : goal.returns-else-is_err-clause-home
 returns-else-is_err-clause-home g c =
@@ -129,6 +106,5 @@ returns-else-is_err-clause-ok g c =
     let k = turn g (goal.at.returns-else-is_err-clause-ok g c).After-await_turn in
     let done : is_ok c.rebuild-done.result ≡ true = search rules in
     on_ok c.rebuild-done.result
-    (grew_added c.args.replica k.own (g.C.CommandSteps.mine c.args.self.now.steps)
-    (g.C.CommandSteps.mine c.await_turn.new.self.steps) (g.C.CommandSteps.mine c.rebuild-done.new.self.steps) k.is k.call k.saw
+    (grew_added c.args.replica k.own _ _ _ k.is k.call k.saw
     (ok_of c.rebuild-done.result done c.rebuild-done.ensures.ok k.own k.has))

@@ -10,7 +10,7 @@ use Rattle.control_worker.proofs.carrier.Carrier.answer_all.Goals as goal
 pub returns-in_err-rooms-clause-err : goal.returns-in_err-rooms-clause-err
 returns-in_err-rooms-clause-err g c =
     on_err c.from_residual.result
-    (commanded_stopped c.args.commands.now (g.C.CommandSteps.mine c.args.self.now.steps) c.requires.idle)
+    (commanded_stopped c.args.commands.now _ c.requires.idle)
 
 pub returns-in_err-answer-clause-err : goal.returns-in_err-answer-clause-err
 returns-in_err-answer-clause-err g c =
@@ -20,7 +20,7 @@ returns-in_err-answer-clause-err g c =
     let x = c.command-item.result in
     let at : get_or c.args.commands.now i x ≡ x = grind (arith, common_steps) in
     on_err c.from_residual-in_err-answer.result
-    (commanded_some c.args.commands.now i x (g.C.CommandSteps.mine c.args.self.now.steps) mine_loop mine_answer
+    (commanded_some c.args.commands.now i x _ _ _
     c.loop-command-test.true c.loop-command.invariant.done
     (subst (λ y. LeftUndone y mine_loop mine_answer) (sym at) c.in_err-answer.ensures.err))
 
@@ -32,9 +32,9 @@ loop-command-preserved g c =
     let x = c.command-item.result in
     let at : get_or c.args.commands.now i x ≡ x = grind (arith, common_steps) in
     record {
-      stays = stays_both c.args.self.now c.loop-command.self c.answer.new.self c.loop-command.invariant.stays
+      stays = stays_both _ _ _ c.loop-command.invariant.stays
           (record { home = c.in_ok-answer.ensures.home; lines = c.answer.ensures.lines });
-      done = commanded_more c.args.commands.now i x (g.C.CommandSteps.mine c.args.self.now.steps) mine_loop mine_answer
+      done = commanded_more c.args.commands.now i x _ _ _
           c.loop-command-test.true c.loop-command.invariant.done
           (subst (λ y. GrewByCommand y mine_loop mine_answer) (sym at) c.in_ok-answer.ensures.ok);
     }

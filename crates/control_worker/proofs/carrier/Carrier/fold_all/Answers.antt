@@ -12,21 +12,18 @@ pub loop-r-init : goal.loop-r-init
 loop-r-init g c = record {
   stays = record { home = refl; lines = record { count = refl; ends = refl } };
   text = record { is = c.requires.request; text = refl };
-  goes = goes_same (g.C.CommandSteps.mine c.args.self.now.steps) (g.C.CommandSteps.mine c.args.self.now.steps) refl;
+  goes = goes_same _ _ refl;
   folded = λ r below. absurd (omega (arith, below));
 }
 
 pub fold_one-requires-clause-turn : goal.fold_one-requires-clause-turn
-fold_one-requires-clause-turn g c =
-    turn_kept c.args.fold.now.turn command.Purge (g.C.CommandSteps.mine c.args.self.now.steps)
-    (g.C.CommandSteps.mine c.loop-r.self.steps) c.loop-r.invariant.goes c.requires.turn
+fold_one-requires-clause-turn g c = turn_kept c.args.fold.now.turn command.Purge _ _ c.loop-r.invariant.goes c.requires.turn
 
 pub loop-r-preserved : goal.loop-r-preserved
 loop-r-preserved g c = record {
-  stays = stays_both c.args.self.now c.loop-r.self c.fold_one.new.self c.loop-r.invariant.stays c.fold_one.ensures.stays;
+  stays = stays_both _ _ _ c.loop-r.invariant.stays c.fold_one.ensures.stays;
   text = record { is = c.fold_one.ensures.text.is; text = c.fold_one.ensures.text.text ∙ c.loop-r.invariant.text.text };
-  goes = goes_on (g.C.CommandSteps.mine c.args.self.now.steps) (g.C.CommandSteps.mine c.loop-r.self.steps)
-      (g.C.CommandSteps.mine c.fold_one.new.self.steps) c.loop-r.invariant.goes c.fold_one.ensures.goes;
+  goes = goes_on _ _ _ c.loop-r.invariant.goes c.fold_one.ensures.goes;
   folded = below_next
       (λ r. (seen : g.row.C.Denot) × (g.C.CommandSteps.home seen ≡ g.C.CommandSteps.home c.args.self.now.steps)
       × IsFolded (g.C.CommandSteps.wants_fold seen r c.args.fold.now.parent c.args.fold.now.page)

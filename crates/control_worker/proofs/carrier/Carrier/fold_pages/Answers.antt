@@ -12,20 +12,18 @@ pub loop-page-init : goal.loop-page-init
 loop-page-init g c = record {
   stays = record { home = refl; lines = record { count = refl; ends = refl } };
   text = record { is = c.requires.request; text = refl };
-  goes = goes_same (g.C.CommandSteps.mine c.args.self.now.steps) (g.C.CommandSteps.mine c.args.self.now.steps) refl;
+  goes = goes_same _ _ refl;
   folded = λ page r below. absurd (omega (arith, below));
 }
 
 pub fold_all-requires-clause-turn : goal.fold_all-requires-clause-turn
-fold_all-requires-clause-turn g c = turn_kept c.args.t command.Purge (g.C.CommandSteps.mine c.args.self.now.steps)
-    (g.C.CommandSteps.mine c.loop-page.self.steps) c.loop-page.invariant.goes c.requires.turn
+fold_all-requires-clause-turn g c = turn_kept c.args.t command.Purge _ _ c.loop-page.invariant.goes c.requires.turn
 
 pub loop-page-preserved : goal.loop-page-preserved
 loop-page-preserved g c = record {
-  stays = stays_both c.args.self.now c.loop-page.self c.fold_all.new.self c.loop-page.invariant.stays c.fold_all.ensures.stays;
+  stays = stays_both _ _ _ c.loop-page.invariant.stays c.fold_all.ensures.stays;
   text = record { is = c.fold_all.ensures.text.is; text = c.fold_all.ensures.text.text ∙ c.loop-page.invariant.text.text };
-  goes = goes_on (g.C.CommandSteps.mine c.args.self.now.steps) (g.C.CommandSteps.mine c.loop-page.self.steps)
-      (g.C.CommandSteps.mine c.fold_all.new.self.steps) c.loop-page.invariant.goes c.fold_all.ensures.goes;
+  goes = goes_on _ _ _ c.loop-page.invariant.goes c.fold_all.ensures.goes;
   folded = λ page r below there.
       below_next
       (λ q. (seen : g.row.C.Denot) × (g.C.CommandSteps.home seen ≡ g.C.CommandSteps.home c.args.self.now.steps)

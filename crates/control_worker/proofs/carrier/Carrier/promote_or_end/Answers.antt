@@ -10,12 +10,10 @@ use Rattle.control_worker.proofs.carrier.Carrier.promote_or_end.Goals as goal
 pub invariant_of-self : goal.invariant_of-self
 invariant_of-self g c =
     let came : is_some c.promote.result ≡ true = search rules in
-    let mine_inside = g.C.CommandSteps.mine c.self.inside.steps in
-    let h = add_same c.args.t (g.C.CommandSteps.mine c.args.self.now.steps) mine_inside
+    let h = add_same c.args.t _ (g.C.CommandSteps.mine c.self.inside.steps)
     (ap (λ (w : Work g.row.C.Denot g.row.L.Denot). g.C.CommandSteps.mine w.steps) c.self.view_is) c.requires.turn in
-    serves_step g.C.CommandSteps.mine (record { steps = c.self.inside.steps; channels = c.self.inside.channels.items })
-    c.promote.new.self c.promote.ensures.ready
-    (ends_stays c.args.t h.0 h.1 mine_inside (g.C.CommandSteps.mine c.promote.new.self) h.2
+    serves_step g.C.CommandSteps.mine _ _ c.promote.ensures.ready
+    (ends_stays c.args.t h.0 h.1 _ _ h.2
     (inl (some_holds c.promote.result came c.promote.ensures.done h.0 h.1 h.2))) c.self.invariant
 
 pub returns-clause-done : goal.returns-clause-done
@@ -27,5 +25,5 @@ returns-clause-done g c = λ r o h.
       c.in-Some.place,
       subst (λ (m : Mine). EndsAborted r c.in-Some.place o m (g.C.CommandSteps.mine c.answer_aborted.new.self.steps)) same
           (c.answer_aborted.ensures.done r o
-          (add_at c.args.t r o (g.C.CommandSteps.mine c.args.self.now.steps) (g.C.CommandSteps.mine c.aborted.new.self) same h)),
+          (add_at c.args.t r o _ _ same h)),
     )

@@ -15,8 +15,7 @@ began : (g : Over) (c : In-Some g) (o : OwnCall)
     → BeganRebuild c.args.replica o (g.C.CommandSteps.mine c.args.self.now.steps)
     (g.C.CommandSteps.mine c.pass_barrier.new.self.steps)
 began g c o h =
-    passed c.in_ok-source.field-0 c.in-Some.source c.args.replica o (g.C.CommandSteps.mine c.args.self.now.steps)
-    (g.C.CommandSteps.mine c.pass_barrier.new.self.steps) c.in-Some.is (c.in_ok-source.ensures.ok o h)
+    passed c.in_ok-source.field-0 c.in-Some.source c.args.replica o _ _ c.in-Some.is (c.in_ok-source.ensures.ok o h)
 
 -- and its pages were copied
 copied : (g : Over) (c : After-copy_pages g) (o : OwnCall)
@@ -24,17 +23,14 @@ copied : (g : Over) (c : After-copy_pages g) (o : OwnCall)
     → BeganRebuild c.args.replica o (g.C.CommandSteps.mine c.args.self.now.steps)
     (g.C.CommandSteps.mine c.copy_pages.new.self.steps)
 copied g c o h =
-    rebuilds_on c.args.replica o (g.C.CommandSteps.mine c.args.self.now.steps)
-    (g.C.CommandSteps.mine c.pass_barrier.new.self.steps) (g.C.CommandSteps.mine c.copy_pages.new.self.steps)
-    (passed c.in_ok-source.field-0 c.in-Some.source c.args.replica o (g.C.CommandSteps.mine c.args.self.now.steps)
-    (g.C.CommandSteps.mine c.pass_barrier.new.self.steps) c.in-Some.is (c.in_ok-source.ensures.ok o h))
+    rebuilds_on c.args.replica o _ _ _
+    (passed c.in_ok-source.field-0 c.in-Some.source c.args.replica o _ _ c.in-Some.is (c.in_ok-source.ensures.ok o h))
     c.copy_pages.ensures.goes
 
 pub returns-in_err-source-clause-err : goal.returns-in_err-source-clause-err
 returns-in_err-source-clause-err g c =
     on_err c.from_residual.result
-    (λ o h. goes_none o (g.C.CommandSteps.mine c.args.self.now.steps) (g.C.CommandSteps.mine c.pass_barrier.new.self.steps)
-    (c.in_err-source.ensures.err o h))
+    (λ o h. goes_none o _ _ (c.in_err-source.ensures.err o h))
 
 pub returns-in_default-clause-ok : goal.returns-in_default-clause-ok
 returns-in_default-clause-ok g c = λ o h.
@@ -58,8 +54,7 @@ copy_pages-requires-clause-turn g c =
     let h = c.requires.turn in (
       c.args.replica,
       h.0,
-      rebuilding_has c.args.t c.args.replica h.0 (g.C.CommandSteps.mine c.args.self.now.steps)
-          (g.C.CommandSteps.mine c.pass_barrier.new.self.steps) h.1 (began g at h.0 h.1),
+      rebuilding_has c.args.t c.args.replica h.0 _ _ h.1 (began g at h.0 h.1),
     )
 
 pub copy_pages-requires-clause-begun : goal.copy_pages-requires-clause-begun
@@ -69,9 +64,7 @@ copy_pages-requires-clause-begun g c =
 pub returns-in_err-copied-clause-err : goal.returns-in_err-copied-clause-err
 returns-in_err-copied-clause-err g c =
     on_err c.from_residual-in_err-copied.result
-    (λ o h. rebuilds_goes c.args.replica o (g.C.CommandSteps.mine c.args.self.now.steps)
-    (g.C.CommandSteps.mine c.copy_pages.new.self.steps)
-    (copied g (goal.at.returns-in_err-copied-clause-err g c).After-copy_pages o h))
+    (λ o h. rebuilds_goes c.args.replica o _ _ (copied g (goal.at.returns-in_err-copied-clause-err g c).After-copy_pages o h))
 
 pub end_add-requires-clause-turn : goal.end_add-requires-clause-turn
 end_add-requires-clause-turn g c =
@@ -79,8 +72,7 @@ end_add-requires-clause-turn g c =
     let h = c.requires.turn in (
       c.args.replica,
       h.0,
-      rebuilding_has c.args.t c.args.replica h.0 (g.C.CommandSteps.mine c.args.self.now.steps)
-          (g.C.CommandSteps.mine c.copy_pages.new.self.steps) h.1 (copied g at h.0 h.1),
+      rebuilding_has c.args.t c.args.replica h.0 _ _ h.1 (copied g at h.0 h.1),
     )
 
 pub end_add-requires-clause-begun : goal.end_add-requires-clause-begun
@@ -92,7 +84,5 @@ returns-clause-ok g c = λ o h.
     inr (record {
       mid = g.C.CommandSteps.mine c.copy_pages.new.self.steps;
       goes = began_still;
-      ends = c.end_add.ensures.done c.args.replica o
-          (rebuilding_has c.args.t c.args.replica o (g.C.CommandSteps.mine c.args.self.now.steps)
-          (g.C.CommandSteps.mine c.copy_pages.new.self.steps) h began_still);
+      ends = c.end_add.ensures.done c.args.replica o (rebuilding_has c.args.t c.args.replica o _ _ h began_still);
     })

@@ -13,29 +13,21 @@ use Rattle.control_worker.proofs.carrier.Carrier.take_all.Goals as goal
 pub loop-init : goal.loop-init
 loop-init g c = record {
   stays = record { home = refl; lines = record { count = refl; ends = refl } };
-  on = λ o h. none_open c.args.t o (g.C.CommandSteps.mine c.args.self.now.steps) (g.C.CommandSteps.mine c.args.self.now.steps) h refl;
+  on = λ o h. none_open c.args.t o _ _ h refl;
 }
 
 pub round-requires : goal.round-requires
 round-requires g c =
     let op = c.requires.turn in
-    record {
-      turn = (
-        op.0,
-        on_turn c.args.t op.0 (g.C.CommandSteps.mine c.args.self.now.steps) (g.C.CommandSteps.mine c.loop.self.steps) op.1
-            (c.loop.invariant.on op.0 op.1),
-      );
-    }
+    record { turn = (op.0, on_turn c.args.t op.0 _ _ op.1 (c.loop.invariant.on op.0 op.1)) }
 
 pub returns-in-Ok-true-clause-stays : goal.returns-in-Ok-true-clause-stays
-returns-in-Ok-true-clause-stays g c =
-    stays_both c.args.self.now c.loop.self c.round.new.self c.loop.invariant.stays c.round.ensures.stays
+returns-in-Ok-true-clause-stays g c = stays_both _ _ _ c.loop.invariant.stays c.round.ensures.stays
 
 pub returns-in-Ok-true-clause-ok : goal.returns-in-Ok-true-clause-ok
 returns-in-Ok-true-clause-ok g c =
     let is : c.in-Ok-true.field-0 ≡ true = search rules in
-    rounds_end c.args.t (g.C.CommandSteps.mine c.args.self.now.steps) (g.C.CommandSteps.mine c.loop.self.steps)
-    (g.C.CommandSteps.mine c.round.new.self.steps) c.loop.invariant.on
+    rounds_end c.args.t _ _ _ c.loop.invariant.on
     (λ o h. subst (λ x. RoundTo o x (g.C.CommandSteps.mine c.loop.self.steps) (g.C.CommandSteps.mine c.round.new.self.steps)) is
     (c.in-Ok-true.ensures.ok o h))
 
@@ -43,9 +35,8 @@ pub loop-preserved : goal.loop-preserved
 loop-preserved g c =
     let is : c.in-Ok-false.field-0 ≡ false = search rules in
     record {
-      stays = stays_both c.args.self.now c.loop.self c.round.new.self c.loop.invariant.stays c.round.ensures.stays;
-      on = rounds_on c.args.t (g.C.CommandSteps.mine c.args.self.now.steps) (g.C.CommandSteps.mine c.loop.self.steps)
-          (g.C.CommandSteps.mine c.round.new.self.steps) c.loop.invariant.on
+      stays = stays_both _ _ _ c.loop.invariant.stays c.round.ensures.stays;
+      on = rounds_on c.args.t _ _ _ c.loop.invariant.on
           (λ o h. subst (λ x. RoundTo o x (g.C.CommandSteps.mine c.loop.self.steps) (g.C.CommandSteps.mine c.round.new.self.steps)) is
           (c.in-Ok-false.ensures.ok o h));
     }
@@ -53,38 +44,28 @@ loop-preserved g c =
 pub abandon-requires-clause-turn : goal.abandon-requires-clause-turn
 abandon-requires-clause-turn g c =
     let op = c.requires.turn in
-    let here = on_turn c.args.t op.0 (g.C.CommandSteps.mine c.args.self.now.steps) (g.C.CommandSteps.mine c.loop.self.steps) op.1
-    (c.loop.invariant.on op.0 op.1) in (
+    let here = on_turn c.args.t op.0 _ _ op.1 (c.loop.invariant.on op.0 op.1) in (
       command.Purge,
       op.0,
       subst (λ (w : Work g.row.C.Denot g.row.L.Denot). HasTurn c.args.t command.Purge op.0 (g.C.CommandSteps.mine w.steps))
-          (sym c.self.view_is)
-          (on_turn c.args.t op.0 (g.C.CommandSteps.mine c.loop.self.steps) (g.C.CommandSteps.mine c.round.new.self.steps) here
-          (c.in-Err.ensures.err op.0 here)),
+          (sym c.self.view_is) (on_turn c.args.t op.0 _ _ here (c.in-Err.ensures.err op.0 here)),
       tt,
     )
 
 pub invariant_of-self : goal.invariant_of-self
 invariant_of-self g c =
-    serves_step g.C.CommandSteps.mine (record { steps = c.self.inside.steps; channels = c.self.inside.channels.items })
-    c.abandon.new.self c.abandon.ensures.ready
-    (stays_running [] (g.C.CommandSteps.mine c.self.inside.steps) (g.C.CommandSteps.mine c.abandon.new.self) c.abandon.ensures.gone)
-    c.self.invariant
+    serves_step g.C.CommandSteps.mine _ _ c.abandon.ensures.ready (stays_running [] _ _ c.abandon.ensures.gone) c.self.invariant
 
 pub returns-in-Err-clause-stays : goal.returns-in-Err-clause-stays
 returns-in-Err-clause-stays g c =
-    stays_both c.args.self.now c.round.new.self (record { steps = c.abandon.new.self; channels = c.self.inside.channels.items })
-    (stays_both c.args.self.now c.loop.self c.round.new.self c.loop.invariant.stays c.round.ensures.stays)
-    (stays_lines c.round.new.self (record { steps = c.abandon.new.self; channels = c.self.inside.channels.items })
+    stays_both _ _ _ (stays_both _ _ _ c.loop.invariant.stays c.round.ensures.stays)
+    (stays_lines _ _
     (c.abandon.ensures.home ∙ ap (λ (w : Work g.row.C.Denot g.row.L.Denot). g.C.CommandSteps.home w.steps) c.self.view_is)
     (ap (λ (w : Work g.row.C.Denot g.row.L.Denot). w.channels) c.self.view_is))
 
 pub returns-in-Err-clause-err : goal.returns-in-Err-clause-err
 returns-in-Err-clause-err g c =
     let op = c.requires.turn in
-    gave_up (op.0 ∷ []) (g.C.CommandSteps.mine c.args.self.now.steps) (g.C.CommandSteps.mine c.round.new.self.steps)
-    (g.C.CommandSteps.mine c.abandon.new.self)
-    (rounds_on c.args.t (g.C.CommandSteps.mine c.args.self.now.steps) (g.C.CommandSteps.mine c.loop.self.steps)
-    (g.C.CommandSteps.mine c.round.new.self.steps) c.loop.invariant.on c.in-Err.ensures.err op.0 op.1)
+    gave_up (op.0 ∷ []) _ _ _ (rounds_on c.args.t _ _ _ c.loop.invariant.on c.in-Err.ensures.err op.0 op.1)
     (c.abandon.ensures.gone
     ∙ ap (λ (w : Work g.row.C.Denot g.row.L.Denot). with_running (g.C.CommandSteps.mine w.steps) []) c.self.view_is)

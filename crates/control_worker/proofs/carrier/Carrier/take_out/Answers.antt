@@ -3,7 +3,7 @@ use Rattle.volume_model.specs.declared.command.Command.TheVariants as command
 use Rattle.step_answers.specs.declared.whole_op.WholeOp.TheVariants as whole
 use Rattle.stream_steps.specs.Mine.{OwnCall}
 use Rattle.stream_steps.specs.Maint.{HasTurn, HasWhole, EnrolsUnder}
-use Rattle.client_worker.specs.Working.{Work, told_by}
+use Rattle.client_worker.specs.Working.{Work}
 use Rattle.control_worker.specs.Whole.{GoesOn, StartsOr}
 use Rattle.control_worker.proofs.CarrierLemmas.{serves_step}
 use Rattle.control_worker.proofs.CommandLemmas.{enrolled_has, enrolled_waits, on_err}
@@ -38,30 +38,25 @@ has : (g : Over) (c : In-Some g) (o : OwnCall)
     → HasWhole c.in-Some.ticket (whole.Purge c.args.part) (o ∷ []) (under g c o h).whole.own
     (g.C.CommandSteps.mine c.enrol_whole.new.self)
 has g c o h =
-    enrolled_has c.in-Some.ticket (whole.Purge c.args.part) (o ∷ []) (g.C.CommandSteps.mine c.self.inside.steps)
-    (g.C.CommandSteps.mine c.enrol_whole.new.self) (under g c o h).whole
+    enrolled_has c.in-Some.ticket (whole.Purge c.args.part) (o ∷ []) _ _ (under g c o h).whole
 
 pub returns-in_err-ticket-clause-err : goal.returns-in_err-ticket-clause-err
 returns-in_err-ticket-clause-err g c =
     on_err c.from_residual.result
-    (λ o h. out_same c.args.t o (g.C.CommandSteps.mine c.args.self.now.steps) (g.C.CommandSteps.mine c.self.inside.steps)
-    c.args.part h (folds g (goal.at.returns-in_err-ticket-clause-err g c).After-enrol_whole)
-    (g.C.CommandSteps.mine c.enrol_whole.new.self) c.in_err-ticket.ensures.err)
+    (λ o h. out_same c.args.t o _ _ c.args.part h (folds g (goal.at.returns-in_err-ticket-clause-err g c).After-enrol_whole) _
+    c.in_err-ticket.ensures.err)
 
 pub returns-in_default-clause-ok : goal.returns-in_default-clause-ok
 returns-in_default-clause-ok g c = λ o h.
     let none : c.enrol_whole.result ≡ Ok None = search rules in
-    out_same c.args.t o (g.C.CommandSteps.mine c.args.self.now.steps) (g.C.CommandSteps.mine c.self.inside.steps) c.args.part h
-    (folds g (goal.at.returns-in_default-clause-ok g c).After-enrol_whole) (g.C.CommandSteps.mine c.enrol_whole.new.self)
+    out_same c.args.t o _ _ c.args.part h (folds g (goal.at.returns-in_default-clause-ok g c).After-enrol_whole) _
     (c.enrol_whole.ensures.none none)
 
 pub invariant_of-self-2 : goal.invariant_of-self-2
 invariant_of-self-2 g c =
     let w = under g (goal.at.invariant_of-self-2 g c).In-Some c.requires.turn.0 c.requires.turn.1 in
-    serves_step g.C.CommandSteps.mine (record { steps = c.self.inside.steps; channels = c.self.inside.channels.items })
-    c.enrol_whole.new.self c.enrol_whole.ensures.ready
-    (stays_running (c.requires.turn.0 ∷ w.whole.own ∷ []) (g.C.CommandSteps.mine c.self.inside.steps)
-    (g.C.CommandSteps.mine c.enrol_whole.new.self) w.whole.is) c.self.invariant
+    serves_step g.C.CommandSteps.mine _ _ c.enrol_whole.ensures.ready
+    (stays_running (c.requires.turn.0 ∷ w.whole.own ∷ []) _ _ w.whole.is) c.self.invariant
 
 pub start-requires : goal.start-requires
 start-requires g c =
@@ -69,8 +64,7 @@ start-requires g c =
     record {
       waits = (
         whole.Purge c.args.part,
-        enrolled_waits c.in-Some.ticket (whole.Purge c.args.part) (c.requires.turn.0 ∷ [])
-            (g.C.CommandSteps.mine c.self.inside.steps) (g.C.CommandSteps.mine c.enrol_whole.new.self) w.whole,
+        enrolled_waits c.in-Some.ticket (whole.Purge c.args.part) (c.requires.turn.0 ∷ []) _ _ w.whole,
         tt,
       );
     }
@@ -79,9 +73,7 @@ pub returns-in_err-start-clause-err : goal.returns-in_err-start-clause-err
 returns-in_err-start-clause-err g c = on_err c.from_residual-in_err-start.result (λ o h.
     let at = goal.at.returns-in_err-start-clause-err g c in
     let w = under g at.In-Some o h in
-    out_left c.args.t o (g.C.CommandSteps.mine c.args.self.now.steps) (g.C.CommandSteps.mine c.self.inside.steps) c.args.part h
-    (folds g at.After-enrol_whole) c.in-Some.ticket (g.C.CommandSteps.mine c.enrol_whole.new.self) w
-    (g.C.CommandSteps.mine c.start.new.self.steps)
+    out_left c.args.t o _ _ c.args.part h (folds g at.After-enrol_whole) c.in-Some.ticket _ w _
     (c.in_err-start.ensures.err (whole.Purge c.args.part) (o ∷ []) w.whole.own (has g at.In-Some o h)))
 
 pub returns-then-not-branch-clause-ok : goal.returns-then-not-branch-clause-ok
@@ -91,8 +83,7 @@ returns-then-not-branch-clause-ok g c = λ o h.
     let no : c.in_ok-start.field-0 ≡ false = search rules in
     let mine_enrolled = g.C.CommandSteps.mine c.enrol_whole.new.self in
     let mine_started = g.C.CommandSteps.mine c.start.new.self.steps in
-    out_refused c.args.t o (g.C.CommandSteps.mine c.args.self.now.steps) (g.C.CommandSteps.mine c.self.inside.steps) c.args.part h
-    (folds g at.After-enrol_whole) c.in-Some.ticket mine_enrolled w mine_started
+    out_refused c.args.t o _ _ c.args.part h (folds g at.After-enrol_whole) c.in-Some.ticket _ w _
     (subst (λ x. StartsOr x (whole.Purge c.args.part) (o ∷ []) w.whole.own mine_enrolled mine_started) no
     (c.in_ok-start.ensures.ok (whole.Purge c.args.part) (o ∷ []) w.whole.own (has g at.In-Some o h)))
 
@@ -105,8 +96,7 @@ carry_whole-requires g c =
     let mine_enrolled = g.C.CommandSteps.mine c.enrol_whole.new.self in
     let mine_started = g.C.CommandSteps.mine c.start.new.self.steps in
     record {
-      shown = starts_shown c.in-Some.ticket (whole.Purge c.args.part) (o ∷ []) w.whole.own mine_enrolled mine_started
-          (told_by g.L.Line.carried c.start.new.self) (has g at o c.requires.turn.1)
+      shown = starts_shown c.in-Some.ticket (whole.Purge c.args.part) (o ∷ []) w.whole.own _ _ _ (has g at o c.requires.turn.1)
           (subst (λ x. StartsOr x (whole.Purge c.args.part) (o ∷ []) w.whole.own mine_enrolled mine_started) yes
           (c.in_ok-start.ensures.ok (whole.Purge c.args.part) (o ∷ []) w.whole.own (has g at o c.requires.turn.1)));
     }
@@ -120,10 +110,7 @@ returns-clause-ok g c = λ o h.
     let mine_started = g.C.CommandSteps.mine c.start.new.self.steps in
     let s = subst (λ x. StartsOr x (whole.Purge c.args.part) (o ∷ []) w.whole.own mine_enrolled mine_started) yes
     (c.in_ok-start.ensures.ok (whole.Purge c.args.part) (o ∷ []) w.whole.own (has g at.In-Some o h)) in
-    out_done c.args.t o (g.C.CommandSteps.mine c.args.self.now.steps) (g.C.CommandSteps.mine c.self.inside.steps) c.args.part h
-    (folds g at.After-enrol_whole) c.in-Some.ticket mine_enrolled w mine_started
-    (g.C.CommandSteps.mine c.carry_whole.new.self.steps) s
+    out_done c.args.t o _ _ c.args.part h (folds g at.After-enrol_whole) c.in-Some.ticket _ w _ _ s
     (c.carry_whole.ensures.done (o ∷ []) s.own
-    (started_whole c.in-Some.ticket (whole.Purge c.args.part) (o ∷ []) w.whole.own mine_enrolled mine_started
-    (has g at.In-Some o h) s))
+    (started_whole c.in-Some.ticket (whole.Purge c.args.part) (o ∷ []) w.whole.own _ _ (has g at.In-Some o h) s))
     c.requires.next
