@@ -8,6 +8,7 @@ pub mod Streams
 pub mod OneTurn
 pub mod Replicas
 pub mod Turned
+pub mod Asks
 pub mod Channels
 pub mod Parts
 pub mod ScriptLemmas

@@ -128,6 +128,11 @@ streams_all number all rest w0 w counts told far none =
     subst (λ xs. HaveTurns (map stream_calls xs) w0 w counts told)
     (sym (far.cut ∙ ap (λ xs. far.done ++ xs) none ∙ append-nil far.done)) far.turns
 
+pub streams_count : (number : ℕ) (all rest : List Stream) (w0 w : World) (counts : ℕ → ℕ → ℕ) (told : ℕ → ℕ → Option (List (List ℕ)))
+    → StreamsSoFar number all rest w0 w counts told → rest ≡ [] → number ≡ length all
+streams_count number all rest w0 w counts told far none =
+    far.count ∙ sym (ap length (far.cut ∙ ap (λ xs. far.done ++ xs) none ∙ append-nil far.done))
+
 -- what is kept of each, once one more is
 pub one_kept : {X Y : Type 0} (of : X → Y) (all rest : List X) (x : X) (y : Y) (kept more : List Y) → more ≡ kept ++ y ∷ [] → y ≡ of x
     → kept ++ map of (x ∷ rest) ≡ map of all → more ++ map of rest ≡ map of all

@@ -1,8 +1,9 @@
 //! The lines of one stream's worker.
 
-ghost use Rattle.std.specs.Prelude.{ℕ, map, IfOk};
-ghost use Rattle.outer_traits.specs.Lines.{AreLinesOf, RecordsOf, TellsSame};
+ghost use Rattle.std.specs.Prelude.{◌≡◌, ℕ, map, IfOk, OnOk};
+ghost use Rattle.outer_traits.specs.Lines.{AreLinesOf, RecordsOf, TellsMore, TellsSame};
 ghost use Rattle.stream_turns.specs.Turn.{AreNewLines};
+ghost use Rattle.stream_turns.specs.Volume.{asks_to};
 
 use client_worker::Channel;
 use outer_traits::Wiring;
@@ -22,6 +23,8 @@ pub(crate) fn channels_of<W: Wiring>(
         (map (λ c. W.L.carried c.line) channels.items)) }
     ensures counts { TellsSame (W.counts wiring.old) (W.counts wiring.new) }
     ensures carried { TellsSame (W.carried wiring.old) (W.carried wiring.new) }
+    ensures asked { OnOk result (TellsMore (W.asked wiring.old) (W.asked wiring.new)
+        (asks_to plans.now worker replicas)) }
 {
     let mut channels = Vec::with_capacity(alloc, replicas as usize)?;
     for replica in 0..replicas {
@@ -39,6 +42,7 @@ pub(crate) fn take_back<W: Wiring>(wiring: &mut W, channels: Vec<Channel<W::L>>)
     ensures carried { (worker : ℕ) → AreLinesOf worker 0 (map (λ c. W.L.ends c.line) channels.items)
         → RecordsOf (W.carried wiring.old) (W.carried wiring.new) worker
         (map (λ c. W.L.carried c.line) channels.items) }
+    ensures asked { W.asked wiring.new ≡ W.asked wiring.old }
 {
     for channel in channels {
         wiring.take_back(channel.line);

@@ -1,7 +1,8 @@
-ghost use Rattle.std.specs.Prelude.{◌≡◌, ◌≤◌, [], length, map, All, IfOk};
+ghost use Rattle.std.specs.Prelude.{◌≡◌, ◌≤◌, [], length, map, All, IfOk, OnOk};
+ghost use Rattle.outer_traits.specs.Lines.{TellsMore};
 ghost use Rattle.stream_turns.specs.Turn.{IsTaken, IsBetween, KeepsOrigin, HaveTurns};
 ghost use Rattle.stream_turns.specs.Serving.{IsRead, IsServed, IsServedInTurn};
-ghost use Rattle.stream_turns.specs.Volume.{stream_calls, heads_of};
+ghost use Rattle.stream_turns.specs.Volume.{asks_from, asks_in, stream_calls, heads_of};
 
 use crate::stream::serve_stream;
 use frame_wire::Head;
@@ -31,6 +32,7 @@ pub fn serve<R: Wait, W: Wiring>(
     requires { IsRead script }
     ensures served { IfOk result (IsServed script (W.counts wiring.new) (W.carried wiring.new)) }
     ensures turns { IfOk result (IsServedInTurn script (W.counts wiring.new)) }
+    ensures asked { OnOk result (TellsMore (W.asked wiring.old) (W.asked wiring.new) (asks_in script)) }
 {
     let Script {
         streams,
@@ -69,6 +71,8 @@ fn serve_streams<R: Wait, W: Wiring>(
     ensures turns { IfOk result (λ served. HaveTurns (map stream_calls streams.items) world served.world
         (W.counts wiring.new) (W.carried wiring.new)) }
     ensures heads { IfOk result (λ served. served.heads.items ≡ map heads_of streams.items) }
+    ensures asked { OnOk result (TellsMore (W.asked wiring.old) (W.asked wiring.new)
+        (asks_from plans.now (length world.nodes.items) (length streams.items))) }
 {
     let mut world = world;
     let mut heads = Vec::new(alloc);

@@ -1,10 +1,11 @@
 //! One stream's turn.
 
 ghost use Rattle.std.specs.Prelude.{◌≡◌, ◌<◌, length, map, OnOk, IfOk, slice_index_or};
+ghost use Rattle.outer_traits.specs.Lines.{TellsMore};
 ghost use Rattle.client_worker.specs.Exchanges.{told_in};
 ghost use Rattle.stream_turns.specs.Turn.{IsTaken, IsBetween, HasNoEntry, KeepsOrigin, HasTurn, AreNewLines};
 ghost use Rattle.stream_turns.specs.Turns.{TellsOthers};
-ghost use Rattle.stream_turns.specs.Volume.{stream_calls};
+ghost use Rattle.stream_turns.specs.Volume.{asks_to, stream_calls};
 
 use crate::lines::{channels_of, take_back};
 use client_worker::{Channel, Worker};
@@ -36,6 +37,8 @@ pub(crate) fn serve_stream<R: Wait, W: Wiring>(
         (W.counts wiring.new number) (W.carried wiring.new number)) }
     ensures counts { OnOk result (TellsOthers number (W.counts wiring.old) (W.counts wiring.new)) }
     ensures carried { OnOk result (TellsOthers number (W.carried wiring.old) (W.carried wiring.new)) }
+    ensures asked { OnOk result (TellsMore (W.asked wiring.old) (W.asked wiring.new)
+        (asks_to plans.now number (length world.nodes.items))) }
 {
     let replicas = world.nodes.len() as u8;
     let held = Box::new(alloc, world)?;

@@ -1,3 +1,4 @@
+use Rattle.stream_turns.proofs.Asks.{one_line_more}
 use Rattle.stream_turns.proofs.Channels.{more_channels, tells_on}
 use Rattle.stream_turns.proofs.lines.channels_of.Goals as goal
 
@@ -8,6 +9,8 @@ loop-replica-preserved g c = record {
       c.in_ok-push.ensures.items c.new.ensures c.loop-replica.invariant.new c.in_ok-line.ensures.fresh;
   counts = tells_on _ _ _ c.loop-replica.invariant.counts c.line.ensures.counts;
   carried = tells_on _ _ _ c.loop-replica.invariant.carried c.line.ensures.carried;
+  asked = one_line_more c.args.plans.now c.args.worker c.loop-replica.replica c.plan_of.result.now _ _ _
+      c.loop-replica.invariant.asked c.in_ok-line.ensures.asked c.plan_of.ensures;
 }
 
 pub returns-in_err-line-clause-counts : goal.returns-in_err-line-clause-counts

@@ -1,4 +1,4 @@
-use Rattle.std.proofs.Common.{◌≡◌, ◌++◌, ◌∷◌, [], arith}
+use Rattle.std.proofs.Common.{◌≡◌, ◌++◌, ◌∷◌, ◌∙◌, [], arith}
 use Rattle.std.proofs.lemmas.List.{nil_from_length}
 use Rattle.outer_traits.proofs.Lines.{RecordsOf-step, cut_further}
 use Rattle.stream_turns.proofs.Channels.{all_records}
@@ -17,6 +17,7 @@ loop-channel-preserved g c =
       carried = λ worker lined. RecordsOf-step _ _ (λ c. g.W.L.Line.ends c.line) (λ c. g.W.L.Line.carried c.line) _ _ _
           worker c.args.channels.items c.loop-channel.yielded c.in-Some.channel c.next.new.self.rest.items cut lined
           (c.loop-channel.invariant.carried worker lined) c.take_back.ensures.carried;
+      asked = c.take_back.ensures.asked ∙ c.loop-channel.invariant.asked;
     }
 
 pub returns-clause-counts : goal.returns-clause-counts

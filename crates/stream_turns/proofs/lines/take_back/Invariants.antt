@@ -9,4 +9,5 @@ invariant-loop-channel g l = record {
       → RecordsOf (g.W.Wiring.counts l.fn.wiring) (g.W.Wiring.counts l.wiring) worker (map (λ c. g.W.L.Line.count c.line) l.yielded);
   carried : (worker : ℕ) → AreLinesOf worker 0 (map (λ c. g.W.L.Line.ends c.line) l.fn.channels.items)
       → RecordsOf (g.W.Wiring.carried l.fn.wiring) (g.W.Wiring.carried l.wiring) worker (map (λ c. g.W.L.Line.carried c.line) l.yielded);
+  asked : g.W.Wiring.asked l.wiring ≡ g.W.Wiring.asked l.fn.wiring;
 }

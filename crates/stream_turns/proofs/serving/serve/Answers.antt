@@ -2,6 +2,7 @@ use Rattle.std.proofs.Common.{◌≤◌, length, sym, subst, List, All, arith}
 use Rattle.script_text.specs.declared.script.Stream.{Stream}
 use Rattle.script_text.proofs.GoodLemmas.{few_streams, few_replicas}
 use Rattle.stream_turns.specs.Turn.{IsTaken}
+use Rattle.stream_turns.proofs.Asks.{asked_in}
 use Rattle.stream_turns.proofs.ScriptLemmas.{all_taken}
 use Rattle.stream_turns.proofs.SoFar.{each_served, each_in_turn, begins_between, begins_many}
 use Rattle.stream_turns.proofs.serving.serve.Goals as goal
@@ -35,3 +36,9 @@ returns-clause-turns g c =
     each_in_turn c.args.script c.in_ok-world.world c.serve_streams.result c.into_vec.result.items _ _ c.len.result
     c.in_ok-world.ensures.begun c.serve_streams.ensures.between
     c.serve_streams.ensures.origin c.serve_streams.ensures.turns c.into_vec.ensures
+
+pub returns-clause-asked : goal.returns-clause-asked
+returns-clause-asked g c =
+    asked_in c.serve_streams.result c.args.script c.as_slice.result.now _ c.into_vec.result.items _ _ c.serve_streams.ensures.asked
+    c.as_slice.ensures (begins_many c.args.script.size c.args.script.replicas c.len.result _ c.in_ok-world.ensures.begun)
+    c.into_vec.ensures

@@ -1,8 +1,12 @@
-use Rattle.std.proofs.Common.{◌≡◌, ◌∷◌, ◌++◌, ◌+◌, map, refl, sym, subst, arith}
+use Rattle.std.proofs.Common.{◌≡◌, ◌∷◌, ◌++◌, ◌+◌, length, map, refl, sym, ap, subst, arith}
 use Rattle.std.proofs.lemmas.List.{nil_from_length}
 use Rattle.std.specs.Vec.Iter.{into_iter_items}
+use Rattle.outer_traits.proofs.Lines.{TellsMore-nil}
+use Rattle.volume_core.specs.Streams.{Origin}
 use Rattle.stream_turns.specs.Volume.{heads_of}
-use Rattle.stream_turns.proofs.SoFar.{StreamsSoFar, is_first, next_taken, no_streams, streams_more, streams_all, one_kept}
+use Rattle.stream_turns.proofs.Asks.{all_asked, one_worker_more}
+use Rattle.stream_turns.proofs.SoFar.{StreamsSoFar, is_first, next_taken, no_streams, streams_more, streams_all, streams_count}
+use Rattle.stream_turns.proofs.SoFar.{one_kept}
 use Rattle.stream_turns.proofs.serving.serve_streams.Goals as goal
 
 pub loop-stream-init : goal.loop-stream-init
@@ -15,6 +19,7 @@ loop-stream-init g c =
           (no_streams c.args.streams.items c.args.world (g.W.Wiring.counts c.args.wiring.now)
           (g.W.Wiring.carried c.args.wiring.now) c.requires.between c.requires.begun);
       heads = λ i. c.new-heads.ensures.items i ++ map heads_of (gives i);
+      asked = TellsMore-nil _;
     }
 
 pub serve_stream-requires-clause-first : goal.serve_stream-requires-clause-first
@@ -50,6 +55,9 @@ loop-stream-preserved g c =
       heads = one_kept heads_of all rest stream _ c.loop-stream.heads.items c.push.new.self.items c.in_ok-push.ensures.items
           c.heads_in.ensures
           (subst (λ xs. c.loop-stream.heads.items ++ map heads_of xs ≡ map heads_of all) cut c.loop-stream.invariant.heads);
+      asked = one_worker_more c.args.plans.now (length c.loop-stream.world.nodes.items) (length c.args.world.nodes.items)
+          c.loop-stream.number (c.loop-stream.number + 1) _ _ _ c.loop-stream.invariant.asked c.in_ok-world.ensures.asked
+          (ap (λ (o : Origin). o.replicas) c.loop-stream.invariant.far.origin) refl;
     }
 
 pub returns-clause-turns : goal.returns-clause-turns
@@ -57,3 +65,11 @@ returns-clause-turns g c =
     streams_all c.loop-stream.number c.args.streams.items (into_iter_items c.loop-stream.stream-iterator) c.args.world
     c.loop-stream.world (g.W.Wiring.counts c.loop-stream.wiring) (g.W.Wiring.carried c.loop-stream.wiring)
     c.loop-stream.invariant.far (nil_from_length _ (omega (arith, c.in-None.ensures.steps.0)))
+
+pub returns-clause-asked : goal.returns-clause-asked
+returns-clause-asked g c =
+    all_asked c.args.plans.now (length c.args.world.nodes.items) c.loop-stream.number (length c.args.streams.items) _ _
+    c.loop-stream.invariant.asked
+    (streams_count c.loop-stream.number c.args.streams.items (into_iter_items c.loop-stream.stream-iterator) c.args.world
+    c.loop-stream.world (g.W.Wiring.counts c.loop-stream.wiring) (g.W.Wiring.carried c.loop-stream.wiring)
+    c.loop-stream.invariant.far (nil_from_length _ (omega (arith, c.in-None.ensures.steps.0))))

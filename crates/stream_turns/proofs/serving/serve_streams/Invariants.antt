@@ -1,13 +1,17 @@
-use Rattle.std.proofs.Common.{◌≡◌, ◌++◌, map}
+use Rattle.std.proofs.Common.{◌≡◌, ◌++◌, length, map}
 use Rattle.std.specs.Vec.Iter.{into_iter_items}
-use Rattle.stream_turns.specs.Volume.{heads_of}
+use Rattle.outer_traits.specs.Lines.{TellsMore}
+use Rattle.stream_turns.specs.Volume.{asks_from, heads_of}
 use Rattle.stream_turns.proofs.SoFar.{StreamsSoFar}
 use Rattle.stream_turns.proofs.serving.serve_streams.Given as goal
 
--- The streams before have had their turns, the next has the number of them, and their headers are kept.
+-- The streams before have had their turns, the next has the number of them, and their headers are kept. Their lines
+-- were asked for.
 abbrev pub invariant-loop-stream : goal.invariant-loop-stream
 invariant-loop-stream g l = record {
   far : StreamsSoFar l.number l.fn.streams.items (into_iter_items l.stream-iterator) l.fn.world l.world
       (g.W.Wiring.counts l.wiring) (g.W.Wiring.carried l.wiring);
   heads : l.heads.items ++ map heads_of (into_iter_items l.stream-iterator) ≡ map heads_of l.fn.streams.items;
+  asked : TellsMore (g.W.Wiring.asked l.fn.wiring) (g.W.Wiring.asked l.wiring)
+      (asks_from l.plans (length l.fn.world.nodes.items) l.number);
 }

@@ -4,6 +4,7 @@ use Rattle.volume_core.specs.State.{state_of}
 use Rattle.client_worker.specs.Exchanges.{told_in}
 use Rattle.stream_turns.specs.Turn.{HasTurn}
 use Rattle.stream_turns.specs.Volume.{stream_calls}
+use Rattle.stream_turns.proofs.Asks.{same_asked}
 use Rattle.stream_turns.proofs.Channels.{noted_back, others_back}
 use Rattle.stream_turns.proofs.Turned.{modes_many, each_ok, any_ok}
 use Rattle.stream_turns.proofs.stream.serve_stream.Goals as goal
@@ -36,3 +37,8 @@ returns-clause-carried g c = any_ok c.run-after.result.0 (
     c.run-after.result.1.items c.in_ok-channels.ensures.new
     (c.len-replicas.ensures ∙ c.args.world.nodes.ok.0) c.run-after.ensures.ends
     (λ x. g.W.L.Line.carried x.line) _ _ _ c.channels_of.ensures.carried c.take_back.ensures.carried)
+
+pub returns-clause-asked : goal.returns-clause-asked
+returns-clause-asked g c = any_ok c.run-after.result.0 (
+    same_asked c.args.plans.now c.args.number c.len-replicas.result _ _ _ _ c.in_ok-channels.ensures.asked c.take_back.ensures.asked
+    (c.len-replicas.ensures ∙ c.args.world.nodes.ok.0))
