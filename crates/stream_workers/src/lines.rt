@@ -1,8 +1,9 @@
 //! The lines of one stream's worker, each of them wrapped.
 
-ghost use Rattle.std.specs.Prelude.{ℕ, map, IfOk};
-ghost use Rattle.outer_traits.specs.Lines.{AreLinesOf, RecordsOf};
+ghost use Rattle.std.specs.Prelude.{◌≡◌, ℕ, map, IfOk, OnOk};
+ghost use Rattle.outer_traits.specs.Lines.{AreLinesOf, RecordsOf, TellsMore};
 ghost use Rattle.stream_turns.specs.Turn.{AreNewLines};
+ghost use Rattle.stream_turns.specs.Volume.{asks_to};
 
 use crate::gated::Wrapping;
 use client_worker::Channel;
@@ -19,9 +20,11 @@ pub(crate) fn wrapped_channels<W: Wiring, V: Wrapping<W>>(
     wiring: &mut W,
     wrapping: &V,
 ) -> Result<Vec<Channel<V::Wrapped>>, AllocError>
-    ensures { IfOk result (λ channels. AreNewLines worker replicas
+    ensures new { IfOk result (λ channels. AreNewLines worker replicas
         (map (λ c. V.Wrapped.ends c.line) channels.items) (map (λ c. V.Wrapped.count c.line) channels.items)
         (map (λ c. V.Wrapped.carried c.line) channels.items)) }
+    ensures asked { OnOk result (TellsMore (W.asked wiring.old) (W.asked wiring.new)
+        (asks_to plans.now worker replicas)) }
 {
     let mut channels = Vec::with_capacity(alloc, replicas as usize)?;
     for replica in 0..replicas {
@@ -44,6 +47,7 @@ pub(crate) fn give_lines_back<W: Wiring, V: Wrapping<W>>(
     ensures carried { (worker : ℕ) → AreLinesOf worker 0 (map (λ c. V.Wrapped.ends c.line) channels.items)
         → RecordsOf (W.carried wiring.old) (W.carried wiring.new) worker
         (map (λ c. V.Wrapped.carried c.line) channels.items) }
+    ensures asked { W.asked wiring.new ≡ W.asked wiring.old }
 {
     for channel in channels {
         wiring.take_back(wrapping.unwrap(channel.line));

@@ -1,8 +1,9 @@
-ghost use Rattle.std.specs.Prelude.{◌≡◌, ◌≤◌, [], length, map, All, IfOk};
+ghost use Rattle.std.specs.Prelude.{◌≡◌, ◌≤◌, [], length, map, All, IfOk, OnOk};
+ghost use Rattle.outer_traits.specs.Lines.{TellsMore};
 ghost use Rattle.volume_core.specs.State.{state_of};
 ghost use Rattle.stream_turns.specs.Turn.{IsTaken, IsBetween, KeepsOrigin};
 ghost use Rattle.stream_turns.specs.Serving.{IsRead, IsServed};
-ghost use Rattle.stream_turns.specs.Volume.{stream_calls, heads_of};
+ghost use Rattle.stream_turns.specs.Volume.{asks_from, asks_in, stream_calls, heads_of};
 ghost use Rattle.stream_workers.specs.Ended.{HaveEnded};
 
 use crate::gated::{ByGate, Wrapping};
@@ -26,7 +27,8 @@ pub fn serve<R: Threads + Wait + Sync, W: Wiring, G: Gate + Sync>(
     gate: &G,
 ) -> Result<ServedStreams, AllocError>
     requires { IsRead script }
-    ensures { IfOk result (IsServed script (W.counts wiring.new) (W.carried wiring.new)) }
+    ensures served { IfOk result (IsServed script (W.counts wiring.new) (W.carried wiring.new)) }
+    ensures asked { OnOk result (TellsMore (W.asked wiring.old) (W.asked wiring.new) (asks_in script)) }
 {
     let Script {
         streams,
@@ -72,6 +74,8 @@ fn serve_streams<R: Threads + Wait + Sync, W: Wiring, V: Wrapping<W>, G: Gate + 
     ensures ended { IfOk result (λ served. HaveEnded (map stream_calls streams.items)
         (W.counts wiring.new) (W.carried wiring.new) (state_of served.world)) }
     ensures heads { IfOk result (λ served. served.heads.items ≡ map heads_of streams.items) }
+    ensures asked { OnOk result (TellsMore (W.asked wiring.old) (W.asked wiring.new)
+        (asks_from plans.now replicas (length streams.items))) }
 {
     let held = Box::new(alloc, world)?;
     let mut tasks = Vec::with_capacity(alloc, streams.len())?;

@@ -3,9 +3,9 @@
 ghost use Rattle.std.specs.Prelude.{◌≡◌, ◌≤◌, ℕ, ◌<◌, ◌++◌, ◌∷◌, [], true, length, map, slice_index_or, All, Some, None, OnOk};
 ghost use Rattle.desk_lock.specs.Known.{keeping};
 ghost use Rattle.desk_lock.specs.Seats.{known, number_of, made_of, last_of, seats_of, IsSeatOf};
-ghost use Rattle.outer_traits.specs.Lines.{RecordsOf};
+ghost use Rattle.outer_traits.specs.Lines.{RecordsOf, TellsMore};
 ghost use Rattle.stream_turns.specs.Turn.{IsTaken};
-ghost use Rattle.stream_turns.specs.Volume.{heads_of};
+ghost use Rattle.stream_turns.specs.Volume.{asks_from, heads_of};
 ghost use Rattle.world_holder.specs.Laid.{laid};
 ghost use Rattle.stream_workers.specs.Tasks.{IsTask, IsBack, IsDone, IsIn, IsJoinedIn, AreNumbered, AreDone};
 
@@ -49,6 +49,8 @@ pub(crate) fn deal<W: Wiring, V: Wrapping<W>, G: Gate>(
         V.Wrapped.carried desk.now) tasks.new.items) }
     ensures numbered { OnOk result (AreNumbered tasks.new.items) }
     ensures streams { OnOk result (map (λ j. j.stream) tasks.new.items ≡ streams.items) }
+    ensures asked { OnOk result (TellsMore (W.asked wiring.old) (W.asked wiring.new)
+        (asks_from plans.now replicas (length streams.items))) }
 {
     let mut number = 0;
     for stream in streams {
@@ -148,6 +150,7 @@ pub(crate) fn take_all_in<W: Wiring, V: Wrapping<W>>(
     ensures joined { All (IsIn V.Wrapped.count V.Wrapped.carried (known first.new).joined
         (W.counts wiring.new) (W.carried wiring.new)) tasks.items }
     ensures heads { result ≡ true → heads.new.items ≡ map (λ j. heads_of j.stream) tasks.items }
+    ensures asked { W.asked wiring.new ≡ W.asked wiring.old }
 {
     let mut well = true;
     for task in tasks {
@@ -175,6 +178,7 @@ fn take_in<W: Wiring, V: Wrapping<W>>(
     ensures carried { RecordsOf (W.carried wiring.old) (W.carried wiring.new) task.number
         (map (λ c. V.Wrapped.carried c.line) task.channels.items) }
     ensures stream { result ≡ task.stream }
+    ensures asked { W.asked wiring.new ≡ W.asked wiring.old }
 {
     let Task {
         number: _,

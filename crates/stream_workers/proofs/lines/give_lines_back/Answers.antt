@@ -1,4 +1,4 @@
-use Rattle.std.proofs.Common.{◌≡◌, ◌++◌, ◌∷◌, [], arith}
+use Rattle.std.proofs.Common.{◌≡◌, ◌++◌, ◌∷◌, ◌∙◌, [], arith}
 use Rattle.std.proofs.lemmas.List.{nil_from_length}
 use Rattle.outer_traits.proofs.Lines.{RecordsOf-step, cut_further}
 use Rattle.stream_turns.proofs.Channels.{all_records}
@@ -20,6 +20,7 @@ loop-channel-preserved g c =
           (λ c. g.V.Wrapped.Line.carried c.line) _ _ _ worker c.args.channels.items c.loop-channel.yielded c.in-Some.channel
           c.next.new.self.rest.items cut lined (c.loop-channel.invariant.carried worker lined)
           (same_records _ _ _ _ _ _ c.unwrap.ensures.ends c.unwrap.ensures.carried c.take_back.ensures.carried);
+      asked = c.take_back.ensures.asked ∙ c.loop-channel.invariant.asked;
     }
 
 pub returns-clause-counts : goal.returns-clause-counts

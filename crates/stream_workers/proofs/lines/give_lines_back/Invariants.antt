@@ -10,4 +10,5 @@ invariant-loop-channel g l = record {
   carried : (worker : ℕ) → AreLinesOf worker 0 (map (λ c. g.V.Wrapped.Line.ends c.line) l.fn.channels.items)
       → RecordsOf (g.W.Wiring.carried l.fn.wiring) (g.W.Wiring.carried l.wiring) worker
       (map (λ c. g.V.Wrapped.Line.carried c.line) l.yielded);
+  asked : g.W.Wiring.asked l.wiring ≡ g.W.Wiring.asked l.fn.wiring;
 }

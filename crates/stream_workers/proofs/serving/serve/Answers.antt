@@ -1,7 +1,8 @@
-use Rattle.std.proofs.Common.{◌≤◌, length, sym, subst, List, All, arith}
+use Rattle.std.proofs.Common.{◌≤◌, length, refl, sym, subst, List, All, arith}
 use Rattle.script_text.specs.declared.script.Stream.{Stream}
 use Rattle.script_text.proofs.GoodLemmas.{few_streams, few_replicas}
 use Rattle.stream_turns.specs.Turn.{IsTaken}
+use Rattle.stream_turns.proofs.Asks.{asked_in}
 use Rattle.stream_turns.proofs.ScriptLemmas.{all_taken}
 use Rattle.stream_turns.proofs.SoFar.{begins_between}
 use Rattle.stream_workers.proofs.Outcome.{each_served}
@@ -24,8 +25,13 @@ serve_streams-requires-clause-between g c κs within =
     begins_between c.args.script c.in_ok-world.world c.len.result c.in_ok-world.ensures.sound c.in_ok-world.ensures.begun
     (few_replicas c.requires.0 c.args.script c.requires.1).1
 
-pub returns : goal.returns
-returns g c =
+pub returns-clause-served : goal.returns-clause-served
+returns-clause-served g c =
     each_served c.args.script c.in_ok-world.world c.serve_streams.result c.into_vec.result.items _ _ c.len.result
     c.in_ok-world.ensures.begun c.serve_streams.ensures.between
     c.serve_streams.ensures.origin c.serve_streams.ensures.ended c.into_vec.ensures c.serve_streams.ensures.heads
+
+pub returns-clause-asked : goal.returns-clause-asked
+returns-clause-asked g c =
+    asked_in c.serve_streams.result c.args.script c.as_slice.result.now c.args.script.replicas c.into_vec.result.items _ _
+    c.serve_streams.ensures.asked c.as_slice.ensures refl c.into_vec.ensures

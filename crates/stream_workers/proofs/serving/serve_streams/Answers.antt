@@ -8,7 +8,8 @@ use Rattle.volume_core.specs.Sound.{IsSound}
 use Rattle.volume_core.specs.Streams.{Origin}
 use Rattle.world_holder.specs.Laid.{laid}
 use Rattle.world_holder.specs.declared.kept.WorldOnDesk.{WorldOnDesk}
-use Rattle.stream_turns.specs.Volume.{stream_calls}
+use Rattle.outer_traits.specs.Lines.{TellsMore}
+use Rattle.stream_turns.specs.Volume.{asks_from, stream_calls}
 use Rattle.stream_workers.specs.Ended.{HaveEnded}
 use Rattle.stream_workers.proofs.Dealing.{not_err, all_back, all_numbered, all_streams, all_heads}
 use Rattle.stream_workers.proofs.All.{has_all, have_ended, between_is}
@@ -98,3 +99,10 @@ returns-then-take_all_in-clause-heads g c =
     ∙ all_heads g.V.Wrapped.Line.ends g.V.Wrapped.Line.count g.V.Wrapped.Line.carried c.in_ok-desk.desk
     c.deal-dealt.new.tasks.items c.do_tasks-tasks.result.items c.do_tasks-tasks.ensures c.args.streams.items
     (not_err c.deal-dealt.result well c.deal-dealt.ensures.streams)
+
+pub returns-then-take_all_in-clause-asked : goal.returns-then-take_all_in-clause-asked
+returns-then-take_all_in-clause-asked g c =
+    let well : is_err c.deal-dealt.result ≡ false = search rules in
+    subst (λ x. TellsMore (g.W.Wiring.asked c.args.wiring.now) x
+    (asks_from c.args.plans.now c.args.replicas (length c.args.streams.items))) (sym c.take_all_in.ensures.asked)
+    (not_err c.deal-dealt.result well c.deal-dealt.ensures.asked)

@@ -1,9 +1,10 @@
-use Rattle.std.proofs.Common.{◌≡◌, ◌+◌, [], ◌∷◌, length, refl, sym, ap, ◌∙◌, arith}
+use Rattle.std.proofs.Common.{rules, ◌≡◌, ◌+◌, [], ◌∷◌, length, refl, sym, ap, ◌∙◌, arith}
 use Rattle.std.proofs.lemmas.List.{length-append}
 use Rattle.desk_lock.specs.Seats.{last_of}
 use Rattle.stream_turns.specs.Turn.{IsTaken}
 use Rattle.world_holder.specs.Laid.{laid}
-use Rattle.stream_workers.proofs.Lists.{at_next, whole_next}
+use Rattle.stream_turns.proofs.Asks.{all_asked, one_worker_more}
+use Rattle.stream_workers.proofs.Lists.{at_next, whole_next, whole_end}
 use Rattle.stream_workers.proofs.Dealing.{many_more, is_task, tasks_more, numbers_more, streams_more}
 use Rattle.stream_workers.proofs.tasks.deal.Goals as goal
 
@@ -32,9 +33,19 @@ loop-stream-preserved g c =
           (is_task g.V.Wrapped.Line.ends g.V.Wrapped.Line.count g.V.Wrapped.Line.carried c.args.desk.now _
           c.split_off-at.result.seat (last_of c.loop-stream.first) c.args.replicas refl split.rests split.free split.last split.idle
           split.none taken
-          (c.requires.replicas.0 ∙ sym (ap (λ w. length (laid w).nodes) inv.last)) c.requires.replicas.1 c.in_ok-channels.ensures);
+          (c.requires.replicas.0 ∙ sym (ap (λ w. length (laid w).nodes) inv.last)) c.requires.replicas.1 c.in_ok-channels.ensures.new);
       numbered = numbers_more g.V.Wrapped.Line.ends g.V.Wrapped.Line.count g.V.Wrapped.Line.carried c.args.desk.now items
           c.push.new.self.items _ pushed inv.numbered next;
       streams = streams_more g.V.Wrapped.Line.ends g.V.Wrapped.Line.count g.V.Wrapped.Line.carried c.args.desk.now items
           c.push.new.self.items _ yielded pushed inv.streams;
+      asked = one_worker_more c.args.plans.now c.args.replicas c.args.replicas c.loop-stream.number (c.loop-stream.number + 1) _ _ _
+          inv.asked c.in_ok-channels.ensures.asked refl refl;
     }
+
+pub returns-clause-asked : goal.returns-clause-asked
+returns-clause-asked g c =
+    let none : length c.loop-stream.stream-iterator.rest.items ≡ 0 = search rules in
+    let all = whole_end c.args.streams.items c.loop-stream.yielded c.loop-stream.stream-iterator.rest.items
+    c.loop-stream.invariant.whole none in
+    all_asked c.args.plans.now c.args.replicas c.loop-stream.number (length c.args.streams.items) _ _ c.loop-stream.invariant.asked
+    (c.loop-stream.invariant.count ∙ ap length all)

@@ -33,6 +33,7 @@ loop-task-preserved g c =
           (first_of (λ k j. j.number ≡ k) c.loop-task.yielded before c.args.tasks.items inv.whole c.requires.numbered)
           (at_next (λ k j. j.number ≡ k) c.args.tasks.items c.loop-task.yielded rest before c.in-Some.task inv.whole steps
           c.requires.numbered) inv.joined;
+      asked = take_in.ensures.asked ∙ inv.asked;
       heads = λ is. let w = c.both-well.ensures is in
           map_snoc (λ j. heads_of j.stream) c.loop-task.yielded c.in-Some.task c.loop-task.heads.items _
           (c.keep_heads-kept.ensures w.1 ∙ ap (λ s. c.loop-task.heads.items ++ heads_of s ∷ []) take_in.ensures.stream)

@@ -14,5 +14,6 @@ invariant-loop-task g l = record {
   last : last_of l.first ≡ last_of l.initial.first;
   joined : All (IsIn g.V.Wrapped.Line.count g.V.Wrapped.Line.carried (known l.first).joined (g.W.Wiring.counts l.wiring)
       (g.W.Wiring.carried l.wiring)) l.yielded;
+  asked : g.W.Wiring.asked l.wiring ≡ g.W.Wiring.asked l.fn.wiring;
   heads : l.well ≡ true → l.heads.items ≡ map (λ j. heads_of j.stream) l.yielded;
 }
