@@ -2,6 +2,7 @@
 use Rattle.std.specs.Prelude.{◌≡◌, ℕ, ◌⊎◌, List, Option, Some, IfSome, Result, Ok, Err}
 use Rattle.std.specs.Io.KnownBytes.{Appends}
 use Rattle.outer_traits.specs.Causes.{Rose}
+use Rattle.outer_traits.specs.Lines.{Asked, TellsMore}
 use Rattle.outer_traits.specs.Passing.{WritesPrefix}
 use Rattle.volume_model.specs.declared.entry.Entry.{Entry}
 use Rattle.program_words.specs.declared.words.Workers.TheVariants.{One}
@@ -15,7 +16,7 @@ use Rattle.script_text.specs.declared.what.What.{What}
 use Rattle.script_text.specs.Script.{IsScript, IsNoScript}
 use Rattle.volume_cli.specs.declared.stop.Stop.{Stop}
 use Rattle.volume_cli.specs.declared.stop.Stop.TheVariants.{BadScript, ReadFault, WriteFault, NoMemory}
-use Rattle.stream_turns.specs.Volume.{opening_of, heads_in}
+use Rattle.stream_turns.specs.Volume.{asks_in, opening_of, heads_in}
 use Rattle.stream_turns.specs.Run.{IsRun, IsOneWorkersRun}
 
 -- the way to stop that a refusal of a script is
@@ -68,10 +69,12 @@ abbrev pub RunFact : Type 1
 RunFact = Script → List Entry → Type 0
 
 -- The journal is that of a run of the script, over lines that counted these faults and told that they carried this. Where
--- one worker was asked for, it is one worker's.
-pub record IsRunOf (asked : Option Words) (counted : ℕ → ℕ → ℕ) (told : ℕ → ℕ → Option (List (List ℕ)))
-    (script : Script) (journal : List Entry) : Type 0 where
+-- the wiring tells which lines it was asked for, before the run and now, in between these were the script's, each to fail
+-- as it plans. Where one worker was asked for, the journal is one worker's.
+pub record IsRunOf (asked : Option Words) (before now : Option (List Asked)) (counted : ℕ → ℕ → ℕ)
+    (told : ℕ → ℕ → Option (List (List ℕ))) (script : Script) (journal : List Entry) : Type 0 where
   pub run : IsRun counted told script journal
+  pub lines : TellsMore before now (asks_in script)
   pub turns : asked ≡ Some (Run One) → IsOneWorkersRun counted script journal
 
 -- what such a run prints

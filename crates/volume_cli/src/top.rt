@@ -1,5 +1,6 @@
 ghost use Rattle.std.specs.Prelude.{◌≡◌, ◌<◌, ◌-◌, ◌^◌, ◌↔◌, ℕ, Some, IfOk, IfSome, OnOk};
 ghost use Rattle.std.specs.Io.KnownBytes.{IsAtEnd};
+ghost use Rattle.outer_traits.specs.Lines.{TellsMore};
 ghost use Rattle.outer_traits.specs.Passing.{GivesAtMost};
 ghost use Rattle.script_text.specs.Script.{IsScript, IsNoScript};
 ghost use Rattle.script_text.specs.declared.script.Script.{Script};
@@ -9,6 +10,7 @@ ghost use Rattle.program_words.specs.declared.words.Words.TheVariants.{Run};
 ghost use Rattle.volume_cli.specs.Headline.{asked_for, AskRun, IsUsageError, IsStatus};
 ghost use Rattle.volume_cli.specs.Headline.{ExactlyWhere, ScriptRefusal, Leaves};
 ghost use Rattle.stream_turns.specs.Serving.{IsRead, IsServed, IsServedInTurn};
+ghost use Rattle.stream_turns.specs.Volume.{asks_in};
 ghost use Rattle.volume_cli.specs.Stops.{Counts, IsRunOf, RunLeaves};
 
 use crate::edge::{read_input, write_output};
@@ -60,12 +62,14 @@ pub fn longhorn<R: Threads + Wait + Sync, S: Source, K: Sink, W: Wiring, G: Gate
     ensures most { GivesAtMost (S.left source.old) (S.left source.new) 268435457 }
 
     // However the workers' steps interleave, at Done the sink has the report of one journal. It is one legal history of
-    // the script's calls, and its fault marks are faults that the run's own lines counted. Where the lines tell what
-    // they carried, each write that was done was carried whole to each replica that is read and written there, and the
-    // bytes of each read from one. One worker, where it was asked for, answers stream after stream, by their numbers,
-    // and while no line has failed the journal is a function of the script. After a write fault the sink has a prefix
-    // of the report, and after a refusal and a read fault it is as it was.
-    ensures printed { Leaves (IsRunOf (asked_for words.now) (W.counts wiring.new) (W.carried wiring.new))
+    // the script's calls, and its fault marks are faults that the run's own lines counted. Where the wiring tells which
+    // lines it was asked for, these were one of each stream to each replica, to fail as the script plans it, and no
+    // other. Where the lines tell what they carried, each write that was done was carried whole to each replica that is
+    // read and written there, and the bytes of each read from one. One worker, where it was asked for, answers stream
+    // after stream, by their numbers, and while no line has failed the journal is a function of the script. After a
+    // write fault the sink has a prefix of the report, and after a refusal and a read fault it is as it was.
+    ensures printed { Leaves (IsRunOf (asked_for words.now) (W.asked wiring.old) (W.asked wiring.new)
+        (W.counts wiring.new) (W.carried wiring.new))
         result (sink.new ≡ sink.old) (S.left source.old) (K.contents sink.old) (K.contents sink.new) }
 {
     match read_words(alloc, words) {
@@ -93,7 +97,8 @@ fn run<R: Threads + Wait + Sync, S: Source, K: Sink, W: Wiring, G: Gate + Sync>(
     ensures counts { Counts result (S.faults source.old) (S.faults source.new) (K.faults sink.old) (K.faults sink.new) }
     ensures whole { OnOk result (IsAtEnd (S.left source.new)) }
     ensures most { GivesAtMost (S.left source.old) (S.left source.new) 268435457 }
-    ensures printed { RunLeaves (IsRunOf (Some (Run workers)) (W.counts wiring.new) (W.carried wiring.new))
+    ensures printed { RunLeaves (IsRunOf (Some (Run workers)) (W.asked wiring.old) (W.asked wiring.new)
+        (W.counts wiring.new) (W.carried wiring.new))
         result (sink.new ≡ sink.old) (S.left source.old) (K.contents sink.old) (K.contents sink.new) }
 {
     let input = read_input(alloc, source)?;
@@ -114,6 +119,7 @@ fn serve_by<R: Threads + Wait + Sync, W: Wiring, G: Gate + Sync>(
     requires { IsRead script }
     ensures served { IfOk result (IsServed script (W.counts wiring.new) (W.carried wiring.new)) }
     ensures turns { IfOk result (λ served. workers ≡ Workers.One → IsServedInTurn script (W.counts wiring.new) served) }
+    ensures asked { OnOk result (TellsMore (W.asked wiring.old) (W.asked wiring.new) (asks_in script)) }
 {
     match workers {
         Workers::One => stream_turns::serve(rt, alloc, script, wiring),

@@ -10,7 +10,8 @@ use Rattle.volume_cli.proofs.top.run.Goals as goal
 pub returns-in_err-script-clause-printed : goal.returns-in_err-script-clause-printed
 returns-in_err-script-clause-printed g c =
     let fault = c.in_err-script.field-0.0 in
-    refused_leaves (IsRunOf (Some (Run c.args.workers)) (g.W.Wiring.counts c.args.wiring.now) (g.W.Wiring.carried c.args.wiring.now))
+    refused_leaves (IsRunOf (Some (Run c.args.workers)) (g.W.Wiring.asked c.args.wiring.now) (g.W.Wiring.asked c.args.wiring.now)
+    (g.W.Wiring.counts c.args.wiring.now) (g.W.Wiring.carried c.args.wiring.now))
     c.from_residual-in_err-script.result fault _ _ _ _ c.from_residual-in_err-script.ensures.1 refl
     (λ place why is. had_no_script _ _ c.in_ok-input.input place why c.in_ok-input.ensures.bytes c.in_ok-input.ensures.whole
     (subst (RefusesInput c.in_ok-input.input) is c.in_err-script.ensures.refused))
@@ -21,11 +22,13 @@ returns-clause-printed g c =
     let served = c.in_ok-served.served in
     let counts = g.W.Wiring.counts c.serve_by.new.wiring in
     let carried = g.W.Wiring.carried c.serve_by.new.wiring in
-    leaves (IsRunOf (Some (Run c.args.workers)) counts carried) c.write_output.result _ _ _ _ script served.world.journal.entries _
+    leaves (IsRunOf (Some (Run c.args.workers)) (g.W.Wiring.asked c.args.wiring.now) (g.W.Wiring.asked c.serve_by.new.wiring)
+    counts carried) c.write_output.result _ _ _ _ script served.world.journal.entries _
     (g.K.Sink.faults c.args.sink.now) (g.K.Sink.faults c.write_output.new.sink)
     (had_script _ _ c.in_ok-input.input script c.in_ok-input.ensures.bytes c.in_ok-input.ensures.whole c.in_ok-script.ensures.found)
     (record {
       run = c.in_ok-served.ensures.served.run;
+      lines = c.in_ok-served.ensures.asked;
       turns = λ asked. c.in_ok-served.ensures.turns (same_workers c.args.workers One asked);
     })
     (written_is script counts carried served c.in_ok-served.ensures.served)
