@@ -1,26 +1,33 @@
 -- The aborted marks of a journal stand behind falls: with more entries at its end.
-use Rattle.std.proofs.Common.{◌≡◌, ◌⊎◌, ℕ, List, [], ◌∷◌, ◌++◌, refl, sym, subst, ◌∙◌}
-use Rattle.std.proofs.lemmas.List.{append-nil, append_assoc}
+use Rattle.std.proofs.Common.{◌≡◌, ◌⊎◌, ℕ, List, [], ◌∷◌, ◌++◌, refl, ◌∙◌}
 use Rattle.volume_model.specs.declared.entry.Answer.{Answer}
 use Rattle.volume_model.specs.declared.entry.Entry.{Entry}
 use Rattle.volume_model.specs.declared.entry.Entry.TheVariants as entry
 use Rattle.volume_model.specs.declared.mark.FoldOrDrop.{FoldOrDrop}
 use Rattle.volume_model.specs.declared.mark.Mark.TheVariants as mark
 use Rattle.volume_model.specs.declared.mark.Rebuild.TheVariants as rebuild
-use Rattle.volume_model.specs.Rebuilds.{rebuild_of, IsBehindFall, StandsBehindFall, BehindFalls, AreBehindFalls}
+use Rattle.volume_model.specs.Standing.{StandFrom}
+use Rattle.volume_model.specs.Rebuilds.{rebuild_of, IsBehindFall, StandsBehindFall, AreBehindFalls}
+use Rattle.volume_model.proofs.StandingLemmas.{StandFrom-append}
 use Rattle.volume_model.proofs.RebuildLemmas.{rebuild_of-fault, rebuild_of-failed}
 
--- entries of which it is so, behind entries of which it is
-pub BehindFalls-append : (before xs ys : List Entry) → BehindFalls before xs → BehindFalls (before ++ xs) ys → BehindFalls before (xs ++ ys)
-BehindFalls-append before [] ys h k = subst (λ l. BehindFalls l ys) (append-nil before) k
-BehindFalls-append before (x ∷ xs) ys h k = (
-  h.0,
-  BehindFalls-append (before ++ x ∷ []) xs ys h.1 (subst (λ l. BehindFalls l ys) (sym (append_assoc before (x ∷ []) xs)) k),
-)
+-- what it asks of an entry is not of those behind it
+fall_longer : (before : List Entry) (e : Entry) (xs ys : List Entry) → StandsBehindFall before e xs → StandsBehindFall before e (xs ++ ys)
+fall_longer before (entry.Answer a) xs ys h = tt
+fall_longer before (entry.Mark (mark.Purged part)) xs ys h = tt
+fall_longer before (entry.Mark (mark.Fault w r count)) xs ys h = tt
+fall_longer before (entry.Mark (mark.Failed r)) xs ys h = tt
+fall_longer before (entry.Mark (mark.Added r source name)) xs ys h = tt
+fall_longer before (entry.Mark (mark.Promoted r)) xs ys h = tt
+fall_longer before (entry.Mark (mark.Aborted r)) xs ys h = h
+
+-- entries of which it is so, behind a journal of which it is
+behind_falls_append : (es more : List Entry) → AreBehindFalls es → StandFrom StandsBehindFall es more → AreBehindFalls (es ++ more)
+behind_falls_append es more = StandFrom-append StandsBehindFall fall_longer [] es more
 
 -- one entry more, with what it asks
-pub behind_falls_push : (es : List Entry) (e : Entry) → AreBehindFalls es → StandsBehindFall es e → AreBehindFalls (es ++ e ∷ [])
-behind_falls_push es e behind stands = BehindFalls-append [] es (e ∷ []) behind (stands, tt)
+pub behind_falls_push : (es : List Entry) (e : Entry) → AreBehindFalls es → StandsBehindFall es e [] → AreBehindFalls (es ++ e ∷ [])
+behind_falls_push es e behind stands = behind_falls_append es (e ∷ []) behind (stands, tt)
 
 -- ---- entries that ask nothing
 
@@ -72,7 +79,7 @@ pub behind_falls_fall : (es : List Entry) (w r count q source : ℕ) → AreBehi
     → rebuild_of q es ≡ rebuild.Open source → (r ≡ q) ⊎ (r ≡ source)
     → AreBehindFalls (es ++ entry.Mark (mark.Fault w r count) ∷ entry.Mark (mark.Aborted q) ∷ [])
 behind_falls_fall es w r count q source behind begun which =
-    BehindFalls-append [] es (entry.Mark (mark.Fault w r count) ∷ entry.Mark (mark.Aborted q) ∷ []) behind
+    behind_falls_append es (entry.Mark (mark.Fault w r count) ∷ entry.Mark (mark.Aborted q) ∷ []) behind
     (tt, (behind_fault es w r count q source begun which, tt))
 
 -- a replica that was told to fail, with the end of the rebuild
@@ -80,7 +87,7 @@ pub behind_falls_fail : (es : List Entry) (r q source : ℕ) → AreBehindFalls 
     → (r ≡ q) ⊎ (r ≡ source)
     → AreBehindFalls (es ++ entry.Mark (mark.Failed r) ∷ entry.Mark (mark.Aborted q) ∷ [])
 behind_falls_fail es r q source behind begun which =
-    BehindFalls-append [] es (entry.Mark (mark.Failed r) ∷ entry.Mark (mark.Aborted q) ∷ []) behind
+    behind_falls_append es (entry.Mark (mark.Failed r) ∷ entry.Mark (mark.Aborted q) ∷ []) behind
     (tt, (behind_failed es r q source begun which, tt))
 
 -- ---- entries without an aborted mark
@@ -97,15 +104,15 @@ pub no_aborted-append : (xs ys : List Entry) → HasNoAborted xs → HasNoAborte
 no_aborted-append [] ys h k = k
 no_aborted-append (x ∷ xs) ys h k = (h.0, no_aborted-append xs ys h.1 k)
 
-stands_alone : (before : List Entry) (e : Entry) → IsNotAborted e → StandsBehindFall before e
-stands_alone before (entry.Answer a) other = tt
-stands_alone before (entry.Mark (mark.Purged part)) other = tt
-stands_alone before (entry.Mark (mark.Fault w r count)) other = tt
-stands_alone before (entry.Mark (mark.Failed r)) other = tt
-stands_alone before (entry.Mark (mark.Added r source name)) other = tt
-stands_alone before (entry.Mark (mark.Promoted r)) other = tt
-stands_alone before (entry.Mark (mark.Aborted r)) other = absurd other
+stands_alone : (before : List Entry) (e : Entry) (after : List Entry) → IsNotAborted e → StandsBehindFall before e after
+stands_alone before (entry.Answer a) after other = tt
+stands_alone before (entry.Mark (mark.Purged part)) after other = tt
+stands_alone before (entry.Mark (mark.Fault w r count)) after other = tt
+stands_alone before (entry.Mark (mark.Failed r)) after other = tt
+stands_alone before (entry.Mark (mark.Added r source name)) after other = tt
+stands_alone before (entry.Mark (mark.Promoted r)) after other = tt
+stands_alone before (entry.Mark (mark.Aborted r)) after other = absurd other
 
-pub behind_falls_none : (before es : List Entry) → HasNoAborted es → BehindFalls before es
+pub behind_falls_none : (before es : List Entry) → HasNoAborted es → StandFrom StandsBehindFall before es
 behind_falls_none before [] none = tt
-behind_falls_none before (e ∷ es) none = (stands_alone before e none.0, behind_falls_none (before ++ e ∷ []) es none.1)
+behind_falls_none before (e ∷ es) none = (stands_alone before e es none.0, behind_falls_none (before ++ e ∷ []) es none.1)

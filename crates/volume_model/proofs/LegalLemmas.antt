@@ -1,6 +1,5 @@
 -- Legal journals, one behind the other.
-use Rattle.std.proofs.Common.{◌≡◌, ℕ, suc, ◌+◌, eqb, Bool, true, false, cond, List, [], ◌∷◌, ◌++◌, length, refl, sym, ap, subst, ◌∙◌, arith}
-use Rattle.std.proofs.lemmas.List.{append-nil, append_assoc}
+use Rattle.std.proofs.Common.{◌≡◌, ℕ, suc, ◌+◌, eqb, Bool, true, false, cond, List, [], ◌∷◌, ◌++◌, length, refl, ap, ◌∙◌, arith}
 use Rattle.volume_model.specs.declared.entry.Answer.{Answer}
 use Rattle.volume_model.specs.declared.entry.Entry.{Entry}
 use Rattle.volume_model.specs.declared.entry.Entry.TheVariants as entry
@@ -11,7 +10,8 @@ use Rattle.volume_model.specs.PlainState.{PlainState}
 use Rattle.volume_model.specs.Replay.{replay}
 use Rattle.volume_model.specs.Modes.{modes_after}
 use Rattle.volume_model.specs.Rebuilds.{NextIsMark, AddComes, MayFall}
-use Rattle.volume_model.specs.History.{Spot, FailsNow, FailsNext, CouldBe, LegalAfter, answers_from}
+use Rattle.volume_model.specs.History.{Spot, FailsNow, FailsNext, CouldBe, MayStand, LegalAfter, answers_from}
+use Rattle.volume_model.proofs.StandingLemmas.{StandFrom-append}
 
 -- what is asked of the entries behind is asked of the first of them, so it stays where more come
 begins_longer : (xs ys : List Entry) (m : Mark) → NextIsMark xs m → NextIsMark (xs ++ ys) m
@@ -46,21 +46,17 @@ could_longer before xs ys state modes (mark.Promoted r) could =
     record { source = could.source; begun = could.begun; ends = add_longer xs ys r could.ends }
 could_longer before xs ys state modes (mark.Aborted r) could = could
 
+may_longer : (opening : Spot) (before : List Entry) (e : Entry) (xs ys : List Entry)
+    → MayStand opening before e xs → MayStand opening before e (xs ++ ys)
+may_longer opening before (entry.Answer a) xs ys h = h
+may_longer opening before (entry.Mark m) xs ys h =
+    could_longer before xs ys (replay opening.state before) (modes_after opening.modes before) m h
+
 -- entries that are legal behind entries that are
 pub LegalAfter-append :
     (opening : Spot) (before xs ys : List Entry)
     → LegalAfter opening before xs → LegalAfter opening (before ++ xs) ys → LegalAfter opening before (xs ++ ys)
-LegalAfter-append opening before [] ys h k = subst (λ l. LegalAfter opening l ys) (append-nil before) k
-LegalAfter-append opening before (entry.Answer a ∷ xs) ys h k = (
-  h.0,
-  LegalAfter-append opening (before ++ entry.Answer a ∷ []) xs ys h.1
-      (subst (λ l. LegalAfter opening l ys) (sym (append_assoc before (entry.Answer a ∷ []) xs)) k),
-)
-LegalAfter-append opening before (entry.Mark m ∷ xs) ys h k = (
-  could_longer before xs ys (replay opening.state before) (modes_after opening.modes before) m h.0,
-  LegalAfter-append opening (before ++ entry.Mark m ∷ []) xs ys h.1
-      (subst (λ l. LegalAfter opening l ys) (sym (append_assoc before (entry.Mark m ∷ []) xs)) k),
-)
+LegalAfter-append opening = StandFrom-append (MayStand opening) (may_longer opening)
 
 -- ---- the answers of each stream
 

@@ -45,6 +45,7 @@ use Rattle.volume_model.proofs.RebuildLemmas.{rebuild_from-append, rebuild_of-pu
 use Rattle.volume_model.proofs.ModeLemmas.{failed_is}
 use Rattle.volume_model.proofs.FallLemmas.{behind_falls_none}
 use Rattle.volume_model.proofs.NoAborted.{none_aborted}
+use Rattle.volume_model.proofs.WithinLemmas.{served_within}
 use Rattle.volume_model.proofs.OwnNames.{own_entry, own_sys, entry_raises}
 use Rattle.volume_model.proofs.SpotLemmas.{source_is, has_source, answer_by, answered_there}
 
@@ -736,6 +737,7 @@ served_is_history opening counted streams proper free fits =
     record {
       legal = ran.legal;
       fell = behind_falls_none [] (served opening streams) (none_aborted opening 0 0 streams);
+      within = served_within opening 0 0 streams [] refl;
       order = λ stream. AnswersOf-in_order stream (stream_of streams stream) _ (its stream);
       each_once = λ stream. AnswersOf-calls stream (stream_of streams stream) _ (its stream);
       faults = λ stream replica. subst (RisesTo (counted stream replica) 0) (sym (ran.faults stream replica)) tt;

@@ -26,6 +26,12 @@ HasGoodName Status = Unit {0}
 HasGoodName (Fail r) = r < 10
 HasGoodName (Add r) = r < 10
 
+-- it is of no replica, or of one of so many
+abbrev pub NamesReplica : ℕ → Command → Type 0
+NamesReplica replicas (Fail r) = r < replicas
+NamesReplica replicas (Add r) = r < replicas
+NamesReplica replicas c = Unit {0}
+
 -- the text is that of the command
 pub record IsCommand (text : List ℕ) (c : Command) : Type 0 where
   pub named : HasGoodName c

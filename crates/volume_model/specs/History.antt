@@ -1,5 +1,7 @@
 -- When a journal is one legal history, and in which order its calls stand.
-use Rattle.std.specs.Prelude.{◌≡◌, ℕ, suc, Bool, Option, None, Some, ◌≤◌, List, [], ◌∷◌, ◌++◌, map, if◌then◌else◌, ◌==◌, true, false}
+use Rattle.std.specs.Prelude.{◌≡◌, ℕ, suc, ◌≤◌, ◌==◌, Bool, true, false, Option, None, Some, IfSome}
+use Rattle.std.specs.Prelude.{List, [], ◌∷◌, length, map, Any, if◌then◌else◌}
+use Rattle.volume_model.specs.declared.command.Command.{Command}
 use Rattle.volume_model.specs.declared.command.Command.TheVariants as command
 use Rattle.volume_model.specs.declared.call.Call.{Call}
 use Rattle.volume_model.specs.declared.call.Call.TheVariants as call
@@ -17,6 +19,7 @@ use Rattle.volume_model.specs.declared.call.Reply.TheVariants as reply
 use Rattle.volume_model.specs.declared.mode.Mode.TheVariants.{Err}
 use Rattle.volume_model.specs.PlainStep.{plain_step, refusal_of}
 use Rattle.volume_model.specs.Replay.{is_refusal, replay}
+use Rattle.volume_model.specs.Standing.{StandFrom, EachStands}
 use Rattle.volume_model.specs.Modes.{modes_after, mode_of, HasSource, HasNoSource, is_change, asks_replica}
 use Rattle.volume_model.specs.Faults.{FaultsShown}
 use Rattle.volume_model.specs.declared.mark.Rebuild.{Rebuild}
@@ -98,12 +101,11 @@ MayStand opening before (entry.Mark m) after =
 
 -- each of the entries may stand where it does, behind those before
 abbrev pub LegalAfter : Spot → List Entry → List Entry → Type 0
-LegalAfter opening before [] = Unit {0}
-LegalAfter opening before (e ∷ es) = MayStand opening before e es × LegalAfter opening (before ++ e ∷ []) es
+LegalAfter opening = StandFrom (MayStand opening)
 
 -- each entry of the journal may stand where it does
 abbrev pub IsLegal : Spot → List Entry → Type 0
-IsLegal opening journal = LegalAfter opening [] journal
+IsLegal opening = EachStands (MayStand opening)
 
 -- the answers of a stream, each with its place in the journal, the first entry being at `place`
 abbrev pub answers_from : ℕ → ℕ → List Entry → List (ℕ × Answer)
@@ -130,11 +132,32 @@ InOrderFrom index least (p ∷ more) =
 abbrev pub SeenInOrder : List Entry → Type 0
 SeenInOrder journal = (stream : ℕ) → InOrderFrom 0 0 (answers_of stream journal)
 
+-- the command behind a mark: of a part of a purge, and of the begin of a rebuild
+abbrev pub command_behind : Mark → Option Command
+command_behind (mark.Purged part) = Some command.Purge
+command_behind (mark.Added replica source name) = Some (command.Add replica)
+command_behind m = None
+
+-- the entry answers that command, which was taken up at the place or before
+abbrev pub EndsCommand : Command → ℕ → Entry → Type 0
+EndsCommand c place (entry.Answer a) = (a.call ≡ call.Command c) × (a.saw ≤ place)
+EndsCommand c place (entry.Mark m) = ⊥
+
+-- a mark that has a command behind it stands between what that saw and its answer
+abbrev pub StandsInCommand : List Entry → Entry → List Entry → Type 0
+StandsInCommand before (entry.Answer a) after = Unit {0}
+StandsInCommand before (entry.Mark m) after = IfSome (command_behind m) (λ c. Any (EndsCommand c (length before)) after)
+
+-- so does each mark of the journal
+abbrev pub StandInCommands : List Entry → Type 0
+StandInCommands = EachStands StandsInCommand
+
 -- The journal is one legal history of these streams' calls, each once and in order, over lines that counted these faults.
--- What aborted a rebuild was a fall.
+-- What aborted a rebuild was a fall, and what a command does is done while it is open.
 pub record IsHistory (opening : Spot) (counted : ℕ → ℕ → ℕ) (calls : ℕ → List Call) (journal : List Entry) : Type 0 where
   pub legal : IsLegal opening journal
   pub fell : AreBehindFalls journal
+  pub within : StandInCommands journal
   pub order : SeenInOrder journal
   pub each_once : (stream : ℕ) → calls_of stream journal ≡ calls stream
   pub faults : FaultsShown counted journal

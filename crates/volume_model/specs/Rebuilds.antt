@@ -17,6 +17,7 @@ use Rattle.volume_model.specs.Snapshots.{layer_count}
 use Rattle.volume_model.specs.PlainState.{PlainState, is_used}
 use Rattle.volume_model.specs.PlainStep.{most_layers}
 use Rattle.volume_model.specs.Modes.{mode_of, IsSource}
+use Rattle.volume_model.specs.Standing.{EachStands}
 
 -- ---- how far the rebuild of replica r is
 
@@ -111,15 +112,10 @@ pub record IsBehindFall (before : List Entry) (r : ℕ) : Type 0 where
   pub which : Fells fell r ⊎ Fells fell source
 
 -- an aborted mark stands so behind the entries before it; no other entry asks anything
-abbrev pub StandsBehindFall : List Entry → Entry → Type 0
-StandsBehindFall before (entry.Mark (mark.Aborted r)) = IsBehindFall before r
-StandsBehindFall before e = Unit {0}
-
--- so does each aborted mark of the entries, behind those before
-abbrev pub BehindFalls : List Entry → List Entry → Type 0
-BehindFalls before [] = Unit {0}
-BehindFalls before (e ∷ es) = StandsBehindFall before e × BehindFalls (before ++ e ∷ []) es
+abbrev pub StandsBehindFall : List Entry → Entry → List Entry → Type 0
+StandsBehindFall before (entry.Mark (mark.Aborted r)) after = IsBehindFall before r
+StandsBehindFall before e after = Unit {0}
 
 -- so does each aborted mark of the journal
 abbrev pub AreBehindFalls : List Entry → Type 0
-AreBehindFalls journal = BehindFalls [] journal
+AreBehindFalls = EachStands StandsBehindFall

@@ -1,17 +1,18 @@
 //! Worked journals with faults and rebuilds: some that are legal, and some that are not.
 
-ghost use Rattle.std.specs.Prelude.{◌≡◌, ◌∷◌, [], pos};
+ghost use Rattle.std.specs.Prelude.{◌≡◌, ℕ, List, ◌∷◌, [], pos};
 ghost use Rattle.vol_units.specs.Name.{sys_name};
 ghost use Rattle.volume_model.specs.declared.command.Command.TheVariants as command;
 ghost use Rattle.volume_model.specs.declared.call.Call.TheVariants as call;
 ghost use Rattle.volume_model.specs.declared.call.Reply.TheVariants as reply;
 ghost use Rattle.volume_model.specs.declared.call.Refusal.TheVariants.{NoReplica};
 ghost use Rattle.volume_model.specs.declared.entry.Entry.TheVariants as entry;
+ghost use Rattle.volume_model.specs.declared.mark.FoldOrDrop.TheVariants as part;
 ghost use Rattle.volume_model.specs.declared.mark.Mark.TheVariants as mark;
 ghost use Rattle.volume_model.specs.declared.mode.Mode.TheVariants.{Rw, Wo, Err};
 ghost use Rattle.volume_model.specs.Faults.{FaultsShown};
 ghost use Rattle.volume_model.specs.Rebuilds.{AreBehindFalls};
-ghost use Rattle.volume_model.specs.History.{IsLegal};
+ghost use Rattle.volume_model.specs.History.{IsLegal, StandInCommands};
 ghost use Rattle.volume_model.specs.Journals.{on_replicas, said, told_to_fail, rebuilding, given_up, rebuilt_beside_a_write};
 
 /// A replica fails and is rebuilt while a client writes, and is read once the other one has failed.
@@ -59,6 +60,16 @@ pub fn a_replica_falls_once()
         (entry.Mark (mark.Failed 1) ∷ said 0 1 0 call.Ping reply.Done ∷ []) → ⊥ }
     ensures source_falls { IsLegal (on_replicas (Rw ∷ Rw ∷ []))
         (rebuilding (entry.Mark (mark.Fault 1 0 1) ∷ said 0 0 0 call.Ping reply.Done ∷ [])) → ⊥ }
+{}
+
+/// A rebuild begins in its add, and a part of a purge goes in its purge: between what that saw and its answer.
+pub fn a_mark_stands_in_its_command()
+    ensures rebuild { StandInCommands rebuilt_beside_a_write }
+    ensures unasked { StandInCommands (rebuilding []) → ⊥ }
+    ensures before { StandInCommands (rebuilding (said 3 1 1 (call.Command (command.Add 1)) reply.Done ∷ [])) → ⊥ }
+    ensures another { StandInCommands (rebuilding (said 2 1 1 (call.Command (command.Add 0)) reply.Done ∷ [])) → ⊥ }
+    ensures behind { (name : List ℕ) → StandInCommands (said 0 1 0 (call.Command command.Purge) reply.Done
+        ∷ entry.Mark (mark.Purged (part.Drop name)) ∷ []) → ⊥ }
 {}
 
 /// When a call may not say that there is no replica, and when it has to.

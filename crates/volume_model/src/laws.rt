@@ -1,6 +1,6 @@
 //! What follows from the definitions alone. Each law is a contract.
 
-ghost use Rattle.std.specs.Prelude.{◌≡◌, ℕ, ℤ, ◌+◌, ◌≤◌, ◌^◌, List, ◌∷◌, [], length, take, drop, Option, Some, None};
+ghost use Rattle.std.specs.Prelude.{◌≡◌, ◌≢◌, ℕ, ℤ, ◌+◌, ◌≤◌, ◌^◌, List, ◌∷◌, [], length, take, drop, Option, Some, None};
 ghost use Rattle.volume_model.specs.Commands.{IsCommand};
 ghost use Rattle.volume_model.specs.declared.call.Call.{Call};
 ghost use Rattle.volume_model.specs.declared.call.Refusal.{Refusal};
@@ -8,7 +8,9 @@ ghost use Rattle.volume_model.specs.declared.call.Reply.TheVariants as reply;
 ghost use Rattle.volume_model.specs.declared.command.Command.{Command};
 ghost use Rattle.volume_model.specs.declared.entry.Entry.{Entry};
 ghost use Rattle.volume_model.specs.declared.mark.FoldOrDrop.{FoldOrDrop};
+ghost use Rattle.volume_model.specs.declared.mark.Rebuild.TheVariants as rebuild;
 ghost use Rattle.volume_model.specs.declared.mode.Mode.{Mode};
+ghost use Rattle.volume_model.specs.declared.mode.Mode.TheVariants.{Wo};
 ghost use Rattle.volume_model.specs.declared.names.UsedName.{UsedName};
 ghost use Rattle.volume_model.specs.Disk.{bytes_at, with_bytes_at};
 ghost use Rattle.volume_model.specs.Snapshots.{Snapshot, layer_count};
@@ -17,7 +19,8 @@ ghost use Rattle.volume_model.specs.PlainState.{Volume, PlainState, written, sna
 ghost use Rattle.volume_model.specs.Marks.{HasNoMark};
 ghost use Rattle.volume_model.specs.PlainStep.{plain_step, refusal_of};
 ghost use Rattle.volume_model.specs.Replay.{replay};
-ghost use Rattle.volume_model.specs.Modes.{HasSource};
+ghost use Rattle.volume_model.specs.Modes.{HasSource, mode_of, modes_after};
+ghost use Rattle.volume_model.specs.Rebuilds.{rebuild_of};
 ghost use Rattle.volume_model.specs.History.{Spot, IsLegal, IsHistory};
 ghost use Rattle.volume_model.specs.OneWorker.{served, after_streams, stream_of, AllProper, call_count, behind_entries};
 ghost use Rattle.volume_model.specs.Copies.{HasCopies};
@@ -76,6 +79,15 @@ pub fn one_worker_makes_a_history()
     ensures { (opening : Spot) (counted : ℕ → ℕ → ℕ) (streams : List (List Call)) → AllProper (length opening.modes) streams
         → AreOwnFree opening.state → opening.state.volume.snapshots.number + call_count streams ≤ 2 ^ 64
         → IsHistory opening counted (stream_of streams) (served opening streams) }
+{}
+
+/// Where a legal history ends no rebuild is open; and no replica is written alone, if none was as it began.
+pub fn a_history_ends_with_no_rebuild_open()
+    ensures rebuilds { (opening : Spot) (counted : ℕ → ℕ → ℕ) (calls : ℕ → List Call) (journal : List Entry)
+        → IsHistory opening counted calls journal → (r s : ℕ) → rebuild_of r journal ≢ rebuild.Open s }
+    ensures modes { (opening : Spot) (counted : ℕ → ℕ → ℕ) (calls : ℕ → List Call) (journal : List Entry)
+        → IsHistory opening counted calls journal → ((r : ℕ) → mode_of opening.modes r ≢ Wo)
+        → (r : ℕ) → mode_of (modes_after opening.modes journal) r ≢ Wo }
 {}
 
 /// A legal history of one stream's calls in which no mark stands, on replicas of which one is read and written, is what
