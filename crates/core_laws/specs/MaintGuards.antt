@@ -3,7 +3,7 @@ use Rattle.std.specs.Prelude.{ℕ, ◌<◌, ◌*◌, length}
 use Rattle.vol_units.specs.declared.size.TheConstants.{PAGE_BYTES}
 use Rattle.volume_model.specs.declared.command.Command.{Command}
 use Rattle.step_answers.specs.declared.whole_op.WholeOp.{WholeOp}
-use Rattle.step_answers.specs.Asked.{NamesReplica}
+use Rattle.volume_model.specs.Commands.{NamesReplica}
 use Rattle.open_calls.specs.Clients.{IsIdle}
 use Rattle.open_calls.specs.Maint.{IsMaint}
 use Rattle.volume_core.specs.State.{State}

@@ -2,7 +2,8 @@
 
 ghost use Rattle.std.specs.Prelude.{◌≡◌, ℕ, ◌<◌, length, true, false};
 ghost use Rattle.open_calls.specs.Maint.{HasNoCommand};
-ghost use Rattle.step_answers.specs.Asked.{IsOnRange, IsNow, NamesReplica, AsksReplica};
+ghost use Rattle.step_answers.specs.Asked.{IsOnRange, IsNow, AsksReplica};
+ghost use Rattle.volume_model.specs.Commands.{NamesReplica};
 ghost use Rattle.volume_core.specs.State.{state_of};
 ghost use Rattle.core_laws.specs.Guards.{IsFreeStream, MayEnrol, MayAnswer, IsWaiting, IsStream};
 

@@ -11,7 +11,7 @@ use Rattle.serde_json.specs.Read.{read}
 use Rattle.vol_units.specs.Name.{IsName, IsSnapName, IsPlainName, IsLayerName, sys_name}
 use Rattle.vol_units.specs.Size.{IsVolumeSize}
 use Rattle.vol_units.specs.Time.{IsTimeText}
-use Rattle.volume_model.specs.Commands.{IsCommand}
+use Rattle.volume_model.specs.Commands.{IsCommand, NamesReplica}
 use Rattle.volume_model.specs.declared.command.Command.{Command}
 use Rattle.volume_model.specs.declared.command.Command.TheVariants as command
 use Rattle.volume_model.proofs.TextLemmas.{same_text}
@@ -26,7 +26,7 @@ use Rattle.script_head.specs.declared.member.Member.TheVariants as member_of
 use Rattle.script_head.specs.Limits.{most_input, most_replicas, most_streams, most_calls, most_failures, largest_carry, may_open, may_save}
 use Rattle.script_head.specs.LinePlans.{RisesAbove, AreApart, NoPairTwice}
 use Rattle.script_head.specs.Values.{whole, member, member_or}
-use Rattle.script_head.specs.Members.{NamesReplica, IsCommandItem, IsStreamItem, HasReplicas, HasFlag, HasStreams, IsCarryItem}
+use Rattle.script_head.specs.Members.{IsCommandItem, IsStreamItem, HasReplicas, HasFlag, HasStreams, IsCarryItem}
 use Rattle.script_head.specs.Members.{HasFail, HasNumberBelow, IsLinePlan, ArePlans, IsGood, IsFirstBadOf, in_order}
 use Rattle.script_head.specs.Head.{IsObject, IsScriptHead, Says, RefusesLine}
 use Rattle.script_head.proofs.Known.{Known, known_along, known_both, known_either, known_not, known_less, known_most, known_true}

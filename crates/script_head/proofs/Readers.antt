@@ -2,7 +2,7 @@
 use Rattle.std.proofs.Common.{◌≡◌, ℕ, List, length, Some, Result, Ok, Err, inl, inr, sym, subst}
 use Rattle.serde_json.specs.Data.{Data}
 use Rattle.serde_json.specs.Find.{as_str}
-use Rattle.volume_model.specs.Commands.{IsCommand, IsNoCommand}
+use Rattle.volume_model.specs.Commands.{IsCommand, IsNoCommand, NamesReplica}
 use Rattle.volume_model.specs.declared.command.Command.{Command}
 use Rattle.volume_model.proofs.TextLemmas.{same_text}
 use Rattle.script_head.specs.declared.error.HeadError.{HeadError}
@@ -10,7 +10,7 @@ use Rattle.script_head.specs.declared.error.HeadError.TheVariants.{Json, BadMemb
 use Rattle.script_head.specs.declared.member.Member.{Member}
 use Rattle.script_head.specs.declared.member.Member.TheVariants.{Volume, Size, Open, Save, Now, Streams, Lines}
 use Rattle.script_head.specs.Refusals.{Reads, AnswersObject}
-use Rattle.script_head.specs.Members.{NamesReplica, IsCommandItem, IsGood, HasReplicas, HasStreams, HasLines}
+use Rattle.script_head.specs.Members.{IsCommandItem, IsGood, HasReplicas, HasStreams, HasLines}
 use Rattle.script_head.specs.declared.head.StreamHead.{StreamHead}
 use Rattle.script_head.specs.declared.line_plan.LinePlan.{LinePlan}
 use Rattle.script_head.proofs.OneValue.{same_value, same_streams}

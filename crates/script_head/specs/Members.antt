@@ -5,9 +5,8 @@ use Rattle.serde_json.specs.Data.{Data}
 use Rattle.serde_json.specs.Find.{get, as_bool, as_str}
 use Rattle.vol_units.specs.Name.{IsPlainName}
 use Rattle.vol_units.specs.Size.{IsVolumeSize}
-use Rattle.volume_model.specs.Commands.{IsCommand}
+use Rattle.volume_model.specs.Commands.{IsCommand, NamesReplica}
 use Rattle.volume_model.specs.declared.command.Command.{Command}
-use Rattle.volume_model.specs.declared.command.Command.TheVariants as command
 use Rattle.script_head.specs.declared.head.StreamHead.{StreamHead}
 use Rattle.script_head.specs.declared.head.StreamHead.TheVariants as stream
 use Rattle.script_head.specs.declared.line_plan.LinePlan.{LinePlan}
@@ -38,12 +37,6 @@ HasFlag line name may flag = (member_or false as_bool name line ≡ Some flag) �
 -- `now`: the time of the run, empty where it is missing
 abbrev pub HasNow : Data → List ℕ → Type 0
 HasNow line text = (member_or [] as_str (codes "now") line ≡ Some text) × IsTimeText text
-
--- a command is of no replica, or of one that is there
-abbrev pub NamesReplica : ℕ → Command → Type 0
-NamesReplica replicas (command.Fail r) = r < replicas
-NamesReplica replicas (command.Add r) = r < replicas
-NamesReplica replicas c = Unit {0}
 
 -- an item of `control`: the text of a command
 abbrev pub IsCommandItem : ℕ → Data → Command → Type 0

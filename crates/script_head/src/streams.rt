@@ -4,7 +4,8 @@ ghost use Rattle.std.specs.Prelude.{◌≡◌, ◌↔◌, ◌≤◌, IsTrue, Som
 ghost use Rattle.serde_json.specs.View.{view, items_view};
 ghost use Rattle.script_head.specs.Refusals.{Reads};
 ghost use Rattle.script_head.specs.Limits.{most_calls, most_input};
-ghost use Rattle.script_head.specs.Members.{IsCommandItem, IsStreamItem, NamesReplica};
+ghost use Rattle.script_head.specs.Members.{IsCommandItem, IsStreamItem};
+ghost use Rattle.volume_model.specs.Commands.{NamesReplica};
 ghost use Rattle.script_head.specs.Values.{whole, AreItems, HasItems};
 
 use crate::error::HeadError;

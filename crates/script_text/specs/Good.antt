@@ -1,12 +1,11 @@
 -- What is good in each script: its commands, its streams, and its plans of lines.
 use Rattle.std.specs.Prelude.{◌≡◌, ℕ, ◌<◌, ◌≤◌, List, length, All}
-use Rattle.volume_model.specs.Commands.{HasGoodName}
+use Rattle.volume_model.specs.Commands.{HasGoodName, NamesReplica}
 use Rattle.volume_model.specs.declared.command.Command.{Command}
 use Rattle.frame_stream.specs.Asked.{asked_of, call_of}
 use Rattle.frame_stream.specs.declared.asked.Asked.TheVariants as asked
 use Rattle.script_head.specs.Limits.{most_failures, largest_carry}
 use Rattle.script_head.specs.LinePlans.{RisesAbove}
-use Rattle.script_head.specs.Members.{NamesReplica}
 use Rattle.script_head.specs.declared.line_plan.LinePlan.{LinePlan}
 use Rattle.script_text.specs.declared.script.Stream.{Stream}
 use Rattle.script_text.specs.declared.script.Stream.TheVariants as stream

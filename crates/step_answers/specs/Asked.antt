@@ -3,6 +3,7 @@
 use Rattle.std.specs.Prelude.{ℕ, ◌<◌, ◌≤◌, length}
 use Rattle.volume_model.specs.declared.command.Command.{Command}
 use Rattle.volume_model.specs.declared.command.Command.TheVariants as command
+use Rattle.volume_model.specs.Commands.{NamesReplica}
 use Rattle.volume_model.specs.declared.call.Call.{Call}
 use Rattle.volume_model.specs.declared.call.Call.TheVariants as call
 use Rattle.volume_model.specs.PlainStep.{longest_call}
@@ -24,13 +25,7 @@ IsNow (call.Command (command.Fail r)) = Unit {0}
 IsNow (call.Command command.Status) = Unit {0}
 IsNow c = ⊥
 
--- a command is of no replica, or of one that is there
-abbrev pub NamesReplica : ℕ → Command → Type 0
-NamesReplica replicas (command.Fail r) = r < replicas
-NamesReplica replicas (command.Add r) = r < replicas
-NamesReplica replicas c = Unit {0}
-
--- and so a call
+-- a command that it asks names a replica that is there, if it names one
 abbrev pub AsksReplica : ℕ → Call → Type 0
 AsksReplica replicas (call.Command c) = NamesReplica replicas c
 AsksReplica replicas c = Unit {0}
