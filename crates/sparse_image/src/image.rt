@@ -3,7 +3,7 @@ ghost use Rattle.std.specs.Option.{option_map, option_copied};
 ghost use Rattle.vol_units.specs.Bytes.{with_bytes_at, zeros};
 ghost use Rattle.sparse_image.specs.Disk.{bytes_of, disk_of};
 ghost use Rattle.sparse_image.specs.Image.{block_at, has_page, IsEmpty, MakesPages, is_page_of, ChangesBlock, EmptiesPage, LaysPageOver, table_at, HasBlock, HasNoBlock, IsLent, PutsTable};
-ghost use Rattle.sparse_image.specs.Whole.{IsTable};
+ghost use Rattle.sparse_image.specs.Whole.{IsImage, IsTable};
 
 use crate::block::{BLOCK_BYTES, Block, PAGE_BLOCKS};
 use crate::page::Page;
@@ -45,6 +45,7 @@ impl Image {
     pub fn page_count(&self) -> u32
         ensures count { result ≡ length self.now }
         ensures disk { length (disk_of self.now) ≡ result * PAGE_BLOCKS * BLOCK_BYTES }
+        ensures whole { IsImage self.now }
     {
         self.pages.len() as u32
     }
