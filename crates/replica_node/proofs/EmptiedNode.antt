@@ -13,10 +13,9 @@ use Rattle.layer_chain.specs.Changes.{IsEmptied, AreEmpty, metas_in}
 use Rattle.layer_chain.specs.Tree.{Tree, name_of, parent_of, reads, head_reads}
 use Rattle.layer_chain.specs.declared.layer.Layer.{Layer}
 use Rattle.layer_chain.specs.declared.layer.LayerMeta.{LayerMeta}
-use Rattle.replica_node.specs.Node.{Kept, node_of, kept_in, disk_in, head_disk, own_in, IsNode}
+use Rattle.replica_node.specs.Node.{Kept, node_of, kept_in, disk_in, head_disk, own_in, IsNode, IsOfSize}
 use Rattle.replica_node.specs.Held.{emptied, emptied_layer}
-use Rattle.replica_node.proofs.MadeLemmas.{made_empty}
-use Rattle.replica_node.proofs.NodeLemmas.{kept, same_kept, same_parts, length-none, length-own_in, length-made_in}
+use Rattle.replica_node.proofs.NodeLemmas.{kept, same_kept, same_parts, length-own_in, length-made_in}
 use Rattle.replica_node.proofs.NodeLemmas.{own_in-empty, made_in-empty, as_disk}
 
 reads_none : (xs : List Layer) (pages : ℕ) (want : Option (List ℕ)) (k : ℕ) → AreEmpty xs pages → reads xs want k ≡ None
@@ -84,11 +83,8 @@ module _ (old new : Tree) (pages count : ℕ) (e : IsEmptied old new pages) (siz
       (made_in-empty new.head pages count e.head ∙ ap (λ m. replicate m false) (sym (length-made_in old.head count)))
       (own_in-empty new.head pages count e.head ∙ ap (λ m. replicate m false) (sym (length-own_in old.head count)))
 
-  pub emptied_whole : IsNode new count
-  emptied_whole = record {
-    pages = ap (λ l. l * 512) e.head.count ∙ size;
-    made = made_empty new.head pages e.head;
-    images = λ i l h. record { pages = ap (λ m. m * 512) (e.images i l h).count ∙ size; made = made_empty _ pages (e.images i l h) };
-    layers = λ want k. ap (λ o. length (bytes_of o)) (no_reads want k) ∙ length-none;
-    head = λ k. ap (λ o. length (bytes_of o)) (no_head k) ∙ length-none;
+  pub emptied_sized : IsOfSize new count
+  emptied_sized = record {
+    head = ap (λ l. l * 512) e.head.count ∙ size;
+    layers = λ i l h. ap (λ m. m * 512) (e.images i l h).count ∙ size;
   }

@@ -161,7 +161,7 @@ set_metas [] i y h same = absurd (omega arith)
 set_metas (x ∷ xs) zero y h same = ap (λ (m : LayerMeta). m ∷ map (λ (l : Layer). l.meta) xs) same
 set_metas (x ∷ xs) (suc i) y h same = ap (λ (ms : List LayerMeta). x.meta ∷ ms) (set_metas xs i y (omega arith) same)
 
-kept_metas : (xs layers : List Layer) (count : ℕ)
+pub kept_metas : (xs layers : List Layer) (count : ℕ)
     → map (λ (k : Kept). k.meta) (map (kept_in layers count) xs) ≡ map (λ (l : Layer). l.meta) xs
 kept_metas [] layers count = refl
 kept_metas (x ∷ xs) layers count = ap (λ (ms : List LayerMeta). x.meta ∷ ms) (kept_metas xs layers count)
@@ -171,7 +171,7 @@ length-some None whole = length-none
 length-some (Some b) whole = whole b refl
 
 -- where the images have whole blocks, what is read is whole
-whole_or : (a b : Option (List ℕ)) → length (bytes_of a) ≡ 4096 → length (bytes_of b) ≡ 4096 → length (bytes_of (option_or a b)) ≡ 4096
+pub whole_or : (a b : Option (List ℕ)) → length (bytes_of a) ≡ 4096 → length (bytes_of b) ≡ 4096 → length (bytes_of (option_or a b)) ≡ 4096
 whole_or None b p q = q
 whole_or (Some a) b p q = p
 

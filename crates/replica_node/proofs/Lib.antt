@@ -12,6 +12,7 @@ pub mod NodeLemmas
 pub mod OverLemmas
 pub mod OwnLemmas
 pub mod PageLemmas
+pub mod PlaceLemmas
 pub mod ReadLemmas
 pub mod RoomLemmas
 pub mod TreeOf

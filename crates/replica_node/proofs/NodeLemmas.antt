@@ -26,7 +26,7 @@ use Rattle.layer_chain.proofs.ReadLaws.{cases_named}
 use Rattle.sparse_image.proofs.ListedLemmas.{length-listed, listed-all}
 use Rattle.replica_node.proofs.MadeLemmas.{made_empty}
 use Rattle.replica_node.specs.Node.{Kept, Node, node_of, kept_in, disk_in, head_disk, own_in, made_in, layer_names}
-use Rattle.replica_node.specs.Node.{disk_named, IsImageOf, IsNode, IsKept, IsFree, IsSpareOf, no_room, no_own, blank}
+use Rattle.replica_node.specs.Node.{disk_named, HasPlaces, IsImageOf, IsNode, IsKept, IsOfSize, IsFree, IsSpareOf, no_room, no_own, blank}
 use Rattle.replica_node.specs.Node.{snapped_node, reverted_node, marked, marked_if_named}
 
 -- ---- room, and blocks of its own
@@ -341,13 +341,11 @@ pub as_disk : (image : Tables) (n : ℕ) → IsEmpty image n
 unfolding disk_of
 as_disk image n e = disk_of-empty image n e
 
-pub blank_whole : (t : Tree) (page_count count : ℕ) → t.layers ≡ [] → IsEmpty t.head page_count → page_count * 512 ≡ count → IsNode t count
-blank_whole t page_count count none e pages = record {
-  pages = ap (λ l. l * 512) e.count ∙ pages;
-  made = made_empty t.head page_count e;
-  images = subst (All (HasPages count)) (sym none) (All-nil (HasPages count));
-  layers = λ want k. ap (λ b. length (bytes_of b)) (no_reading t.layers want k none) ∙ length-none;
-  head = λ k. ap (λ b. length (bytes_of b)) (blank_block t page_count k none e) ∙ length-none;
+pub blank_sized : (t : Tree) (page_count count : ℕ) → t.layers ≡ [] → IsEmpty t.head page_count → page_count * 512 ≡ count
+    → IsOfSize t count
+blank_sized t page_count count none e pages = record {
+  head = ap (λ l. l * 512) e.count ∙ pages;
+  layers = subst (All (HasPlaces count)) (sym none) (All-nil (HasPlaces count));
 }
 
 pub blank_node : (t : Tree) (page_count count size : ℕ) → t.layers ≡ [] → IsEmpty t.head page_count → t.on ≡ None → t.number ≡ 0

@@ -85,6 +85,15 @@ pub record IsImageOf (count : ℕ) (image : Tables) : Type 0 where
   pub pages : length image * PAGE_BLOCKS ≡ count
   pub made : IsInPages image
 
+-- the layer has a place for each page of so many blocks
+abbrev pub HasPlaces : ℕ → Layer → Type 0
+HasPlaces count l = length l.image * PAGE_BLOCKS ≡ count
+
+-- the head and each layer have
+pub record IsOfSize (t : Tree) (count : ℕ) : Type 0 where
+  pub head : length t.head * PAGE_BLOCKS ≡ count
+  pub layers : All (HasPlaces count) t.layers
+
 -- the head and each layer are images of so many blocks, and each block that is read has all its bytes
 pub record IsNode (t : Tree) (count : ℕ) : Type 0 where
   pub pages : length t.head * PAGE_BLOCKS ≡ count

@@ -2,6 +2,7 @@
 #![tactic(auto)]
 
 mod fold;
+mod images;
 pub mod laws;
 mod names;
 mod node;
@@ -9,7 +10,7 @@ mod own;
 mod purge;
 mod swap;
 
-pub use layer_chain::LayerMeta;
+pub use layer_chain::{LayerMeta, LayerTree};
 pub use node::ReplicaNode;
 pub use purge::take_out;
 pub use snapshot_ops::Spare;

@@ -1,4 +1,4 @@
-ghost use Rattle.std.specs.Prelude.{◌≡◌, ◌↔◌, ℕ, ◌+◌, ◌*◌, ◌/◌, ◌^◌, ◌<◌, ◌≤◌, ◌++◌, length, Some, IfOk, OnOk, OnErr, MatchOption, All, IsTrue, is_some, true, false};
+ghost use Rattle.std.specs.Prelude.{◌≡◌, ◌↔◌, ℕ, ◌+◌, ◌*◌, ◌/◌, ◌^◌, ◌<◌, ◌≤◌, ◌++◌, length, Some, IfOk, IfSome, OnOk, OnErr, MatchOption, All, IsTrue, is_some, true, false};
 ghost use Rattle.std.specs.Option.{option_copied};
 ghost use Rattle.vol_units.specs.Bytes.{zeros, bytes_at, with_bytes_at};
 ghost use Rattle.vol_units.specs.declared.size.TheConstants.{LARGEST_SIZE, PAGE_BYTES};
@@ -11,15 +11,17 @@ ghost use Rattle.volume_model.specs.Names.{NamesOnce};
 ghost use Rattle.volume_model.specs.Purge.{CanFold, CanDrop, next_in};
 ghost use Rattle.volume_model.specs.Snapshots.{is_live, chain_of};
 ghost use Rattle.coalesce.specs.Way.{IsWayOf, HasNoWay};
-ghost use Rattle.replica_node.specs.Node.{Kept, blank, snapped_node, reverted_node, marked, disk_of_layer, layer_names, block_in, has_own, node_of, IsNode, IsKept, IsFree, IsSpareOf};
+ghost use Rattle.replica_node.specs.Node.{Kept, blank, snapped_node, reverted_node, marked, disk_of_layer, layer_names, block_in, has_own, node_of, IsOfSize, IsKept, IsFree, IsSpareOf};
 ghost use Rattle.replica_node.specs.Fold.{tree_of, snapshots_of, own_named, HasBlockOf, HasNoBlockOf, IsBare, page_folded, replaced_node, folded_away, dropped_node};
 ghost use Rattle.replica_node.specs.Held.{IsChained, IsPageOf, PutsPage, emptied};
+ghost use Rattle.replica_node.specs.Places.{kept_at, IsPlace, block_of_place, IsBuiltOf};
 
 use crate::fold::fold_pages;
+use crate::images::learn_images;
 use crate::names::names_in;
 use crate::own::{has_block, has_block_of};
 use crate::swap::swap_into;
-use layer_chain::LayerTree;
+use layer_chain::{LayerMeta, LayerTree};
 use snapshot_ops::Spare;
 use sparse_image::{BLOCK_BYTES, Block, Blocks, Page};
 use std::alloc::{AllocError, Global};
@@ -47,11 +49,16 @@ impl Model for ReplicaNode {
 }
 
 impl ReplicaNode {
-    /// The replica that a tree is, whose head has a place for each page of the volume.
+    /// The replica that a tree is, whose head and layers have a place for each page of the volume.
     pub fn of_tree(size: VolumeSize, tree: LayerTree) -> ReplicaNode
-        requires { IsNode tree (size / BLOCK_BYTES) }
-        ensures { result ≡ node_of tree (size / BLOCK_BYTES) }
+        requires { IsOfSize tree (size / BLOCK_BYTES) }
+        ensures node { result ≡ node_of tree (size / BLOCK_BYTES) }
+        ensures built { IsBuiltOf tree size result }
     {
+        // What its images keep, that the layers are a tree, and that a size is whole blocks, a proof learns here.
+        learn_images(&tree);
+        let _count = tree.count();
+        let _blocks = size.block_count();
         ReplicaNode { tree, size }
     }
 
@@ -271,6 +278,36 @@ impl ReplicaNode {
         ensures { result ≡ self.now.number }
     {
         self.tree.head_number()
+    }
+
+    /// The layer on which the head stands, if there is one.
+    pub fn head_parent(&self) -> Option<LayerName>
+        ensures on { result ≡ self.now.on }
+        ensures kept { IsKept self.now result }
+    {
+        self.tree.head_parent()
+    }
+
+    /// What is told of the layer at a place, the newest at 0.
+    pub fn meta(&self, place: usize) -> &LayerMeta
+        requires { place < length self.now.layers }
+        ensures { result.now ≡ (kept_at self.now.layers place).meta }
+    {
+        self.tree.meta(place)
+    }
+
+    /// The block that the layer at a place, or the head where none is given, itself has. Nothing is copied.
+    pub fn own_block(&self, place: Option<usize>, block: u32) -> Option<&Block>
+        requires { IsPlace self.now place }
+        ensures value { option_copied result ≡ block_of_place self.now place block }
+        ensures whole { IfSome result (λ b. length b.now ≡ BLOCK_BYTES) }
+    {
+        // That the layers are a tree, a proof learns here.
+        let _count = self.tree.count();
+        match place {
+            Some(place) => self.tree.image(place).get(block),
+            None => self.tree.head_image().get(block),
+        }
     }
 
     /// The names of the layers, the newest first, and room for one more.

@@ -1,7 +1,6 @@
 use Rattle.std.proofs.Common.{◌/◌, sym, ap, ◌∙◌}
 use Rattle.std.proofs.lemmas.Result.{IfOk-weaker}
 use Rattle.std.proofs.lemmas.Simd.{map-map}
-use Rattle.layer_chain.specs.Tree.{name_of}
 use Rattle.replica_node.specs.Node.{Kept, kept_in, layer_names}
 use Rattle.replica_node.proofs.node.ReplicaNode.layer_names.Goals as goal
 
