@@ -16,24 +16,14 @@ use Rattle.replica_node.specs.Node.{Node}
 use Rattle.open_calls.specs.declared.open_call.OpenCall.{OpenCall}
 use Rattle.step_answers.specs.declared.whole_op.WholeOp.{WholeOp}
 use Rattle.step_answers.specs.declared.whole_op.WholeOp.TheVariants as whole
-use Rattle.step_answers.specs.Asked.{command_of}
 use Rattle.open_calls.specs.Calls.{open_at}
 use Rattle.open_calls.specs.Clients.{AreSeen, IsIdle}
 use Rattle.open_calls.specs.declared.maint.MaintCall.{MaintCall}
-use Rattle.open_calls.specs.Maint.{command_at, HasNoCommand, HasTurn, IsAskedBy, FitsMaint, AreMaint}
+use Rattle.open_calls.specs.Maint.{command_at, HasNoCommand, IsAskedBy, IsOfTurn, FitsMaint, AreMaint}
 use Rattle.open_calls.proofs.Kept.{queued_answer, queued_mark}
-use Rattle.open_calls.proofs.PartSteps.{IsOfTurn, asked_there}
+use Rattle.open_calls.proofs.PartSteps.{asked_there, turn_of}
 use Rattle.open_calls.proofs.Ends.{idle_left}
 use Rattle.open_calls.proofs.Turns.{none_left, turn_ended}
-
--- what is no snapshot was asked by the command that has the turn
-pub turn_of : (maint : List Ticket) (commands : List MaintCall) (stream : ℕ) (op : WholeOp) → IsOfTurn op
-    → IsAskedBy maint commands stream op → HasTurn maint commands stream (command_of op)
-turn_of maint commands stream (whole.Snapshot name) of asked = absurd of
-turn_of maint commands stream (whole.Remove name) of asked = asked
-turn_of maint commands stream (whole.Revert name) of asked = asked
-turn_of maint commands stream (whole.Purge f) of asked = asked
-turn_of maint commands stream (whole.Barrier r) of asked = asked
 
 -- ---- a call on the whole volume goes: it is done, given up or refused
 

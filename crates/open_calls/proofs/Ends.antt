@@ -40,11 +40,11 @@ use Rattle.open_calls.specs.declared.maint.MaintCall.{MaintCall}
 use Rattle.open_calls.specs.declared.whole.Whole.{Whole}
 use Rattle.open_calls.specs.Due.{due_of, formed}
 use Rattle.open_calls.specs.Whole.{MayBeDone, IsStarted}
-use Rattle.open_calls.specs.Maint.{CanStill, FitsMaint}
+use Rattle.open_calls.specs.Maint.{CanStill, FitsMaint, IsOfTurn}
 use Rattle.open_calls.proofs.Forms.{length-formed, formed_in, form_as_is, done_part}
 use Rattle.open_calls.proofs.Kept.{whole_after, whole_before, each_left}
 use Rattle.open_calls.proofs.Ops.{due_size}
-use Rattle.open_calls.proofs.PartSteps.{IsOfTurn, other_name, one_stream, none_waits}
+use Rattle.open_calls.proofs.PartSteps.{other_name, one_stream, none_waits}
 use Rattle.open_calls.proofs.Starts.{IsStill, settled_rw}
 
 -- ---- what is left of the tickets
@@ -248,6 +248,7 @@ due_maint es p modes ts cs ns w maint commands named seen paired is fit =
             op = o.op;
             is = o.is;
             asked = o.asked;
+            saw = o.saw;
             still =
                 λ n. still_snapped p modes ns name o.op named may.1 (o.still n);
           };

@@ -274,6 +274,7 @@ idle_maint s s2 modes modes2 ns ns2 maint commands ts cs paired idle fit j l =
         op = o.op;
         is = o.is;
         asked = o.asked;
+        saw = o.saw;
         still = λ _. other_still maint commands (open_at cs j).stream o.op s2 modes2 ns2
             (λ e. idle j (omega (arith, l, paired)) (sym e)) o.asked;
       };

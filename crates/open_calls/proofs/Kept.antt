@@ -255,6 +255,7 @@ fits_still s modes modes2 ns ns2 maint commands t c fewer same fit = record {
         op = o.op;
         is = o.is;
         asked = o.asked;
+        saw = o.saw;
         still =
             λ n. still_can s modes modes2 ns ns2 o.op fewer same (o.still n);
       };

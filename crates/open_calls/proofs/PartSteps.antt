@@ -26,6 +26,7 @@ use Rattle.step_answers.specs.declared.parts.Part.{Part}
 use Rattle.step_answers.specs.declared.parts.Part.TheVariants.{Apart, Owed, Taken, Acked}
 use Rattle.step_answers.specs.declared.whole_op.WholeOp.{WholeOp}
 use Rattle.step_answers.specs.declared.whole_op.WholeOp.TheVariants as whole
+use Rattle.step_answers.specs.Asked.{command_of}
 use Rattle.open_calls.specs.Calls.{open_at, node_at}
 use Rattle.open_calls.specs.Clients.{AreClients, AreSeen}
 use Rattle.step_answers.specs.Parts.{part_at, IsTaken}
@@ -36,7 +37,7 @@ use Rattle.open_calls.specs.declared.maint.MaintCall.{MaintCall}
 use Rattle.open_calls.specs.declared.whole.Whole.{Whole}
 use Rattle.open_calls.specs.Due.{part_on, formed}
 use Rattle.open_calls.specs.Whole.{MayBeDone, CanTake, IsStarted, spare_at, parted, part_acked}
-use Rattle.open_calls.specs.Maint.{command_at, IsAskedBy, CanStill, FitsMaint}
+use Rattle.open_calls.specs.Maint.{command_at, HasTurn, IsAskedBy, IsOfTurn, CanStill, FitsMaint}
 use Rattle.open_calls.proofs.Forms.{parted_form, acked_form}
 
 -- ---- the call
@@ -179,22 +180,26 @@ pub asked_there : (s : Snapshots) (modes : List Mode) (ns : List Node) (maint : 
 asked_there s modes ns maint commands t c op is asks fit = let o = fit.whole is in
     subst (IsAskedBy maint commands c.stream) (same_op (sym o.is ∙ asks)) o.asked
 
--- an operation of the command that has the turn: none but a snapshot is asked by another stream
-abbrev pub IsOfTurn : WholeOp → Type 0
-IsOfTurn (whole.Snapshot name) = ⊥
-IsOfTurn (whole.Remove name) = Unit {0}
-IsOfTurn (whole.Revert name) = Unit {0}
-IsOfTurn (whole.Purge f) = Unit {0}
-IsOfTurn (whole.Barrier r) = Unit {0}
+-- and what it saw, if it is of the command that has the turn
+pub saw_there : (s : Snapshots) (modes : List Mode) (ns : List Node) (maint : List Ticket) (commands : List MaintCall)
+    (t : Ticket) (c : OpenCall) (op : WholeOp) → t.kind ≡ kind.Whole → c.op ≡ Some op → IsOfTurn op
+    → FitsMaint s modes ns maint commands t c → c.saw ≡ (command_at commands 0).saw
+saw_there s modes ns maint commands t c op is asks of fit = let o = fit.whole is in
+    o.saw (subst IsOfTurn (same_op (sym asks ∙ o.is)) of)
+
+-- what is no snapshot was asked by the command that has the turn
+pub turn_of : (maint : List Ticket) (commands : List MaintCall) (stream : ℕ) (op : WholeOp) → IsOfTurn op
+    → IsAskedBy maint commands stream op → HasTurn maint commands stream (command_of op)
+turn_of maint commands stream (whole.Snapshot name) of asked = absurd of
+turn_of maint commands stream (whole.Remove name) of asked = asked
+turn_of maint commands stream (whole.Revert name) of asked = asked
+turn_of maint commands stream (whole.Purge f) of asked = asked
+turn_of maint commands stream (whole.Barrier r) of asked = asked
 
 -- its stream is that of the first command
 pub turn_stream : (maint : List Ticket) (commands : List MaintCall) (stream : ℕ) (op : WholeOp) → IsOfTurn op
     → IsAskedBy maint commands stream op → (command_at commands 0).stream ≡ stream
-turn_stream maint commands stream (whole.Snapshot name) of asked = absurd of
-turn_stream maint commands stream (whole.Remove name) of asked = asked.own
-turn_stream maint commands stream (whole.Revert name) of asked = asked.own
-turn_stream maint commands stream (whole.Purge f) of asked = asked.own
-turn_stream maint commands stream (whole.Barrier r) of asked = asked.own
+turn_stream maint commands stream op of asked = (turn_of maint commands stream op of asked).own
 
 -- an operation of another stream asks nothing of the replicas while it waits
 pub other_still : (maint : List Ticket) (commands : List MaintCall) (stream : ℕ) (op : WholeOp) (s : Snapshots)
@@ -229,7 +234,7 @@ none_waits es s s2 modes modes2 ns ns2 maint commands ts cs i op seen paired h i
     let f = fit j l in
     record {
       apart = f.apart;
-      whole = λ w. let o = f.whole w in record { op = o.op; is = o.is; asked = o.asked; still = λ n. still n o.op o.asked };
+      whole = λ w. let o = f.whole w in record { op = o.op; is = o.is; asked = o.asked; saw = o.saw; still = λ n. still n o.op o.asked };
     }
   where
     own : (command_at commands 0).stream ≡ (open_at cs i).stream
@@ -271,6 +276,7 @@ part_maint es p modes ts cs ns w r maint commands named seen paired is owed fit 
             op = o.op;
             is = o.is;
             asked = o.asked;
+            saw = o.saw;
             still =
                 λ n. snapped_still p modes ns r name o.op named may.1 within (o.still n);
           };

@@ -118,7 +118,7 @@ pub fits_started : (s : Snapshots) (modes : List Mode) (ns : List Node) (maint :
     → FitsMaint s modes ns maint commands (record t { started = true }) c
 fits_started s modes ns maint commands t c fit = record {
   apart = fit.apart;
-  whole = λ w. let o = fit.whole w in record { op = o.op; is = o.is; asked = o.asked; still = λ e. absurd (never e) };
+  whole = λ w. let o = fit.whole w in record { op = o.op; is = o.is; asked = o.asked; saw = o.saw; still = λ e. absurd (never e) };
 }
   where
     never : true ≡ false → ⊥

@@ -29,10 +29,65 @@ use Rattle.open_calls.proofs.FreeLemmas.{not_both}
 use Rattle.open_calls.proofs.ListLemmas.{at_set, at_push, skip, skip-in, skip-other, skip-more, get_or-remove}
 use Rattle.open_calls.proofs.SeenLemmas.{behind_within}
 use Rattle.open_calls.specs.declared.maint.MaintCall.{MaintCall}
-use Rattle.open_calls.specs.Maint.{command_at, no_command, IsMaint, HasNoCommand, HasTurn, IsAskedBy, CanStill}
+use Rattle.open_calls.specs.Maint.{command_at, no_command, IsMaint, HasNoCommand, HasTurn, IsAskedBy, IsOfTurn, CanStill}
 use Rattle.open_calls.specs.Maint.{FitsMaint, AreQueued, AreMaint}
 use Rattle.open_calls.proofs.Kept.{each_push}
-use Rattle.open_calls.proofs.PartSteps.{IsOfTurn}
+use Rattle.open_calls.proofs.PartSteps.{turn_of}
+
+-- ---- the command that has the turn
+
+-- it is the first, and has started
+abbrev pub IsFirst : List Ticket → List MaintCall → MaintCall → Type 0
+IsFirst maint commands c = (0 < length commands) × ((ticket_at maint 0).started ≡ true) × (command_at commands 0 ≡ c)
+
+-- whichever it is, it has it still
+abbrev pub FirstStays : List Ticket → List MaintCall → List Ticket → List MaintCall → Type 0
+FirstStays maint commands maint2 commands2 =
+    0 < length commands → (ticket_at maint 0).started ≡ true → IsFirst maint2 commands2 (command_at commands 0)
+
+pub turn_still : (maint maint2 : List Ticket) (commands commands2 : List MaintCall) (stream : ℕ) (c : Command)
+    → HasTurn maint commands stream c → IsFirst maint2 commands2 (command_at commands 0) → HasTurn maint2 commands2 stream c
+turn_still maint maint2 commands commands2 stream c has first = record {
+  some = first.0;
+  started = first.1;
+  own = ap (λ (x : MaintCall). x.stream) first.2 ∙ has.own;
+  command = ap (λ (x : MaintCall). x.command) first.2 ∙ has.command;
+}
+
+-- as one is enrolled
+pub first_pushed : (maint : List Ticket) (commands : List MaintCall) (t : Ticket) (c : MaintCall)
+    → length commands ≡ length maint → FirstStays maint commands (maint ++ t ∷ []) (commands ++ c ∷ [])
+first_pushed maint commands t c paired some started = (
+  omega (arith, some, length_push commands c),
+  ap (λ (x : Ticket). x.started) (get_or_append_left maint (t ∷ []) no_ticket 0 (omega (arith, some, paired))) ∙ started,
+  get_or_append_left commands (c ∷ []) no_command 0 some,
+)
+
+-- as the first has the turn
+pub first_started : (maint : List Ticket) (commands : List MaintCall) → 0 < length maint
+    → FirstStays maint commands (with_started maint 0) commands
+first_started maint commands within some started = (
+  some,
+  ap (λ (x : Ticket). x.started)
+      (get_or-set_same maint 0 (record (ticket_at maint 0) { started = true }) no_ticket within),
+  refl,
+)
+
+-- as one goes that waits
+pub first_left : (maint : List Ticket) (commands : List MaintCall) (k : ℕ) → length commands ≡ length maint
+    → k < length maint → (ticket_at maint k).started ≡ false
+    → FirstStays maint commands (remove maint k) (remove commands k)
+first_left maint commands k paired h waits some started =
+    ⊎_elim
+    (λ zero. absurd (not_both (ticket_at maint k).started waits (ap (λ n. (ticket_at maint n).started) zero ∙ started)))
+    (λ later.
+    let low : 0 < k = omega (arith, later) in
+    let within : k < length commands = omega (arith, h, paired) in (
+      omega (arith, low, within, length-remove commands k within),
+      ap (λ (x : Ticket). x.started) (get_or-remove_below maint k no_ticket 0 low h) ∙ started,
+      get_or-remove_below commands k no_command 0 low within,
+    ))
+    (cases_eq k 0)
 
 -- ---- a ticket fits, where what is asked of the queue stays
 
@@ -50,17 +105,20 @@ asked_still maint maint2 commands commands2 stream (whole.Barrier r) turn none a
 -- and its ticket fits
 pub fits_queue : (s : Snapshots) (modes : List Mode) (ns : List Node) (maint maint2 : List Ticket)
     (commands commands2 : List MaintCall) (t : Ticket) (c : OpenCall)
-    → ((d : Command) → HasTurn maint commands c.stream d → HasTurn maint2 commands2 c.stream d)
+    → ((d : Command) → HasTurn maint commands c.stream d → IsFirst maint2 commands2 (command_at commands 0))
     → (HasNoCommand c.stream commands → HasNoCommand c.stream commands2)
     → ((k : ℕ) → k < length commands2 → c.stream ≡ (command_at commands2 k).stream → t.kind ≡ kind.Whole)
     → FitsMaint s modes ns maint commands t c → FitsMaint s modes ns maint2 commands2 t c
-fits_queue s modes ns maint maint2 commands commands2 t c turn none apart fit = record {
+fits_queue s modes ns maint maint2 commands commands2 t c first none apart fit = record {
   apart = apart;
   whole = λ w. let o = fit.whole w in
       record {
         op = o.op;
         is = o.is;
-        asked = asked_still maint maint2 commands commands2 c.stream o.op turn none o.asked;
+        asked = asked_still maint maint2 commands commands2 c.stream o.op
+            (λ d has. turn_still maint maint2 commands commands2 c.stream d has (first d has)) none o.asked;
+        saw = λ of. o.saw of
+            ∙ ap (λ (x : MaintCall). x.saw) (sym (first (command_of o.op) (turn_of maint commands c.stream o.op of o.asked)).2);
         still = o.still;
       };
 }
@@ -97,23 +155,12 @@ module _ (streams : ℕ) (es : List Entry) (maint : List Ticket) (commands : Lis
     saw = each_command (λ (x : MaintCall). x.saw ≤ length es) ok.saw (omega (arith, saw));
   }
 
-  -- who has the turn has it still
-  turn_pushed : (stream : ℕ) (d : Command) → HasTurn maint commands stream d → HasTurn longer more stream d
-  turn_pushed stream d has =
-      let first = get_or_append_left commands (c ∷ []) no_command 0 has.some in
-      record {
-        some = omega (arith, has.some, length_push commands c);
-        started = ap (λ (x : Ticket). x.started) (get_or_append_left maint (t ∷ []) no_ticket 0 (omega (arith, has.some, ok.paired)))
-            ∙ has.started;
-        own = ap (λ (x : MaintCall). x.stream) first ∙ has.own;
-        command = ap (λ (x : MaintCall). x.command) first ∙ has.command;
-      }
-
   -- a call of another stream fits as before
   pub fits_more : (s : Snapshots) (modes : List Mode) (ns : List Node) (u : Ticket) (d : OpenCall) → d.stream ≢ c.stream
       → FitsMaint s modes ns maint commands u d → FitsMaint s modes ns longer more u d
   fits_more s modes ns u d other fit =
-      fits_queue s modes ns maint longer commands more u d (turn_pushed d.stream)
+      fits_queue s modes ns maint longer commands more u d
+      (λ e has. first_pushed maint commands t c ok.paired has.some has.started)
       (λ none. each_command (λ (x : MaintCall). x.stream ≢ d.stream) none (λ e. other (sym e)))
       (each_command (λ (x : MaintCall). d.stream ≡ x.stream → u.kind ≡ kind.Whole) fit.apart (λ e. absurd (other e)))
       fit
@@ -156,14 +203,7 @@ module _ (streams : ℕ) (es : List Entry) (maint : List Ticket) (commands : Lis
       → FitsMaint s modes ns maint commands u d → FitsMaint s modes ns (with_started maint 0) commands u d
   fits_turn s modes ns u d fit =
       fits_queue s modes ns maint (with_started maint 0) commands commands u d
-      (λ e has. record {
-        some = has.some;
-        started =
-            ap (λ (x : Ticket). x.started) (get_or-set_same maint 0 first no_ticket some);
-        own = has.own;
-        command =
-            has.command;
-      })
+      (λ e has. first_started maint commands some has.some has.started)
       (λ none. none) fit.apart fit
 
 -- the queue and the calls, once the first has started
@@ -225,10 +265,10 @@ module _ (streams : ℕ) (es : List Entry) (maint : List Ticket) (commands : Lis
 
   -- each call fits that was not asked by it
   fits_less : (s : Snapshots) (modes : List Mode) (ns : List Node) (u : Ticket) (d : OpenCall)
-      → ((c : Command) → HasTurn maint commands d.stream c → HasTurn fewer others d.stream c)
+      → ((c : Command) → HasTurn maint commands d.stream c → IsFirst fewer others (command_at commands 0))
       → FitsMaint s modes ns maint commands u d → FitsMaint s modes ns fewer others u d
-  fits_less s modes ns u d turn fit =
-      fits_queue s modes ns maint fewer commands others u d turn
+  fits_less s modes ns u d first fit =
+      fits_queue s modes ns maint fewer commands others u d first
       (λ none. each_other (λ (x : MaintCall). x.stream ≢ d.stream) none)
       (each_other (λ (x : MaintCall). d.stream ≡ x.stream → u.kind ≡ kind.Whole) fit.apart)
       fit
@@ -237,21 +277,8 @@ module _ (streams : ℕ) (es : List Entry) (maint : List Ticket) (commands : Lis
   pub fits_withdrawn : (s : Snapshots) (modes : List Mode) (ns : List Node) (u : Ticket) (d : OpenCall)
       → (ticket_at maint k).started ≡ false → FitsMaint s modes ns maint commands u d
       → FitsMaint s modes ns fewer others u d
-  fits_withdrawn s modes ns u d waits = fits_less s modes ns u d turn
-    where
-      turn : (c : Command) → HasTurn maint commands d.stream c → HasTurn fewer others d.stream c
-      turn c has =
-          ⊎_elim
-          (λ zero. absurd (not_both (ticket_at maint k).started waits (ap (λ n. (ticket_at maint n).started) zero ∙ has.started)))
-          (λ later. let low : 0 < k = omega (arith, later) in
-          let same = get_or-remove_below commands k no_command 0 low command_in in
-          record {
-            some = omega (arith, low, command_in, length-remove commands k command_in);
-            started = ap (λ (x : Ticket). x.started) (get_or-remove_below maint k no_ticket 0 low h) ∙ has.started;
-            own = ap (λ (x : MaintCall). x.stream) same ∙ has.own;
-            command = ap (λ (x : MaintCall). x.command) same ∙ has.command;
-          })
-          (cases_eq k 0)
+  fits_withdrawn s modes ns u d waits = fits_less s modes ns u d
+      (λ c has. first_left maint commands k ok.paired h waits has.some has.started)
 
   -- the first ends, and each call of another stream fits
   pub fits_ended : (s : Snapshots) (modes : List Mode) (ns : List Node) (u : Ticket) (d : OpenCall) → k ≡ 0
@@ -286,10 +313,11 @@ turn_ended s streams es modes ts cs ns maint commands paired h idle ok = record 
 -- the command that has the turn asks
 pub turn_asks : (s : Snapshots) (modes : List Mode) (ns : List Node) (maint : List Ticket) (commands : List MaintCall)
     (t : Ticket) (c : OpenCall) (op : WholeOp) → t.kind ≡ kind.Whole → c.op ≡ Some op → IsOfTurn op
-    → HasTurn maint commands c.stream (command_of op) → CanStill s modes ns op → FitsMaint s modes ns maint commands t c
-turn_asks s modes ns maint commands t c op is asks of turn can = record {
+    → HasTurn maint commands c.stream (command_of op) → c.saw ≡ (command_at commands 0).saw → CanStill s modes ns op
+    → FitsMaint s modes ns maint commands t c
+turn_asks s modes ns maint commands t c op is asks of turn saw can = record {
   apart = λ _ _ _. is;
-  whole = λ _. record { op = op; is = asks; asked = go op of turn; still = λ _. can };
+  whole = λ _. record { op = op; is = asks; asked = go op of turn; saw = λ _. saw; still = λ _. can };
 }
   where
     go : (op : WholeOp) → IsOfTurn op → HasTurn maint commands c.stream (command_of op) → IsAskedBy maint commands c.stream op
@@ -305,7 +333,7 @@ pub snapshot_asks : (s : Snapshots) (modes : List Mode) (ns : List Node) (maint 
     → begins_sys name ≡ false → HasNoCommand c.stream commands → FitsMaint s modes ns maint commands t c
 snapshot_asks s modes ns maint commands t c name is asks own none = record {
   apart = λ _ _ _. is;
-  whole = λ _. record { op = whole.Snapshot name; is = asks; asked = (own, none); still = λ _. tt };
+  whole = λ _. record { op = whole.Snapshot name; is = asks; asked = (own, none); saw = λ of. absurd of; still = λ _. tt };
 }
 
 -- its ticket is enrolled

@@ -60,6 +60,11 @@ abbrev pub IsAskedBy : List Ticket → List MaintCall → ℕ → WholeOp → Ty
 IsAskedBy maint commands stream (whole.Snapshot name) = (begins_sys name ≡ false) × HasNoCommand stream commands
 IsAskedBy maint commands stream op = HasTurn maint commands stream (command_of op)
 
+-- what that command asks: anything but a snapshot
+abbrev pub IsOfTurn : WholeOp → Type 0
+IsOfTurn (whole.Snapshot name) = ⊥
+IsOfTurn op = Unit {0}
+
 -- a part of a purge can be done, and each replica that is read and written has folded its child
 pub record CanGo (s : Snapshots) (modes : List Mode) (nodes : List Node) (f : FoldOrDrop) : Type 0 where
   pub can : CanBeDone s.tree s.on f
@@ -70,12 +75,13 @@ abbrev pub CanStill : Snapshots → List Mode → List Node → WholeOp → Type
 CanStill s modes nodes (whole.Purge f) = CanGo s modes nodes f
 CanStill s modes nodes op = Unit {0}
 
--- what a ticket for the whole volume is for
+-- What a ticket for the whole volume is for. What the command asks that has the turn, saw what the command did.
 pub record IsWholeOf (s : Snapshots) (modes : List Mode) (nodes : List Node) (maint : List Ticket)
     (commands : List MaintCall) (t : Ticket) (c : OpenCall) : Type 0 where
   pub op : WholeOp
   pub is : c.op ≡ Some op
   pub asked : IsAskedBy maint commands c.stream op
+  pub saw : IsOfTurn op → c.saw ≡ (command_at commands 0).saw
   pub still : t.started ≡ false → CanStill s modes nodes op
 
 -- A ticket and its call: a stream with a command there has nothing else open but for the whole volume.

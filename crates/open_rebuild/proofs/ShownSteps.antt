@@ -215,6 +215,7 @@ module _ (size : ℕ) (modes : List Mode) (ts : List Ticket) (cs : List OpenCall
         op = o.op;
         is = o.is;
         asked = o.asked;
+        saw = o.saw;
         still = λ waits. waits_still o.op s modes ns ms (λ r e. get_or-set_other ns b.target r after (blank 0) (apart r e)) (o.still waits);
       };
     };
