@@ -19,9 +19,9 @@ use Rattle.volume_model.specs.Faults.{last_count}
 use Rattle.volume_model.specs.Modes.{mode_of}
 use Rattle.volume_model.specs.PlainState.{PlainState}
 use Rattle.volume_model.specs.PlainStep.{plain_step, after_call}
-use Rattle.volume_model.specs.Rebuilds.{rebuild_of, AreBehindFalls}
+use Rattle.volume_model.specs.Rebuilds.{rebuild_of}
 use Rattle.volume_model.specs.Replay.{is_refusal}
-use Rattle.volume_model.proofs.FallLemmas.{behind_falls_answer, behind_falls_fault, behind_falls_failed}
+use Rattle.volume_model.proofs.FallLemmas.{behind_falls_fault, behind_falls_failed}
 use Rattle.volume_model.proofs.FallLemmas.{behind_falls_fall, behind_falls_fail}
 use Rattle.volume_model.proofs.PushLemmas.{modes_after-push}
 use Rattle.volume_model.proofs.StepLemmas.{replay-push}
@@ -40,9 +40,10 @@ use Rattle.open_rebuild.proofs.RangeSteps.{up_wo}
 use Rattle.volume_core.specs.declared.world.EndedRebuild.{EndedRebuild}
 use Rattle.volume_core.specs.State.{State, opening_of, told_of, modes_in, index_at}
 use Rattle.volume_core.specs.Steps.{with_place, answered, marked, aborted, faulted, failed}
-use Rattle.volume_core.specs.Sound.{IsSound, IsSoundOn, AreAdds, HasAdd, NoneGaveUp, how_far}
+use Rattle.volume_core.specs.Sound.{IsSound, IsSoundOn, AreAdds, HasAdd, AreCaused, NoneGaveUp, how_far}
 use Rattle.step_answers.specs.Asked.{IsNow}
 use Rattle.volume_core.specs.Answers.{failed_by, failed_in, after_fail}
+use Rattle.volume_core.proofs.Caused.{caused_answer, caused_more}
 use Rattle.volume_core.proofs.Ends.{its_answer}
 use Rattle.volume_core.proofs.Falls.{fault_on, fault_over}
 use Rattle.volume_core.proofs.FarLemmas.{begun_of, GoesOn, Aborts, behind}
@@ -60,9 +61,9 @@ module _ (s : State) (ok : IsSound s) (indices : List ℕ) (es : List Entry) (sp
       → length s.indices ≡ length indices → IsWhole (told_of s) ms s.tickets s.calls s.nodes s.whole
       → ((q : ℕ) → mode_of ms q ≡ Rw → mode_of (modes_in s) q ≡ Rw) → AreQueued (length s.indices) es s.maint s.commands
       → IsRebuilding s.size ms s.tickets s.calls s.whole s.nodes o → AreAdds s.maint s.commands o g
-      → (NoneGaveUp s.gave_up → AreBehindFalls es)
+      → (NoneGaveUp s.gave_up → AreCaused s.maint s.commands es)
       → IsSoundOn (due s.whole (told_of s).volume) (forms s.whole s.nodes) fallen_to → IsSound fallen_to
-  fallen ms modes told many whole fewer queued rebuild adds fell on = record {
+  fallen ms modes told many whole fewer queued rebuild adds caused on = record {
     on = on_same s.whole (told_of s) (told_of fallen_to) s.nodes fallen_to told on;
     whole = same_whole (told_of s) (told_of fallen_to) ms (modes_in fallen_to) s.tickets s.calls s.nodes s.whole told modes whole;
     maint = same_maint (told_of s).volume.snapshots (told_of fallen_to).volume.snapshots (length s.indices) (length indices)
@@ -76,7 +77,7 @@ module _ (s : State) (ok : IsSound s) (indices : List ℕ) (es : List Entry) (sp
     disk = ap (λ (p : PlainState). length p.volume.disk) (sym told) ∙ ok.disk;
     rebuild = subst (λ (x : List Mode). IsRebuilding s.size x s.tickets s.calls s.whole s.nodes o) modes rebuild;
     adds = adds;
-    fell = fell;
+    caused = caused;
     streams = ok.streams ∙ many;
   }
 
@@ -150,7 +151,9 @@ module _ (s : State) (stream r count : ℕ) (ok : IsSound s) (up : mode_of (mode
       (whole_one s ok r up) (fewer_one s ok r up)
       (queued_mark (length s.indices) s.book.entries m s.maint s.commands ok.maint.queued) (rebuild_one s ok r up apart)
       ok.adds
-      (λ none. behind_falls_fault s.book.entries stream r count (ok.fell none))
+      (λ none. let was = ok.caused none in
+      caused_more s.maint s.commands s.book.entries was (entry.Mark m ∷ [])
+      (behind_falls_fault s.book.entries stream r count was.fell) (refl, tt))
       (fault_on (due s.whole (told_of s).volume) (forms s.whole s.nodes) s stream r count ok.on up above apart)
 
   fault_ends : (b : Rebuilding) → s.rebuild ≡ Some b → (r ≡ b.target) ⊎ (r ≡ b.source) → IsSound (aborted (marked s m) b.target)
@@ -166,8 +169,11 @@ module _ (s : State) (stream r count : ℕ) (ok : IsSound s) (up : mode_of (mode
       (queued_mark (length s.indices) longer e s.maint s.commands
       (queued_mark (length s.indices) s.book.entries m s.maint s.commands ok.maint.queued))
       (rebuild_both s ok r up b begun) (adds_both s ok r up b (length longer) begun)
-      (λ none. subst AreBehindFalls (sym (append_assoc s.book.entries (entry.Mark m ∷ []) (entry.Mark e ∷ [])))
-      (behind_falls_fall s.book.entries stream r count b.target b.source (ok.fell none) (open_there s ok r up b begun) part))
+      (λ none. let was = ok.caused none in
+      subst (AreCaused s.maint s.commands) (sym (append_assoc s.book.entries (entry.Mark m ∷ []) (entry.Mark e ∷ [])))
+      (caused_more s.maint s.commands s.book.entries was (entry.Mark m ∷ entry.Mark e ∷ [])
+      (behind_falls_fall s.book.entries stream r count b.target b.source was.fell (open_there s ok r up b begun) part)
+      (refl, (refl, tt))))
       (fault_over (due s.whole (told_of s).volume) (forms s.whole s.nodes) s stream r count ok.on up above b begun)
 
   pub faulted_kept : IsSound (faulted s stream r count)
@@ -213,7 +219,9 @@ module _ (s : State) (stream r : ℕ) (ok : IsSound s) (within : stream < length
       (whole_one s ok r up) (fewer_one s ok r up)
       (queued_answer (length s.indices) told_longer a s.maint s.commands queued_one no_command)
       (rebuild_one s ok r up apart) ok.adds
-      (λ none. behind_falls_answer told_longer a (behind_falls_failed s.book.entries r (ok.fell none))) on
+      (λ none. let was = ok.caused none in
+      caused_answer s.maint s.commands told_longer (caused_more s.maint s.commands s.book.entries was (entry.Mark mf ∷ [])
+      (behind_falls_failed s.book.entries r was.fell) (refl, tt)) a) on
 
   fail_ends : (b : Rebuilding) → s.rebuild ≡ Some b → (r ≡ b.target) ⊎ (r ≡ b.source)
       → IsSoundOn (due s.whole (told_of s).volume) (forms s.whole s.nodes)
@@ -234,8 +242,12 @@ module _ (s : State) (stream r : ℕ) (ok : IsSound s) (within : stream < length
       (queued_answer (length s.indices) over a s.maint s.commands
       (queued_mark (length s.indices) told_longer e s.maint s.commands queued_one) no_command)
       (rebuild_both s ok r up b begun) (adds_both s ok r up b (length told_longer) begun)
-      (λ none. behind_falls_answer over a (subst AreBehindFalls (sym (append_assoc s.book.entries (entry.Mark mf ∷ []) (entry.Mark e ∷ [])))
-      (behind_falls_fail s.book.entries r b.target b.source (ok.fell none) (open_there s ok r up b begun) part)))
+      (λ none. let was = ok.caused none in
+      caused_answer s.maint s.commands over
+      (subst (AreCaused s.maint s.commands) (sym (append_assoc s.book.entries (entry.Mark mf ∷ []) (entry.Mark e ∷ [])))
+      (caused_more s.maint s.commands s.book.entries was (entry.Mark mf ∷ entry.Mark e ∷ [])
+      (behind_falls_fail s.book.entries r b.target b.source was.fell (open_there s ok r up b begun) part)
+      (refl, (refl, tt)))) a)
       on
 
   pub fails_kept : IsSoundOn (due s.whole (told_of s).volume) (forms s.whole s.nodes) (after (failed (with_place s) r))

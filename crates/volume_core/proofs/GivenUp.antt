@@ -1,9 +1,8 @@
 -- A rebuild is given up: the invariant is kept, and other streams see no more of it than its mark.
-use Rattle.std.proofs.Common.{◌≡◌, ℕ, ◌<◌, true, false, List, [], ◌∷◌, ◌++◌, length, set, length-set, get_or-set_same}
+use Rattle.std.proofs.Common.{◌≡◌, ℕ, ◌<◌, true, false, List, [], ◌∷◌, ◌++◌, length, set, length-set}
 use Rattle.std.proofs.Common.{get_or-set_other, refl, sym, ap, subst, ◌∙◌, arith}
 use Rattle.std.specs.Prelude.{Option, None, Some, IfSome}
 use Rattle.std.specs.List.{count_by}
-use Rattle.std.proofs.lemmas.Bool.{false≢true}
 use Rattle.volume_model.specs.declared.entry.Entry.{Entry}
 use Rattle.volume_model.specs.declared.entry.Entry.TheVariants as entry
 use Rattle.volume_model.specs.declared.mark.Mark.{Mark}
@@ -34,6 +33,7 @@ use Rattle.volume_core.specs.State.{State, opening_of, told_of, modes_in, gave_u
 use Rattle.volume_core.specs.Steps.{given_up}
 use Rattle.volume_core.specs.Sound.{IsSound, IsSoundOn, IsOrdered, HasAdd, is_up, how_far, owed_end}
 use Rattle.volume_core.specs.Streams.{running, turning, MayGo, origin_of}
+use Rattle.volume_core.proofs.Caused.{given_caused}
 use Rattle.volume_core.proofs.Ends.{same_clients}
 use Rattle.volume_core.proofs.Falls.{failed_again, fewer_up}
 use Rattle.volume_core.proofs.FarLemmas.{begun_of, far_aborted}
@@ -117,8 +117,7 @@ module _ (s : State) (stream : ℕ) (b : Rebuilding) (ok : IsSound s) (within : 
       of_ended = subst (λ (x : Option Rebuilding). IfSome x (λ y. HasAdd s.maint s.commands y.target)) begun ok.adds.of_begun;
       one = tt;
     };
-    fell = λ none. absurd (false≢true (sym (none stream)
-        ∙ get_or-set_same s.gave_up stream true false (omega (arith, within, ok.streams))));
+    caused = given_caused s.gave_up stream s.maint s.commands longer (omega (arith, within, ok.streams));
     streams = length-set s.gave_up stream true ∙ ok.streams;
   }
 

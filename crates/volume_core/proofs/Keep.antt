@@ -39,8 +39,6 @@ use Rattle.open_calls.proofs.PartLemmas.{acked_was}
 use Rattle.open_rebuild.specs.Claim.{IsRebuilding}
 use Rattle.open_rebuild.proofs.RangeSteps as keeps
 use Rattle.replica_node.specs.Held.{IsChained}
-use Rattle.volume_model.specs.Rebuilds.{AreBehindFalls}
-use Rattle.volume_model.proofs.FallLemmas.{behind_falls_answer}
 use Rattle.open_calls.proofs.SeenLemmas.{behind_within}
 use Rattle.open_calls.specs.declared.maint.MaintCall.{MaintCall}
 use Rattle.open_calls.specs.declared.whole.Whole.{Whole}
@@ -51,7 +49,8 @@ use Rattle.open_calls.proofs.Kept.{none_whole, whole_enrolled, whole_left, each_
 use Rattle.open_calls.proofs.Kept.{queued_answer, fits_still, fits_range, range_alone}
 use Rattle.volume_core.specs.State.{State, opening_of, told_of, modes_in, index_at}
 use Rattle.volume_core.specs.Steps.{with_place, answered, enrolled, without_call, started, wrote, has_read, acked, ended}
-use Rattle.volume_core.specs.Sound.{IsSound, IsSoundOn, IsCalm, AreAdds, NoneGaveUp}
+use Rattle.volume_core.specs.Sound.{IsSound, IsSoundOn, IsCalm, AreAdds, AreCaused, NoneGaveUp}
+use Rattle.volume_core.proofs.Caused.{caused_answer}
 use Rattle.volume_core.proofs.RebuildKept.{roomed}
 use Rattle.step_answers.specs.Asked.{IsOnRange}
 use Rattle.volume_core.specs.Answers.{IsRoomier, BeginsBy, EndsWrite}
@@ -101,16 +100,16 @@ calm_at s i ok h on range = calm_of s ok (started_calm s i ok h on range)
 pub of_calm : (s : State) → s.whole ≡ None → IsCalm s → IsWhole (told_of s) (modes_in s) s.tickets s.calls s.nodes None
     → AreMaint (told_of s).volume.snapshots (length s.indices) s.book.entries (modes_in s) s.tickets s.calls s.nodes s.maint s.commands
     → IsRebuilding s.size (modes_in s) s.tickets s.calls None s.nodes s.rebuild
-    → AreAdds s.maint s.commands s.rebuild s.ended → (NoneGaveUp s.gave_up → AreBehindFalls s.book.entries)
+    → AreAdds s.maint s.commands s.rebuild s.ended → (NoneGaveUp s.gave_up → AreCaused s.maint s.commands s.book.entries)
     → length s.gave_up ≡ length s.indices → IsSound s
-of_calm s none calm whole maint rebuild adds fell streams = record {
+of_calm s none calm whole maint rebuild adds caused streams = record {
   on = subst (λ (w : Option Whole). IsSoundOn (due w (told_of s).volume) (forms w s.nodes) s) (sym none) calm;
   whole = subst (λ (w : Option Whole). IsWhole (told_of s) (modes_in s) s.tickets s.calls s.nodes w) (sym none) whole;
   maint = maint;
   disk = calm.clients.agree.disk;
   rebuild = subst (λ (w : Option Whole). IsRebuilding s.size (modes_in s) s.tickets s.calls w s.nodes s.rebuild) (sym none) rebuild;
   adds = adds;
-  fell = fell;
+  caused = caused;
   streams = streams;
 }
 
@@ -131,7 +130,7 @@ place_kept s ok = record {
   disk = ok.disk;
   rebuild = ok.rebuild;
   adds = ok.adds;
-  fell = ok.fell;
+  caused = ok.caused;
   streams = ok.streams;
 }
 
@@ -150,7 +149,7 @@ roomier_kept s s2 ok none is =
           (ticket_at s.tickets i) (open_at s.calls i) (λ r e. e) (same_layers s is.nodes is.keeps) (ok.maint.fits i l);
     })
     (roomed s.size (modes_in s) s.tickets s.calls s.nodes is.nodes s.rebuild is.keeps (rebuild_of_none s ok none)) ok.adds
-    ok.fell ok.streams)
+    ok.caused ok.streams)
 
 -- and one place more before that
 pub roomier_place : (s s2 : State) → IsRoomier (with_place s) s2 → IsRoomier s s2
@@ -173,7 +172,7 @@ enrolled_kept s t c ok range none new fresh on = record {
   disk = ok.disk;
   rebuild = keeps.call_enrolled s.size (modes_in s) s.tickets s.calls s.whole s.nodes s.rebuild t c ok.on.clients.paired new ok.rebuild;
   adds = ok.adds;
-  fell = ok.fell;
+  caused = ok.caused;
   streams = ok.streams;
 }
 
@@ -222,7 +221,7 @@ withdrawn_kept s i ok h waits = record {
   rebuild = keeps.call_gone s.size (modes_in s) s.tickets s.calls s.whole s.nodes s.rebuild i ok.on.clients.paired h
       (λ w. not_both (ticket_at s.tickets i).started waits w.started) ok.rebuild;
   adds = ok.adds;
-  fell = ok.fell;
+  caused = ok.caused;
   streams = ok.streams;
 }
 
@@ -253,7 +252,7 @@ module _ (s : State) (ok : IsSound s) (stream : ℕ) (c : Call) (r : Reply) (wit
         disk = ap (λ (p : PlainState). length p.volume.disk) same ∙ ok.disk;
         rebuild = subst (λ (ms : List Mode). IsRebuilding s.size ms s.tickets s.calls s.whole s.nodes s.rebuild) modes ok.rebuild;
         adds = ok.adds;
-        fell = λ none. behind_falls_answer s.book.entries a (ok.fell none);
+        caused = λ none. caused_answer s.maint s.commands s.book.entries (ok.caused none) a;
         streams = ok.streams ∙ sym length_set_here;
       }
 
@@ -296,7 +295,7 @@ module _ (s : State) (i : ℕ) (ok : IsSound s) (h : i < length s.tickets) (on :
             (subst (λ n. HasNoCommand n s.commands) (sym same)
             (range_alone (told_of s).volume.snapshots (modes_in s) s.nodes s.maint s.commands t (open_at s.calls i) range
             old))));
-      }) rebuild ok.adds ok.fell ok.streams
+      }) rebuild ok.adds ok.caused ok.streams
 
   call_in : i < length s.calls
   call_in = omega (arith, h, ok.on.clients.paired)
@@ -367,7 +366,7 @@ begins_kept s s2 i source ok h waits clear read k is b =
         })
         (keeps.call_started s.size (modes_in s) s.tickets s.calls s.nodes ns s.rebuild i front back buffer
         (omega (arith, h, ok.on.clients.paired)) h room (rebuild_of_none s ok none))
-        ok.adds ok.fell ok.streams)
+        ok.adds ok.caused ok.streams)
       where
         started_none : (ticket_at s.tickets i).kind ≢ kind.Whole → (j : ℕ) → j < length (with_started s.tickets i)
             → (ticket_at (with_started s.tickets i) j).kind ≡ kind.Whole
@@ -447,7 +446,7 @@ module _ (s : State) (i : ℕ) (ok : IsSound s) (h : i < length s.tickets) (rang
             i ok.on.clients.paired h ok.maint.fits;
       }))
       (subst (λ (ms : List Mode). IsRebuilding s.size ms (remove s.tickets i) (remove s.calls i) None s.nodes s.rebuild) modes rebuild)
-      ok.adds (λ n. behind_falls_answer s.book.entries a (ok.fell n))
+      ok.adds (λ n. caused_answer s.maint s.commands s.book.entries (ok.caused n) a)
       (ok.streams ∙ sym (length-set s.indices c.stream (index_at s.indices c.stream + 1)))
 
   -- a call that was no started write

@@ -14,3 +14,4 @@ pub mod CallLemmas
 pub mod Appends
 pub mod Moves
 pub mod TurnLemmas
+pub mod Caused

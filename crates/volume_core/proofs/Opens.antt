@@ -89,7 +89,7 @@ opened_sound size streams opening nodes s may is =
       disk = begin.long;
       rebuild = record { roles = may.rebuilt; claim = tt };
       adds = record { of_begun = tt; of_ended = tt; one = tt };
-      fell = λ none. tt;
+      caused = λ none. record { fell = tt; within = tt };
       streams = length-replicate streams false ∙ sym (length-replicate streams zero);
     })
   where

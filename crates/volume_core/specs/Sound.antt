@@ -1,18 +1,21 @@
 -- What is true of a World before and after each step: the invariant.
-use Rattle.std.specs.Prelude.{◌≡◌, ℕ, ◌+◌, ◌<◌, ◌≤◌, ◌==◌, List, length, Bool, true, false, count_by, Option, None}
+use Rattle.std.specs.Prelude.{◌≡◌, ◌⊎◌, ℕ, ◌+◌, ◌<◌, ◌≤◌, ◌==◌, List, length, Any, Bool, true, false, count_by, Option, None}
 use Rattle.std.specs.Prelude.{Some, is_some, IfSome, if◌then◌else◌}
+use Rattle.volume_model.specs.declared.command.Command.{Command}
 use Rattle.volume_model.specs.declared.command.Command.TheVariants as command
 use Rattle.volume_model.specs.declared.mode.Mode.{Mode}
 use Rattle.volume_model.specs.declared.mode.Mode.TheVariants.{Rw, Wo, Err}
 use Rattle.volume_model.specs.Faults.{CountsRise}
-use Rattle.volume_model.specs.History.{Spot, IsLegal, SeenInOrder, answers_of}
+use Rattle.volume_model.specs.History.{Spot, IsLegal, SeenInOrder, answers_of, command_behind, EndsCommand}
 use Rattle.volume_model.specs.Names.{TellOf, AreNamed, AreOwnFree}
 use Rattle.volume_model.specs.PlainState.{Volume}
 use Rattle.volume_model.specs.Rebuilds.{rebuild_of, AreBehindFalls}
 use Rattle.volume_model.specs.Replay.{replay}
 use Rattle.volume_model.specs.Snapshots.{layer_count}
+use Rattle.volume_model.specs.Standing.{Place, EachStands}
 use Rattle.journal_book.specs.declared.opening.Opening.{Opening}
 use Rattle.volume_model.specs.declared.entry.Entry.{Entry}
+use Rattle.volume_model.specs.declared.entry.Entry.TheVariants as entry
 use Rattle.volume_model.specs.declared.mark.Rebuild.{Rebuild}
 use Rattle.volume_model.specs.declared.mark.Rebuild.TheVariants as rebuild
 use Rattle.replica_node.specs.Node.{Node}
@@ -21,7 +24,7 @@ use Rattle.open_calls.specs.Due.{due, forms}
 use Rattle.open_calls.specs.Whole.{IsWhole}
 use Rattle.range_turns.specs.declared.ticket.Ticket.{Ticket}
 use Rattle.open_calls.specs.declared.maint.MaintCall.{MaintCall}
-use Rattle.open_calls.specs.Maint.{AreMaint, HasTurn}
+use Rattle.open_calls.specs.Maint.{AreMaint, HasTurn, command_at}
 use Rattle.open_rebuild.specs.declared.rebuilding.Rebuilding.{Rebuilding}
 use Rattle.open_rebuild.specs.Claim.{IsRebuilding}
 use Rattle.volume_core.specs.declared.world.EndedRebuild.{EndedRebuild}
@@ -90,7 +93,26 @@ pub record AreAdds (maint : List Ticket) (commands : List MaintCall) (begun : Op
   pub of_ended : IfSome ended (λ e. HasAdd maint commands e.target)
   pub one : IfSome begun (λ b. ended ≡ None)
 
--- no stream gave a rebuild up
+-- ---- what caused the marks of a journal
+
+-- the command has the maintenance turn, and saw no more than that many entries
+pub record IsAsking (maint : List Ticket) (commands : List MaintCall) (c : Command) (place : ℕ) : Type 0 where
+  pub stream : ℕ
+  pub turn : HasTurn maint commands stream c
+  pub saw : (command_at commands 0).saw ≤ place
+
+-- a mark that has a command behind it stands in that command so far: it is answered, or has the turn
+abbrev pub StandsSoFar : List Ticket → List MaintCall → Place
+StandsSoFar maint commands before (entry.Answer a) after = Unit {0}
+StandsSoFar maint commands before (entry.Mark m) after = IfSome (command_behind m)
+    (λ c. Any (EndsCommand c (length before)) after ⊎ IsAsking maint commands c (length before))
+
+-- what aborted a rebuild was a fall, and what a command does is done while it is open
+pub record AreCaused (maint : List Ticket) (commands : List MaintCall) (entries : List Entry) : Type 0 where
+  pub fell : AreBehindFalls entries
+  pub within : EachStands (StandsSoFar maint commands) entries
+
+-- no stream gave a command up that had the turn
 abbrev pub NoneGaveUp : List Bool → Type 0
 NoneGaveUp gave_up = (stream : ℕ) → gave_up_at gave_up stream ≡ false
 
@@ -115,5 +137,5 @@ pub record IsSound (s : State) : Type 0 where
   pub disk : length (told_of s).volume.disk ≡ s.size
   pub rebuild : IsRebuilding s.size (modes_in s) s.tickets s.calls s.whole s.nodes s.rebuild
   pub adds : AreAdds s.maint s.commands s.rebuild s.ended
-  pub fell : NoneGaveUp s.gave_up → AreBehindFalls s.book.entries
+  pub caused : NoneGaveUp s.gave_up → AreCaused s.maint s.commands s.book.entries
   pub streams : length s.gave_up ≡ length s.indices

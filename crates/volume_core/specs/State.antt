@@ -18,7 +18,7 @@ use Rattle.volume_core.specs.declared.world.World.{World}
 
 -- The size, the replica that showed how the volume began, the replicas as they are, the tickets that have not ended and
 -- the call of each, the one on the whole volume that has started, the tickets of the maintenance turn and the command of
--- each, the rebuild that is open, the one of the command in turn that was aborted, which streams gave a rebuild up for
+-- each, the rebuild that is open, the one of the command in turn that was aborted, which streams gave a command up for
 -- want of memory, how many calls of each stream were answered, and the journal.
 pub record State : Type 0 where
   pub size : ℕ
@@ -75,6 +75,6 @@ spot_of s = record { state = told_of s; modes = modes_in s }
 abbrev pub index_at : List ℕ → ℕ → ℕ
 index_at indices stream = slice_index_or indices stream 0
 
--- whether the stream gave a rebuild up
+-- whether the stream gave a command up that had the turn
 abbrev pub gave_up_at : List Bool → ℕ → Bool
 gave_up_at gave_up stream = slice_index_or gave_up stream false

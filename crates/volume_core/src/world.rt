@@ -30,7 +30,7 @@ pub struct World {
     pub rebuild: Option<Rebuilding>,
     /// The rebuild of the command that has the turn, where it was aborted.
     pub ended: Option<EndedRebuild>,
-    /// For each stream, whether it gave a rebuild up for want of memory.
+    /// For each stream, whether it gave a command up that had the turn, for want of memory.
     pub gave_up: Vec<bool>,
     /// How many calls of each stream were answered.
     pub indices: Vec<u64>,
