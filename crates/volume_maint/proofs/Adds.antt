@@ -1,27 +1,22 @@
 -- The command of a rebuild in the maintenance turn, and what is so while no rebuild is open.
-use Rattle.std.proofs.Common.{◌≡◌, ◌≢◌, ℕ, ◌<◌, ⊎_elim, true, false, List, [], ◌∷◌, ◌++◌, length, refl, sym, ap, subst, ◌∙◌, arith}
+use Rattle.std.proofs.Common.{◌≡◌, ◌≢◌, ℕ, List, refl, sym, subst}
 use Rattle.std.specs.Prelude.{Option, None, Some}
-use Rattle.std.specs.List.{remove}
-use Rattle.std.proofs.lemmas.Bool.{cases_eq}
-use Rattle.std.proofs.lemmas.List.{get_or_append_left, length_push}
-use Rattle.std.proofs.lemmas.List.Edits.{length-remove, get_or-remove_below}
 use Rattle.volume_model.specs.declared.command.Command.{Command}
 use Rattle.volume_model.specs.declared.command.Command.TheVariants as command
 use Rattle.volume_model.specs.declared.mode.Mode.{Mode}
 use Rattle.volume_model.specs.declared.mode.Mode.TheVariants.{Wo}
 use Rattle.volume_model.specs.Modes.{mode_of, HasNoSource}
 use Rattle.range_turns.specs.declared.ticket.Ticket.{Ticket}
-use Rattle.range_turns.specs.Order.{ticket_at, no_ticket, with_started}
 use Rattle.replica_node.specs.Node.{Node}
 use Rattle.open_calls.specs.declared.open_call.OpenCall.{OpenCall}
 use Rattle.step_answers.specs.declared.whole_op.WholeOp.{WholeOp}
 use Rattle.step_answers.specs.declared.whole_op.WholeOp.TheVariants as whole
 use Rattle.step_answers.specs.Asked.{command_of}
-use Rattle.open_calls.proofs.FreeLemmas.{not_both}
 use Rattle.open_calls.specs.declared.maint.MaintCall.{MaintCall}
 use Rattle.open_calls.specs.declared.whole.Whole.{Whole}
-use Rattle.open_calls.specs.Maint.{command_at, no_command, HasTurn}
+use Rattle.open_calls.specs.Maint.{command_at, HasTurn}
 use Rattle.open_calls.proofs.Ops.{IsPlain}
+use Rattle.open_calls.proofs.Turns.{FirstStays, turn_still}
 use Rattle.open_rebuild.specs.declared.rebuilding.Rebuilding.{Rebuilding}
 use Rattle.open_rebuild.specs.Claim.{AreRoles, IsClaim, IsRebuilding}
 use Rattle.volume_core.specs.declared.world.EndedRebuild.{EndedRebuild}
@@ -29,60 +24,19 @@ use Rattle.volume_core.specs.Sound.{HasAdd, AreAdds}
 
 -- ---- who has the turn has it still
 
-module _ (maint maint2 : List Ticket) (commands commands2 : List MaintCall)
-    (still : (r : ℕ) → HasAdd maint commands r → HasAdd maint2 commands2 r) where
+module _ (maint maint2 : List Ticket) (commands commands2 : List MaintCall) (stays : FirstStays maint commands maint2 commands2) where
+  still : (r : ℕ) → HasAdd maint commands r → HasAdd maint2 commands2 r
+  still r add = record {
+    stream = add.stream;
+    turn = turn_still maint maint2 commands commands2 add.stream (command.Add r) add.turn (stays add.turn.some add.turn.started);
+  }
+
   pub adds_still : (b : Option Rebuilding) (g : Option EndedRebuild) → AreAdds maint commands b g → AreAdds maint2 commands2 b g
   adds_still None None adds = record { of_begun = tt; of_ended = tt; one = tt }
   adds_still (Some b) None adds = record { of_begun = still b.target adds.of_begun; of_ended = tt; one = adds.one }
   adds_still None (Some g) adds = record { of_begun = tt; of_ended = still g.target adds.of_ended; one = tt }
   adds_still (Some b) (Some g) adds =
       record { of_begun = still b.target adds.of_begun; of_ended = still g.target adds.of_ended; one = adds.one }
-
--- as a command is enrolled
-pub add_pushed : (maint : List Ticket) (commands : List MaintCall) (t : Ticket) (c : MaintCall)
-    → length commands ≡ length maint → (r : ℕ) → HasAdd maint commands r → HasAdd (maint ++ t ∷ []) (commands ++ c ∷ []) r
-add_pushed maint commands t c paired r add =
-    let has = add.turn in
-    let first = get_or_append_left commands (c ∷ []) no_command 0 has.some in
-    record {
-      stream = add.stream;
-      turn = record {
-        some = omega (arith, has.some, length_push commands c);
-        started = ap (λ (x : Ticket). x.started) (get_or_append_left maint (t ∷ []) no_ticket 0 (omega (arith, has.some, paired)))
-            ∙ has.started;
-        own = ap (λ (x : MaintCall). x.stream) first ∙ has.own;
-        command = ap (λ (x : MaintCall). x.command) first ∙ has.command;
-      };
-    }
-
--- as the first has the turn
-pub add_started : (maint : List Ticket) (commands : List MaintCall) → (ticket_at (with_started maint 0) 0).started ≡ true
-    → (r : ℕ) → HasAdd maint commands r → HasAdd (with_started maint 0) commands r
-add_started maint commands on r add = let has = add.turn in
-    record { stream = add.stream; turn = record { some = has.some; started = on; own = has.own; command = has.command } }
-
--- as one is taken back that waits
-pub add_left : (maint : List Ticket) (commands : List MaintCall) (k : ℕ) → length commands ≡ length maint → k < length maint
-    → (ticket_at maint k).started ≡ false
-    → (r : ℕ) → HasAdd maint commands r → HasAdd (remove maint k) (remove commands k) r
-add_left maint commands k paired h waits r add =
-    let has = add.turn in
-    ⊎_elim
-    (λ zero. absurd (not_both (ticket_at maint k).started waits (ap (λ n. (ticket_at maint n).started) zero ∙ has.started)))
-    (λ later.
-    let low : 0 < k = omega (arith, later) in
-    let within : k < length commands = omega (arith, h, paired) in
-    let same = get_or-remove_below commands k no_command 0 low within in
-    record {
-      stream = add.stream;
-      turn = record {
-        some = omega (arith, low, within, length-remove commands k within);
-        started = ap (λ (x : Ticket). x.started) (get_or-remove_below maint k no_ticket 0 low h) ∙ has.started;
-        own = ap (λ (x : MaintCall). x.stream) same ∙ has.own;
-        command = ap (λ (x : MaintCall). x.command) same ∙ has.command;
-      };
-    })
-    (cases_eq k 0)
 
 -- ---- no rebuild is open
 

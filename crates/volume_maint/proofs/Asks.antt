@@ -21,24 +21,24 @@ at_most : (n : ℕ) → n ≤ n
 at_most n = omega arith
 
 -- it fits the maintenance turn
-pub asked_fits : (s : State) (number stream saw : ℕ) (op : WholeOp) → MayAsk s stream op
+pub asked_fits : (s : State) (number stream : ℕ) (op : WholeOp) → MayAsk s stream op
     → CanStill (snapshots_told s) (modes_in s) s.nodes op
-    → FitsMaint (snapshots_told s) (modes_in s) s.nodes s.maint s.commands (steps.whole_ticket number) (whole_call stream saw op)
-asked_fits s number stream saw (whole.Snapshot name) may can =
+    → FitsMaint (snapshots_told s) (modes_in s) s.nodes s.maint s.commands (steps.whole_ticket number) (whole_call stream (seen_by s op) op)
+asked_fits s number stream (whole.Snapshot name) may can =
     snapshot_asks (snapshots_told s) (modes_in s) s.nodes s.maint s.commands (steps.whole_ticket number)
-    (whole_call stream saw (whole.Snapshot name)) name refl refl may.0 may.1
-asked_fits s number stream saw (whole.Remove name) may can =
+    (whole_call stream (seen_by s (whole.Snapshot name)) (whole.Snapshot name)) name refl refl may.0 may.1
+asked_fits s number stream (whole.Remove name) may can =
     turn_asks (snapshots_told s) (modes_in s) s.nodes s.maint s.commands (steps.whole_ticket number)
-    (whole_call stream saw (whole.Remove name)) (whole.Remove name) refl refl tt may can
-asked_fits s number stream saw (whole.Revert name) may can =
+    (whole_call stream (seen_by s (whole.Remove name)) (whole.Remove name)) (whole.Remove name) refl refl tt may refl can
+asked_fits s number stream (whole.Revert name) may can =
     turn_asks (snapshots_told s) (modes_in s) s.nodes s.maint s.commands (steps.whole_ticket number)
-    (whole_call stream saw (whole.Revert name)) (whole.Revert name) refl refl tt may can
-asked_fits s number stream saw (whole.Barrier r) may can =
+    (whole_call stream (seen_by s (whole.Revert name)) (whole.Revert name)) (whole.Revert name) refl refl tt may refl can
+asked_fits s number stream (whole.Barrier r) may can =
     turn_asks (snapshots_told s) (modes_in s) s.nodes s.maint s.commands (steps.whole_ticket number)
-    (whole_call stream saw (whole.Barrier r)) (whole.Barrier r) refl refl tt may can
-asked_fits s number stream saw (whole.Purge f) may can =
+    (whole_call stream (seen_by s (whole.Barrier r)) (whole.Barrier r)) (whole.Barrier r) refl refl tt may refl can
+asked_fits s number stream (whole.Purge f) may can =
     turn_asks (snapshots_told s) (modes_in s) s.nodes s.maint s.commands (steps.whole_ticket number)
-    (whole_call stream saw (whole.Purge f)) (whole.Purge f) refl refl tt may can
+    (whole_call stream (seen_by s (whole.Purge f)) (whole.Purge f)) (whole.Purge f) refl refl tt may refl can
 
 -- its caller saw its stream's last answer, and no more than there is
 turn_saw : (s : State) (stream : ℕ) (c : Rattle.volume_model.specs.declared.command.Command.Command) → IsSound s
@@ -74,10 +74,10 @@ asked_sound s number stream op ok size fresh within idle may can =
           idle saw.0 saw.1;
       whole = whole_enrolled (told_of s) (modes_in s) s.tickets s.calls s.nodes s.whole t c ok.whole ok.on.clients.paired refl fresh;
       maint = maint_enrolled (snapshots_told s) (length s.indices) s.book.entries (modes_in s) s.tickets s.calls s.nodes
-          s.maint s.commands t c ok.on.clients.paired (asked_fits s number stream (seen_by s op) op may can) ok.maint;
+          s.maint s.commands t c ok.on.clients.paired (asked_fits s number stream op may can) ok.maint;
       disk = ok.disk;
       rebuild = call_enrolled s.size (modes_in s) s.tickets s.calls s.whole s.nodes s.rebuild t c ok.on.clients.paired refl ok.rebuild;
       adds = ok.adds;
-      fell = ok.fell;
+      caused = ok.caused;
       streams = ok.streams;
     }

@@ -46,6 +46,7 @@ use Rattle.open_rebuild.proofs.WholeSteps.{barrier_snaps, rebuild_begun}
 use Rattle.volume_core.specs.declared.world.EndedRebuild.{EndedRebuild}
 use Rattle.volume_core.specs.State.{State, opening_of, told_of, modes_in}
 use Rattle.volume_core.specs.Sound.{IsSound, IsTold, AreAdds, is_up, how_far}
+use Rattle.volume_core.proofs.Caused.{caused_mark}
 use Rattle.volume_core.proofs.FarLemmas.{none_open}
 use Rattle.volume_core.proofs.Keep.{rebuild_of_none}
 use Rattle.volume_core.proofs.Told.{mark_ordered}
@@ -221,7 +222,10 @@ module _ (s : State) (i : ℕ) (b : Rebuilding) (spares : List (Option Tables)) 
             (barrier_snaps b.target node.number) refl
             (subst (λ (x : Option Rebuilding). IsRebuilding s.size (modes_in s) s.tickets s.calls None s.nodes x) begin.closed calmly));
         adds = adds;
-        fell = λ gave. behind_falls_added s.book.entries b.target b.source name (ok.fell gave);
+        caused = λ gave. let was = ok.caused gave in
+            caused_mark s.maint s.commands s.book.entries was m (command.Add b.target) (length s.indices)
+            (open_at s.calls i).stream (behind_falls_added s.book.entries b.target b.source name was.fell) refl asked
+            ok.maint.queued;
         streams = ok.streams;
       }
 

@@ -240,7 +240,7 @@ module _ (s : State) (i : ℕ) (ok : IsSound s) (h : i < length s.tickets) (is :
         rebuild = whole_started s.size (modes_in s) s.tickets s.calls s.nodes s.rebuild w i calm.clients.order h is waits
             clear calm.clients.agree.as_many refl (may_begin op other asked may) (rebuild_of_none s ok none);
         adds = ok.adds;
-        fell = ok.fell;
+        caused = ok.caused;
         streams = ok.streams;
       }
 

@@ -224,7 +224,7 @@ module _ (s : State) (r : ℕ) (ok : IsSound s) (purging : IsPurging s) (read : 
             (folded_on s r p c page).nodes s.rebuild
             (no_rebuild s.maint s.commands s.rebuild s.ended ok.adds (purge_no_add (command_at s.commands 0).command purges)).0 ok.rebuild;
         adds = ok.adds;
-        fell = ok.fell;
+        caused = ok.caused;
         streams = ok.streams;
       }
 

@@ -1,7 +1,7 @@
 -- A command is enrolled for the maintenance turn, has it, is taken back, ends or is abandoned: each step keeps the invariant.
-use Rattle.std.proofs.Common.{◌≡◌, ℕ, ◌+◌, ◌<◌, true, List, [], ◌∷◌, ◌++◌, length, length-set, get_or-set_same, refl}
+use Rattle.std.proofs.Common.{◌≡◌, ℕ, ◌+◌, ◌<◌, true, List, [], ◌∷◌, ◌++◌, length, length-set, refl}
 use Rattle.std.proofs.Common.{sym, ap, subst, ◌∙◌, arith}
-use Rattle.std.specs.Prelude.{Option, None, Some, IfSome}
+use Rattle.std.specs.Prelude.{Bool, Option, None, Some, IfSome}
 use Rattle.std.specs.List.{remove, count_by}
 use Rattle.std.proofs.lemmas.List.{length_push}
 use Rattle.std.proofs.lemmas.List.Edits.{length-remove}
@@ -20,13 +20,11 @@ use Rattle.volume_model.specs.PlainState.{PlainState, Volume}
 use Rattle.volume_model.specs.PlainStep.{after_call}
 use Rattle.volume_model.specs.Rebuilds.{added_by}
 use Rattle.volume_model.specs.Replay.{after_entry}
-use Rattle.volume_model.proofs.FallLemmas.{behind_falls_answer}
 use Rattle.volume_model.proofs.OwnNames.{IsOwn}
 use Rattle.volume_model.proofs.PushLemmas.{modes_after-push, IsLegal-push}
 use Rattle.volume_model.proofs.RebuildLemmas.{legal_aborted}
 use Rattle.volume_model.proofs.StepLemmas.{replay-push}
-use Rattle.range_turns.specs.declared.ticket.Ticket.{Ticket}
-use Rattle.range_turns.specs.Order.{ticket_at, no_ticket, with_started, IsFresh}
+use Rattle.range_turns.specs.Order.{with_started, IsFresh}
 use Rattle.replica_node.specs.Node.{Node}
 use Rattle.open_calls.specs.Clients.{IsIdle}
 use Rattle.open_calls.proofs.Gone.{seen_clients}
@@ -41,7 +39,8 @@ use Rattle.open_rebuild.specs.Claim.{IsRebuilding}
 use Rattle.volume_core.specs.declared.world.EndedRebuild.{EndedRebuild}
 use Rattle.volume_core.specs.State.{State, opening_of, told_of, modes_in, index_at}
 use Rattle.volume_core.specs.Steps.{given_up}
-use Rattle.volume_core.specs.Sound.{IsSound, IsSoundOn, IsOrdered, AreAdds, HasAdd, is_up, how_far}
+use Rattle.volume_core.specs.Sound.{IsSound, IsSoundOn, IsOrdered, AreAdds, AreCaused, HasAdd, NoneGaveUp, is_up, how_far}
+use Rattle.volume_core.proofs.Caused.{caused_ended, caused_still, given_caused}
 use Rattle.volume_core.proofs.Ends.{its_answer, same_clients}
 use Rattle.volume_core.proofs.GivenUp.{given_up_kept}
 use Rattle.volume_core.proofs.Keep.{same_whole, same_maint, on_same}
@@ -52,7 +51,7 @@ use Rattle.volume_maint.specs.Steps.{ends_aborted, gives_back, abandoned_with, t
 use Rattle.volume_maint.specs.Places.{AwaitsTurn}
 use Rattle.volume_maint.specs.Answers.{MayEnd}
 use Rattle.volume_core.proofs.TurnLemmas.{none_adds}
-use Rattle.volume_maint.proofs.Adds.{adds_still, add_pushed, add_started, add_left, no_rebuild, purge_no_add}
+use Rattle.volume_maint.proofs.Adds.{adds_still, no_rebuild, purge_no_add}
 use Rattle.volume_maint.proofs.AddEnds.{cleared, unbegun, none_beside, aborted_far, done_ends, refused_ends}
 
 -- ---- a command is enrolled
@@ -60,51 +59,53 @@ use Rattle.volume_maint.proofs.AddEnds.{cleared, unbegun, none_beside, aborted_f
 pub enrolled_kept : (s : State) (number : ℕ) (c : MaintCall) → IsSound s → c.stream < length s.indices
     → IsIdle c.stream s.calls → HasNoCommand c.stream s.commands → IsMaint c.command
     → c.saw ≡ length s.book.entries → IsFresh s.maint number → IsSound (maint_enrolled s number c)
-enrolled_kept s number c ok within idle none wants saw fresh = record {
-  on = record {
-    opened = ok.on.opened;
-    told = record { legal = ok.on.told.legal; ordered = ok.on.told.ordered };
-    clients = ok.on.clients;
-    spare = omega (arith, ok.on.spare, length_push s.commands c);
-  };
-  whole = ok.whole;
-  maint = turns.turn_enrolled (told_of s).volume.snapshots (length s.indices) s.book.entries (modes_in s) s.tickets s.calls
-      s.nodes s.maint s.commands (whole_ticket number) c
-      ok.on.clients.paired refl refl fresh wants within saw none idle ok.maint;
-  disk = ok.disk;
-  rebuild = ok.rebuild;
-  adds = adds_still s.maint (s.maint ++ whole_ticket number ∷ []) s.commands (s.commands ++ c ∷ [])
-      (add_pushed s.maint s.commands (whole_ticket number) c ok.maint.queued.paired) s.rebuild s.ended ok.adds;
-  fell = ok.fell;
-  streams = ok.streams;
-}
+enrolled_kept s number c ok within idle none wants saw fresh =
+    let t = whole_ticket number in
+    let stays = turns.first_pushed s.maint s.commands t c ok.maint.queued.paired in
+    record {
+      on = record {
+        opened = ok.on.opened;
+        told = record { legal = ok.on.told.legal; ordered = ok.on.told.ordered };
+        clients = ok.on.clients;
+        spare = omega (arith, ok.on.spare, length_push s.commands c);
+      };
+      whole = ok.whole;
+      maint = turns.turn_enrolled (told_of s).volume.snapshots (length s.indices) s.book.entries (modes_in s) s.tickets
+          s.calls s.nodes s.maint s.commands t c ok.on.clients.paired refl refl fresh wants within saw none idle ok.maint;
+      disk = ok.disk;
+      rebuild = ok.rebuild;
+      adds = adds_still s.maint (s.maint ++ t ∷ []) s.commands (s.commands ++ c ∷ []) stays s.rebuild s.ended ok.adds;
+      caused = λ gave. caused_still s.maint s.commands s.book.entries (ok.caused gave) (s.maint ++ t ∷ [])
+          (s.commands ++ c ∷ []) stays;
+      streams = ok.streams;
+    }
 
 -- ---- the first has the turn
 
 pub begun_kept : (s : State) → IsSound s → 0 < length s.maint → IsSound (turn_begun s)
-begun_kept s ok some = record {
-  on = record { opened = ok.on.opened; told = ok.on.told; clients = ok.on.clients; spare = ok.on.spare };
-  whole = ok.whole;
-  maint = turns.turn_started (told_of s).volume.snapshots (length s.indices) s.book.entries (modes_in s) s.tickets s.calls
-      s.nodes s.maint s.commands some ok.maint;
-  disk = ok.disk;
-  rebuild = ok.rebuild;
-  adds = adds_still s.maint (with_started s.maint 0) s.commands s.commands
-      (add_started s.maint s.commands
-      (ap (λ (x : Ticket). x.started) (get_or-set_same s.maint 0 (record (ticket_at s.maint 0) { started = true }) no_ticket some)))
-      s.rebuild s.ended ok.adds;
-  fell = ok.fell;
-  streams = ok.streams;
-}
+begun_kept s ok some =
+    let stays = turns.first_started s.maint s.commands some in
+    record {
+      on = record { opened = ok.on.opened; told = ok.on.told; clients = ok.on.clients; spare = ok.on.spare };
+      whole = ok.whole;
+      maint = turns.turn_started (told_of s).volume.snapshots (length s.indices) s.book.entries (modes_in s) s.tickets
+          s.calls s.nodes s.maint s.commands some ok.maint;
+      disk = ok.disk;
+      rebuild = ok.rebuild;
+      adds = adds_still s.maint (with_started s.maint 0) s.commands s.commands stays s.rebuild s.ended ok.adds;
+      caused = λ gave. caused_still s.maint s.commands s.book.entries (ok.caused gave) (with_started s.maint 0)
+          s.commands stays;
+      streams = ok.streams;
+    }
 
 -- ---- a command goes
 
 command_in : (s : State) (k : ℕ) → IsSound s → k < length s.maint → k < length s.commands
 command_in s k ok h = omega (arith, h, ok.maint.queued.paired)
 
-on_less : (v : Volume) (ns : List Node) (s : State) (k : ℕ) → IsSoundOn v ns s → k < length s.commands
-    → IsSoundOn v ns (without_command s k)
-on_less v ns s k ok h = record {
+on_less : (v : Volume) (ns : List Node) (s : State) (k : ℕ) (gave_up : List Bool) → IsSoundOn v ns s → k < length s.commands
+    → IsSoundOn v ns (record (without_command s k) { gave_up = gave_up })
+on_less v ns s k gave_up ok h = record {
   opened = ok.opened;
   told = ok.told;
   clients = ok.clients;
@@ -112,29 +113,33 @@ on_less v ns s k ok h = record {
       omega (arith, ok.spare, length-remove s.commands k h);
 }
 
-less_kept : (s : State) (k : ℕ) → IsSound s → k < length s.maint
+less_kept : (s : State) (k : ℕ) (gave_up : List Bool) → IsSound s → k < length s.maint
     → AreMaint (told_of s).volume.snapshots (length s.indices) s.book.entries (modes_in s) s.tickets s.calls s.nodes
     (remove s.maint k) (remove s.commands k)
-    → AreAdds (remove s.maint k) (remove s.commands k) s.rebuild s.ended → IsSound (without_command s k)
-less_kept s k ok h maint adds = record {
-  on = on_less (due s.whole (told_of s).volume) (forms s.whole s.nodes) s k ok.on (command_in s k ok h);
+    → AreAdds (remove s.maint k) (remove s.commands k) s.rebuild s.ended
+    → (NoneGaveUp gave_up → AreCaused (remove s.maint k) (remove s.commands k) s.book.entries)
+    → length gave_up ≡ length s.gave_up → IsSound (record (without_command s k) { gave_up = gave_up })
+less_kept s k gave_up ok h maint adds caused many = record {
+  on = on_less (due s.whole (told_of s).volume) (forms s.whole s.nodes) s k gave_up ok.on (command_in s k ok h);
   whole = ok.whole;
   maint = maint;
   disk = ok.disk;
   rebuild = ok.rebuild;
   adds = adds;
-  fell = ok.fell;
-  streams = ok.streams;
+  caused = caused;
+  streams = many ∙ ok.streams;
 }
 
 -- one that waits
 pub withdrawn_kept : (s : State) (t k : ℕ) → IsSound s → AwaitsTurn s t k → IsSound (without_command s k)
 withdrawn_kept s t k ok at =
-    less_kept s k ok at.stands.within
+    let stays = turns.first_left s.maint s.commands k ok.maint.queued.paired at.stands.within at.waits in
+    less_kept s k s.gave_up ok at.stands.within
     (turns.turn_withdrawn (told_of s).volume.snapshots (length s.indices) s.book.entries (modes_in s) s.tickets s.calls
     s.nodes s.maint s.commands k at.stands.within at.waits ok.maint)
-    (adds_still s.maint (remove s.maint k) s.commands (remove s.commands k)
-    (add_left s.maint s.commands k ok.maint.queued.paired at.stands.within at.waits) s.rebuild s.ended ok.adds)
+    (adds_still s.maint (remove s.maint k) s.commands (remove s.commands k) stays s.rebuild s.ended ok.adds)
+    (λ gave. caused_still s.maint s.commands s.book.entries (ok.caused gave) (remove s.maint k) (remove s.commands k) stays)
+    refl
 
 -- ---- it ends with its answer
 
@@ -204,7 +209,7 @@ module _ (s : State) (t : ℕ) (r : Reply) (ok : IsSound s) (at : IsFreeTurn s t
         disk = ap (λ (p : PlainState). length p.volume.disk) (sym told) ∙ ok.disk;
         rebuild = subst (λ (x : List Mode). IsRebuilding s.size x s.tickets s.calls s.whole s.nodes s.rebuild) modes ok.rebuild;
         adds = none_adds next.maint next.commands s.rebuild None (none, refl);
-        fell = λ gave. behind_falls_answer s.book.entries answer (ok.fell gave);
+        caused = λ gave. caused_ended s.maint s.commands s.book.entries (ok.caused gave) next.maint next.commands answer refl refl;
         streams = ok.streams ∙ counted;
       }
 
@@ -249,10 +254,14 @@ module _ (s : State) (t : ℕ) (ok : IsSound s) (at : IsFreeTurn s t) where
 -- where nothing was begun of a rebuild
 given_back_kept : (s : State) (t : ℕ) → IsSound s → IsFreeTurn s t → s.rebuild ≡ None → s.ended ≡ None → IsSound (gives_back s)
 given_back_kept s t ok at none gone =
-    less_kept s 0 ok at.stands.within
+    let stream = (command_at s.commands 0).stream in
+    less_kept s 0 (gives_back s).gave_up ok at.stands.within
     (turns.turn_ended (told_of s).volume.snapshots (length s.indices) s.book.entries (modes_in s) s.tickets s.calls s.nodes
     s.maint s.commands ok.on.clients.paired at.stands.within at.idle ok.maint)
     (none_adds (remove s.maint 0) (remove s.commands 0) s.rebuild s.ended (none, gone))
+    (given_caused s.gave_up stream (remove s.maint 0) (remove s.commands 0) s.book.entries
+    (omega (arith, ok.maint.queued.within 0 (command_in s 0 ok at.stands.within), ok.streams)))
+    (length-set s.gave_up stream true)
 
 -- where a rebuild was aborted
 aborted_kept : (s : State) (t : ℕ) (e : EndedRebuild) → IsSound s → IsFreeTurn s t → s.ended ≡ Some e → IsSound (ends_aborted s e.place)

@@ -1,7 +1,7 @@
 -- What the other streams see of the steps of the maintenance turn.
-use Rattle.std.proofs.Common.{◌≡◌, ◌≢◌, ℕ, zero, suc, ◌+◌, ◌<◌, true, cond, eqb, List, [], ◌∷◌, ◌++◌, length}
-use Rattle.std.proofs.Common.{length-set, set, sym, refl, ap, ◌∙◌, arith, append-nil, append_assoc}
-use Rattle.std.specs.Prelude.{Option, None, Some}
+use Rattle.std.proofs.Common.{◌≡◌, ◌≢◌, ℕ, zero, suc, ◌+◌, ◌<◌, true, false, cond, eqb, List, [], ◌∷◌, ◌++◌, length}
+use Rattle.std.proofs.Common.{length-set, set, get_or-set_other, sym, refl, ap, ◌∙◌, arith, append-nil, append_assoc}
+use Rattle.std.specs.Prelude.{Bool, Option, None, Some}
 use Rattle.volume_model.specs.declared.call.Call.TheVariants as call
 use Rattle.volume_model.specs.declared.call.Reply.{Reply}
 use Rattle.volume_model.specs.declared.call.Reply.TheVariants as reply
@@ -18,7 +18,7 @@ use Rattle.volume_core.specs.Steps.{answer_entry, given_up}
 use Rattle.volume_core.specs.Sound.{IsSound}
 use Rattle.volume_core.specs.Streams.{running, commands_in, turning, MayAppend, MayGo, origin_of}
 use Rattle.volume_core.specs.Turn.{turn_ended, without_command}
-use Rattle.volume_maint.specs.Steps.{whole_ticket, maint_enrolled, turn_begun, abandoned_with, turn_abandoned}
+use Rattle.volume_maint.specs.Steps.{whole_ticket, maint_enrolled, turn_begun, gives_back, abandoned_with, turn_abandoned}
 use Rattle.volume_core.proofs.TurnLemmas.{commands-remove_other, without_head}
 use Rattle.volume_core.proofs.GivenUp.{given_up_kept, given_up_may}
 
@@ -75,15 +75,17 @@ module _ (s s2 : State) (ok : IsSound s) (ok2 : IsSound s2) where
     gave_up = λ n other. ap (λ (x : State). gave_up_at x.gave_up n) is;
   }
 
-  pub less_goes : (k : ℕ) → s2 ≡ without_command s k → MayGo (command_at s.commands k).stream s s2
-  less_goes k is = record {
+  pub less_goes : (k : ℕ) (gave_up : List Bool) → s2 ≡ record (without_command s k) { gave_up = gave_up }
+      → ((n : ℕ) → n ≢ (command_at s.commands k).stream → gave_up_at gave_up n ≡ gave_up_at s.gave_up n)
+      → MayGo (command_at s.commands k).stream s s2
+  less_goes k gave_up is others = record {
     sound = ok2;
     origin = ap origin_of is;
     added = ([], ap (λ (x : State). x.book.entries) is ∙ sym (append-nil s.book.entries), tt);
     others = λ n other. ap (λ (x : State). running x n) is;
     turns = λ n other. ap (λ (x : State). turning x n) is
         ∙ commands-remove_other n s.maint s.commands k ok.maint.queued.paired (λ e. other (sym e));
-    gave_up = λ n other. ap (λ (x : State). gave_up_at x.gave_up n) is;
+    gave_up = λ n other. ap (λ (x : State). gave_up_at x.gave_up n) is ∙ others n other;
   }
 
   pub ended_goes : (r : Reply) → s2 ≡ turn_ended s r → MayGo (command_at s.commands 0).stream s s2
@@ -140,4 +142,5 @@ abandoned_goes s s2 ok ok2 some is = by s.rebuild s.ended refl is
         goes_on stream s (given_up s stream b.target) s2 (given_up_may s (given_up s stream b.target) stream b.target refl mid)
         (ended_goes (given_up s stream b.target) s2 mid ok2 (reply.Aborted (length s.book.entries)) is)
     by None (Some e) begun is = ended_goes s s2 ok ok2 (reply.Aborted e.place) is
-    by None None begun is = less_goes s s2 ok ok2 0 is
+    by None None begun is = less_goes s s2 ok ok2 0 (gives_back s).gave_up is
+        (λ n other. get_or-set_other s.gave_up stream n true false other)

@@ -25,7 +25,6 @@ use Rattle.volume_model.specs.Replay.{after_entry, is_refusal}
 use Rattle.volume_model.specs.Snapshots.{Snapshots, layer_count}
 use Rattle.volume_model.proofs.OwnNames.{IsOwn}
 use Rattle.volume_model.proofs.PushLemmas.{modes_after-push}
-use Rattle.volume_model.proofs.FallLemmas.{behind_falls_answer}
 use Rattle.volume_model.proofs.SpotLemmas.{answered_there}
 use Rattle.volume_model.proofs.StepLemmas.{replay-push}
 use Rattle.range_turns.specs.declared.ticket.Kind.TheVariants as kind
@@ -42,13 +41,14 @@ use Rattle.open_calls.proofs.SeenLemmas.{seen_answer, idle_once_gone}
 use Rattle.open_calls.specs.declared.maint.MaintCall.{MaintCall}
 use Rattle.open_calls.specs.Due.{due_of}
 use Rattle.open_calls.specs.Whole.{MayBeDone}
-use Rattle.open_calls.specs.Maint.{IsAskedBy, FitsMaint, AreMaint}
-use Rattle.open_calls.proofs.Answered.{turn_of, snapshot_answered, turn_answered}
+use Rattle.open_calls.specs.Maint.{IsAskedBy, IsOfTurn, FitsMaint, AreMaint}
+use Rattle.open_calls.proofs.Answered.{snapshot_answered, turn_answered}
 use Rattle.open_calls.proofs.Ops.{IsPlain}
-use Rattle.open_calls.proofs.PartSteps.{IsOfTurn, asked_there}
+use Rattle.open_calls.proofs.PartSteps.{asked_there, saw_there, turn_of}
 use Rattle.volume_core.specs.State.{State, opening_of, told_of, modes_in, index_at}
 use Rattle.volume_core.specs.Steps.{answered}
-use Rattle.volume_core.specs.Sound.{IsSound, IsSoundOn, IsTold, AreAdds, is_up, owed_end}
+use Rattle.volume_core.specs.Sound.{IsSound, IsSoundOn, IsTold, AreAdds, AreCaused, NoneGaveUp, is_up, owed_end}
+use Rattle.volume_core.proofs.Caused.{caused_answer, caused_ended}
 use Rattle.volume_core.proofs.Ends.{same_clients}
 use Rattle.volume_core.proofs.Keep.{of_calm}
 use Rattle.open_rebuild.specs.Claim.{IsRebuilding}
@@ -255,8 +255,8 @@ module _ (s : State) (ok : IsSound s) (i : ℕ) (op : WholeOp) (h : i < length s
         → AreAdds maint commands s.rebuild s.ended
         → AreMaint v.snapshots (length s.indices) (s.book.entries ++ entry.Answer its ∷ []) (modes_in s)
         (remove s.tickets i) (remove s.calls i) s.nodes maint commands
-        → IsSound (end_with maint commands)
-    with_left maint commands fewer told_so adds queue =
+        → (NoneGaveUp s.gave_up → AreCaused maint commands longer) → IsSound (end_with maint commands)
+    with_left maint commands fewer told_so adds queue caused =
         let open_here = open_at s.calls i in
         let length_set_here = length-set s.indices open_here.stream (index_at s.indices open_here.stream + 1) in
         let s2 : State = end_with maint commands in
@@ -282,7 +282,7 @@ module _ (s : State) (ok : IsSound s) (i : ℕ) (op : WholeOp) (h : i < length s
         (subst (λ (x : ℕ). AreMaint v.snapshots x s2.book.entries (modes_in s) s2.tickets s2.calls s2.nodes s2.maint s2.commands)
         (sym length_set_here) queue)))
         (subst (λ (x : List Mode). IsRebuilding s.size x (remove s.tickets i) (remove s.calls i) None s.nodes s.rebuild)
-        modes can.rebuild) adds (λ n. behind_falls_answer s.book.entries its (ok.fell n))
+        modes can.rebuild) adds caused
         (ok.streams ∙ sym length_set_here)
 
     -- an operation of the command that has the turn, which ends with it
@@ -293,6 +293,10 @@ module _ (s : State) (ok : IsSound s) (i : ℕ) (op : WholeOp) (h : i < length s
         (turn_answered (told_of s).volume.snapshots v.snapshots (length s.indices) s.book.entries (modes_in s) s.tickets
         s.calls s.nodes s.maint s.commands i op ok.on.clients.seen ok.on.clients.paired h is asks ok.maint can.left its of
         refl)
+        (λ gave. caused_ended s.maint s.commands s.book.entries (ok.caused gave) (remove s.maint 0) (remove s.commands 0) its
+        (ap call.Command (sym (turn_of s.maint s.commands (open_at s.calls i).stream op of asked_by).command))
+        (saw_there (told_of s).volume.snapshots (modes_in s) s.nodes s.maint s.commands (ticket_at s.tickets i)
+        (open_at s.calls i) op is asks of (ok.maint.fits i h)))
 
     -- which is no add
     other_ends : IsOfTurn op → IsPlain op → IsOwn (told_of s) (entry.Answer its)
@@ -311,6 +315,7 @@ module _ (s : State) (ok : IsSound s) (i : ℕ) (op : WholeOp) (h : i < length s
         (snapshot_answered (told_of s).volume.snapshots v.snapshots (length s.indices) s.book.entries (modes_in s) s.tickets
         s.calls s.nodes s.maint s.commands i op ok.on.clients.seen ok.on.clients.paired h is asks ok.maint can.left name
         its e refl)
+        (λ gave. caused_answer s.maint s.commands s.book.entries (ok.caused gave) its)
 
 -- with the answer of its command
 pub ends_kept : (s : State) (i : ℕ) (op : WholeOp) (v : Volume) (r : Reply) → IsSound s → i < length s.tickets

@@ -3,6 +3,7 @@ use Rattle.std.proofs.Common.{◌≡◌, ◌≢◌, ℕ, ◌+◌, ◌<◌, ◌�
 use Rattle.std.specs.Prelude.{Option, None, Some}
 use Rattle.std.specs.List.{count_by, remove}
 use Rattle.std.proofs.lemmas.List.Sums.{sum_by-remove}
+use Rattle.volume_model.specs.declared.command.Command.TheVariants as command
 use Rattle.volume_model.specs.declared.call.Refusal.{Refusal}
 use Rattle.volume_model.specs.declared.call.Refusal.TheVariants.{NoReplica}
 use Rattle.volume_model.specs.declared.call.Reply.TheVariants as reply
@@ -31,7 +32,7 @@ use Rattle.open_calls.proofs.SeenLemmas.{seen_mark}
 use Rattle.open_calls.specs.declared.whole.Whole.{Whole}
 use Rattle.open_calls.specs.Due.{due_of, formed}
 use Rattle.open_calls.specs.Whole.{IsWhole, IsStarted, MayBeDone}
-use Rattle.open_calls.specs.Maint.{FitsMaint, AreMaint}
+use Rattle.open_calls.specs.Maint.{HasTurn, IsAskedBy, FitsMaint, AreMaint}
 use Rattle.open_calls.proofs.Answered.{marked_maint, unmarked_maint}
 use Rattle.open_calls.proofs.Ends.{ended_still, done_clients, lost_clients, due_maint, lost_maint}
 use Rattle.open_calls.proofs.Kept.{whole_left}
@@ -39,6 +40,7 @@ use Rattle.open_calls.proofs.Ops.{IsPlain}
 use Rattle.volume_core.specs.State.{State, opening_of, told_of, modes_in, index_at}
 use Rattle.volume_core.specs.Steps.{with_place}
 use Rattle.volume_core.specs.Sound.{IsSound, IsSoundOn, is_up, owed_end}
+use Rattle.volume_core.proofs.Caused.{caused_mark}
 use Rattle.volume_core.proofs.Ends.{same_clients}
 use Rattle.volume_core.proofs.Keep.{place_kept, calm_by, calm_of, of_calm, rebuild_of_none}
 use Rattle.open_rebuild.specs.Claim.{IsRebuilding}
@@ -53,7 +55,7 @@ use Rattle.volume_maint.proofs.Adds.{none_read, settled, free_claim}
 use Rattle.volume_maint.proofs.Barriers.{past_told, past_owed, past_adds, past_rebuilding}
 use Rattle.volume_core.proofs.TurnLemmas.{told_named}
 use Rattle.volume_maint.proofs.WholeSound.{is_started, on_due, its_rebuild, place_is}
-use Rattle.volume_maint.proofs.WholeAnswers.{IsPart, EndsSo, answer_at, after_done, done_answered, lost_answered}
+use Rattle.volume_maint.proofs.WholeAnswers.{IsPart, EndsSo, answer_at, asked_by, after_done, done_answered, lost_answered}
 use Rattle.volume_maint.proofs.WholeAnswers.{refused_answered, ends_other, ends_kept}
 
 -- ---- one that is refused as it asks to start
@@ -210,6 +212,9 @@ module _ (s : State) (w : Whole) (ok : IsSound s) (has : s.whole ≡ Some w) whe
       subst (λ (x : WholeOp). (j : ℕ) → j < length (remove s.tickets at)
       → FitsMaint (due_of x p.volume).snapshots (modes_in s) s.nodes s.maint s.commands
       (ticket_at (remove s.tickets at) j) (open_at (remove s.calls at) j)) part left_done in
+      let turn : HasTurn s.maint s.commands (open_at s.calls at).stream command.Purge =
+      subst (IsAskedBy s.maint s.commands (open_at s.calls at).stream) part
+      (asked_by s ok at w.op its_start.stands.within its_start.kind its_start.op) in
       let may : MayBeDone (whole.Purge f) p = subst (λ (x : WholeOp). MayBeDone x p) part its_start.may in
       let on : IsSoundOn v s.nodes s2 = record {
         opened = ok.on.opened;
@@ -234,7 +239,9 @@ module _ (s : State) (w : Whole) (ok : IsSound s) (has : s.whole ≡ Some w) whe
       at w.op ok.on.clients.seen ok.on.clients.paired its_start.stands.within its_start.kind its_start.op ok.maint left
       (mark.Purged f))))
       (subst (λ (x : List Mode). IsRebuilding s.size x s2.tickets s2.calls None s2.nodes s2.rebuild) modes (rebuild_done done)) ok.adds
-      (λ n. behind_falls_purged es f (ok.fell n)) ok.streams
+      (λ n. let was = ok.caused n in
+      caused_mark s.maint s.commands es was (mark.Purged f) command.Purge length_here (open_at s.calls at).stream
+      (behind_falls_purged es f was.fell) refl turn ok.maint.queued) ok.streams
 
   -- or without one
   gone_ends : HasNoSource (modes_in s) → IsSound (without_whole s at)
@@ -245,7 +252,7 @@ module _ (s : State) (w : Whole) (ok : IsSound s) (has : s.whole ≡ Some w) whe
       (unmarked_maint p.volume.snapshots p.volume.snapshots (length s.indices) s.book.entries (modes_in s) s.tickets s.calls
       s.nodes s.maint s.commands at w.op ok.on.clients.seen ok.on.clients.paired its_start.stands.within its_start.kind
       its_start.op ok.maint left_lost)
-      (rebuild_lost none) ok.adds ok.fell ok.streams
+      (rebuild_lost none) ok.adds ok.caused ok.streams
 
   -- a barrier, behind which its rebuild goes on, if it is open
   barrier_ends : AreClients p.volume s.size (length s.indices) s.book.entries (modes_in s) (remove s.tickets at) (remove s.calls at) s.nodes
@@ -267,7 +274,7 @@ module _ (s : State) (w : Whole) (ok : IsSound s) (has : s.whole ≡ Some w) whe
       s.nodes s.maint s.commands at w.op ok.on.clients.seen ok.on.clients.paired its_start.stands.within its_start.kind
       its_start.op ok.maint left)
       (past_rebuilding s.size (modes_in s) (remove s.tickets at) (remove s.calls at) s.nodes s.rebuild rebuild)
-      (past_adds s.maint s.commands s.rebuild s.ended ok.adds) ok.fell ok.streams
+      (past_adds s.maint s.commands s.rebuild s.ended ok.adds) ok.caused ok.streams
 
   barrier_done : (r : ℕ) → w.op ≡ whole.Barrier r → AreDone s w → IsSound (barrier_ended s at)
   barrier_done r e done =

@@ -79,7 +79,7 @@ module _ (s : State) (w : Whole) (ok : IsSound s) (is : s.whole ≡ Some w) wher
       disk = ok.disk;
       rebuild = rebuilds.whole_parted s.size (modes_in s) s.tickets s.calls s.nodes s.rebuild w r owed part_there its_rebuild;
       adds = ok.adds;
-      fell = ok.fell;
+      caused = ok.caused;
       streams = ok.streams;
     }
 
@@ -99,7 +99,7 @@ module _ (s : State) (w : Whole) (ok : IsSound s) (is : s.whole ≡ Some w) wher
     disk = ok.disk;
     rebuild = rebuilds.whole_told s.size (modes_in s) s.tickets s.calls s.nodes s.rebuild w r taken its_rebuild;
     adds = ok.adds;
-    fell = ok.fell;
+    caused = ok.caused;
     streams = ok.streams;
   }
 

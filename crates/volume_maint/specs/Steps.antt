@@ -64,9 +64,11 @@ gives_up s target = turn_ended (given_up s (command_at s.commands 0).stream targ
 abbrev pub ends_aborted : State → ℕ → State
 ends_aborted s place = turn_ended s (reply.Aborted place)
 
--- and else it gives the turn back without an answer
+-- and else it gives the turn back without an answer: its stream gave it up
 abbrev pub gives_back : State → State
-gives_back s = without_command s 0
+gives_back s = record (without_command s 0) {
+  gave_up = slice_set s.gave_up (command_at s.commands 0).stream true;
+}
 
 abbrev pub abandoned_with : Option Rebuilding → Option EndedRebuild → State → State
 abandoned_with (Some b) ended s = gives_up s b.target

@@ -2,7 +2,7 @@
 
 ghost use Rattle.std.specs.Prelude.{◌≡◌, ℕ, ◌<◌, length, IfOk, IfErr, OnOk, OnErr};
 ghost use Rattle.range_turns.specs.Order.{IsFresh};
-ghost use Rattle.step_answers.specs.Asked.{NamesReplica};
+ghost use Rattle.volume_model.specs.Commands.{NamesReplica};
 ghost use Rattle.open_calls.specs.Clients.{IsIdle};
 ghost use Rattle.open_calls.specs.Maint.{HasNoCommand, IsMaint};
 ghost use Rattle.volume_core.specs.State.{state_of};
@@ -105,7 +105,8 @@ pub fn end_maint(world: &mut World, t: TicketNumber, reply: Reply) -> Result<u64
 }
 
 /// Gives the turn back, once memory ran out: without an answer, but where a rebuild of its command was begun. One that is
-/// open is given up, and its command answered so; one that was aborted is answered. It takes no memory.
+/// open is given up, and its command answered so; one that was aborted is answered. That its stream gave a command up is
+/// kept, but for the last: parts of it may be done already, in marks behind which no answer comes. It takes no memory.
 pub fn abandon(world: &mut World, t: TicketNumber)
     requires sound { IsSound (state_of world.old) }
     requires turn { IsFreeTurn (state_of world.old) t }
@@ -121,6 +122,8 @@ pub fn abandon(world: &mut World, t: TicketNumber)
     } else if let Some(ended) = world.ended {
         end_first(world, Reply::Aborted(ended.place));
     } else {
+        let stream = world.commands[0].stream;
+        world.gave_up[stream as usize] = true;
         take_command(world, 0);
     }
 }

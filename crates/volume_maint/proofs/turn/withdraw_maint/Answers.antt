@@ -1,4 +1,4 @@
-use Rattle.std.proofs.Common.{sym, subst}
+use Rattle.std.proofs.Common.{refl, sym, subst}
 use Rattle.volume_core.specs.State.{state_of}
 use Rattle.volume_core.specs.Sound.{IsSound}
 use Rattle.volume_core.specs.Streams.{MayGo}
@@ -18,4 +18,4 @@ returns-clause-may c =
     let s2 = state_of c.take_command.new.world in
     let k = c.waiting_command_at-k.result in
     for_asker s c.args.t k (λ stream. MayGo stream s s2) c.waiting_command_at-k.ensures.stands
-    (less_goes s s2 c.requires.sound (returns-clause-sound c) k c.take_command.ensures.gone)
+    (less_goes s s2 c.requires.sound (returns-clause-sound c) k s.gave_up c.take_command.ensures.gone (λ n other. refl))
