@@ -66,7 +66,7 @@ module _ (s : State) (b : Rebuilding) (page : PageRef) (after : Node) (table : T
         rebuild = page_kept s.size (modes_in s) s.tickets s.calls s.whole s.nodes b after page.layer page.page table many
             may there puts begun is.left.frozen.page out;
         adds = record { of_begun = adds.of_begun; of_ended = adds.of_ended; one = adds.one };
-        fell = ok.fell;
+        caused = ok.caused;
         streams = ok.streams;
       }
 

@@ -19,7 +19,7 @@ use Rattle.volume_model.specs.History.{Spot, IsLegal}
 use Rattle.volume_model.specs.Modes.{mode_of}
 use Rattle.volume_model.specs.PlainState.{PlainState}
 use Rattle.volume_model.specs.PlainStep.{after_call}
-use Rattle.volume_model.proofs.FallLemmas.{behind_falls_answer, behind_falls_promoted}
+use Rattle.volume_model.proofs.FallLemmas.{behind_falls_promoted}
 use Rattle.volume_model.proofs.PushLemmas.{modes_after-push}
 use Rattle.volume_model.proofs.RebuildLemmas.{legal_promotion}
 use Rattle.volume_model.proofs.StepLemmas.{replay-push}
@@ -51,6 +51,7 @@ use Rattle.volume_core.specs.State.{State, opening_of, told_of, modes_in, index_
 use Rattle.volume_core.specs.Steps.{answer_entry}
 use Rattle.volume_core.specs.Sound.{IsSound, IsSoundOn, IsOrdered, AreAdds, is_up, owed_end}
 use Rattle.volume_core.specs.Streams.{running, turning, MayGo, origin_of}
+use Rattle.volume_core.proofs.Caused.{caused_ended, caused_more}
 use Rattle.volume_core.proofs.Ends.{its_answer, same_clients}
 use Rattle.volume_core.proofs.FarLemmas.{begun_of}
 use Rattle.volume_core.proofs.Keep.{same_whole, same_maint, on_same}
@@ -254,7 +255,10 @@ module _ (s : State) (t : ℕ) (b : Rebuilding) (n m : ℕ) (ok : IsSound s) (tu
         rebuild = subst (λ (x : List Mode). IsRebuilding s.size x s.tickets s.calls s.whole s.nodes None) same_modes
             (promoted_roles s.size (modes_in s) s.tickets s.calls s.whole s.nodes b begun);
         adds = none_adds next.maint next.commands None next.ended (refl, none);
-        fell = λ given. behind_falls_answer one a (behind_falls_promoted es b.target (ok.fell given));
+        caused = λ given. let was = ok.caused given in
+            caused_ended s.maint s.commands one
+            (caused_more s.maint s.commands es was (e ∷ []) (behind_falls_promoted es b.target was.fell) (refl, tt))
+            next.maint next.commands a refl refl;
         streams = ok.streams ∙ sym length_set_here;
       }
 
