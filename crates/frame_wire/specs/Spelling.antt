@@ -1,5 +1,5 @@
 -- A frame as bytes: a header of 26 bytes, and then as many bytes as the header says (Longhorn's dataconn messages).
-use Rattle.std.specs.Prelude.{ℕ, ◌^◌, ◌<◌, List, [], ◌∷◌, ◌++◌, FitsSigned}
+use Rattle.std.specs.Prelude.{◌≡◌, ℕ, ◌^◌, ◌<◌, List, [], ◌∷◌, ◌++◌, length, FitsSigned}
 use Rattle.std.specs.Int.{w32, w64, to_le_bytes, cast_unsigned}
 use Rattle.frame_wire.specs.declared.head.Head.{Head}
 
@@ -27,3 +27,11 @@ pub record IsHead (h : Head) : Type 0 where
 -- a frame: its header, and its bytes of data
 abbrev pub frame : Head → List ℕ → List ℕ
 frame h body = header h ++ body
+
+-- the bytes are one whole frame
+pub record IsFrame (bytes : List ℕ) : Type 0 where
+  pub head : Head
+  pub body : List ℕ
+  pub fits : IsHead head
+  pub long : length body ≡ head.len
+  pub spelled : bytes ≡ frame head body
