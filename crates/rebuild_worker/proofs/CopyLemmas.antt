@@ -1,6 +1,6 @@
 -- Frames on the two lines of a rebuild, one behind another.
 use Rattle.std.proofs.Common.{arith, ◌≡◌, ℕ, ◌-◌, List, [], ◌∷◌, ◌++◌, length, drop, length-drop, length-append}
-use Rattle.std.proofs.Common.{Option, None, Some, subst, sym, ap, refl, ◌∙◌, append_assoc, append-nil}
+use Rattle.std.proofs.Common.{Option, subst, sym, ap, refl, ◌∙◌, append_assoc, append-nil}
 use Rattle.std.proofs.lemmas.List.Elements.{All-append, All-cons, All-nil, All-weaker}
 use Rattle.std.proofs.Math.Seq.{drop-append_seam}
 use Rattle.frame_wire.specs.declared.head.Head.{Head}
@@ -11,7 +11,7 @@ use Rattle.outer_traits.proofs.Lines.{TellsMore-nil, TellsMore-trans}
 use Rattle.vol_units.specs.declared.page_ref.PageRef.{PageRef}
 use Rattle.rebuild_worker.specs.Frames.{ask_head, done_head, give_head, send_head, response_kind, source_request}
 use Rattle.rebuild_worker.specs.Frames.{source_reply, target_request, target_reply}
-use Rattle.rebuild_worker.specs.Copying.{AreKept, AreQuiet, Copying, OnLine, CarriesOn, IsQuiet, IsTextOf, number_after, numbered}
+use Rattle.rebuild_worker.specs.Copying.{AreQuiet, Copying, KeepsCopying, OnLine, CarriesOn, IsQuiet, IsTextOf, number_after, numbered}
 use Rattle.rebuild_worker.specs.Rooms.{text_in}
 use Rattle.rebuild_worker.specs.Told.{AreOf, CopiedPage, CopiesPage, CopiesPages, HaveTexts, IsUntold, Lists}
 use Rattle.rebuild_worker.specs.Told.{SendsPage, TakesPage, TellPages, to_source, to_target}
@@ -146,14 +146,32 @@ copies_page page is_text text before after a b c of_page is place appended quiet
 
 -- ---- page after page
 
-pub kept_on : (a a2 a3 : ℕ → Type 0) (t t2 t3 : PageRef → List ℕ → Type 0) → AreKept a a2 t t2 → AreKept a2 a3 t2 t3 → AreKept a a3 t t3
-kept_on a a2 a3 t t2 t3 p q = record {
-  ended = λ place is. q.ended place (p.ended place is);
-  texts = λ page text is. q.texts page text (p.texts page text is);
+-- no step yet
+pub keeps_here : {S H F : Type 0} {can : S → Type 0} {at : S → H} {aborted : S → ℕ → Type 0}
+    {of_page : S → PageRef → List ℕ → Type 0} {lasts : S → F → Type 0} {of : S → Copying} {s : S} → can s
+    → KeepsCopying can at aborted of_page lasts of s s
+keeps_here ready = record {
+  ready = ready;
+  home = refl;
+  ended = λ place is. is;
+  texts = λ page text is. is;
+  stays = λ fact is. is;
+  fewer = omega arith;
 }
 
-pub kept_here : (a : ℕ → Type 0) (t : PageRef → List ℕ → Type 0) → AreKept a a t t
-kept_here a t = record { ended = λ place is. is; texts = λ page text is. is }
+-- a step behind others
+pub keeps_then : {S H F : Type 0} {can : S → Type 0} {at : S → H} {aborted : S → ℕ → Type 0}
+    {of_page : S → PageRef → List ℕ → Type 0} {lasts : S → F → Type 0} {of : S → Copying} {s s2 s3 : S}
+    → KeepsCopying can at aborted of_page lasts of s s2 → KeepsCopying can at aborted of_page lasts of s2 s3
+    → KeepsCopying can at aborted of_page lasts of s s3
+keeps_then p q = record {
+  ready = q.ready;
+  home = q.home ∙ p.home;
+  ended = λ place is. q.ended place (p.ended place is);
+  texts = λ page text is. q.texts page text (p.texts page text is);
+  stays = λ fact is. q.stays fact (p.stays fact is);
+  fewer = omega (arith, p.fewer, q.fewer);
+}
 
 of_more : (f : ℕ → PageRef → List ℕ → List (List ℕ)) (ps qs : List CopiedPage) (xs ys : List (List ℕ)) → AreOf f ps xs
     → AreOf f qs ys → AreOf f (ps ++ qs) (xs ++ ys)

@@ -35,14 +35,19 @@ pub record Copying : Type 0 where
 
 -- ---- what stays
 
--- what was true of the rebuild's end and of the source's pages is true still
-pub record AreKept (aborted aborted_still : ℕ → Type 0) (is_text is_text_still : PageRef → List ℕ → Type 0) : Type 0 where
-  pub ended : (place : ℕ) → aborted place → aborted_still place
-  pub texts : (page : PageRef) (text : List ℕ) → is_text page text → is_text_still page text
+-- The next step can be taken, and what no step changes is as it was. What was true of the rebuild's end, of the source's
+-- pages and else for good is true still, and no more pages are left.
+pub record KeepsCopying {S H F : Type 0} (can : S → Type 0) (at : S → H) (aborted : S → ℕ → Type 0)
+    (of_page : S → PageRef → List ℕ → Type 0) (lasts : S → F → Type 0) (of : S → Copying) (s s2 : S) : Type 0 where
+  pub ready : can s2
+  pub home : at s2 ≡ at s
+  pub ended : (place : ℕ) → aborted s place → aborted s2 place
+  pub texts : (page : PageRef) (text : List ℕ) → of_page s page text → of_page s2 page text
+  pub stays : (fact : F) → lasts s fact → lasts s2 fact
+  pub fewer : (of s2).left ≤ (of s).left
 
--- what is in hand is as it was, and no more pages are left
+-- what is in hand is as it was
 pub record KeepsHand (old new : Copying) : Type 0 where
-  pub fewer : new.left ≤ old.left
   pub hand : new.hand ≡ old.hand
   pub read : new.read ≡ old.read
 
@@ -86,14 +91,6 @@ ReadsTo (out.Ended place) page aborted is_text before after old new = aborted pl
 abbrev pub PutsTo : CopyPut → (ℕ → Type 0) → Copying → Copying → Type 0
 PutsTo put.Listed aborted old new = (new.left + 1 ≡ old.left) × (new.hand ≡ None)
 PutsTo (put.Ended place) aborted old new = aborted place
-
--- a whole frame
-pub record IsFrame (bytes : List ℕ) : Type 0 where
-  pub head : Head
-  pub body : List ℕ
-  pub fits : IsHead head
-  pub long : length body ≡ head.len
-  pub spelled : bytes ≡ frame head body
 
 -- the header with that number
 abbrev pub numbered : ℕ → Head → Head

@@ -1,6 +1,7 @@
 ghost use Rattle.std.specs.Prelude.{◌≡◌, ◌≢◌, ◌≤◌, [], None, Some, Ok, true, length, IfOk, OnErr};
 ghost use Rattle.rebuild_worker.specs.declared.steps.Carried.TheVariants as carried;
-ghost use Rattle.rebuild_worker.specs.Copying.{AreKept, AreQuiet, IsFrame, KeepsHand};
+ghost use Rattle.frame_wire.specs.Spelling.{IsFrame};
+ghost use Rattle.rebuild_worker.specs.Copying.{AreQuiet, KeepsCopying, KeepsHand};
 ghost use Rattle.rebuild_worker.specs.Frames.{source_request};
 ghost use Rattle.rebuild_worker.specs.Rooms.{HasPlace, HasRoom, text_in};
 ghost use Rattle.rebuild_worker.specs.Told.{CopiesPage, CopyEnds, IfEnded, IsUntold, Lists, SendsPage, TakesPage};
@@ -31,11 +32,7 @@ pub fn copy_all<R: Wait, C: CopySteps>(
 ) -> Result<Copied, AllocError>
     requires ready { C.ready steps.old }
     requires idle { (C.copying steps.old).hand ≡ None }
-    ensures ready { C.ready steps.new }
-    ensures home { C.home steps.new ≡ C.home steps.old }
-    ensures kept { AreKept (C.is_aborted steps.old) (C.is_aborted steps.new) (C.is_text steps.old) (C.is_text steps.new) }
-    ensures stays { (f : C.Fact) → C.stays steps.old f → C.stays steps.new f }
-    ensures fewer { (C.copying steps.new).left ≤ (C.copying steps.old).left }
+    ensures keeps { KeepsCopying C.ready C.home C.is_aborted C.is_text C.stays C.copying steps.old steps.new }
     ensures ok { IfOk result (λ e. CopyEnds e (C.is_aborted steps.new) (C.is_text steps.new)
         (C.copying steps.old) (C.copying steps.new)) }
 {
@@ -65,11 +62,7 @@ fn copy_page<R: Wait, C: CopySteps>(
     requires ready { C.ready steps.old }
     requires hand { (C.copying steps.old).hand ≡ Some page.now }
     requires room { HasRoom rooms.old }
-    ensures ready { C.ready steps.new }
-    ensures home { C.home steps.new ≡ C.home steps.old }
-    ensures kept { AreKept (C.is_aborted steps.old) (C.is_aborted steps.new) (C.is_text steps.old) (C.is_text steps.new) }
-    ensures stays { (f : C.Fact) → C.stays steps.old f → C.stays steps.new f }
-    ensures fewer { (C.copying steps.new).left ≤ (C.copying steps.old).left }
+    ensures keeps { KeepsCopying C.ready C.home C.is_aborted C.is_text C.stays C.copying steps.old steps.new }
     ensures room { HasRoom rooms.new }
     ensures ended { IfOk result (λ c. IfEnded c (C.is_aborted steps.new)) }
     ensures listed { result ≡ Ok carried.Whole → Lists (C.copying steps.old) (C.copying steps.new) }
@@ -102,11 +95,7 @@ fn carry_page<R: Wait, C: CopySteps>(
     requires read { (C.copying steps.old).read ≡ true }
     requires asks { (request.old ≡ source_request 0 page.now) × IsFrame request.old }
     requires place { HasPlace frame.old }
-    ensures ready { C.ready steps.new }
-    ensures home { C.home steps.new ≡ C.home steps.old }
-    ensures kept { AreKept (C.is_aborted steps.old) (C.is_aborted steps.new) (C.is_text steps.old) (C.is_text steps.new) }
-    ensures stays { (f : C.Fact) → C.stays steps.old f → C.stays steps.new f }
-    ensures fewer { (C.copying steps.new).left ≤ (C.copying steps.old).left }
+    ensures keeps { KeepsCopying C.ready C.home C.is_aborted C.is_text C.stays C.copying steps.old steps.new }
     ensures ended { IfOk result (λ c. IfEnded c (C.is_aborted steps.new)) }
     ensures listed { result ≡ Ok carried.Whole → Lists (C.copying steps.old) (C.copying steps.new) }
     ensures takes { result ≡ Ok carried.Whole → TakesPage page.now (text_in frame.old)
@@ -137,10 +126,7 @@ fn take_page<R: Wait, C: CopySteps>(
     requires ready { C.ready steps.old }
     requires asks { (request.old ≡ source_request 0 page.now) × IsFrame request.old }
     requires place { HasPlace frame.old }
-    ensures ready { C.ready steps.new }
-    ensures home { C.home steps.new ≡ C.home steps.old }
-    ensures kept { AreKept (C.is_aborted steps.old) (C.is_aborted steps.new) (C.is_text steps.old) (C.is_text steps.new) }
-    ensures stays { (f : C.Fact) → C.stays steps.old f → C.stays steps.new f }
+    ensures keeps { KeepsCopying C.ready C.home C.is_aborted C.is_text C.stays C.copying steps.old steps.new }
     ensures same { KeepsHand (C.copying steps.old) (C.copying steps.new) }
     ensures left { result ≡ Ok carried.Whole → (C.copying steps.new).left ≡ (C.copying steps.old).left }
     ensures ended { IfOk result (λ c. IfEnded c (C.is_aborted steps.new)) }
@@ -173,11 +159,7 @@ fn send_page<R: Wait, C: CopySteps>(
     requires hand { (C.copying steps.old).hand ≡ Some page.now }
     requires read { (C.copying steps.old).read ≡ true }
     requires place { HasPlace frame.old }
-    ensures ready { C.ready steps.new }
-    ensures home { C.home steps.new ≡ C.home steps.old }
-    ensures kept { AreKept (C.is_aborted steps.old) (C.is_aborted steps.new) (C.is_text steps.old) (C.is_text steps.new) }
-    ensures stays { (f : C.Fact) → C.stays steps.old f → C.stays steps.new f }
-    ensures fewer { (C.copying steps.new).left ≤ (C.copying steps.old).left }
+    ensures keeps { KeepsCopying C.ready C.home C.is_aborted C.is_text C.stays C.copying steps.old steps.new }
     ensures ended { IfOk result (λ c. IfEnded c (C.is_aborted steps.new)) }
     ensures listed { result ≡ Ok carried.Whole → Lists (C.copying steps.old) (C.copying steps.new) }
     ensures sends { result ≡ Ok carried.Whole → SendsPage page.now (text_in frame.old)
@@ -208,12 +190,8 @@ fn put_page<R: Wait, C: CopySteps>(
     requires ready { C.ready steps.old }
     requires hand { (C.copying steps.old).hand ≡ Some page.now }
     requires read { (C.copying steps.old).read ≡ true }
-    ensures ready { C.ready steps.new }
-    ensures home { C.home steps.new ≡ C.home steps.old }
-    ensures kept { AreKept (C.is_aborted steps.old) (C.is_aborted steps.new) (C.is_text steps.old) (C.is_text steps.new) }
-    ensures stays { (f : C.Fact) → C.stays steps.old f → C.stays steps.new f }
+    ensures keeps { KeepsCopying C.ready C.home C.is_aborted C.is_text C.stays C.copying steps.old steps.new }
     ensures quiet { AreQuiet (C.copying steps.old) (C.copying steps.new) }
-    ensures fewer { (C.copying steps.new).left ≤ (C.copying steps.old).left }
     ensures ended { IfOk result (λ c. IfEnded c (C.is_aborted steps.new)) }
     ensures listed { result ≡ Ok carried.Whole → Lists (C.copying steps.old) (C.copying steps.new) }
 {

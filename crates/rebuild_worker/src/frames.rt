@@ -3,10 +3,10 @@
 ghost use Rattle.std.specs.Prelude.{◌≡◌, ◌==◌, ℕ, List, ◌*◌, ◌+◌, ◌≤◌, [], length, pos, vec_capacity, vec_len};
 ghost use Rattle.vol_units.specs.declared.size.TheConstants.{PAGE_BYTES};
 ghost use Rattle.frame_wire.specs.declared.head.Head.{Head};
-ghost use Rattle.frame_wire.specs.Spelling.{frame, header_length, IsHead};
+ghost use Rattle.frame_wire.specs.Spelling.{frame, header_length, IsHead, IsFrame};
 ghost use Rattle.page_text.specs.Text.{longest_text};
 ghost use Rattle.rebuild_worker.specs.Frames.{ask_head, done_head, give_head, offset_of, response_kind, send_head, source_request};
-ghost use Rattle.rebuild_worker.specs.Copying.{IsFrame, number_after, numbered};
+ghost use Rattle.rebuild_worker.specs.Copying.{number_after, numbered};
 ghost use Rattle.rebuild_worker.specs.Rooms.{text_in};
 
 use frame_stream::{READ, WRITE};

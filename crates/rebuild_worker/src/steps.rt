@@ -1,5 +1,6 @@
-ghost use Rattle.std.specs.Prelude.{◌≡◌, ◌≤◌, None, Some, true, IfOk, OnErr, MatchOption, vec_capacity};
-ghost use Rattle.rebuild_worker.specs.Copying.{AreQuiet, AreKept, CarriesTo, IsFrame, KeepsHand, ReadsTo, PutsTo, TakesTo};
+ghost use Rattle.std.specs.Prelude.{◌≡◌, ◌≤◌, None, Some, true, IfOk, MatchOption, vec_capacity};
+ghost use Rattle.frame_wire.specs.Spelling.{IsFrame};
+ghost use Rattle.rebuild_worker.specs.Copying.{AreQuiet, CarriesTo, KeepsCopying, KeepsHand, ReadsTo, PutsTo, TakesTo};
 
 use std::alloc::{AllocError, Global};
 use std::sync::Wait;
@@ -86,12 +87,8 @@ pub trait CopySteps {
     fn next<R: Wait>(&mut self, rt: &R) -> CopyNext
         requires ready { ready self.old }
         requires idle { (copying self.old).hand ≡ None }
-        ensures ready { ready self.new }
-        ensures home { home self.new ≡ home self.old }
-        ensures kept { AreKept (is_aborted self.old) (is_aborted self.new) (is_text self.old) (is_text self.new) }
-        ensures stays { (f : Fact) → stays self.old f → stays self.new f }
+        ensures keeps { KeepsCopying ready home is_aborted is_text stays copying self.old self.new }
         ensures quiet { AreQuiet (copying self.old) (copying self.new) }
-        ensures fewer { (copying self.new).left ≤ (copying self.old).left }
         ensures takes { TakesTo result (is_aborted self.new) (copying self.old) (copying self.new) };
 
     /// Carries a frame to one of the two replicas. First the number of the exchange is put into it: a reply has that of the
@@ -105,10 +102,7 @@ pub trait CopySteps {
     ) -> Result<Carried, AllocError>
         requires ready { ready self.old }
         requires frame { IsFrame frame.old }
-        ensures ready { ready self.new }
-        ensures home { home self.new ≡ home self.old }
-        ensures kept { AreKept (is_aborted self.old) (is_aborted self.new) (is_text self.old) (is_text self.new) }
-        ensures stays { (f : Fact) → stays self.old f → stays self.new f }
+        ensures keeps { KeepsCopying ready home is_aborted is_text stays copying self.old self.new }
         ensures same { KeepsHand (copying self.old) (copying self.new) }
         ensures ok { IfOk result (λ c. CarriesTo side c (is_aborted self.new) frame.old frame.new
             (copying self.old) (copying self.new)) };
@@ -124,12 +118,8 @@ pub trait CopySteps {
     ) -> Result<CopyOut, AllocError>
         requires ready { ready self.old }
         requires hand { (copying self.old).hand ≡ Some page.now }
-        ensures ready { ready self.new }
-        ensures home { home self.new ≡ home self.old }
-        ensures kept { AreKept (is_aborted self.old) (is_aborted self.new) (is_text self.old) (is_text self.new) }
-        ensures stays { (f : Fact) → stays self.old f → stays self.new f }
+        ensures keeps { KeepsCopying ready home is_aborted is_text stays copying self.old self.new }
         ensures quiet { AreQuiet (copying self.old) (copying self.new) }
-        ensures fewer { (copying self.new).left ≤ (copying self.old).left }
         ensures room { vec_capacity text.old ≤ vec_capacity text.new }
         ensures ok { IfOk result (λ o. ReadsTo o page.now (is_aborted self.new) (is_text self.new)
             text.old.items text.new.items (copying self.old) (copying self.new)) };
@@ -139,21 +129,14 @@ pub trait CopySteps {
         requires ready { ready self.old }
         requires hand { (copying self.old).hand ≡ Some page.now }
         requires read { (copying self.old).read ≡ true }
-        ensures ready { ready self.new }
-        ensures home { home self.new ≡ home self.old }
-        ensures kept { AreKept (is_aborted self.old) (is_aborted self.new) (is_text self.old) (is_text self.new) }
-        ensures stays { (f : Fact) → stays self.old f → stays self.new f }
+        ensures keeps { KeepsCopying ready home is_aborted is_text stays copying self.old self.new }
         ensures quiet { AreQuiet (copying self.old) (copying self.new) }
-        ensures fewer { (copying self.new).left ≤ (copying self.old).left }
         ensures ok { IfOk result (λ p. PutsTo p (is_aborted self.new) (copying self.old) (copying self.new)) };
 
     /// Where the rebuild was aborted, its mark's place.
     fn ended<R: Wait>(&mut self, rt: &R) -> Option<u64>
         requires ready { ready self.old }
-        ensures ready { ready self.new }
-        ensures home { home self.new ≡ home self.old }
-        ensures kept { AreKept (is_aborted self.old) (is_aborted self.new) (is_text self.old) (is_text self.new) }
-        ensures stays { (f : Fact) → stays self.old f → stays self.new f }
+        ensures keeps { KeepsCopying ready home is_aborted is_text stays copying self.old self.new }
         ensures quiet { AreQuiet (copying self.old) (copying self.new) }
         ensures same { KeepsHand (copying self.old) (copying self.new) }
         ensures is { MatchOption result ((copying self.new).left ≡ (copying self.old).left) (is_aborted self.new) };

@@ -9,5 +9,5 @@ returns-in-Text-clause-copied g c = λ e.
     copies_page c.args.page.now (g.C.CopySteps.is_text c.carry_page.new.steps) text.0 c.clear_text.new.text.items
     c.deref_mut-in-Text.result.now
     (g.C.CopySteps.copying c.args.steps.now) (g.C.CopySteps.copying c.out.new.self) (g.C.CopySteps.copying c.carry_page.new.steps)
-    text.2 (c.carry_page.ensures.kept.texts _ _ text.3) c.clear_text.ensures.place (c.deref_mut-in-Text.ensures.value ∙ text.1)
+    text.2 (c.carry_page.ensures.keeps.texts _ _ text.3) c.clear_text.ensures.place (c.deref_mut-in-Text.ensures.value ∙ text.1)
     c.out.ensures.quiet (c.carry_page.ensures.takes e) (c.carry_page.ensures.sends e)
