@@ -1,1 +1,2 @@
 pub mod MineLemmas
+pub mod WholeBytes

@@ -1,4 +1,5 @@
 pub mod Mine
+pub mod Does
 pub mod Against
 pub mod Steps
 pub mod Maint

@@ -1,5 +1,5 @@
 -- What the core's steps on the whole volume and of the maintenance turn say to the stream for which they are taken.
-use Rattle.std.specs.Prelude.{◌≡◌, ◌≢◌, ℕ, ◌⊎◌, true, false, List, [], ◌∷◌, ◌++◌, slice_set, None, Some, IfSome}
+use Rattle.std.specs.Prelude.{◌≡◌, ◌≢◌, ℕ, ◌⊎◌, true, false, List, [], ◌∷◌, ◌++◌, slice_set, Option, None, Some, IfSome}
 use Rattle.volume_model.specs.declared.command.Command.{Command}
 use Rattle.volume_model.specs.declared.command.Command.TheVariants as command
 use Rattle.volume_model.specs.declared.call.Call.TheVariants as call
@@ -31,6 +31,7 @@ use Rattle.step_answers.specs.declared.answers.AdmitWhole.TheVariants as admit
 use Rattle.step_answers.specs.declared.answers.NextPart.{NextPart}
 use Rattle.step_answers.specs.declared.answers.NextPart.TheVariants as next
 use Rattle.stream_steps.specs.Mine.{Mine, OwnCall, Log, with_entries, with_more, with_running, answer_placed}
+use Rattle.stream_steps.specs.Steps.{EnrolsAt}
 
 -- ---- the maintenance turn
 
@@ -54,6 +55,10 @@ pub record HasTurn (t : ℕ) (c : Command) (o : OwnCall) (m : Mine) : Type 0 whe
   pub call : o.call ≡ call.Command c
   pub wants : IsMaint c
   pub started : o.started ≡ true
+
+-- of the command that has it
+abbrev pub ForTurn : ℕ → Command → Mine → (OwnCall → Type 0) → Type 0
+ForTurn t c m fact = (o : OwnCall) → HasTurn t c o m → fact o
 
 -- it waits for the turn
 pub record AwaitsTurn (t : ℕ) (c : Command) (o : OwnCall) (m : Mine) : Type 0 where
@@ -82,6 +87,14 @@ pub record HasWhole (t : ℕ) (op : WholeOp) (turn : List OwnCall) (o : OwnCall)
   pub call : o.call ≡ call.Command (command_of op)
   pub does : o.op ≡ Some op
 
+-- of the operation that is open under that ticket
+abbrev pub ForWhole : ℕ → Mine → (WholeOp → List OwnCall → OwnCall → Type 0) → Type 0
+ForWhole t m fact = (op : WholeOp) (turn : List OwnCall) (o : OwnCall) → HasWhole t op turn o m → fact op turn o
+
+-- of the barrier
+abbrev pub ForBarrier : ℕ → Mine → (ℕ → List OwnCall → OwnCall → Type 0) → Type 0
+ForBarrier t m fact = (r : ℕ) (turn : List OwnCall) (o : OwnCall) → HasWhole t (whole.Barrier r) turn o m → fact r turn o
+
 -- it is enrolled now, behind these, and has seen that
 pub record EnrolsWhole (t : ℕ) (op : WholeOp) (turn : List OwnCall) (m m2 : Mine) : Type 0 where
   pub own : OwnCall
@@ -91,10 +104,21 @@ pub record EnrolsWhole (t : ℕ) (op : WholeOp) (turn : List OwnCall) (m m2 : Mi
   pub does : own.op ≡ Some op
   pub waits : own.started ≡ false
 
+-- a snapshot is, and its caller saw what there is
+pub record EnrolsSnapshot (t : ℕ) (op : WholeOp) (m m2 : Mine) : Type 0 where
+  pub whole : EnrolsWhole t op [] m m2
+  pub saw : EnrolsAt t (call.Command (command_of op)) m m2
+
 -- the same under the turn of that call: it saw what that saw
 pub record EnrolsUnder (t : ℕ) (op : WholeOp) (turn : OwnCall) (m m2 : Mine) : Type 0 where
   pub whole : EnrolsWhole t op (turn ∷ []) m m2
   pub saw : whole.own.saw ≡ turn.saw
+
+-- so it is enrolled behind the call that has the turn under t; or it is not, for that reason, and nothing changes
+pub record EnrolsOr (t : ℕ) (op : WholeOp) (number : Option ℕ) (against : Type 0) (m m2 : Mine) : Type 0 where
+  pub some : IfSome number (λ n. ForTurn t (command_of op) m (λ o. EnrolsUnder n op o m m2))
+  pub cannot : number ≡ None → against
+  pub none : number ≡ None → m2 ≡ m
 
 -- its open call is answered, and none is open
 pub record AnswersWhole (o : OwnCall) (r : Reply) (m m2 : Mine) : Type 0 where

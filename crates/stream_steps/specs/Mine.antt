@@ -90,3 +90,7 @@ log_length m = option_map length_of m.log
 pub record IsOwn (t : ℕ) (o : OwnCall) (m : Mine) : Type 0 where
   pub is : m.running ≡ o ∷ []
   pub number : o.number ≡ t
+
+-- of the call that the stream has open under that ticket
+abbrev pub ForOwn : ℕ → Mine → (OwnCall → Type 0) → Type 0
+ForOwn t m fact = (o : OwnCall) → IsOwn t o m → fact o

@@ -1,5 +1,6 @@
 -- What the last step of a stream saw of the volume, in its own turn: whose answer has its cause there.
-use Rattle.std.specs.Prelude.{◌≡◌, ◌≢◌, ◌⊎◌, ℕ, ◌*◌, ◌≤◌, length, ◌<◌, List, Option, Some, None}
+use Rattle.std.specs.Prelude.{◌≡◌, ◌≢◌, ◌⊎◌, ℕ, ◌*◌, ◌≤◌, length, ◌<◌, List, Option, Some, None, IfSome}
+use Rattle.volume_model.specs.declared.call.Call.{Call}
 use Rattle.volume_model.specs.declared.call.Refusal.TheVariants.{NoReplica}
 use Rattle.volume_model.specs.declared.call.Reply.{Reply}
 use Rattle.volume_model.specs.declared.call.Reply.TheVariants as reply
@@ -25,7 +26,8 @@ use Rattle.step_answers.specs.declared.answers.NotThis.TheVariants as against
 use Rattle.step_answers.specs.declared.whole_op.WholeOp.{WholeOp}
 use Rattle.step_answers.specs.declared.whole_op.WholeOp.TheVariants as whole
 use Rattle.step_answers.specs.Parts.{part_at, part_for}
-use Rattle.stream_steps.specs.Mine.{Log}
+use Rattle.stream_steps.specs.Mine.{Mine, Log, ForOwn}
+use Rattle.stream_steps.specs.Steps.{IsMerged}
 use Rattle.stream_steps.specs.Maint.{IsNext}
 
 -- The journal, and where the run stands behind it; the tickets of the open calls, and of the commands that have the
@@ -67,10 +69,27 @@ abbrev pub IsNextUp : List Mode → ℕ → Option ℕ → Type 0
 IsNextUp modes r None = (k : ℕ) → r < k → mode_of modes k ≡ Err
 IsNextUp modes r (Some q) = (r < q) × (mode_of modes q ≢ Err) × ((k : ℕ) → r < k → k < q → mode_of modes k ≡ Err)
 
--- the started call asks each replica that has not failed
+-- that replica is next, and it is one of so many
+pub record TellsNext (modes : List Mode) (r replicas : ℕ) (q : Option ℕ) : Type 0 where
+  pub next : IsNextUp modes r q
+  pub inside : IfSome q (λ k. k < replicas)
+
+-- ---- what a started call carries
+
+-- it asks each replica that has not failed
 abbrev pub AsksAll : Admit → List Mode → Type 0
 AsksAll (admit.Go job) modes = (r : ℕ) → part_at job.parts r ≡ part_for (mode_of modes r)
 AsksAll a modes = Unit {0}
+
+-- of a write it carries the volume's bytes, as they were seen, with the write's own put in
+abbrev pub CarriesVolume : Call → Admit → Seen → Type 0
+CarriesVolume c (admit.Go job) s = IsMerged s.log.spot.state.volume.disk c job
+CarriesVolume c a s = Unit {0}
+
+-- so the job of the call that is open under that ticket is, if it starts
+pub record IsJobOf (t : ℕ) (a : Admit) (m : Mine) (modes : List Mode) (s : Seen) : Type 0 where
+  pub asks : AsksAll a modes
+  pub bytes : ForOwn t m (λ o. CarriesVolume o.call a s)
 
 -- ---- a purge
 

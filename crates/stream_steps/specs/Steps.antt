@@ -1,6 +1,7 @@
 -- What the core's steps say to the stream for which they are taken.
 use Rattle.std.specs.Prelude.{◌≡◌, ◌⊎◌, ℕ, ◌+◌, ◌*◌, ◌<◌, ◌≤◌, ℤ, pos, true, false, List, [], ◌∷◌, ◌++◌, length, slice_set, All}
-use Rattle.std.specs.Prelude.{is_some, Option, IfSome}
+use Rattle.std.specs.Prelude.{is_some, Bool, Option, IfSome}
+use Rattle.vol_units.specs.Bytes.{bytes_at, with_bytes_at}
 use Rattle.vol_units.specs.Range.{place_of, blocks_around}
 use Rattle.vol_units.specs.declared.range.BlockRange.{BlockRange}
 use Rattle.vol_units.specs.declared.size.TheConstants.{BLOCK_BYTES, LARGEST_SIZE}
@@ -13,6 +14,7 @@ use Rattle.volume_model.specs.declared.mode.Mode.{Mode}
 use Rattle.volume_model.specs.declared.mode.Mode.TheVariants.{Rw}
 use Rattle.volume_model.specs.Modes.{mode_of}
 use Rattle.step_answers.specs.declared.parts.Part.TheVariants.{Taken, Acked}
+use Rattle.step_answers.specs.Asked.{IsNow}
 use Rattle.step_answers.specs.Parts.{part_at}
 use Rattle.sparse_image.specs.Listed.{bytes_in}
 use Rattle.step_answers.specs.declared.answers.Admit.{Admit}
@@ -28,7 +30,7 @@ use Rattle.volume_model.specs.declared.mark.Mark.{Mark}
 use Rattle.volume_model.specs.declared.mark.Mark.TheVariants as mark
 use Rattle.volume_model.specs.Modes.{HasSource, HasNoSource}
 use Rattle.volume_model.specs.OneWorker.{entries_at}
-use Rattle.stream_steps.specs.Mine.{Mine, OwnCall, Log, with_entries, with_more, with_running, answer_placed}
+use Rattle.stream_steps.specs.Mine.{Mine, OwnCall, ForOwn, Log, with_entries, with_more, with_running, answer_placed}
 use Rattle.stream_steps.specs.Mine.{fault_placed, length_of, log_length}
 
 -- ---- enrolled
@@ -67,6 +69,11 @@ IsStartedWrite o = (o.started ≡ true) × IsWriteCall o.call
 
 abbrev pub IsStartedRead : OwnCall → Type 0
 IsStartedRead o = (o.started ≡ true) × IsReadCall o.call
+
+-- a call of a frame that asks nothing of a replica's blocks
+pub record AsksNow (c : Call) : Type 0 where
+  pub now : IsNow c
+  pub frame : IsFrameCall c
 
 -- so many bytes from the offset on lie within the largest volume
 pub record HasPlaces (offset : ℤ) (n : ℕ) : Type 0 where
@@ -147,10 +154,20 @@ IsStarted (call.Read offset n) o = length o.buffer ≡ n
 IsStarted (call.Write offset bytes) o = IsRounded offset bytes o.range o.whole
 IsStarted c o = Unit {0}
 
--- what the job carries of a write is all bytes of its blocks
+-- what the job carries of a write of these bytes: what stays before them, they, and what stays behind them
+abbrev pub carried_by : Job → List ℕ → List ℕ
+carried_by job bytes = (job.front ++ bytes) ++ job.back
+
+-- that is all bytes of the write's blocks
 abbrev pub IsJobFor : Call → Job → OwnCall → Type 0
-IsJobFor (call.Write offset bytes) job o = o.whole ≡ (job.front ++ bytes) ++ job.back
+IsJobFor (call.Write offset bytes) job o = o.whole ≡ carried_by job bytes
 IsJobFor c job o = Unit {0}
+
+-- and it is what the disk has in these blocks, with the write's bytes put in
+abbrev pub IsMerged : List ℕ → Call → Job → Type 0
+IsMerged disk (call.Write offset bytes) job = carried_by job bytes ≡ bytes_at
+    (with_bytes_at disk (place_of offset) bytes) (job.range.first * BLOCK_BYTES) (length (carried_by job bytes))
+IsMerged disk c job = Unit {0}
 
 -- the call starts while a replica is read and written, and none has acknowledged it
 pub record StartsCall (o : OwnCall) (j : Job) (m m2 : Mine) : Type 0 where
@@ -185,6 +202,11 @@ pub record AreBlocksOfCall (o : OwnCall) (blocks : List (Option (List ℕ))) : T
 -- the replica has taken its part
 abbrev pub TakesTo : OwnCall → ℕ → List ℕ → Mine → Mine → Type 0
 TakesTo o r buffer m m2 = m2 ≡ with_running m (record o { buffer = buffer; parts = slice_set o.parts r Taken } ∷ [])
+
+-- it has, where that was done in place; where it was not, nothing changes
+abbrev pub PlacesTo : Bool → ℕ → ℕ → Mine → Mine → Type 0
+PlacesTo true t r m m2 = ForOwn t m (λ o. TakesTo o r o.buffer m m2)
+PlacesTo false t r m m2 = m2 ≡ m
 
 -- the replica has acknowledged it
 abbrev pub AcksTo : OwnCall → ℕ → Mine → Mine → Type 0

@@ -1,11 +1,9 @@
-ghost use Rattle.std.specs.Prelude.{◌≡◌, ◌≢◌, ◌⊎◌, ℕ, ◌<◌, ◌≤◌, List, None, Ok, true, false, IfOk, OnErr, IfSome, MatchOption};
-ghost use Rattle.sparse_image.specs.Image.{IsLent};
+ghost use Rattle.std.specs.Prelude.{◌≡◌, ◌⊎◌, ℕ, ◌<◌, List, None, true, false, IfOk, OnErr, IfSome, MatchOption};
 ghost use Rattle.step_answers.specs.declared.whole_op.WholeOp.{WholeOp};
-ghost use Rattle.volume_model.specs.Faults.{last_count};
-ghost use Rattle.stream_steps.specs.Mine.{Mine, OwnCall, entries_in};
-ghost use Rattle.stream_steps.specs.Steps.{FallsTo};
-ghost use Rattle.stream_steps.specs.Maint.{HasWhole};
-ghost use Rattle.stream_steps.specs.Add.{AdmitsBarrier, AreKept, EndsAborted, HasAdd, IfBegun, IsNoWait, IsStillUnbegun, LeavesAdd, Promotes, PutsIn, TakesNext, TakesOut, WaitsBarrier};
+ghost use Rattle.stream_steps.specs.Mine.{OwnCall};
+ghost use Rattle.stream_steps.specs.Does.{Stands, StandsStill, StartsOrWaits};
+ghost use Rattle.stream_steps.specs.Maint.{HasWhole, ForBarrier};
+ghost use Rattle.stream_steps.specs.Add.{AdmitsBarrier, BeginsRebuild, ComesIn, EndsAborted, FallsAt, ForAdd, GoesOut, HasAdd, IsCopyFault, IsNoWait, KeepsPages, KeepsRebuild, LeavesAdd, LeavesOpen, Promotes, PutsIn, TakesNext, TakesOut, WaitsBarrier};
 
 use crate::command::CommandSteps;
 use range_turns::TicketNumber;
@@ -94,22 +92,13 @@ pub trait AddSteps: CommandSteps {
         requires ready { Self.ready self.old }
         requires open { (r : ℕ) × (turn : List OwnCall) × (o : OwnCall)
             × HasWhole t (WholeOp.Barrier r) turn o (Self.mine self.old) × (o.started ≡ false) }
-        ensures ready { Self.ready self.new }
-        ensures home { Self.home self.new ≡ Self.home self.old }
-        ensures ok { IfOk result (λ a. (r : ℕ) (turn : List OwnCall) (o : OwnCall)
-            → HasWhole t (WholeOp.Barrier r) turn o (Self.mine self.old)
-            → AdmitsBarrier r turn o a (Self.mine self.old) (Self.mine self.new)) }
-        ensures begun { IfOk result (λ a. (r : ℕ) (turn : List OwnCall) (o : OwnCall)
-            → HasWhole t (WholeOp.Barrier r) turn o (Self.mine self.old)
-            → IfBegun a r (Self.mine self.old).replicas (Self.begun self.new false)) }
-        ensures unbegun { IfOk result (λ a. IsStillUnbegun a (Self.unbegun self.old) (Self.unbegun self.new)) }
-        ensures never { result ≡ Ok AdmitBarrier.Never → (r : ℕ) (turn : List OwnCall) (o : OwnCall)
-            → HasWhole t (WholeOp.Barrier r) turn o (Self.mine self.old)
-            → r < (Self.mine self.old).replicas → ¬ Self.unbegun self.old }
-        ensures waits { IfOk result (λ a. WaitsBarrier t a (Self.seen self.new)) }
-        ensures free { IfOk result (λ a. IfSome (Self.mine self.old).log (λ log. IsNoWait a)) }
-        ensures err { OnErr result (Self.mine self.new ≡ Self.mine self.old) }
-        ensures kept { OnErr result (Self.unbegun self.old → Self.unbegun self.new) };
+        ensures stands { Stands Self.ready Self.home self.old self.new }
+        ensures ok { IfOk result (λ a. StartsOrWaits (Self.mine self.old) (ForBarrier t (Self.mine self.old)
+            (λ r turn o. AdmitsBarrier r turn o a (Self.mine self.old) (Self.mine self.new)))
+            (IsNoWait a) (WaitsBarrier t a (Self.seen self.new))) }
+        ensures rebuild { BeginsRebuild t result (Self.mine self.old) (Self.begun self.new false)
+            (Self.unbegun self.old) (Self.unbegun self.new) }
+        ensures err { OnErr result (Self.mine self.new ≡ Self.mine self.old) };
 
     // ---- pages
 
@@ -117,12 +106,8 @@ pub trait AddSteps: CommandSteps {
     fn copy_next<R: Wait>(&mut self, rt: &R, t: TicketNumber) -> NextPage
         requires ready { Self.ready self.old }
         requires turn { (r : ℕ) × (o : OwnCall) × HasAdd t r o (Self.mine self.old) }
-        ensures ready { Self.ready self.new }
-        ensures home { Self.home self.new ≡ Self.home self.old }
-        ensures same { Self.mine self.new ≡ Self.mine self.old }
-        ensures kept { AreKept (is_aborted self.old) (is_aborted self.new) (is_page self.old) (is_page self.new) }
-        ensures begun { (source r : ℕ) → Self.begun self.old true source r → Self.begun self.new true source r }
-        ensures fewer { left self.new ≤ left self.old }
+        ensures stands { StandsStill Self.ready Self.home Self.mine self.old self.new }
+        ensures kept { KeepsRebuild is_aborted is_page Self.begun left self.old self.new }
         ensures takes { TakesNext result (awaits self.new) (is_aborted self.new) (left self.old) (left self.new) };
 
     /// Copies what the source itself has of the page into a page that is lent, which stays as it is where that is
@@ -136,15 +121,9 @@ pub trait AddSteps: CommandSteps {
     ) -> PageOut
         requires ready { Self.ready self.old }
         requires turn { (r : ℕ) × (o : OwnCall) × HasAdd t r o (Self.mine self.old) }
-        requires page { awaits self.old page.now }
-        requires lent { IsLent into.old }
-        ensures ready { Self.ready self.new }
-        ensures home { Self.home self.new ≡ Self.home self.old }
-        ensures same { Self.mine self.new ≡ Self.mine self.old }
-        ensures kept { AreKept (is_aborted self.old) (is_aborted self.new) (is_page self.old) (is_page self.new) }
-        ensures awaits { (p : PageRef) → awaits self.old p → awaits self.new p }
-        ensures begun { (source r : ℕ) → Self.begun self.old true source r → Self.begun self.new true source r }
-        ensures fewer { left self.new ≤ left self.old }
+        requires page { GoesOut page.now into.old (awaits self.old) }
+        ensures stands { StandsStill Self.ready Self.home Self.mine self.old self.new }
+        ensures kept { KeepsPages is_aborted is_page Self.begun left awaits self.old self.new }
         ensures takes { TakesOut result page.now into.new (is_page self.new) (is_aborted self.new)
             (left self.old) (left self.new) };
 
@@ -159,27 +138,17 @@ pub trait AddSteps: CommandSteps {
     ) -> PageIn
         requires ready { Self.ready self.old }
         requires turn { (r : ℕ) × (o : OwnCall) × HasAdd t r o (Self.mine self.old) }
-        requires page { awaits self.old page.now }
-        requires blocks { is_page self.old page.now with.old }
-        ensures ready { Self.ready self.new }
-        ensures home { Self.home self.new ≡ Self.home self.old }
-        ensures same { Self.mine self.new ≡ Self.mine self.old }
-        ensures kept { AreKept (is_aborted self.old) (is_aborted self.new) (is_page self.old) (is_page self.new) }
-        ensures begun { (source r : ℕ) → Self.begun self.old true source r → Self.begun self.new true source r }
-        ensures fewer { left self.new ≤ left self.old }
+        requires page { ComesIn page.now with.old (awaits self.old) (is_page self.old) }
+        ensures stands { StandsStill Self.ready Self.home Self.mine self.old self.new }
+        ensures kept { KeepsRebuild is_aborted is_page Self.begun left self.old self.new }
         ensures puts { PutsIn result (is_aborted self.new) (left self.old) (left self.new) };
 
     /// Where the rebuild was aborted, its mark's place.
     fn aborted<R: Wait>(&mut self, rt: &R, t: TicketNumber) -> Option<u64>
         requires ready { Self.ready self.old }
         requires turn { (r : ℕ) × (o : OwnCall) × HasAdd t r o (Self.mine self.old) }
-        ensures ready { Self.ready self.new }
-        ensures home { Self.home self.new ≡ Self.home self.old }
-        ensures same { Self.mine self.new ≡ Self.mine self.old }
-        ensures kept { AreKept (is_aborted self.old) (is_aborted self.new) (is_page self.old) (is_page self.new) }
-        ensures awaits { (p : PageRef) → awaits self.old p → awaits self.new p }
-        ensures begun { (source r : ℕ) → Self.begun self.old true source r → Self.begun self.new true source r }
-        ensures fewer { left self.new ≤ left self.old }
+        ensures stands { StandsStill Self.ready Self.home Self.mine self.old self.new }
+        ensures kept { KeepsPages is_aborted is_page Self.begun left awaits self.old self.new }
         ensures not { result ≡ None → (place : ℕ) → ¬ is_aborted self.new place }
         ensures is { MatchOption result (left self.new ≡ left self.old) (is_aborted self.new) };
 
@@ -188,18 +157,10 @@ pub trait AddSteps: CommandSteps {
     fn copy_fault<R: Wait>(&mut self, rt: &R, t: TicketNumber, replica: u8, count: u64) -> u64
         requires ready { Self.ready self.old }
         requires turn { (r : ℕ) × (o : OwnCall) × HasAdd t r o (Self.mine self.old) }
-        requires end { (source r : ℕ) × Self.begun self.old true source r × ((replica ≡ source) ⊎ (replica ≡ r)) }
-        // The count is above that of the line's last mark, so that the core has to take it.
-        requires above { last_count (Self.mine self.old).stream replica (entries_in (Self.mine self.old).entries) < count }
-        ensures ready { Self.ready self.new }
-        ensures home { Self.home self.new ≡ Self.home self.old }
-        ensures fell { FallsTo replica count (Self.mine self.old) (Self.mine self.new)
-            ⊎ (Self.mine self.new ≡ Self.mine self.old) }
-        ensures kept { AreKept (is_aborted self.old) (is_aborted self.new) (is_page self.old) (is_page self.new) }
-        ensures awaits { (p : PageRef) → awaits self.old p → awaits self.new p }
-        ensures begun { (source r : ℕ) → Self.begun self.old true source r → Self.begun self.new true source r }
-        ensures fewer { left self.new ≤ left self.old }
-        ensures is { is_aborted self.new result };
+        requires fault { IsCopyFault replica count (Self.begun self.old true) (Self.mine self.old) }
+        ensures stands { Stands Self.ready Self.home self.old self.new }
+        ensures kept { KeepsPages is_aborted is_page Self.begun left awaits self.old self.new }
+        ensures fell { FallsAt replica count result (is_aborted self.new) (Self.mine self.old) (Self.mine self.new) };
 
     // ---- its end
 
@@ -208,40 +169,33 @@ pub trait AddSteps: CommandSteps {
     fn promote<R: Wait>(&mut self, rt: &R, t: TicketNumber) -> Option<u64>
         requires ready { Self.ready self.old }
         requires turn { (r : ℕ) × (o : OwnCall) × HasAdd t r o (Self.mine self.old) }
-        ensures ready { Self.ready self.new }
-        ensures home { Self.home self.new ≡ Self.home self.old }
-        ensures done { IfSome result (λ place. (r : ℕ) (o : OwnCall) → HasAdd t r o (Self.mine self.old)
-            → Promotes r o (Self.mine self.old) (Self.mine self.new)) }
+        ensures stands { Stands Self.ready Self.home self.old self.new }
+        ensures done { IfSome result (λ place. ForAdd t (Self.mine self.old)
+            (λ r o. Promotes r o (Self.mine self.old) (Self.mine self.new))) }
         // A page is left, or the rebuild was aborted.
         ensures why { result ≡ None → (source r : ℕ) → Self.begun self.old true source r
             → (0 < left self.new) ⊎ ((place : ℕ) × is_aborted self.new place) }
-        ensures kept { result ≡ None
-            → AreKept (is_aborted self.old) (is_aborted self.new) (is_page self.old) (is_page self.new) }
-        ensures fewer { result ≡ None → left self.new ≤ left self.old }
-        ensures none { result ≡ None → Self.mine self.new ≡ Self.mine self.old };
+        ensures none { result ≡ None → LeavesOpen (Self.mine self.old) (Self.mine self.new)
+            (KeepsRebuild is_aborted is_page Self.begun left self.old self.new) };
 
-    /// Answers the add that its rebuild was aborted, whose mark stands at that place. None: it was not, or an operation on
-    /// the whole volume has started.
+    /// Answers the add that its rebuild was aborted, whose mark stands at that place. None: it was not.
     fn end_aborted<R: Wait>(&mut self, rt: &R, t: TicketNumber, place: u64) -> Option<u64>
         requires ready { Self.ready self.old }
         requires turn { (r : ℕ) × (o : OwnCall) × HasAdd t r o (Self.mine self.old) }
-        ensures ready { Self.ready self.new }
-        ensures home { Self.home self.new ≡ Self.home self.old }
-        ensures done { IfSome result (λ at. (r : ℕ) (o : OwnCall) → HasAdd t r o (Self.mine self.old)
-            → EndsAborted r place o (Self.mine self.old) (Self.mine self.new)) }
-        // It was not aborted there, or an operation on the whole volume has started, which ends first.
-        ensures why { result ≡ None → is_aborted self.new place → (Self.seen self.new).whole ≢ None }
-        ensures kept { result ≡ None
-            → AreKept (is_aborted self.old) (is_aborted self.new) (is_page self.old) (is_page self.new) }
-        ensures none { result ≡ None → Self.mine self.new ≡ Self.mine self.old };
+        ensures stands { Stands Self.ready Self.home self.old self.new }
+        ensures done { IfSome result (λ at. ForAdd t (Self.mine self.old)
+            (λ r o. EndsAborted r place o (Self.mine self.old) (Self.mine self.new))) }
+        ensures why { result ≡ None → ¬ is_aborted self.new place }
+        ensures none { result ≡ None → LeavesOpen (Self.mine self.old) (Self.mine self.new)
+            (KeepsRebuild is_aborted is_page Self.begun left self.old self.new) };
 
     /// Gives the turn of the add back, once memory ran out. Where its rebuild is open it is aborted, and where it was
-    /// aborted, then or before, the add is answered so. It takes no memory. What is kept at
-    /// home may tell then that the stream gave a rebuild up.
+    /// aborted, then or before, the add is answered so. It takes no memory. What is kept at home may tell then that the
+    /// stream gave a command up.
     fn abandon_add<R: Wait>(&mut self, rt: &R, t: TicketNumber)
         requires ready { Self.ready self.old }
         requires turn { (r : ℕ) × (o : OwnCall) × HasAdd t r o (Self.mine self.old) }
         ensures ready { Self.ready self.new }
-        ensures left { (r : ℕ) (o : OwnCall) → HasAdd t r o (Self.mine self.old)
-            → LeavesAdd o (Self.mine self.old) (Self.mine self.new) };
+        ensures left { ForAdd t (Self.mine self.old)
+            (λ r o. LeavesAdd o (Self.mine self.old) (Self.mine self.new)) };
 }

@@ -1,10 +1,11 @@
-ghost use Rattle.std.specs.Prelude.{◌≡◌, ℕ, ◌<◌, [], length, true, false, Ok, OnOk, OnErr, IfOk, IfErr, IfSome, MatchOption};
+ghost use Rattle.std.specs.Prelude.{◌≡◌, ◌<◌, [], length, OnOk, OnErr, IfOk, IfSome, MatchOption};
 ghost use Rattle.volume_model.specs.Modes.{mode_of, IsSource, HasNoSource};
-ghost use Rattle.step_answers.specs.Asked.{IsNow, IsOnRange};
-ghost use Rattle.stream_steps.specs.Mine.{Mine, OwnCall, IsOwn, with_running};
+ghost use Rattle.step_answers.specs.Asked.{IsOnRange};
+ghost use Rattle.stream_steps.specs.Mine.{OwnCall, IsOwn, ForOwn, with_running};
+ghost use Rattle.stream_steps.specs.Does.{Stands, StandsStill, Does, StartsOrWaits};
 ghost use Rattle.stream_steps.specs.Against.{AgainstTake, AgainstGive, RefusesAck, RefusesFault, RefusesEnd};
-ghost use Rattle.stream_steps.specs.Steps.{HasNotStarted, HasStarted, IsStartedWrite, IsStartedRead, IsFrameCall, IsOnBlocks, EnrolsTo, AnswersNow, Answers, AdmitsTo, IsNotAfter, AreBlocksOfCall, TakesTo, AcksTo, FaultsTo};
-ghost use Rattle.stream_steps.specs.Seen.{AsksAll, IsNextUp, WaitsAs};
+ghost use Rattle.stream_steps.specs.Steps.{HasNotStarted, HasStarted, IsStartedWrite, IsStartedRead, AsksNow, EnrolsTo, AnswersNow, Answers, AdmitsTo, IsNotAfter, AreBlocksOfCall, PlacesTo, TakesTo, AcksTo, FaultsTo};
+ghost use Rattle.stream_steps.specs.Seen.{IsJobOf, TellsNext, WaitsAs};
 
 use crate::on_replica::OnReplica;
 use range_turns::TicketNumber;
@@ -42,10 +43,8 @@ pub trait ClientSteps {
     fn answer_now<R: Wait>(&mut self, rt: &R, alloc: Global, call: &Call) -> Result<u64, AllocError>
         requires ready { ready self.old }
         requires idle { (mine self.old).running ≡ [] }
-        requires now { IsNow call.now }
-        requires frame { IsFrameCall call.now }
-        ensures ready { ready self.new }
-        ensures home { home self.new ≡ home self.old }
+        requires asks { AsksNow call.now }
+        ensures stands { Stands ready home self.old self.new }
         ensures ok { OnOk result (AnswersNow call.now (mine self.old) (mine self.new)) }
         ensures err { OnErr result (mine self.new ≡ mine self.old) };
 
@@ -54,8 +53,7 @@ pub trait ClientSteps {
         requires ready { ready self.old }
         requires idle { (mine self.old).running ≡ [] }
         requires range { IsOnRange call.now }
-        ensures ready { ready self.new }
-        ensures home { home self.new ≡ home self.old }
+        ensures stands { Stands ready home self.old self.new }
         ensures ok { IfOk result (λ e. EnrolsTo call.now e (mine self.old) (mine self.new)) }
         ensures err { OnErr result (mine self.new ≡ mine self.old) };
 
@@ -68,29 +66,24 @@ pub trait ClientSteps {
     ) -> Result<Admit, AllocError>
         requires ready { ready self.old }
         requires open { (o : OwnCall) × IsOwn t o (mine self.old) × HasNotStarted o }
-        ensures ready { ready self.new }
-        ensures home { home self.new ≡ home self.old }
-        ensures ok { IfOk result (λ a.
-            (o : OwnCall) → IsOwn t o (mine self.old) → AdmitsTo o a (mine self.old) (mine self.new)) }
-        ensures free { IfOk result (λ a. IfSome (mine self.old).log (λ log. IsNotAfter a)) }
-        ensures asks { IfOk result (λ a. AsksAll a (modes self.new)) }
-        ensures waits { IfOk result (λ a. WaitsAs t a (seen self.new)) }
+        ensures stands { Stands ready home self.old self.new }
+        ensures ok { IfOk result (λ a. StartsOrWaits (mine self.old)
+            (ForOwn t (mine self.old) (λ o. AdmitsTo o a (mine self.old) (mine self.new)))
+            (IsNotAfter a) (WaitsAs t a (seen self.new))) }
+        ensures job { IfOk result (λ a. IsJobOf t a (mine self.old) (modes self.new) (seen self.new)) }
         ensures err { OnErr result (mine self.new ≡ mine self.old) };
 
     /// Takes the open call back, which has not started.
     fn withdraw<R: Wait>(&mut self, rt: &R, t: TicketNumber)
         requires ready { ready self.old }
         requires waits { (o : OwnCall) × IsOwn t o (mine self.old) × HasNotStarted o }
-        ensures ready { ready self.new }
-        ensures home { home self.new ≡ home self.old }
+        ensures stands { Stands ready home self.old self.new }
         ensures gone { mine self.new ≡ with_running (mine self.old) [] };
 
     /// The lowest replica that is read and written.
     fn source<R: Wait>(&mut self, rt: &R) -> Option<u8>
         requires ready { ready self.old }
-        ensures ready { ready self.new }
-        ensures home { home self.new ≡ home self.old }
-        ensures same { mine self.new ≡ mine self.old }
+        ensures stands { StandsStill ready home mine self.old self.new }
         ensures is { MatchOption result (HasNoSource (modes self.new)) (IsSource (modes self.new)) }
         ensures inside { IfSome result (λ r. r < (mine self.old).replicas) };
 
@@ -104,15 +97,11 @@ pub trait ClientSteps {
     ) -> OnReplica<Result<bool, NotThis>>
         requires ready { ready self.old }
         requires writes { (o : OwnCall) × IsOwn t o (mine self.old) × IsStartedWrite o }
-        ensures ready { ready self.new }
-        ensures home { home self.new ≡ home self.old }
-        ensures done { result.answer ≡ Ok true → (o : OwnCall) → IsOwn t o (mine self.old)
-            → TakesTo o replica o.buffer (mine self.old) (mine self.new) }
-        ensures same { result.answer ≡ Ok false → mine self.new ≡ mine self.old }
-        ensures why { IfErr result.answer (AgainstTake (modes self.new) replica) }
-        ensures err { OnErr result.answer (mine self.new ≡ mine self.old) }
-        ensures next { IsNextUp (modes self.new) replica result.next }
-        ensures inside { IfSome result.next (λ r. r < (mine self.old).replicas) };
+        ensures stands { Stands ready home self.old self.new }
+        ensures does { Does result.answer (mine self.old) (mine self.new)
+            (λ placed. PlacesTo placed t replica (mine self.old) (mine self.new))
+            (AgainstTake (modes self.new) replica) }
+        ensures next { TellsNext (modes self.new) replica (mine self.old).replicas result.next };
 
     /// A replica takes the blocks of the open write.
     fn apply_write<R: Wait>(
@@ -125,15 +114,12 @@ pub trait ClientSteps {
         requires ready { ready self.old }
         requires writes { (o : OwnCall) × IsOwn t o (mine self.old) × IsStartedWrite o
             × AreBlocksOfCall o blocks.old }
-        ensures ready { ready self.new }
-        ensures home { home self.new ≡ home self.old }
-        ensures ok { OnOk result.answer ((o : OwnCall) → IsOwn t o (mine self.old)
-            → TakesTo o replica o.buffer (mine self.old) (mine self.new)) }
-        ensures why { IfErr result.answer (AgainstTake (modes self.new) replica) }
-        ensures err { OnErr result.answer (mine self.new ≡ mine self.old) }
+        ensures stands { Stands ready home self.old self.new }
+        ensures does { Does result.answer (mine self.old) (mine self.new)
+            (λ _. ForOwn t (mine self.old) (λ o. TakesTo o replica o.buffer (mine self.old) (mine self.new)))
+            (AgainstTake (modes self.new) replica) }
         ensures count { length blocks.new ≡ length blocks.old }
-        ensures next { IsNextUp (modes self.new) replica result.next }
-        ensures inside { IfSome result.next (λ r. r < (mine self.old).replicas) };
+        ensures next { TellsNext (modes self.new) replica (mine self.old).replicas result.next };
 
     /// The first replica that is read gives the bytes of the open read.
     fn apply_read<R: Wait>(
@@ -147,12 +133,10 @@ pub trait ClientSteps {
         requires source { IsSource (modes self.old) replica }
         requires reads { (o : OwnCall) × IsOwn t o (mine self.old) × IsStartedRead o
             × (length into.old ≡ length o.buffer) }
-        ensures ready { ready self.new }
-        ensures home { home self.new ≡ home self.old }
-        ensures ok { OnOk result ((o : OwnCall) → IsOwn t o (mine self.old)
-            → TakesTo o replica into.new (mine self.old) (mine self.new)) }
-        ensures why { IfErr result (AgainstGive (modes self.new) replica) }
-        ensures err { OnErr result (mine self.new ≡ mine self.old) };
+        ensures stands { Stands ready home self.old self.new }
+        ensures does { Does result (mine self.old) (mine self.new)
+            (λ _. ForOwn t (mine self.old) (λ o. TakesTo o replica into.new (mine self.old) (mine self.new)))
+            (AgainstGive (modes self.new) replica) };
 
     /// A replica has acknowledged its part of the open call.
     fn ack<R: Wait>(
@@ -163,37 +147,28 @@ pub trait ClientSteps {
     ) -> OnReplica<Result<(), NotThis>>
         requires ready { ready self.old }
         requires started { (o : OwnCall) × IsOwn t o (mine self.old) × HasStarted o }
-        ensures ready { ready self.new }
-        ensures home { home self.new ≡ home self.old }
-        ensures ok { OnOk result.answer ((o : OwnCall) → IsOwn t o (mine self.old)
-            → AcksTo o replica (mine self.old) (mine self.new)) }
-        ensures why { IfErr result.answer (λ why. (o : OwnCall) → IsOwn t o (mine self.old)
-            → RefusesAck (modes self.new) o replica why) }
-        ensures err { OnErr result.answer (mine self.new ≡ mine self.old) }
-        ensures next { IsNextUp (modes self.new) replica result.next }
-        ensures inside { IfSome result.next (λ r. r < (mine self.old).replicas) };
+        ensures stands { Stands ready home self.old self.new }
+        ensures does { Does result.answer (mine self.old) (mine self.new)
+            (λ _. ForOwn t (mine self.old) (λ o. AcksTo o replica (mine self.old) (mine self.new)))
+            (λ why. ForOwn t (mine self.old) (λ o. RefusesAck (modes self.new) o replica why)) }
+        ensures next { TellsNext (modes self.new) replica (mine self.old).replicas result.next };
 
     /// The stream's line to a replica has failed, and so the replica.
     fn fault<R: Wait>(&mut self, rt: &R, replica: u8, count: u64) -> OnReplica<Result<(), NotThis>>
         requires ready { ready self.old }
-        ensures ready { ready self.new }
-        ensures home { home self.new ≡ home self.old }
-        ensures ok { OnOk result.answer (FaultsTo replica count (mine self.old) (mine self.new)) }
+        ensures stands { Stands ready home self.old self.new }
+        ensures does { Does result.answer (mine self.old) (mine self.new)
+            (λ _. FaultsTo replica count (mine self.old) (mine self.new))
+            (RefusesFault (modes self.new) (mine self.old) replica count) }
         ensures failed { OnOk result.answer (mode_of (modes self.new) replica ≡ Mode.Err) }
-        ensures why { IfErr result.answer (RefusesFault (modes self.new) (mine self.old) replica count) }
-        ensures err { OnErr result.answer (mine self.new ≡ mine self.old) }
-        ensures next { IsNextUp (modes self.new) replica result.next }
-        ensures inside { IfSome result.next (λ r. r < (mine self.old).replicas) };
+        ensures next { TellsNext (modes self.new) replica (mine self.old).replicas result.next };
 
     /// Answers the open call, once its replicas have acknowledged it.
     fn complete<R: Wait>(&mut self, rt: &R, t: TicketNumber) -> Result<u64, NotThis>
         requires ready { ready self.old }
         requires started { (o : OwnCall) × IsOwn t o (mine self.old) × HasStarted o }
-        ensures ready { ready self.new }
-        ensures home { home self.new ≡ home self.old }
-        ensures ok { OnOk result ((o : OwnCall) → IsOwn t o (mine self.old)
-            → Answers o (mine self.old) (mine self.new)) }
-        ensures why { IfErr result (λ why. (o : OwnCall) → IsOwn t o (mine self.old)
-            → RefusesEnd (modes self.new) o why) }
-        ensures err { OnErr result (mine self.new ≡ mine self.old) };
+        ensures stands { Stands ready home self.old self.new }
+        ensures does { Does result (mine self.old) (mine self.new)
+            (λ _. ForOwn t (mine self.old) (λ o. Answers o (mine self.old) (mine self.new)))
+            (λ why. ForOwn t (mine self.old) (λ o. RefusesEnd (modes self.new) o why)) };
 }

@@ -1,16 +1,17 @@
 ghost use Rattle.volume_model.specs.declared.command.Command.{Command};
 ghost use Rattle.step_answers.specs.declared.whole_op.WholeOp.{WholeOp};
-ghost use Rattle.std.specs.Prelude.{◌≡◌, ◌≢◌, ℕ, ◌*◌, ◌<◌, Bool, List, length, [], ◌∷◌, false, true, IfOk, IfErr, OnOk, OnErr, IfSome, None, Ok};
+ghost use Rattle.std.specs.Prelude.{◌≡◌, ◌≢◌, ℕ, ◌*◌, ◌<◌, Bool, List, length, [], ◌∷◌, false, true, IfOk, IfErr, OnOk, OnErr, IfSome, Ok};
 ghost use Rattle.vol_units.specs.Name.{begins_sys};
 ghost use Rattle.vol_units.specs.declared.size.TheConstants.{PAGE_BYTES};
 ghost use Rattle.volume_model.specs.declared.call.Call.TheVariants as call;
 ghost use Rattle.volume_model.specs.declared.call.Reply.{Reply};
 ghost use Rattle.volume_model.specs.Modes.{mode_of};
-ghost use Rattle.step_answers.specs.Asked.{command_of, NamesReplica};
-ghost use Rattle.stream_steps.specs.Mine.{Mine, OwnCall, with_running};
+ghost use Rattle.step_answers.specs.Asked.{command_of};
+ghost use Rattle.stream_steps.specs.Mine.{OwnCall, with_running};
+ghost use Rattle.stream_steps.specs.Does.{Stands, StandsStill, Does, StartsOrWaits, MayAsk};
 ghost use Rattle.stream_steps.specs.Against.{RefusesFault};
 ghost use Rattle.stream_steps.specs.Steps.{CommandsTo, EnrolsAt, FallsTo, IsAtOnce};
-ghost use Rattle.stream_steps.specs.Maint.{IsMaint, IsNoAdd, IsNoBarrier, HasTurn, AwaitsTurn, TurnsTo, IsYes, HasWhole, EnrolsWhole, EnrolsUnder, AnswersWhole, AdmitsWhole, IsNotLater, PartsTo, AcksWhole, AgainstPart, AgainstAckWhole, AgainstEndWhole, WholeEnds, IsNext};
+ghost use Rattle.stream_steps.specs.Maint.{IsMaint, IsNoAdd, IsNoBarrier, HasTurn, ForTurn, AwaitsTurn, TurnsTo, IsYes, HasWhole, ForWhole, EnrolsSnapshot, EnrolsOr, AnswersWhole, AdmitsWhole, IsNotLater, PartsTo, AcksWhole, AgainstPart, AgainstAckWhole, AgainstEndWhole, WholeEnds, IsNext};
 ghost use Rattle.stream_steps.specs.Seen.{CannotGo, FindsNext, RefusesEndPurge, RefusesFold, WaitsTurn, WaitsWhole};
 
 use range_turns::{MayStart, TicketNumber};
@@ -67,39 +68,32 @@ pub trait CommandSteps {
     ) -> Result<u64, AllocError>
         requires ready { ready self.old }
         requires idle { (mine self.old).running ≡ [] }
-        requires once { IsAtOnce command.now }
-        requires there { NamesReplica (mine self.old).replicas command.now }
-        ensures ready { ready self.new }
-        ensures home { home self.new ≡ home self.old }
+        requires asks { MayAsk IsAtOnce (mine self.old).replicas command.now }
+        ensures stands { Stands ready home self.old self.new }
         ensures ok { OnOk result (CommandsTo command.now (mine self.old) (mine self.new)) }
         ensures err { OnErr result (mine self.new ≡ mine self.old) };
 
     /// The mode of a replica.
     fn mode_of<R: Wait>(&mut self, rt: &R, replica: u8) -> Mode
         requires ready { ready self.old }
-        ensures ready { ready self.new }
-        ensures home { home self.new ≡ home self.old }
-        ensures same { mine self.new ≡ mine self.old }
+        ensures stands { StandsStill ready home mine self.old self.new }
         ensures begun { (past : Bool) (source r : ℕ) → begun self.old past source r → begun self.new past source r }
         ensures is { result ≡ mode_of (modes self.new) replica };
 
     /// The stream's line to a replica has failed, and so the replica: thereby a rebuild may be aborted.
     fn line_failed<R: Wait>(&mut self, rt: &R, replica: u8, count: u64) -> Result<(), NotThis>
         requires ready { ready self.old }
-        ensures ready { ready self.new }
-        ensures home { home self.new ≡ home self.old }
+        ensures stands { Stands ready home self.old self.new }
         ensures begun { (past : Bool) (source r : ℕ) → begun self.old past source r → begun self.new past source r }
-        ensures ok { OnOk result (FallsTo replica count (mine self.old) (mine self.new)) }
-        ensures failed { OnOk result (mode_of (modes self.new) replica ≡ Mode.Err) }
-        ensures why { IfErr result (RefusesFault (modes self.new) (mine self.old) replica count) }
-        ensures err { OnErr result (mine self.new ≡ mine self.old) };
+        ensures does { Does result (mine self.old) (mine self.new)
+            (λ _. FallsTo replica count (mine self.old) (mine self.new))
+            (RefusesFault (modes self.new) (mine self.old) replica count) }
+        ensures failed { OnOk result (mode_of (modes self.new) replica ≡ Mode.Err) };
 
     /// How many pages the volume has.
     fn page_count<R: Wait>(&mut self, rt: &R) -> u32
         requires ready { ready self.old }
-        ensures ready { ready self.new }
-        ensures home { home self.new ≡ home self.old }
-        ensures same { mine self.new ≡ mine self.old }
+        ensures stands { StandsStill ready home mine self.old self.new }
         ensures is { result * PAGE_BYTES ≡ length (seen self.new).log.spot.state.volume.disk };
 
     // ---- the maintenance turn
@@ -113,10 +107,8 @@ pub trait CommandSteps {
     ) -> Result<TicketNumber, AllocError>
         requires ready { ready self.old }
         requires idle { (mine self.old).running ≡ [] }
-        requires wants { IsMaint command.now }
-        requires there { NamesReplica (mine self.old).replicas command.now }
-        ensures ready { ready self.new }
-        ensures home { home self.new ≡ home self.old }
+        requires asks { MayAsk IsMaint (mine self.old).replicas command.now }
+        ensures stands { Stands ready home self.old self.new }
         ensures ok { IfOk result (λ t. EnrolsAt t (call.Command command.now) (mine self.old) (mine self.new)) }
         ensures err { OnErr result (mine self.new ≡ mine self.old) };
 
@@ -124,32 +116,28 @@ pub trait CommandSteps {
     fn admit_maint<R: Wait>(&mut self, rt: &R, t: TicketNumber) -> MayStart
         requires ready { ready self.old }
         requires waits { (c : Command) × (o : OwnCall) × AwaitsTurn t c o (mine self.old) }
-        ensures ready { ready self.new }
-        ensures home { home self.new ≡ home self.old }
-        ensures turns { (c : Command) (o : OwnCall) → AwaitsTurn t c o (mine self.old)
-            → TurnsTo o result (mine self.old) (mine self.new) }
-        ensures unbegun { result ≡ MayStart.Yes → unbegun self.new }
-        ensures waits { WaitsTurn t result (seen self.new) }
-        ensures free { IfSome (mine self.old).log (λ log. IsYes result) };
+        ensures stands { Stands ready home self.old self.new }
+        ensures turns { StartsOrWaits (mine self.old) ((c : Command) (o : OwnCall)
+            → AwaitsTurn t c o (mine self.old) → TurnsTo o result (mine self.old) (mine self.new))
+            (IsYes result) (WaitsTurn t result (seen self.new)) }
+        ensures unbegun { result ≡ MayStart.Yes → unbegun self.new };
 
     /// Ends a purge that has the turn: it is done, or there is no replica. It is refused where it cannot be answered
     /// so.
     fn end_maint<R: Wait>(&mut self, rt: &R, t: TicketNumber, reply: Reply) -> Result<u64, NotThis>
         requires ready { ready self.old }
         requires turn { (o : OwnCall) × HasTurn t Command.Purge o (mine self.old) }
-        ensures ready { ready self.new }
-        ensures home { home self.new ≡ home self.old }
-        ensures ok { OnOk result ((o : OwnCall) → HasTurn t Command.Purge o (mine self.old)
-            → AnswersWhole o reply (mine self.old) (mine self.new)) }
-        ensures why { OnErr result (RefusesEndPurge reply (seen self.new)) }
-        ensures err { OnErr result (mine self.new ≡ mine self.old) };
+        ensures stands { Stands ready home self.old self.new }
+        ensures does { Does result (mine self.old) (mine self.new)
+            (λ _. ForTurn t Command.Purge (mine self.old) (λ o. AnswersWhole o reply (mine self.old) (mine self.new)))
+            (λ why. RefusesEndPurge reply (seen self.new)) };
 
-    /// Gives the turn back without an answer, once memory ran out: of a command that is no add.
+    /// Gives the turn back without an answer, once memory ran out: of a command that is no add. What is kept at home
+    /// may tell then that the stream gave a command up.
     fn abandon<R: Wait>(&mut self, rt: &R, t: TicketNumber)
         requires ready { ready self.old }
         requires turn { (c : Command) × (o : OwnCall) × HasTurn t c o (mine self.old) × IsNoAdd c }
         ensures ready { ready self.new }
-        ensures home { home self.new ≡ home self.old }
         ensures gone { mine self.new ≡ with_running (mine self.old) [] };
 
     // ---- the whole volume
@@ -164,10 +152,8 @@ pub trait CommandSteps {
         requires ready { ready self.old }
         requires idle { (mine self.old).running ≡ [] }
         requires snapshot { (name : List ℕ) × (op.now ≡ WholeOp.Snapshot name) × (begins_sys name ≡ false) }
-        ensures ready { ready self.new }
-        ensures home { home self.new ≡ home self.old }
-        ensures ok { IfOk result (λ t. EnrolsWhole t op.now [] (mine self.old) (mine self.new)) }
-        ensures saw { IfOk result (λ t. EnrolsAt t (call.Command (command_of op.now)) (mine self.old) (mine self.new)) }
+        ensures stands { Stands ready home self.old self.new }
+        ensures ok { IfOk result (λ t. EnrolsSnapshot t op.now (mine self.old) (mine self.new)) }
         ensures err { OnErr result (mine self.new ≡ mine self.old) };
 
     /// Puts what the command does that has the turn behind all calls. None: a part of a purge that cannot go, or a
@@ -181,13 +167,10 @@ pub trait CommandSteps {
     ) -> Result<Option<TicketNumber>, AllocError>
         requires ready { ready self.old }
         requires turn { (o : OwnCall) × HasTurn t (command_of op.now) o (mine self.old) }
-        ensures ready { ready self.new }
-        ensures home { home self.new ≡ home self.old }
-        ensures ok { IfOk result (λ w. IfSome w (λ n. (o : OwnCall) → HasTurn t (command_of op.now) o (mine self.old)
-            → EnrolsUnder n op.now o (mine self.old) (mine self.new))) }
+        ensures stands { Stands ready home self.old self.new }
+        ensures ok { IfOk result (λ number. EnrolsOr t op.now number
+            (CannotGo op.now (may_go self.new) (modes self.new)) (mine self.old) (mine self.new)) }
         ensures unbegun { unbegun self.old → unbegun self.new }
-        ensures cannot { result ≡ Ok None → CannotGo op.now (may_go self.new) (modes self.new) }
-        ensures none { result ≡ Ok None → mine self.new ≡ mine self.old }
         ensures err { OnErr result (mine self.new ≡ mine self.old) };
 
     /// Starts the operation, where no earlier call is in its way.
@@ -200,14 +183,11 @@ pub trait CommandSteps {
         requires ready { ready self.old }
         requires open { (op : WholeOp) × (turn : List OwnCall) × (o : OwnCall)
             × HasWhole t op turn o (mine self.old) × (o.started ≡ false) }
-        ensures ready { ready self.new }
-        ensures home { home self.new ≡ home self.old }
-        ensures ok { IfOk result (λ a. (op : WholeOp) (turn : List OwnCall) (o : OwnCall)
-            → HasWhole t op turn o (mine self.old) → AdmitsWhole op turn o a (mine self.old) (mine self.new)) }
-        ensures waits { IfOk result (λ a. WaitsWhole t a (seen self.new)) }
-        ensures never { (op : WholeOp) (turn : List OwnCall) (o : OwnCall) → HasWhole t op turn o (mine self.old)
-            → IsNoBarrier op → result ≢ Ok AdmitWhole.Never }
-        ensures free { IfOk result (λ a. IfSome (mine self.old).log (λ log. IsNotLater a)) }
+        ensures stands { Stands ready home self.old self.new }
+        ensures ok { IfOk result (λ a. StartsOrWaits (mine self.old)
+            (ForWhole t (mine self.old) (λ op turn o. AdmitsWhole op turn o a (mine self.old) (mine self.new)))
+            (IsNotLater a) (WaitsWhole t a (seen self.new))) }
+        ensures never { ForWhole t (mine self.old) (λ op turn o. IsNoBarrier op → result ≢ Ok AdmitWhole.Never) }
         ensures err { OnErr result (mine self.new ≡ mine self.old) };
 
     /// Takes the operation back, which has not started.
@@ -215,55 +195,44 @@ pub trait CommandSteps {
         requires ready { ready self.old }
         requires waits { (op : WholeOp) × (turn : List OwnCall) × (o : OwnCall)
             × HasWhole t op turn o (mine self.old) × (o.started ≡ false) }
-        ensures ready { ready self.new }
-        ensures home { home self.new ≡ home self.old }
-        ensures gone { (op : WholeOp) (turn : List OwnCall) (o : OwnCall)
-            → HasWhole t op turn o (mine self.old) → mine self.new ≡ with_running (mine self.old) turn };
+        ensures stands { Stands ready home self.old self.new }
+        ensures gone { ForWhole t (mine self.old) (λ op turn o. mine self.new ≡ with_running (mine self.old) turn) };
 
     /// A replica takes its part of the operation.
     fn part<R: Wait>(&mut self, rt: &R, t: TicketNumber, replica: u8) -> Result<(), NotThis>
         requires ready { ready self.old }
         requires started { (op : WholeOp) × (turn : List OwnCall) × (o : OwnCall)
             × HasWhole t op turn o (mine self.old) × (o.started ≡ true) }
-        ensures ready { ready self.new }
-        ensures home { home self.new ≡ home self.old }
+        ensures stands { Stands ready home self.old self.new }
         ensures begun { (past : Bool) (source r : ℕ) → begun self.old past source r → begun self.new past source r }
-        ensures ok { OnOk result ((op : WholeOp) (turn : List OwnCall) (o : OwnCall)
-            → HasWhole t op turn o (mine self.old) → PartsTo turn o replica (mine self.old) (mine self.new)) }
-        ensures why { IfErr result (λ why. (op : WholeOp) (turn : List OwnCall) (o : OwnCall)
-            → HasWhole t op turn o (mine self.old) → AgainstPart (modes self.new) o replica why) }
-        ensures err { OnErr result (mine self.new ≡ mine self.old) };
+        ensures does { Does result (mine self.old) (mine self.new)
+            (λ _. ForWhole t (mine self.old) (λ op turn o. PartsTo turn o replica (mine self.old) (mine self.new)))
+            (λ why. ForWhole t (mine self.old) (λ op turn o. AgainstPart (modes self.new) o replica why)) };
 
     /// A replica, which took its part, has acknowledged it.
     fn ack_whole<R: Wait>(&mut self, rt: &R, t: TicketNumber, replica: u8) -> Result<(), NotThis>
         requires ready { ready self.old }
         requires started { (op : WholeOp) × (turn : List OwnCall) × (o : OwnCall)
             × HasWhole t op turn o (mine self.old) × (o.started ≡ true) }
-        ensures ready { ready self.new }
-        ensures home { home self.new ≡ home self.old }
+        ensures stands { Stands ready home self.old self.new }
         ensures begun { (past : Bool) (source r : ℕ) → begun self.old past source r → begun self.new past source r }
-        ensures ok { OnOk result ((op : WholeOp) (turn : List OwnCall) (o : OwnCall)
-            → HasWhole t op turn o (mine self.old) → AcksWhole turn o replica (mine self.old) (mine self.new)) }
-        ensures why { IfErr result (λ why. (op : WholeOp) (turn : List OwnCall) (o : OwnCall)
-            → HasWhole t op turn o (mine self.old) → AgainstAckWhole o replica why) }
-        ensures err { OnErr result (mine self.new ≡ mine self.old) };
+        ensures does { Does result (mine self.old) (mine self.new)
+            (λ _. ForWhole t (mine self.old) (λ op turn o. AcksWhole turn o replica (mine self.old) (mine self.new)))
+            (λ why. ForWhole t (mine self.old) (λ op turn o. AgainstAckWhole o replica why)) };
 
     /// Ends the operation, once each replica has acknowledged its part or has failed.
     fn complete_whole<R: Wait>(&mut self, rt: &R, t: TicketNumber) -> Result<u64, NotThis>
         requires ready { ready self.old }
         requires started { (op : WholeOp) × (turn : List OwnCall) × (o : OwnCall)
             × HasWhole t op turn o (mine self.old) × (o.started ≡ true) }
-        ensures ready { ready self.new }
-        ensures home { home self.new ≡ home self.old }
-        ensures ok { OnOk result ((op : WholeOp) (turn : List OwnCall) (o : OwnCall)
-            → HasWhole t op turn o (mine self.old) → WholeEnds op turn o (mine self.old) (mine self.new)) }
-        ensures why { IfErr result (λ why. (op : WholeOp) (turn : List OwnCall) (o : OwnCall)
-            → HasWhole t op turn o (mine self.old) → AgainstEndWhole (modes self.new) o why) }
+        ensures stands { Stands ready home self.old self.new }
+        ensures does { Does result (mine self.old) (mine self.new)
+            (λ _. ForWhole t (mine self.old) (λ op turn o. WholeEnds op turn o (mine self.old) (mine self.new)))
+            (λ why. ForWhole t (mine self.old) (λ op turn o. AgainstEndWhole (modes self.new) o why)) }
         ensures begun { (past : Bool) (source r : ℕ) → begun self.old past source r → begun self.new past source r }
         ensures past { OnOk result ((r source : ℕ) (turn : List OwnCall) (o : OwnCall)
             → HasWhole t (WholeOp.Barrier r) turn o (mine self.old) → begun self.old false source r
-            → begun self.new true source r) }
-        ensures err { OnErr result (mine self.new ≡ mine self.old) };
+            → begun self.new true source r) };
 
     // ---- a purge
 
@@ -271,18 +240,14 @@ pub trait CommandSteps {
     fn fold_next<R: Wait>(&mut self, rt: &R, t: TicketNumber) -> NextPart
         requires ready { ready self.old }
         requires turn { (o : OwnCall) × HasTurn t Command.Purge o (mine self.old) }
-        ensures ready { ready self.new }
-        ensures home { home self.new ≡ home self.old }
-        ensures same { mine self.new ≡ mine self.old }
+        ensures stands { StandsStill ready home mine self.old self.new }
         ensures found { FindsNext result (seen self.new) }
         ensures is { IfSome (mine self.old).log (IsNext result) };
 
     /// Whether a replica is read and has a block of the page in the one child of the layer.
     fn fold_wanted<R: Wait>(&mut self, rt: &R, replica: u8, parent: &LayerName, page: u32) -> bool
         requires ready { ready self.old }
-        ensures ready { ready self.new }
-        ensures home { home self.new ≡ home self.old }
-        ensures same { mine self.new ≡ mine self.old }
+        ensures stands { StandsStill ready home mine self.old self.new }
         ensures wanted { result ≡ true → wants_fold self.new replica parent.now page }
         ensures not { result ≡ false → ¬ wants_fold self.new replica parent.now page };
 
@@ -297,9 +262,7 @@ pub trait CommandSteps {
     ) -> Result<(), NotThis>
         requires ready { ready self.old }
         requires turn { (o : OwnCall) × HasTurn t Command.Purge o (mine self.old) }
-        ensures ready { ready self.new }
-        ensures home { home self.new ≡ home self.old }
-        ensures same { mine self.new ≡ mine self.old }
+        ensures stands { StandsStill ready home mine self.old self.new }
         ensures folded { OnOk result (¬ wants_fold self.new replica parent.now page) }
         ensures why { IfErr result (RefusesFold replica parent.now page (modes self.new) (seen self.new).log) };
 }
