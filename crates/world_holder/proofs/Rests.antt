@@ -1,4 +1,4 @@
--- A World between streams: none has anything open, and none gave a rebuild up. A stream begins with it, and ends.
+-- A World between streams: none has anything open, and none gave a command up. A stream begins with it, and ends.
 use Rattle.std.proofs.Common.{◌≡◌, ℕ, ◌<◌, false, List, [], ◌∷◌, ◌++◌, length, map, Some, subst, sym}
 use Rattle.std.proofs.Common.{refl, ap, ◌∙◌}
 use Rattle.range_turns.specs.declared.ticket.Ticket.{Ticket}

@@ -31,7 +31,7 @@ parts_for None t = []
 parts_for (Some w) t = if w.number == t.number then w.parts else []
 
 -- What a stream has open: a command that has the maintenance turn or waits for it, and a call, each with its ticket, and
--- the call with how far each replica is with it, if it is that operation. That it gave a rebuild up stays for good.
+-- the call with how far each replica is with it, if it is that operation. That it gave a command up stays for good.
 pub data Running : Type 0 where
   GaveUp : Running
   Turn : Ticket → MaintCall → Running
@@ -47,7 +47,7 @@ abbrev pub gave_up_of : Bool → List Running
 gave_up_of true = GaveUp ∷ []
 gave_up_of false = []
 
--- all of it: whether it gave a rebuild up, its commands of the turn, and then its calls
+-- all of it: whether it gave a command up, its commands of the turn, and then its calls
 abbrev pub running_of : State → ℕ → List Running
 running_of s stream = gave_up_of (gave_up_at s.gave_up stream)
     ++ (map turn_of (turning s stream) ++ map (call_of s.whole) (running s stream))
@@ -91,7 +91,7 @@ world_account = record {
 }
 
 -- Of a stream that takes no step, the World s is t later: with the same origin, entries more of which none is its own,
--- all that it has open as it was, whether it gave a rebuild up, and with what its commands count on.
+-- all that it has open as it was, whether it gave a command up, and with what its commands count on.
 pub record IsLater (stream : ℕ) (s t : State) : Type 0 where
   pub origin : origin_of t ≡ origin_of s
   pub added : (es : List Entry) × (t.book.entries ≡ s.book.entries ++ es)

@@ -104,14 +104,14 @@ view alone stream s = record {
   log = log_of alone s;
 }
 
--- a stream of frames: it has no command of the maintenance turn, and gave no rebuild up
+-- a stream of frames: it has no command of the maintenance turn, and gave no command up
 pub record IsFree (stream : ℕ) (s : State) : Type 0 where
   pub turns : turning s stream ≡ []
   pub gave_up : gave_up_at s.gave_up stream ≡ false
 
 -- ---- what it finds, and what it owes
 
--- no other stream has anything open, or gave a rebuild up
+-- no other stream has anything open, or gave a command up
 pub record IsAlone (stream : ℕ) (s : State) : Type 0 where
   pub calls : (other : ℕ) → other ≢ stream → running s other ≡ []
   pub turns : (other : ℕ) → other ≢ stream → turning s other ≡ []

@@ -18,7 +18,7 @@ pub struct Hand {
 
 impl Hand {
     /// A World of which no call is open, no command has the maintenance turn or waits for it, and no stream gave a
-    /// rebuild up.
+    /// command up.
     pub fn of(world: Box<World>, stream: u8) -> Hand
         requires sound { IsSound (state_of world.value) }
         requires there { stream < length world.value.indices.items }
@@ -38,7 +38,7 @@ impl Hand {
         }
     }
 
-    /// Gives the World back, of which no call is open, where the stream gave no rebuild up.
+    /// Gives the World back, of which no call is open, where the stream gave no command up.
     pub fn into_world(self, stream: u8) -> Box<World>
         requires rests { ⟦<Hand as Holder>⟧.rests self stream }
         requires idle { (view true stream (⟦<Hand as Holder>⟧.seen self)).running ≡ [] }
