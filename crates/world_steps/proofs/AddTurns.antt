@@ -1,6 +1,6 @@
 -- A turn of a stream whose add has the turn: what is found, what it owes, and what a look at its rebuild tells. The World that
 -- was seen as s is found as x, left as y, and seen so as u.
-use Rattle.std.proofs.Common.{◌≡◌, ℕ, ◌<◌, Bool, Option, None, Some, MatchOption}
+use Rattle.std.proofs.Common.{◌≡◌, ℕ, ◌<◌, Bool, true, Option, None, Some, MatchOption}
 use Rattle.std.proofs.Common.{subst, sym, refl, ap, ◌∙◌}
 use Rattle.sparse_image.specs.Image.{Table}
 use Rattle.vol_units.specs.declared.page_ref.PageRef.{PageRef}
@@ -26,7 +26,6 @@ use Rattle.world_holder.proofs.Grow.{found_same}
 use Rattle.world_steps.proofs.FrameTurns.{look_same}
 use Rattle.world_steps.proofs.GaveUp.{flag_kept}
 use Rattle.world_steps.specs.Rebuild.{left_now, IsPageIn, IsAbortedAt, AwaitsAt, IsEndedAt, IsNextIn, IsOutIn}
-use Rattle.world_steps.specs.Rebuild.{IsBegunIn}
 use Rattle.world_steps.proofs.Begun.{begun_found}
 use Rattle.world_steps.proofs.Turns.{turn_owner, turn_stream, free_turn}
 use Rattle.world_steps.proofs.Pages.{one_more, takes_all, out_page, out_none, out_block}
@@ -46,8 +45,8 @@ module _ (a : Bool) (n t : ℕ) (s x : State) (found : IsFound a n s x) (add : H
   add_kept = let h = add_found in found_kept a n t h.0 h.1 s x found.later found.sound h.2
 
   -- what was known is known
-  pub add_known : IsStillKnown s x
-  add_known = still_known s x add_kept
+  pub add_known : IsStillKnown n s x
+  add_known = still_known s x n add_kept (λ source r. begun_found n s x true source r found.later)
 
   -- its command is the first, and has nothing enrolled
   pub add_stream : (command_at x.commands 0).stream ≡ n
@@ -65,24 +64,18 @@ module _ (a : Bool) (n t : ℕ) (s x : State) (found : IsFound a n s x) (add : H
 
 -- ---- a look, which leaves the World as it was found
 
--- the stream knows the same, gave no rebuild up beside those that it had, and knows of its rebuild what it knew
+-- the stream knows the same, gave no command up beside those that it had, and knows of its rebuild what it knew
 pub record IsStill (a : Bool) (n : ℕ) (s u : State) : Type 0 where
   pub same : view a n u ≡ view a n s
   pub gave_up : gave_up_at u.gave_up n ≡ gave_up_at s.gave_up n
-  pub known : IsStillKnown s u
-
-module _ (a : Bool) (n : ℕ) (s x : State) (found : IsFound a n s x) (u : State) (left : u ≡ x) where
-  -- its rebuild is begun still
-  pub look_begun : (past : Bool) (source r : ℕ) → IsBegunIn n s past source r → IsBegunIn n u past source r
-  look_begun past source r begun =
-      subst (λ (z : State). IsBegunIn n z past source r) (sym left) (begun_found n s x past source r found.later begun)
+  pub known : IsStillKnown n s u
 
 module _ (a : Bool) (n t : ℕ) (s x : State) (found : IsFound a n s x) (add : HasSomeAdd t (view a n s)) (u : State) (left : u ≡ x) where
   pub look_still : IsStill a n s u
   look_still = record {
     same = look_same a n s x u found left;
     gave_up = flag_kept a n s x x u found left refl;
-    known = subst (IsStillKnown s) (sym left) (add_known a n t s x found add);
+    known = subst (IsStillKnown n s) (sym left) (add_known a n t s x found add);
   }
 
   -- the next page, of as many as were left

@@ -30,12 +30,14 @@ use Rattle.stream_steps.specs.declared.add.AdmitBarrier.{AdmitBarrier}
 use Rattle.stream_steps.specs.declared.add.AdmitBarrier.TheVariants as barrier
 use Rattle.stream_steps.specs.Mine.{Mine, OwnCall}
 use Rattle.stream_steps.specs.Maint as maint
-use Rattle.stream_steps.specs.Maint.{HasWhole}
-use Rattle.stream_steps.specs.Add.{AdmitsBarrier, BeginsBy, IfBegun, IsFromOther, IsNoWait, IsStillUnbegun, WaitsBarrier}
+use Rattle.stream_steps.specs.Maint.{HasWhole, ForBarrier}
+use Rattle.stream_steps.specs.Does.{StartsOrWaits}
+use Rattle.stream_steps.specs.Add.{AdmitsBarrier, BeginsBy, BeginsRebuild, IfBegun, IsFromOther, IsNoWait, IsStillUnbegun, WaitsBarrier}
 use Rattle.world_holder.specs.Counted.{IsRebuildKept}
 use Rattle.world_holder.specs.View.{view, IsFound, Owes}
 use Rattle.world_holder.proofs.CountedLemmas.{kept_in_turn}
 use Rattle.world_holder.proofs.Grow.{found_same, over, unchanged}
+use Rattle.world_steps.proofs.Does.{starts_or_waits}
 use Rattle.world_steps.proofs.Begun.{first_adds}
 use Rattle.world_steps.proofs.Pages.{apart}
 use Rattle.world_steps.proofs.Shapes.{HasCall, has_call}
@@ -188,6 +190,27 @@ module _ (a : Bool) (n t : ℕ) (s x : State) (found : IsFound a n s x) (h : Has
             apart = λ e. apart y g.b sound begun (from ∙ e ∙ sym g.target);
           }
 
+    -- it may not begin only where a rebuild was begun, if its replica is there
+    barrier_never : res ≡ Ok barrier.Never → (r : ℕ) (turn : List OwnCall) (o : OwnCall)
+        → HasWhole t (whole.Barrier r) turn o (view a n s) → r < (view a n s).replicas → ¬ IsUnbegun s
+    barrier_never e = subst (λ (m : Mine). (r : ℕ) (turn : List OwnCall) (o : OwnCall) → HasWhole t (whole.Barrier r) turn o m
+        → r < m.replicas → ¬ IsUnbegun s) (found_same a n s x found) (by res e ok)
+      where
+        against : (r : ℕ) → (x.rebuild ≢ None) ⊎ ((x.ended ≢ None) ⊎ (length x.nodes ≤ r)) → r < length x.nodes → ¬ IsUnbegun x
+        against r (inl some) there unbegun = some unbegun.closed
+        against r (inr (inl ended)) there unbegun = ended unbegun.first
+        against r (inr (inr none)) there unbegun = absurd (omega (arith, none, there))
+
+        by : (q : Result AdmitBarrier E) → q ≡ Ok barrier.Never → IfOk q (λ b. AdmitsBarrierIn x t b y) → (r : ℕ)
+            (turn : List OwnCall) (o : OwnCall) → HasWhole t (whole.Barrier r) turn o (view a n x) → r < length x.nodes → ¬ IsUnbegun s
+        by (Ok barrier.Never) e k r turn o w there unbegun =
+            let op = same_op a n x t (whole.Barrier r) turn o (here r turn o w) k.0 k.1 k.2.awaits.stands k.2.asks in
+            against r (subst (world.MayNotBegin x) op k.3) there (found_unbegun unbegun)
+        by (Ok (barrier.Go added)) e k r turn o w there unbegun = absurd cc
+        by (Ok (barrier.After other)) e k r turn o w there unbegun = absurd cc
+        by (Ok barrier.Refused) e k r turn o w there unbegun = absurd cc
+        by (Failed f) e k r turn o w there unbegun = absurd cc
+
     -- ---- what its stream sees
 
     module _ (u : State) (left : u ≡ y) where
@@ -200,7 +223,7 @@ module _ (a : Bool) (n t : ℕ) (s x : State) (found : IsFound a n s x) (h : Has
       as_any ans k r turn o w =
           admit_to a n t s x found (as_waits t (view a n s) h) {E = E} y (Ok ans) may k tt u left (whole.Barrier r) turn o w
 
-      pub barrier_to : IfOk res (λ b. (r : ℕ) (turn : List OwnCall) (o : OwnCall) → HasWhole t (whole.Barrier r) turn o (view a n s)
+      barrier_to : IfOk res (λ b. (r : ℕ) (turn : List OwnCall) (o : OwnCall) → HasWhole t (whole.Barrier r) turn o (view a n s)
           → AdmitsBarrier r turn o b (view a n s) (view a n u))
       barrier_to = by res ok
         where
@@ -216,7 +239,7 @@ module _ (a : Bool) (n t : ℕ) (s x : State) (found : IsFound a n s x) (h : Has
               (k.0, told.0, told.1)
           by (Failed f) k = tt
 
-      pub barrier_begun : IsSound y → IfOk res (λ b. (r : ℕ) (turn : List OwnCall) (o : OwnCall)
+      barrier_begun : IsSound y → IfOk res (λ b. (r : ℕ) (turn : List OwnCall) (o : OwnCall)
           → HasWhole t (whole.Barrier r) turn o (view a n s)
           → IfBegun b r (view a n s).replicas (λ source q. IsBegunIn n u false source q))
       barrier_begun sound = by res ok
@@ -237,7 +260,7 @@ module _ (a : Bool) (n t : ℕ) (s x : State) (found : IsFound a n s x) (h : Has
       still_unbegun : y ≡ x → IsUnbegun s → IsUnbegun u
       still_unbegun e unbegun = subst IsUnbegun (sym (left ∙ e)) (found_unbegun unbegun)
 
-      pub barrier_still : IfOk res (λ b. IsStillUnbegun b (IsUnbegun s) (IsUnbegun u))
+      barrier_still : IfOk res (λ b. IsStillUnbegun b (IsUnbegun s) (IsUnbegun u))
       barrier_still = by res ok
         where
           by : (q : Result AdmitBarrier E) → IfOk q (λ b. AdmitsBarrierIn x t b y)
@@ -248,14 +271,14 @@ module _ (a : Bool) (n t : ℕ) (s x : State) (found : IsFound a n s x) (h : Has
           by (Ok barrier.Refused) k = tt
           by (Failed f) k = tt
 
-      pub barrier_kept : OnErr res (IsUnbegun s → IsUnbegun u)
+      barrier_kept : OnErr res (IsUnbegun s → IsUnbegun u)
       barrier_kept = by res err
         where
           by : (q : Result AdmitBarrier E) → OnErr q (y ≡ x) → OnErr q (IsUnbegun s → IsUnbegun u)
           by (Ok b) e = tt
           by (Failed f) e = still_unbegun e
 
-      pub barrier_waits : IfOk res (λ b. WaitsBarrier t b (seen_of u))
+      barrier_waits : IfOk res (λ b. WaitsBarrier t b (seen_of u))
       barrier_waits = by res ok
         where
           by : (q : Result AdmitBarrier E) → IfOk q (λ b. AdmitsBarrierIn x t b y) → IfOk q (λ b. WaitsBarrier t b (seen_of u))
@@ -266,7 +289,7 @@ module _ (a : Bool) (n t : ℕ) (s x : State) (found : IsFound a n s x) (h : Has
           by (Ok barrier.Refused) k = tt
           by (Failed f) k = tt
 
-      pub barrier_free : IfOk res (λ b. IfSome (view a n s).log (λ log. IsNoWait b))
+      barrier_free : IfOk res (λ b. IfSome (view a n s).log (λ log. IsNoWait b))
       barrier_free = by res ok
         where
           soon : (ans : AdmitWhole) → world.AdmitsWhole x t ans y → IfSome (view a n s).log (λ log. maint.IsNotLater ans)
@@ -280,23 +303,12 @@ module _ (a : Bool) (n t : ℕ) (s x : State) (found : IsFound a n s x) (h : Has
           by (Ok barrier.Refused) k = soon (admit.Refused k.0 k.1) k.2
           by (Failed f) k = tt
 
-    -- it may not begin only where a rebuild was begun, if its replica is there
-    pub barrier_never : res ≡ Ok barrier.Never → (r : ℕ) (turn : List OwnCall) (o : OwnCall)
-        → HasWhole t (whole.Barrier r) turn o (view a n s) → r < (view a n s).replicas → ¬ IsUnbegun s
-    barrier_never e = subst (λ (m : Mine). (r : ℕ) (turn : List OwnCall) (o : OwnCall) → HasWhole t (whole.Barrier r) turn o m
-        → r < m.replicas → ¬ IsUnbegun s) (found_same a n s x found) (by res e ok)
-      where
-        against : (r : ℕ) → (x.rebuild ≢ None) ⊎ ((x.ended ≢ None) ⊎ (length x.nodes ≤ r)) → r < length x.nodes → ¬ IsUnbegun x
-        against r (inl some) there unbegun = some unbegun.closed
-        against r (inr (inl ended)) there unbegun = ended unbegun.first
-        against r (inr (inr none)) there unbegun = absurd (omega (arith, none, there))
+      pub barrier_ok : IfOk res (λ b. StartsOrWaits (view a n s)
+          (ForBarrier t (view a n s) (λ r turn o. AdmitsBarrier r turn o b (view a n s) (view a n u)))
+          (IsNoWait b) (WaitsBarrier t b (seen_of u)))
+      barrier_ok = starts_or_waits (view a n s) _ _ _ res barrier_to barrier_free barrier_waits
 
-        by : (q : Result AdmitBarrier E) → q ≡ Ok barrier.Never → IfOk q (λ b. AdmitsBarrierIn x t b y) → (r : ℕ)
-            (turn : List OwnCall) (o : OwnCall) → HasWhole t (whole.Barrier r) turn o (view a n x) → r < length x.nodes → ¬ IsUnbegun s
-        by (Ok barrier.Never) e k r turn o w there unbegun =
-            let op = same_op a n x t (whole.Barrier r) turn o (here r turn o w) k.0 k.1 k.2.awaits.stands k.2.asks in
-            against r (subst (world.MayNotBegin x) op k.3) there (found_unbegun unbegun)
-        by (Ok (barrier.Go added)) e k r turn o w there unbegun = absurd cc
-        by (Ok (barrier.After other)) e k r turn o w there unbegun = absurd cc
-        by (Ok barrier.Refused) e k r turn o w there unbegun = absurd cc
-        by (Failed f) e k r turn o w there unbegun = absurd cc
+      pub barrier_rebuild : IsSound y
+          → BeginsRebuild t res (view a n s) (λ source q. IsBegunIn n u false source q) (IsUnbegun s) (IsUnbegun u)
+      barrier_rebuild sound =
+          record { begun = barrier_begun sound; unbegun = barrier_still; never = barrier_never; kept = barrier_kept }

@@ -1,5 +1,5 @@
 -- The end of an add, in one turn: the World that was seen as s is found as x, left as y, and seen so as u.
-use Rattle.std.proofs.Common.{◌≡◌, ◌≢◌, ◌⊎◌, inl, inr, ℕ, zero, suc, ◌<◌, Bool, true, false, List, [], ◌∷◌, length}
+use Rattle.std.proofs.Common.{◌≡◌, ◌⊎◌, inl, inr, ℕ, zero, suc, ◌<◌, Bool, true, false, List, [], ◌∷◌, length}
 use Rattle.std.proofs.Common.{Option, None, Some, IsSome, IfSome, subst, sym, refl, ap, ◌∙◌, arith}
 use Rattle.std.specs.Prelude.{not, count_by}
 use Rattle.std.proofs.lemmas.Bool.{false≢true}
@@ -27,8 +27,6 @@ use Rattle.world_steps.proofs.Begun.{begun_found}
 use Rattle.world_steps.proofs.Later.{IsStillKnown}
 use Rattle.world_steps.proofs.Pages.{set_left, past_left, same_open}
 use Rattle.world_steps.specs.Rebuild.{left_now, IsAbortedAt, IsEndedAt, IsOpenFrom, IsBegunIn, IsUnfinished, AwaitsPromotion}
-use Rattle.world_steps.proofs.Purges.{none_kept}
-use Rattle.world_steps.specs.Seen.{seen_of}
 
 -- ---- why it does not end
 
@@ -106,8 +104,8 @@ module _ (a : Bool) (n t : ℕ) (s x y : State) (found : IsFound a n s x) (res :
     promote_none = over a n s x y u found left (λ (m : Mine) (z : State). res ≡ None → view a n z ≡ m) (λ e. ap (view a n) (none e))
 
     -- then what was known of the rebuild is known
-    pub promote_still : res ≡ None → IsStillKnown s u
-    promote_still e = subst (IsStillKnown s) (sym (left ∙ none e)) (add_known a n t s x found add)
+    pub promote_still : res ≡ None → IsStillKnown n s u
+    promote_still e = subst (IsStillKnown n s) (sym (left ∙ none e)) (add_known a n t s x found add)
 
     -- a page of it is left, or it was aborted
     pub promote_why : (res ≡ None → AwaitsPromotion x t) → res ≡ None → (source r : ℕ) → IsBegunIn n s true source r
@@ -151,17 +149,16 @@ module _ (a : Bool) (n t at : ℕ) (s x y : State) (found : IsFound a n s x) (re
     abort_none = over a n s x y u found left (λ (m : Mine) (z : State). res ≡ None → view a n z ≡ m) (λ e. ap (view a n) (none e))
 
     -- then what was known of the rebuild is known
-    pub abort_still : res ≡ None → IsStillKnown s u
-    abort_still e = subst (IsStillKnown s) (sym (left ∙ none e)) (add_known a n t s x found add)
+    pub abort_still : res ≡ None → IsStillKnown n s u
+    abort_still e = subst (IsStillKnown n s) (sym (left ∙ none e)) (add_known a n t s x found add)
 
-    -- an operation on the whole volume has started, if it was aborted there
-    pub abort_why : (res ≡ None → world.CannotEnd x t (reply.Aborted at)) → res ≡ None → IsEndedAt u at
-        → (seen_of u).whole ≢ None
-    abort_why why e is =
-        let same = left ∙ none e in
-        subst (λ (z : State). (seen_of z).whole ≢ None) (sym same)
-        (λ nothing. (why e (add_free a n t s x found add)
-        (aborted_there x at found.sound (subst (λ (z : State). IsEndedAt z at) same is))).1 (none_kept x.whole nothing))
+    -- it was not aborted there
+    pub abort_why : (res ≡ None → world.CannotEnd x t (reply.Aborted at)) → res ≡ None → ¬ IsEndedAt u at
+    abort_why why e is = not_done ((why e (add_free a n t s x found add)
+        (aborted_there x at found.sound (subst (λ (z : State). IsEndedAt z at) (left ∙ none e) is))).0)
+      where
+        not_done : reply.Aborted at ≡ reply.Done → ⊥
+        not_done e = cc
 
 -- ---- its turn is given back
 

@@ -17,8 +17,8 @@ use Rattle.step_answers.specs.Asked.{IsOnRange, IsNow}
 use Rattle.volume_core.specs.Answers.{EnrolsAs, Completes, IsAdmit, IsAnsweredNow, AreBlocksOfWrite}
 use Rattle.volume_core.specs.Answers.{TakesInPlace, IsRoomier}
 use Rattle.volume_core.specs.Places.{IsCallAt, IsWriteAt, IsReadAt, IsWaitingAt}
-use Rattle.volume_core.specs.declared.world.World.{World}
-use Rattle.volume_core.specs.State.{State, state_of, modes_in, gave_up_at}
+use Rattle.volume_core.specs.State.{State, modes_in, gave_up_at}
+use Rattle.volume_core.specs.Sound.{IsSound}
 use Rattle.volume_core.specs.Steps.{acked, faulted, wrote, has_read, without_call}
 use Rattle.volume_core.specs.Streams.{IsTakenBack}
 use Rattle.volume_core.specs.Streams.{MayGo, ForOwner, IsAnsweredTo, SeesEnrolled, turning, SeesAdmit, Origin}
@@ -28,12 +28,13 @@ use Rattle.world_holder.specs.Counted.{IsRebuildKept}
 use Rattle.world_holder.proofs.CountedLemmas.{others_kept}
 use Rattle.world_holder.proofs.Leaves.{parts_stay, may_stay}
 use Rattle.world_holder.proofs.Found.{still_none, has_no_command}
-use Rattle.stream_steps.specs.Mine.{Mine, OwnCall, IsOwn, with_running}
+use Rattle.stream_steps.specs.Mine.{Mine, OwnCall, IsOwn, ForOwn, with_running}
+use Rattle.stream_steps.specs.Does.{Does, StartsOrWaits}
 use Rattle.stream_steps.specs.Against.{RefusesAck, RefusesFault, RefusesEnd, AgainstTake, AgainstGive}
 use Rattle.stream_steps.specs.Steps.{HasStarted, IsOnBlocks, EnrolsTo, AcksTo, FaultsTo, Answers, AnswersNow, TakesTo}
 use Rattle.stream_steps.specs.Steps.{IsFrameCall, AdmitsTo, IsNotAfter, HasNotStarted, AreBlocksOfCall}
-use Rattle.stream_steps.specs.Steps.{IsStartedWrite, IsStartedRead}
-use Rattle.stream_steps.specs.Seen.{AsksAll, WaitsAs}
+use Rattle.stream_steps.specs.Steps.{IsStartedWrite, IsStartedRead, PlacesTo}
+use Rattle.stream_steps.specs.Seen.{AsksAll, IsJobOf, IsNextUp, TellsNext, WaitsAs}
 use Rattle.world_holder.proofs.Grow.{found_same, over, unchanged}
 use Rattle.world_holder.specs.View.{view, IsFree, IsFound, Owes}
 use Rattle.world_steps.specs.Seen.{seen_of}
@@ -43,6 +44,8 @@ use Rattle.world_steps.proofs.FrameRows.{roomier_same, gone_row, mode_there}
 use Rattle.world_steps.proofs.Against.{HasOpen, waits_open, started_open, write_open, read_open, open_as, waits_at}
 use Rattle.world_steps.proofs.Against.{buffer_at, blocks_at, takes_why, gives_why, acks_why, ends_why, faults_why}
 use Rattle.world_steps.proofs.StartRows.{admit_rows, never_after, asks_all, waits_as}
+use Rattle.world_steps.proofs.Carried.{carries}
+use Rattle.world_steps.proofs.Does.{starts_or_waits}
 use Rattle.world_steps.proofs.RebuildKept.{kept_itself, kept_enrolled, kept_now, kept_admitted, kept_withdrawn}
 use Rattle.world_steps.proofs.RebuildKept.{kept_placed, kept_wrote, kept_read, kept_acked, kept_faulted}
 use Rattle.world_steps.proofs.RebuildKept.{kept_completed}
@@ -103,9 +106,14 @@ inside_by a n s x y found may r within =
     ap (λ (o : Origin). o.replicas) may.origin ∙ ap (λ (m : Mine). m.replicas) (found_same a n s x found) in
     subst (λ j. IfSome r (λ k. k < j)) many (mode_there y r may.sound within)
 
-pub within_as : {v w : World} (r : Option ℕ) → w ≡ v → IfSome r (λ k. k < length (modes_in (state_of w)))
-    → IfSome r (λ k. k < length (modes_in (state_of v)))
-within_as r e within = subst (λ (z : World). IfSome r (λ k. k < length (modes_in (state_of z)))) e within
+-- and one that is next there is so of the modes that are known
+pub tells_next : (a : Bool) (n : ℕ) (s x y : State) → IsFound a n s x → MayGo n x y → (z u : State) → z ≡ y → u ≡ y → (r : ℕ)
+    (q : Option ℕ) → IsNextUp (modes_in z) r q → IfSome q (λ k. k < length (modes_in z))
+    → TellsNext (modes_in u) r (view a n s).replicas q
+tells_next a n s x y found may z u same left r q next inside = record {
+  next = subst (λ (v : State). IsNextUp (modes_in v) r q) (same ∙ sym left) next;
+  inside = inside_by a n s x y found may q (subst (λ (v : State). IfSome q (λ k. k < length (modes_in v))) same inside);
+}
 
 -- ---- a look, by which nothing changes
 
@@ -203,7 +211,7 @@ module _ {E : Type 0} (a : Bool) (n t : ℕ) (s x y : State) (found : IsFound a 
         by (Ok ad) h = tt
         by (Failed e) h = roomier_same a n x y admit_go h
 
-    pub admit_to : IfOk res (λ ad. ForOwner t x (λ m c. SeesAdmit m t c ad x y))
+    admit_to : IfOk res (λ ad. ForOwner t x (λ m c. SeesAdmit m t c ad x y))
         → IfOk res (λ ad. (o : OwnCall) → IsOwn t o (view a n s) → AdmitsTo o ad (view a n s) (view a n u))
     admit_to sees = over a n s x y u found left
         (λ (m : Mine) (z : State). IfOk res (λ ad. (o : OwnCall) → IsOwn t o m → AdmitsTo o ad m (view a n z))) (by res ok sees)
@@ -216,7 +224,7 @@ module _ {E : Type 0} (a : Bool) (n t : ℕ) (s x y : State) (found : IsFound a 
         by (Failed e) is sees = tt
 
     -- alone it is never told to wait
-    pub admit_first : IfOk res (λ ad. IfSome (view a n s).log (λ log. IsNotAfter ad))
+    admit_first : IfOk res (λ ad. IfSome (view a n s).log (λ log. IsNotAfter ad))
     admit_first = over a n s x y u found left (λ (m : Mine) (z : State). IfOk res (λ ad. IfSome m.log (λ log. IsNotAfter ad)))
         (by res ok)
       where
@@ -227,19 +235,40 @@ module _ {E : Type 0} (a : Bool) (n t : ℕ) (s x y : State) (found : IsFound a 
         by (Ok ad) is = never_after a n t mine.0 ad x y found.sound (λ alone. (found.same alone).1) mine.1 mine.2 is
         by (Failed e) is = tt
 
-    pub admit_asks : IfOk res (λ ad. AsksAll ad (modes_in u))
+    admit_asks : IfOk res (λ ad. AsksAll ad (modes_in u))
     admit_asks = subst (λ (z : State). IfOk res (λ ad. AsksAll ad (modes_in z))) (sym left) (by res ok)
       where
         by : (r : Result Admit E) → IfOk r (λ ad. IsAdmit x t ad y) → IfOk r (λ ad. AsksAll ad (modes_in y))
         by (Ok ad) is = asks_all t ad x y found.sound is
         by (Failed e) is = tt
 
-    pub admit_after : IfOk res (λ ad. WaitsAs t ad (seen_of u))
+    admit_after : IfOk res (λ ad. WaitsAs t ad (seen_of u))
     admit_after = subst (λ (z : State). IfOk res (λ ad. WaitsAs t ad (seen_of z))) (sym left) (by res ok)
       where
         by : (r : Result Admit E) → IfOk r (λ ad. IsAdmit x t ad y) → IfOk r (λ ad. WaitsAs t ad (seen_of y))
         by (Ok ad) is = waits_as t ad x y is
         by (Failed e) is = tt
+
+    pub admit_starts : IfOk res (λ ad. ForOwner t x (λ m c. SeesAdmit m t c ad x y)) → IfOk res (λ ad. StartsOrWaits (view a n s)
+        (ForOwn t (view a n s) (λ o. AdmitsTo o ad (view a n s) (view a n u))) (IsNotAfter ad) (WaitsAs t ad (seen_of u)))
+    admit_starts sees = starts_or_waits (view a n s) _ _ _ res (admit_to sees) admit_first admit_after
+
+    -- its job carries the volume's bytes
+    pub admit_job : IfOk res (λ ad. ForOwner t x (λ m c. SeesAdmit m t c ad x y))
+        → IfOk res (λ ad. IsJobOf t ad (view a n s) (modes_in u) (seen_of u))
+    admit_job sees = by res admit_asks (admit_to sees)
+      where
+        sound : IsSound u
+        sound = subst IsSound (sym left) admit_go.sound
+
+        by : (r : Result Admit E) → IfOk r (λ ad. AsksAll ad (modes_in u))
+            → IfOk r (λ ad. ForOwn t (view a n s) (λ o. AdmitsTo o ad (view a n s) (view a n u)))
+            → IfOk r (λ ad. IsJobOf t ad (view a n s) (modes_in u) (seen_of u))
+        by (Ok ad) asks to = record {
+          asks = asks;
+          bytes = λ o own. carries a n t o ad (view a n s) u sound own (open_as t (view a n s) admit_its o own) (to o own);
+        }
+        by (Failed e) asks to = tt
 
 -- where it waits
 pub admit_waits : (a : Bool) (n t : ℕ) (s x : State) → IsFound a n s x
@@ -280,38 +309,36 @@ module _ (a : Bool) (n t r : ℕ) (s x y : State) (found : IsFound a n s x) (res
   place_its : HasOpen t (view a n s)
   place_its = write_open t (view a n s) op
 
-  place_go : MayGo n x y
+  pub place_go : MayGo n x y
   place_go = found_may a n s x found t place_its y may
 
   pub place_owes : Owes n x y
   place_owes = owes_by n x y place_go (turns_placed t r x y res ok err) (kept_placed t r x y res ok err)
 
-  pub place_inside : (r : Option ℕ) → IfSome r (λ k. k < length (modes_in y)) → IfSome r (λ k. k < (view a n s).replicas)
-  place_inside = inside_by a n s x y found place_go
-
   module _ (u : State) (left : u ≡ y) where
     pub place_free : IsFree n s → IsFree n u
     place_free free = free_on a n s x found y u left free (turns_placed t r x y res ok err)
 
-    pub place_err : OnErr res (view a n u ≡ view a n s)
+    place_err : OnErr res (view a n u ≡ view a n s)
     place_err = same_on a n s x found y u left res err
 
-    place_done : (done : Bool) → res ≡ Ok done → (i : ℕ) × IsWriteAt x t i × TakesInPlace x i r done y
-    place_done done e = subst (λ q. IfOk q (λ done. (i : ℕ) × IsWriteAt x t i × TakesInPlace x i r done y)) e ok
+    place_to : IfOk res (λ done. PlacesTo done t r (view a n s) (view a n u))
+    place_to = over a n s x y u found left (λ (m : Mine) (z : State). IfOk res (λ done. PlacesTo done t r m (view a n z))) (by res ok)
+      where
+        by : (q : Result Bool NotThis) → IfOk q (λ done. (i : ℕ) × IsWriteAt x t i × TakesInPlace x i r done y)
+            → IfOk q (λ done. PlacesTo done t r (view a n x) (view a n y))
+        by (Ok true) d = λ o own.
+            wrote_row a n t o r x y found.sound own (found_blocks a n s x found t place_its o own) d.0 d.1.stands d.2.1 place_go
+        by (Ok false) d = ap (view a n) d.2.1
+        by (Failed e) d = tt
 
-    pub place_to : res ≡ Ok true → (o : OwnCall) → IsOwn t o (view a n s) → TakesTo o r o.buffer (view a n s) (view a n u)
-    place_to e = over a n s x y u found left
-        (λ (m : Mine) (z : State). (o : OwnCall) → IsOwn t o m → TakesTo o r o.buffer m (view a n z))
-        (λ o own.
-        let d = place_done true e in
-        wrote_row a n t o r x y found.sound own (found_blocks a n s x found t place_its o own) d.0 d.1.stands d.2.1 place_go)
-
-    pub place_same : res ≡ Ok false → view a n u ≡ view a n s
-    place_same e = over a n s x y u found left (λ (m : Mine) (z : State). view a n z ≡ m) (ap (view a n) (place_done false e).2.1)
-
-    pub place_why : IfErr res (core.AgainstWrite x t r) → IfErr res (AgainstTake (modes_in u) r)
+    place_why : IfErr res (core.AgainstWrite x t r) → IfErr res (AgainstTake (modes_in u) r)
     place_why why = over a n s x y u found left (λ (m : Mine) (z : State). IfErr res (AgainstTake (modes_in z) r))
         (takes_why a n t r x y found.sound res (op.0, found_in a n s x found (IsOwn t op.0) op.1, op.2) err why)
+
+    pub place_does : IfErr res (core.AgainstWrite x t r) → Does res (view a n s) (view a n u)
+        (λ done. PlacesTo done t r (view a n s) (view a n u)) (AgainstTake (modes_in u) r)
+    place_does why = record { ok = place_to; why = place_why why; err = place_err }
 
 -- ---- on one replica, with boxes
 
@@ -326,23 +353,20 @@ module _ (a : Bool) (n t r : ℕ) (boxes : List (Option (List ℕ))) (s x y : St
   write_its : HasOpen t (view a n s)
   write_its = write_open t (view a n s) write_op
 
-  write_go : MayGo n x y
+  pub write_go : MayGo n x y
   write_go = found_may a n s x found t write_its y may
 
   pub write_owes : Owes n x y
   write_owes = owes_by n x y write_go (turns_wrote t r x y res ok err) (kept_wrote t r x y res ok err)
 
-  pub write_inside : (r : Option ℕ) → IfSome r (λ k. k < length (modes_in y)) → IfSome r (λ k. k < (view a n s).replicas)
-  write_inside = inside_by a n s x y found write_go
-
   module _ (u : State) (left : u ≡ y) where
     pub write_free : IsFree n s → IsFree n u
     write_free free = free_on a n s x found y u left free (turns_wrote t r x y res ok err)
 
-    pub write_same : OnErr res (view a n u ≡ view a n s)
+    write_same : OnErr res (view a n u ≡ view a n s)
     write_same = same_on a n s x found y u left res err
 
-    pub write_to : OnOk res ((o : OwnCall) → IsOwn t o (view a n s) → TakesTo o r o.buffer (view a n s) (view a n u))
+    write_to : OnOk res ((o : OwnCall) → IsOwn t o (view a n s) → TakesTo o r o.buffer (view a n s) (view a n u))
     write_to = over a n s x y u found left
         (λ (m : Mine) (z : State). OnOk res ((o : OwnCall) → IsOwn t o m → TakesTo o r o.buffer m (view a n z))) (by res ok)
       where
@@ -352,9 +376,13 @@ module _ (a : Bool) (n t r : ℕ) (boxes : List (Option (List ℕ))) (s x y : St
             wrote_row a n t o r x y found.sound own (found_blocks a n s x found t write_its o own) d.0 d.1.stands d.2 write_go
         by (Failed e) d = tt
 
-    pub write_why : IfErr res (core.AgainstWrite x t r) → IfErr res (AgainstTake (modes_in u) r)
+    write_why : IfErr res (core.AgainstWrite x t r) → IfErr res (AgainstTake (modes_in u) r)
     write_why why = over a n s x y u found left (λ (m : Mine) (z : State). IfErr res (AgainstTake (modes_in z) r))
         (takes_why a n t r x y found.sound res (op.0, found_in a n s x found (IsOwn t op.0) op.1, op.2) err why)
+
+    pub write_does : IfErr res (core.AgainstWrite x t r) → Does res (view a n s) (view a n u)
+        (λ v. ForOwn t (view a n s) (λ o. TakesTo o r o.buffer (view a n s) (view a n u))) (AgainstTake (modes_in u) r)
+    write_does why = record { ok = write_to; why = write_why why; err = write_same }
 
 -- what the core asks of the boxes
 pub write_boxes : (a : Bool) (n t : ℕ) (boxes : List (Option (List ℕ))) (s x : State) → IsFound a n s x
@@ -387,10 +415,10 @@ module _ (a : Bool) (n t r : ℕ) (from into : List ℕ) (s x y : State) (found 
     pub read_free : IsFree n s → IsFree n u
     read_free free = free_on a n s x found y u left free (turns_read t r into x y res ok err)
 
-    pub read_same : OnErr res (view a n u ≡ view a n s)
+    read_same : OnErr res (view a n u ≡ view a n s)
     read_same = same_on a n s x found y u left res err
 
-    pub read_to : OnOk res ((o : OwnCall) → IsOwn t o (view a n s) → TakesTo o r into (view a n s) (view a n u))
+    read_to : OnOk res ((o : OwnCall) → IsOwn t o (view a n s) → TakesTo o r into (view a n s) (view a n u))
     read_to = over a n s x y u found left
         (λ (m : Mine) (z : State). OnOk res ((o : OwnCall) → IsOwn t o m → TakesTo o r into m (view a n z))) (by res ok)
       where
@@ -402,9 +430,13 @@ module _ (a : Bool) (n t r : ℕ) (from into : List ℕ) (s x y : State) (found 
             d.2 d.3 read_go
         by (Failed e) d = tt
 
-    pub read_why : IfErr res (core.AgainstRead x t r) → IfErr res (AgainstGive (modes_in u) r)
+    read_why : IfErr res (core.AgainstRead x t r) → IfErr res (AgainstGive (modes_in u) r)
     read_why why = over a n s x y u found left (λ (m : Mine) (z : State). IfErr res (AgainstGive (modes_in z) r))
         (gives_why a n t r x y found.sound res (op.0, found_in a n s x found (IsOwn t op.0) op.1, op.2) err why)
+
+    pub read_does : IfErr res (core.AgainstRead x t r) → Does res (view a n s) (view a n u)
+        (λ v. ForOwn t (view a n s) (λ o. TakesTo o r into (view a n s) (view a n u))) (AgainstGive (modes_in u) r)
+    read_does why = record { ok = read_to; why = read_why why; err = read_same }
 
 -- what the core asks of the room
 pub read_room : (a : Bool) (n t : ℕ) (from : List ℕ) (s x : State) → IsFound a n s x
@@ -422,23 +454,20 @@ module _ (a : Bool) (n t r : ℕ) (s x y : State) (found : IsFound a n s x) (res
   ack_its : HasOpen t (view a n s)
   ack_its = started_open t (view a n s) op
 
-  ack_go : MayGo n x y
+  pub ack_go : MayGo n x y
   ack_go = found_may a n s x found t ack_its y may
 
   pub ack_owes : Owes n x y
   ack_owes = owes_by n x y ack_go (turns_acked t r x y res ok err) (kept_acked t r x y res ok err)
 
-  pub ack_inside : (r : Option ℕ) → IfSome r (λ k. k < length (modes_in y)) → IfSome r (λ k. k < (view a n s).replicas)
-  ack_inside = inside_by a n s x y found ack_go
-
   module _ (u : State) (left : u ≡ y) where
     pub ack_free : IsFree n s → IsFree n u
     ack_free free = free_on a n s x found y u left free (turns_acked t r x y res ok err)
 
-    pub ack_same : OnErr res (view a n u ≡ view a n s)
+    ack_same : OnErr res (view a n u ≡ view a n s)
     ack_same = same_on a n s x found y u left res err
 
-    pub ack_to : OnOk res ((o : OwnCall) → IsOwn t o (view a n s) → AcksTo o r (view a n s) (view a n u))
+    ack_to : OnOk res ((o : OwnCall) → IsOwn t o (view a n s) → AcksTo o r (view a n s) (view a n u))
     ack_to = over a n s x y u found left
         (λ (m : Mine) (z : State). OnOk res ((o : OwnCall) → IsOwn t o m → AcksTo o r m (view a n z))) (by res ok)
       where
@@ -449,11 +478,16 @@ module _ (a : Bool) (n t r : ℕ) (s x y : State) (found : IsFound a n s x) (res
             acked_row a n t o r x y found.sound own (found_blocks a n s x found t ack_its o own) d.0 d.1.stands d.3 ack_go
         by (Failed e) d = tt
 
-    pub ack_why : IfErr res (core.AgainstAck x t r)
+    ack_why : IfErr res (core.AgainstAck x t r)
         → IfErr res (λ why. (o : OwnCall) → IsOwn t o (view a n s) → RefusesAck (modes_in u) o r why)
     ack_why why = over a n s x y u found left
         (λ (m : Mine) (z : State). IfErr res (λ why. (o : OwnCall) → IsOwn t o m → RefusesAck (modes_in z) o r why))
         (acks_why a n t r x y found.sound (op.0, found_in a n s x found (IsOwn t op.0) op.1, op.2) res err why)
+
+    pub ack_does : IfErr res (core.AgainstAck x t r) → Does res (view a n s) (view a n u)
+        (λ v. ForOwn t (view a n s) (λ o. AcksTo o r (view a n s) (view a n u)))
+        (λ why. ForOwn t (view a n s) (λ o. RefusesAck (modes_in u) o r why))
+    ack_does why = record { ok = ack_to; why = ack_why why; err = ack_same }
 
 -- ---- ended
 
@@ -473,10 +507,10 @@ module _ (a : Bool) (n t : ℕ) (s x y : State) (found : IsFound a n s x) (res :
     pub end_free : IsFree n s → IsFree n u
     end_free free = free_on a n s x found y u left free (turns_completed t x y res ok err)
 
-    pub end_same : OnErr res (view a n u ≡ view a n s)
+    end_same : OnErr res (view a n u ≡ view a n s)
     end_same = same_on a n s x found y u left res err
 
-    pub end_to : IfOk res (λ place. ForOwner t x (λ m c. IsAnsweredTo m c x y))
+    end_to : IfOk res (λ place. ForOwner t x (λ m c. IsAnsweredTo m c x y))
         → OnOk res ((o : OwnCall) → IsOwn t o (view a n s) → Answers o (view a n s) (view a n u))
     end_to sees = over a n s x y u found left
         (λ (m : Mine) (z : State). OnOk res ((o : OwnCall) → IsOwn t o m → Answers o m (view a n z))) (by res ok sees)
@@ -488,11 +522,16 @@ module _ (a : Bool) (n t : ℕ) (s x y : State) (found : IsFound a n s x) (res :
             complete_row a n t o x y found.sound own blocks end_go d (sees n o.call (opened a n t o x found.sound own blocks))
         by (Failed e) d sees = tt
 
-    pub end_why : IfErr res (core.AgainstEnd x t)
+    end_why : IfErr res (core.AgainstEnd x t)
         → IfErr res (λ why. (o : OwnCall) → IsOwn t o (view a n s) → RefusesEnd (modes_in u) o why)
     end_why why = over a n s x y u found left
         (λ (m : Mine) (z : State). IfErr res (λ why. (o : OwnCall) → IsOwn t o m → RefusesEnd (modes_in z) o why))
         (ends_why a n t 0 x y found.sound (op.0, found_in a n s x found (IsOwn t op.0) op.1, op.2) res err why)
+
+    pub end_does : IfOk res (λ place. ForOwner t x (λ m c. IsAnsweredTo m c x y)) → IfErr res (core.AgainstEnd x t)
+        → Does res (view a n s) (view a n u) (λ place. ForOwn t (view a n s) (λ o. Answers o (view a n s) (view a n u)))
+        (λ why. ForOwn t (view a n s) (λ o. RefusesEnd (modes_in u) o why))
+    end_does sees why = record { ok = end_to sees; why = end_why why; err = end_same }
 
 -- ---- a fault of its line
 
@@ -501,9 +540,6 @@ module _ (a : Bool) (n r count : ℕ) (s x y : State) (found : IsFound a n s x) 
   pub fault_owes : Owes n x y
   fault_owes = owes_by n x y may (turns_faulted n r count x y res ok err) (kept_faulted n r count x y res ok err)
 
-  pub fault_inside : (r : Option ℕ) → IfSome r (λ k. k < length (modes_in y)) → IfSome r (λ k. k < (view a n s).replicas)
-  fault_inside = inside_by a n s x y found may
-
   module _ (u : State) (left : u ≡ y) where
     pub fault_free : IsFree n s → IsFree n u
     fault_free free = free_on a n s x found y u left free (turns_faulted n r count x y res ok err)
@@ -511,7 +547,7 @@ module _ (a : Bool) (n r count : ℕ) (s x y : State) (found : IsFound a n s x) 
     pub fault_same : OnErr res (view a n u ≡ view a n s)
     fault_same = same_on a n s x found y u left res err
 
-    pub fault_to : IsFree n s → OnOk res (FaultsTo r count (view a n s) (view a n u))
+    fault_to : IsFree n s → OnOk res (FaultsTo r count (view a n s) (view a n u))
     fault_to free = over a n s x y u found left (λ (m : Mine) (z : State). OnOk res (FaultsTo r count m (view a n z))) (by res ok)
       where
         by : (q : Result (Unit {0}) NotThis) → OnOk q (y ≡ faulted x n r count) → OnOk q (FaultsTo r count (view a n x) (view a n y))
@@ -529,3 +565,7 @@ module _ (a : Bool) (n r count : ℕ) (s x y : State) (found : IsFound a n s x) 
     pub fault_why : IfErr res (core.AgainstFault x n r count) → IfErr res (RefusesFault (modes_in u) (view a n s) r count)
     fault_why why = over a n s x y u found left (λ (m : Mine) (z : State). IfErr res (RefusesFault (modes_in z) m r count))
         (faults_why a n 0 r x y found.sound count res err why)
+
+    pub fault_does : IsFree n s → IfErr res (core.AgainstFault x n r count) → Does res (view a n s) (view a n u)
+        (λ v. FaultsTo r count (view a n s) (view a n u)) (RefusesFault (modes_in u) (view a n s) r count)
+    fault_does free why = record { ok = fault_to free; why = fault_why why; err = fault_same }

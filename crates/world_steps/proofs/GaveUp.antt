@@ -1,5 +1,5 @@
 -- What steps of commands leave as it is: the operation on the whole volume that has started, and which streams gave a
--- rebuild up, of which home tells.
+-- command up, of which home tells.
 use Rattle.std.proofs.Common.{◌≡◌, ℕ, Bool, List, Result, Ok, OnOk, OnErr, IfOk, ap, ◌∙◌}
 use Rattle.std.proofs.Common.{Err as Failed}
 use Rattle.volume_model.specs.declared.command.Command.{Command}
@@ -12,7 +12,7 @@ use Rattle.volume_maint.specs.Answers as world
 use Rattle.world_holder.specs.View.{IsFound}
 use Rattle.world_steps.proofs.Turns.{asked}
 
--- what is known of it after a turn of the stream, in which no stream gave a rebuild up
+-- what is known of it after a turn of the stream, in which no stream gave a command up
 pub flag_kept : (a : Bool) (n : ℕ) (s x y u : State) → IsFound a n s x → u ≡ y → y.gave_up ≡ x.gave_up
     → gave_up_at u.gave_up n ≡ gave_up_at s.gave_up n
 flag_kept a n s x y u found left gave =
@@ -22,7 +22,7 @@ flag_kept a n s x y u found left gave =
 pub home_kept : {A : Type 0} {n : ℕ} {h h1 h2 : A} {b b2 : Bool} → h1 ≡ h → h2 ≡ h1 → b2 ≡ b → ◌≡◌ {A = A × ℕ × Bool} (h2, n, b2) (h, n, b)
 home_kept {n = n} first next flag = λ i. ((next ∙ first) i, n, flag i)
 
--- the operation on the whole volume and what is known of rebuilds that were given up are as they were
+-- the operation on the whole volume and what is known of commands that were given up are as they were
 pub record KeepsWhole (s s2 : State) : Type 0 where
   pub whole : s2.whole ≡ s.whole
   pub gave_up : s2.gave_up ≡ s.gave_up

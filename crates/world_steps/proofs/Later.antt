@@ -1,5 +1,5 @@
 -- What a stream whose add has the turn knows of its rebuild still in a later World: it goes on, or it was aborted.
-use Rattle.std.proofs.Common.{◌≡◌, Bool, ◌≤◌, arith, ℕ, ◌+◌, ◌*◌, Option, None, Some, IsSome, inl, inr, subst, sym, refl, ap, ◌∙◌}
+use Rattle.std.proofs.Common.{◌≡◌, Bool, true, ◌≤◌, arith, ℕ, ◌+◌, ◌*◌, Option, None, Some, IsSome, inl, inr, subst, sym, refl, ap, ◌∙◌}
 use Rattle.std.proofs.lemmas.Bool.{false≢true}
 use Rattle.sparse_image.specs.Image.{Table}
 use Rattle.vol_units.specs.declared.page_ref.PageRef.{PageRef}
@@ -12,10 +12,10 @@ use Rattle.world_holder.specs.Counted.{GoesOn, IsRebuildKept}
 use Rattle.world_holder.specs.Laid.{IsLater}
 use Rattle.world_holder.proofs.CountedLemmas.{kept_in_turn}
 use Rattle.stream_steps.specs.Mine.{OwnCall}
-use Rattle.stream_steps.specs.Add.{AreKept, HasAdd}
+use Rattle.stream_steps.specs.Add.{HasAdd, KeepsPages, KeepsRebuild}
 use Rattle.world_holder.specs.View.{view}
 use Rattle.world_steps.proofs.Shapes.{has_turn}
-use Rattle.world_steps.specs.Rebuild.{left_now, IsPageIn, IsAbortedAt, AwaitsAt, IsEndedAt}
+use Rattle.world_steps.specs.Rebuild.{left_now, IsPageIn, IsAbortedAt, AwaitsAt, IsBegunIn, IsEndedAt}
 
 not_some : (b : Rebuilding) → None ≡ Some b → ⊥
 not_some b e = cc
@@ -23,12 +23,15 @@ not_some b e = cc
 some_same : (a b : Rebuilding) → Some a ≡ Some b → a ≡ b
 some_same a b e = cc
 
--- What was known of the rebuild in one World is known in the other: its end, the source's blocks, and which pages wait; and
--- no more are left.
-pub record IsStillKnown (s t : State) : Type 0 where
-  pub kept : AreKept (IsEndedAt s) (IsEndedAt t) (IsPageIn s) (IsPageIn t)
-  pub awaits : (p : PageRef) → AwaitsAt s.rebuild s.ended p → AwaitsAt t.rebuild t.ended p
-  pub fewer : left_now t.rebuild ≤ left_now s.rebuild
+-- What the stream knew of the rebuild in one World it knows in the other: its end, the source's blocks, and that it was begun;
+-- and no more pages are left.
+abbrev pub IsRebuildKnown : ℕ → State → State → Type 0
+IsRebuildKnown n s t = KeepsRebuild IsEndedAt IsPageIn (IsBegunIn n) (λ (z : State). left_now z.rebuild) s t
+
+-- and the pages that waited wait
+abbrev pub IsStillKnown : ℕ → State → State → Type 0
+IsStillKnown n s t = KeepsPages IsEndedAt IsPageIn (IsBegunIn n) (λ (z : State). left_now z.rebuild)
+    (λ (z : State) page. AwaitsAt z.rebuild z.ended page) s t
 
 -- ---- how many pages are left
 
@@ -90,22 +93,31 @@ module _ (s t : State) where
   }
   ended_still (Some a) here kept place is = absurd (not_some a (sym is.closed ∙ here))
 
-  pub still_known : IsRebuildKept s.rebuild s t → IsStillKnown s t
-  still_known kept = record {
-    kept = record { ended = ended_still s.rebuild refl kept; pages = pages_still s.rebuild refl kept };
+  pub still_known : (n : ℕ) → IsRebuildKept s.rebuild s t
+      → ((source r : ℕ) → IsBegunIn n s true source r → IsBegunIn n t true source r) → IsStillKnown n s t
+  still_known n kept begun = record {
+    rebuild = record {
+      ended = ended_still s.rebuild refl kept;
+      pages = pages_still s.rebuild refl kept;
+      begun = begun;
+      fewer = left_found s t kept;
+    };
     awaits = awaits_still s.rebuild kept;
-    fewer = left_found s t kept;
   }
 
   -- so it is of what goes on from there
-  pub known_then : (u : State) → IsStillKnown s t → IsStillKnown t u → IsStillKnown s u
-  known_then u first then = record {
-    kept = record {
-      ended = λ place is. then.kept.ended place (first.kept.ended place is);
-      pages = λ page table is. then.kept.pages page table (first.kept.pages page table is);
-    };
-    awaits = λ p is. then.awaits p (first.awaits p is);
+  pub rebuild_then : (n : ℕ) (u : State) → IsRebuildKnown n s t → IsRebuildKnown n t u → IsRebuildKnown n s u
+  rebuild_then n u first then = record {
+    ended = λ place is. then.ended place (first.ended place is);
+    pages = λ page table is. then.pages page table (first.pages page table is);
+    begun = λ source r is. then.begun source r (first.begun source r is);
     fewer = omega (arith, first.fewer, then.fewer);
+  }
+
+  pub known_then : (n : ℕ) (u : State) → IsStillKnown n s t → IsStillKnown n t u → IsStillKnown n s u
+  known_then n u first then = record {
+    rebuild = rebuild_then n u first.rebuild then.rebuild;
+    awaits = λ p is. then.awaits p (first.awaits p is);
   }
 
 -- ---- what is found

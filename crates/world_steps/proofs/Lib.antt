@@ -6,6 +6,8 @@ pub mod FrameRows
 pub mod FaultRows
 pub mod StartRows
 pub mod Against
+pub mod Carried
+pub mod Does
 pub mod FrameTurns
 pub mod Heads
 pub mod Queue

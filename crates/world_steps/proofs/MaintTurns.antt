@@ -10,7 +10,7 @@ use Rattle.range_turns.specs.declared.turns.MayStart.TheVariants as may_start
 use Rattle.volume_model.specs.declared.call.Call.TheVariants as call
 use Rattle.volume_model.specs.declared.call.Reply.{Reply}
 use Rattle.volume_model.specs.declared.mark.FoldOrDrop.TheVariants as part
-use Rattle.step_answers.specs.Asked.{NamesReplica}
+use Rattle.volume_model.specs.Commands.{NamesReplica}
 use Rattle.open_calls.specs.Clients.{IsIdle}
 use Rattle.open_calls.specs.Maint.{HasNoCommand, command_at}
 use Rattle.step_answers.specs.declared.answers.NotThis.{NotThis}
@@ -18,8 +18,9 @@ use Rattle.volume_core.specs.Answers.{IsAnsweredNow}
 use Rattle.volume_core.specs.State.{State, gave_up_at, modes_in}
 use Rattle.volume_core.specs.Steps.{faulted}
 use Rattle.volume_core.specs.Streams.{MayGo, IsAnsweredTo, turning, Origin}
-use Rattle.volume_core.specs.Turn.{without_command, ForAsker, IsFreeTurn}
-use Rattle.volume_maint.specs.Steps.{maint_enrolled, turn_abandoned}
+use Rattle.volume_core.specs.Turn.{ForAsker, IsFreeTurn}
+use Rattle.volume_core.specs.Against as core
+use Rattle.volume_maint.specs.Steps.{gives_back, maint_enrolled, turn_abandoned}
 use Rattle.volume_maint.specs.Answers as world
 use Rattle.volume_maint.specs.Places as place
 use Rattle.volume_maint.proofs.Purging.{IsPurging, node_in, told_can}
@@ -28,8 +29,10 @@ use Rattle.world_holder.proofs.CountedLemmas.{kept_same, kept_answered, others_k
 use Rattle.world_holder.proofs.Leaves.{parts_stay}
 use Rattle.world_holder.proofs.Found.{still_none, has_no_command}
 use Rattle.stream_steps.specs.Mine.{Mine, OwnCall, with_running}
+use Rattle.stream_steps.specs.Does.{Does, StartsOrWaits}
+use Rattle.stream_steps.specs.Against.{RefusesFault}
 use Rattle.stream_steps.specs.Steps.{CommandsTo, EnrolsAt, FallsTo, IsAtOnce}
-use Rattle.stream_steps.specs.Maint.{IsNoAdd, HasTurn, AwaitsTurn, TurnsTo, IsYes, AnswersWhole}
+use Rattle.stream_steps.specs.Maint.{IsNoAdd, HasTurn, ForTurn, AwaitsTurn, TurnsTo, IsYes, AnswersWhole}
 use Rattle.stream_steps.specs.Seen.{RefusesEndPurge, RefusesFold, WaitsTurn}
 use Rattle.world_holder.specs.View.{view, IsFound, Owes}
 use Rattle.world_holder.proofs.Grow.{found_same, over, unchanged, only_open}
@@ -37,11 +40,11 @@ use Rattle.world_holder.proofs.Open.{has_none}
 use Rattle.world_steps.proofs.Rest.{Rest, turns_answered, turns_faulted}
 use Rattle.world_steps.proofs.FaultRows.{alone_calm}
 use Rattle.world_steps.proofs.FrameRows.{none_open}
-use Rattle.world_steps.proofs.FrameTurns.{found_in}
+use Rattle.world_steps.proofs.FrameTurns.{found_in, fault_same, fault_why}
 use Rattle.world_steps.proofs.AtOnce.{once_row, falls_row}
 use Rattle.world_steps.proofs.GaveUp.{flag_kept, KeepsWhole, enrols_still, admits_still, ends_still, folds_still}
 use Rattle.world_steps.proofs.Turns.{asked, enrols, waiting, waits_owner, turn_owner, turn_stream, free_turn, admits, admits_free}
-use Rattle.world_steps.proofs.Turns.{ends, gives_back, gone_without, turn_command}
+use Rattle.world_steps.proofs.Turns.{ends, is_given_back, gone_without, turn_command}
 use Rattle.world_steps.proofs.Settled.{none_begun}
 use Rattle.world_steps.proofs.Purges.{none_kept, purge_ends, unwanted}
 use Rattle.world_steps.specs.Rebuild.{IsUnbegun}
@@ -115,7 +118,7 @@ module _ {E : Type 0} (a : Bool) (n : ℕ) (c : Command) (s x y : State) (found 
 
 -- ---- a line fails
 
-module _ {E : Type 0} (a : Bool) (n r count : ℕ) (s x y : State) (found : IsFound a n s x) (res : Result (Unit {0}) E) (may : MayGo n x y)
+module _ (a : Bool) (n r count : ℕ) (s x y : State) (found : IsFound a n s x) (res : Result (Unit {0}) NotThis) (may : MayGo n x y)
     (ok : OnOk res (y ≡ faulted x n r count)) (err : OnErr res (y ≡ x)) where
   falls_gave : y.gave_up ≡ x.gave_up
   falls_gave = ap (λ (z : Rest). z.gave_up) (turns_faulted n r count x y res ok err)
@@ -123,12 +126,20 @@ module _ {E : Type 0} (a : Bool) (n r count : ℕ) (s x y : State) (found : IsFo
   pub falls_flag : (u : State) → u ≡ y → gave_up_at u.gave_up n ≡ gave_up_at s.gave_up n
   falls_flag u left = flag_kept a n s x y u found left falls_gave
 
-  pub falls_to : (u : State) → u ≡ y → OnOk res (FallsTo r count (view a n s) (view a n u))
+  falls_to : (u : State) → u ≡ y → OnOk res (FallsTo r count (view a n s) (view a n u))
   falls_to u left = over a n s x y u found left (λ (m : Mine) (z : State). OnOk res (FallsTo r count m (view a n z))) (by res ok)
     where
-      by : (q : Result (Unit {0}) E) → OnOk q (y ≡ faulted x n r count) → OnOk q (FallsTo r count (view a n x) (view a n y))
+      by : (q : Result (Unit {0}) NotThis) → OnOk q (y ≡ faulted x n r count) → OnOk q (FallsTo r count (view a n x) (view a n y))
       by (Ok v) e = falls_row a n r count x y may e
       by (Failed e) is = tt
+
+  pub falls_does : (u : State) → u ≡ y → IfErr res (core.AgainstFault x n r count) → Does res (view a n s) (view a n u)
+      (λ v. FallsTo r count (view a n s) (view a n u)) (RefusesFault (modes_in u) (view a n s) r count)
+  falls_does u left why = record {
+    ok = falls_to u left;
+    why = fault_why a n r count s x y found res may ok err u left why;
+    err = fault_same a n r count s x y found res may ok err u left;
+  }
 
 -- ---- the turn is asked for
 
@@ -181,7 +192,7 @@ module _ (a : Bool) (n t : ℕ) (s x y : State) (found : IsFound a n s x) (told 
           counted_as n x y (ap (λ (z : State). z.rebuild) d.1) (ap (λ (z : State). z.ended) d.1) (ap (λ (z : State). z.nodes) d.1)
       by (may_start.After number) d = counted_same n x y d.4
 
-  pub admit_free : IfSome (view a n s).log (λ log. IsYes told)
+  admit_free : IfSome (view a n s).log (λ log. IsYes told)
   admit_free = subst (λ (m : Mine). IfSome m.log (λ log. IsYes told)) (found_same a n s x found) (by a found)
     where
       by : (b : Bool) → IsFound b n s x → IfSome (view b n x).log (λ log. IsYes told)
@@ -191,15 +202,15 @@ module _ (a : Bool) (n t : ℕ) (s x y : State) (found : IsFound a n s x) (told 
   pub admit_flag : (u : State) → u ≡ y → gave_up_at u.gave_up n ≡ gave_up_at s.gave_up n
   admit_flag u left = flag_kept a n s x y u found left admit_gave
 
-  pub admit_to : (u : State) → u ≡ y → (c : Command) (o : OwnCall) → AwaitsTurn t c o (view a n s)
+  admit_to : (u : State) → u ≡ y → (c : Command) (o : OwnCall) → AwaitsTurn t c o (view a n s)
       → TurnsTo o told (view a n s) (view a n u)
   admit_to u left =
       over a n s x y u found left
       (λ (m : Mine) (z : State). (c : Command) (o : OwnCall) → AwaitsTurn t c o m → TurnsTo o told m (view a n z))
       (admits a n t x y found.sound told admit_go ok)
 
-  -- a command that waits is behind the first; and of one that has the turn now no rebuild was begun
-  pub admit_waits : (u : State) → u ≡ y → WaitsTurn t told (seen_of u)
+  -- a command that waits is behind the first
+  admit_waits : (u : State) → u ≡ y → WaitsTurn t told (seen_of u)
   admit_waits u left = subst (λ (z : State). WaitsTurn t told (seen_of z)) (sym left) (by told ok)
     where
       by : (q : MayStart) → world.TurnsTo x t q y → WaitsTurn t q (seen_of y)
@@ -207,6 +218,11 @@ module _ (a : Bool) (n t : ℕ) (s x y : State) (found : IsFound a n s x) (told 
       by (may_start.After number) d =
           subst (λ (z : State). WaitsTurn t (may_start.After number) (seen_of z)) (sym d.4) (d.0, d.1.stands, d.2, d.3)
 
+  pub admit_turns : (u : State) → u ≡ y → StartsOrWaits (view a n s) ((c : Command) (o : OwnCall) → AwaitsTurn t c o (view a n s)
+      → TurnsTo o told (view a n s) (view a n u)) (IsYes told) (WaitsTurn t told (seen_of u))
+  admit_turns u left = record { ok = admit_to u left; free = admit_free; waits = admit_waits u left }
+
+  -- of one that has the turn now no rebuild was begun
   pub admit_unbegun : (u : State) → u ≡ y → told ≡ may_start.Yes → IsUnbegun u
   admit_unbegun u left given = subst IsUnbegun (sym left) (by (subst (λ q. world.TurnsTo x t q y) given ok))
     where
@@ -230,7 +246,7 @@ module _ (a : Bool) (n t : ℕ) (c : Command) (s x y : State) (found : IsFound a
   turn_counted : AreOthersCounted n x y
   turn_counted = let f = found_turn in own_turn n x y found.sound (turn_stream a n t x found.sound c f.0 f.1)
 
-module _ {E : Type 0} (a : Bool) (n t : ℕ) (r : Reply) (s x y : State) (found : IsFound a n s x) (res : Result ℕ E)
+module _ (a : Bool) (n t : ℕ) (r : Reply) (s x y : State) (found : IsFound a n s x) (res : Result ℕ NotThis)
     (h : IsInTurn t command.Purge (view a n s)) (may : ForAsker x t (λ m. MayGo m x y))
     (ok : OnOk res (world.EndsTurn x t r y)) (err : OnErr res (y ≡ x)) where
   ends_gave : y.gave_up ≡ x.gave_up
@@ -244,29 +260,32 @@ module _ {E : Type 0} (a : Bool) (n t : ℕ) (r : Reply) (s x y : State) (found 
     pub ends_flag : gave_up_at u.gave_up n ≡ gave_up_at s.gave_up n
     ends_flag = flag_kept a n s x y u found left ends_gave
 
-    pub ends_same : OnErr res (view a n u ≡ view a n s)
+    ends_same : OnErr res (view a n u ≡ view a n s)
     ends_same = over a n s x y u found left (λ (m : Mine) (z : State). OnErr res (view a n z ≡ m)) (unchanged a n x y res err)
 
-    pub ends_to : OnOk res ((o : OwnCall) → HasTurn t command.Purge o (view a n s) → AnswersWhole o r (view a n s) (view a n u))
+    ends_to : OnOk res ((o : OwnCall) → HasTurn t command.Purge o (view a n s) → AnswersWhole o r (view a n s) (view a n u))
     ends_to =
         over a n s x y u found left
         (λ (m : Mine) (z : State). OnOk res ((o : OwnCall) → HasTurn t command.Purge o m → AnswersWhole o r m (view a n z)))
         (ends a n t x y found.sound (turn_go a n t command.Purge s x y found h may) r res ok)
 
-module _ (a : Bool) (n t : ℕ) (r : Reply) (s x y : State) (found : IsFound a n s x) (res : Result ℕ NotThis)
-    (h : IsInTurn t command.Purge (view a n s)) (err : OnErr res (y ≡ x)) where
-  pub ends_why : (u : State) → u ≡ y → IfErr res (world.AgainstEndTurn x t r) → OnErr res (RefusesEndPurge r (seen_of u))
-  ends_why u left why = subst (λ (z : State). OnErr res (RefusesEndPurge r (seen_of z))) (sym left) (by res why err)
-    where
-      by : (q : Result ℕ NotThis) → IfErr q (world.AgainstEndTurn x t r) → OnErr q (y ≡ x)
-          → OnErr q (RefusesEndPurge r (seen_of y))
-      by (Ok at) why same = tt
-      by (Failed e) why same = subst (λ (z : State). RefusesEndPurge r (seen_of z)) (sym same)
-          (λ may.
-          let f = found_turn a n t command.Purge s x y found h in
-          let held = why.cannot (free_turn a n t x found.sound command.Purge f.0 f.1)
-          (purge_ends x (command_at x.commands 0).command (turn_command a n t x found.sound command.Purge f.0 f.1) r may) in
-          (held.0, λ none. held.1 (none_kept x.whole none)))
+    ends_why : IfErr res (world.AgainstEndTurn x t r) → OnErr res (RefusesEndPurge r (seen_of u))
+    ends_why why = subst (λ (z : State). OnErr res (RefusesEndPurge r (seen_of z))) (sym left) (by res why err)
+      where
+        by : (q : Result ℕ NotThis) → IfErr q (world.AgainstEndTurn x t r) → OnErr q (y ≡ x)
+            → OnErr q (RefusesEndPurge r (seen_of y))
+        by (Ok at) why same = tt
+        by (Failed e) why same = subst (λ (z : State). RefusesEndPurge r (seen_of z)) (sym same)
+            (λ may.
+            let f = found_turn a n t command.Purge s x y found h in
+            let held = why.cannot (free_turn a n t x found.sound command.Purge f.0 f.1)
+            (purge_ends x (command_at x.commands 0).command (turn_command a n t x found.sound command.Purge f.0 f.1) r may) in
+            (held.0, λ none. held.1 (none_kept x.whole none)))
+
+    pub ends_does : IfErr res (world.AgainstEndTurn x t r) → Does res (view a n s) (view a n u)
+        (λ at. ForTurn t command.Purge (view a n s) (λ o. AnswersWhole o r (view a n s) (view a n u)))
+        (λ why. RefusesEndPurge r (seen_of u))
+    ends_does why = record { ok = ends_to; why = ends_why why; err = ends_same }
 
 -- ---- it is given back
 
@@ -282,21 +301,15 @@ module _ (a : Bool) (n t : ℕ) (s x y : State) (found : IsFound a n s x)
   gone_go : MayGo n x y
   gone_go = turn_go a n t h.0 s x y found (h.1, h.2) may
 
-  gone_as : y ≡ without_command x 0
-  gone_as = let f = found_turn a n t h.0 s x y found (h.1, h.2) in gives_back a n t x y found.sound h.0 f.0 f.1 h.3 ok
-
-  gone_still : KeepsWhole x y
-  gone_still = record { whole = ap (λ (z : State). z.whole) gone_as; gave_up = ap (λ (z : State). z.gave_up) gone_as }
-
-  gone_gave : y.gave_up ≡ x.gave_up
-  gone_gave = gone_still.gave_up
+  gone_as : y ≡ gives_back x
+  gone_as = let f = found_turn a n t h.0 s x y found (h.1, h.2) in is_given_back a n t x y found.sound h.0 f.0 f.1 h.3 ok
 
   pub gone_owes : Owes n x y
-  gone_owes = owes_still n x y gone_go gone_still
-      (turn_counted a n t h.0 s x y found (h.1, h.2))
-
-  pub gone_flag : (u : State) → u ≡ y → gave_up_at u.gave_up n ≡ gave_up_at s.gave_up n
-  gone_flag u left = flag_kept a n s x y u found left gone_gave
+  gone_owes = record {
+    may = gone_go;
+    parts = parts_stay n x y gone_go (ap (λ (z : State). z.whole) gone_as);
+    counted = turn_counted a n t h.0 s x y found (h.1, h.2);
+  }
 
   pub gone_to : (u : State) → u ≡ y → view a n u ≡ with_running (view a n s) []
   gone_to u left =

@@ -15,7 +15,7 @@ use Rattle.stream_steps.specs.declared.add.PageIn.{PageIn}
 use Rattle.stream_steps.specs.declared.add.PageIn.TheVariants as put
 use Rattle.stream_steps.specs.Mine.{Mine, entries_in}
 use Rattle.stream_steps.specs.Steps.{FallsTo}
-use Rattle.stream_steps.specs.Add.{AreKept, PutsIn}
+use Rattle.stream_steps.specs.Add.{PutsIn}
 use Rattle.world_holder.specs.View.{view, IsFound, Owes}
 use Rattle.world_holder.specs.Counted.{IsRebuildKept, WasAborted}
 use Rattle.world_holder.proofs.Entries.{own_last}
@@ -24,11 +24,11 @@ use Rattle.world_steps.proofs.Rest.{Rest, rest_of, turns_faulted}
 use Rattle.world_steps.proofs.RebuildKept.{kept_faulted}
 use Rattle.world_steps.proofs.Begun.{begun_found, begun_fall}
 use Rattle.world_steps.proofs.GaveUp.{flag_kept}
-use Rattle.world_steps.specs.Rebuild.{left_now, IsPageIn, IsEndedAt, IsOpenFrom, IsBegunIn, IsEndOf, PutsAt}
+use Rattle.world_steps.specs.Rebuild.{left_now, IsEndedAt, IsOpenFrom, IsBegunIn, IsEndOf, PutsAt}
 use Rattle.world_steps.proofs.Pages.{one_fewer}
-use Rattle.world_steps.proofs.Later.{IsStillKnown, same_left, still_known, known_then}
+use Rattle.world_steps.proofs.Later.{IsRebuildKnown, IsStillKnown, same_left, still_known, known_then, rebuild_then}
 use Rattle.world_steps.proofs.AtOnce.{falls_row}
-use Rattle.world_steps.proofs.Puts.{put_row, puts_whole, puts_gave, puts_kept, puts_begun}
+use Rattle.world_steps.proofs.Puts.{put_row, puts_whole, puts_gave, puts_ended, puts_pages, puts_begun}
 use Rattle.world_steps.proofs.AddTurns.{HasSomeAdd, add_known, add_kept, add_stream, add_owes}
 
 -- ---- a page comes in
@@ -54,18 +54,17 @@ module _ (a : Bool) (n t : ℕ) (s x y : State) (page : PageRef) (old new : Tabl
     pub put_gave : gave_up_at u.gave_up n ≡ gave_up_at s.gave_up n
     put_gave = flag_kept a n s x y u found left (puts_gave x y page old new p puts)
 
-    pub put_kept : AreKept (IsEndedAt s) (IsEndedAt u) (IsPageIn s) (IsPageIn u)
-    put_kept =
-        let then = puts_kept x y page old new found.sound p puts in
-        let first = add_known a n t s x found add in
-        subst (λ (z : State). AreKept (IsEndedAt s) (IsEndedAt z) (IsPageIn s) (IsPageIn z)) (sym left) (record {
-          ended = λ place is. then.ended place (first.kept.ended place is);
-          pages = λ q table is. then.pages q table (first.kept.pages q table is);
-        })
-
-    pub put_begun : (past : Bool) (source r : ℕ) → IsBegunIn n s past source r → IsBegunIn n u past source r
-    put_begun past source r begun = subst (λ (z : State). IsBegunIn n z past source r) (sym left)
-        (puts_begun x y page old new n past source r p puts (begun_found n s x past source r found.later begun))
+    pub put_kept : IsRebuildKnown n s u
+    put_kept = subst (IsRebuildKnown n s) (sym left) (rebuild_then s x n y (add_known a n t s x found add).rebuild (record {
+      ended = puts_ended x y page old new p puts;
+      pages = puts_pages x y page old new found.sound p puts;
+      begun = λ source r. puts_begun x y page old new n true source r p puts;
+      fewer = by p puts;
+    }))
+      where
+        by : (q : PageIn) → PutsAt q page old new x y → left_now y.rebuild ≤ left_now x.rebuild
+        by put.Listed c = omega (arith, one_less c)
+        by (put.Ended place) c = omega (arith, ap (λ (z : State). left_now z.rebuild) c.1)
 
     pub put_puts : PutsIn p (IsEndedAt u) (left_now s.rebuild) (left_now u.rebuild)
     put_puts = subst (λ (z : State). PutsIn p (IsEndedAt z) (left_now s.rebuild) (left_now z.rebuild)) (sym left) (by p puts)
@@ -73,13 +72,6 @@ module _ (a : Bool) (n t : ℕ) (s x y : State) (page : PageRef) (old new : Tabl
         by : (q : PageIn) → PutsAt q page old new x y → PutsIn q (IsEndedAt y) (left_now s.rebuild) (left_now y.rebuild)
         by put.Listed c = one_less c ∙ same_left s x (add_kept a n t s x found add) c.b c.is.begun
         by (put.Ended place) c = c.0
-
-    pub put_fewer : left_now u.rebuild ≤ left_now s.rebuild
-    put_fewer = subst (λ (z : State). left_now z.rebuild ≤ left_now s.rebuild) (sym left) (by p puts)
-      where
-        by : (q : PageIn) → PutsAt q page old new x y → left_now y.rebuild ≤ left_now s.rebuild
-        by put.Listed c = omega (arith, one_less c, (add_known a n t s x found add).fewer)
-        by (put.Ended place) c = omega (arith, ap (λ (z : State). left_now z.rebuild) c.1, (add_known a n t s x found add).fewer)
 
 -- ---- a line fails
 
@@ -117,15 +109,11 @@ module _ (a : Bool) (n t r count : ℕ) (s x y : State) (found : IsFound a n s x
     pub fall_gave : gave_up_at u.gave_up n ≡ gave_up_at s.gave_up n
     fall_gave = flag_kept a n s x y u found left (ap (λ (z : Rest). z.gave_up) its_rest)
 
-    pub fall_still : IsStillKnown s u
-    fall_still = subst (IsStillKnown s) (sym left)
-        (known_then s x y (add_known a n t s x found add) (still_known x y its_kept))
-
-    pub fall_begun : (past : Bool) (source q : ℕ) → IsBegunIn n s past source q → IsBegunIn n u past source q
-    fall_begun past source q begun =
+    pub fall_still : IsStillKnown n s u
+    fall_still =
         let k = its_told in
-        subst (λ (z : State). IsBegunIn n z past source q) (sym left)
-        (begun_fall n r count x y k.0 k.1 k.2 past source q (begun_found n s x past source q found.later begun))
+        subst (IsStillKnown n s) (sym left) (known_then s x n y (add_known a n t s x found add) (still_known x y n its_kept
+        (λ source q. begun_fall n r count x y k.0 k.1 k.2 true source q)))
 
 -- the replica is an end of the rebuild that is found
 module _ (a : Bool) (n r count : ℕ) (s x : State) (found : IsFound a n s x) where

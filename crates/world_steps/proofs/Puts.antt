@@ -7,10 +7,8 @@ use Rattle.open_rebuild.specs.Claim.{with_page}
 use Rattle.volume_core.specs.State.{State}
 use Rattle.volume_core.specs.Sound.{IsSound}
 use Rattle.volume_core.specs.Streams.{turning, MayGo}
-use Rattle.volume_rebuild.specs.Answers.{CopiesIn}
 use Rattle.stream_steps.specs.declared.add.PageIn.{PageIn}
 use Rattle.stream_steps.specs.declared.add.PageIn.TheVariants as put
-use Rattle.stream_steps.specs.Add.{AreKept}
 use Rattle.world_holder.specs.View.{runs, view}
 use Rattle.world_holder.proofs.Grow.{only_open}
 use Rattle.world_holder.specs.Counted.{WasAborted}
@@ -39,15 +37,15 @@ module _ (s s2 : State) (page : PageRef) (old new : Table) where
   puts_gave put.Listed y = ap (λ (z : State). z.gave_up) y.state
   puts_gave (put.Ended place) y = ap (λ (z : State). z.gave_up) y.1
 
-  ended_kept : CopiesIn s page old new s2 → (place : ℕ) → IsEndedAt s place → IsEndedAt s2 place
-  ended_kept y place is = absurd (not_some y.b (sym is.closed ∙ y.is.begun))
+  -- where its mark stands, and what its source has of the pages, as they were
+  pub puts_ended : (p : PageIn) → PutsAt p page old new s s2 → (place : ℕ) → IsEndedAt s place → IsEndedAt s2 place
+  puts_ended put.Listed y place is = absurd (not_some y.b (sym is.closed ∙ y.is.begun))
+  puts_ended (put.Ended place) y at is = subst (λ (z : State). IsEndedAt z at) (sym y.1) is
 
-  pub puts_kept : IsSound s → (p : PageIn) → PutsAt p page old new s s2 → AreKept (IsEndedAt s) (IsEndedAt s2) (IsPageIn s) (IsPageIn s2)
-  puts_kept ok put.Listed y = record { ended = ended_kept y; pages = pages_kept s s2 page old new ok y }
-  puts_kept ok (put.Ended place) y = record {
-    ended = λ at is. subst (λ (z : State). IsEndedAt z at) (sym y.1) is;
-    pages = λ p table is. subst (λ (z : State). IsPageIn z p table) (sym y.1) is;
-  }
+  pub puts_pages : IsSound s → (p : PageIn) → PutsAt p page old new s s2 → (q : PageRef) (table : Table) → IsPageIn s q table
+      → IsPageIn s2 q table
+  puts_pages ok put.Listed y = pages_kept s s2 page old new ok y
+  puts_pages ok (put.Ended place) y = λ q table is. subst (λ (z : State). IsPageIn z q table) (sym y.1) is
 
   -- its rebuild goes on from the same source
   pub puts_begun : (n : ℕ) (past : Bool) (source r : ℕ) (p : PageIn) → PutsAt p page old new s s2 → IsBegunIn n s past source r

@@ -1,5 +1,5 @@
 -- No step that a stream's worker takes changes the commands that have the maintenance turn or wait for it, which
--- streams gave a rebuild up, or the operation on the whole volume that has started.
+-- streams gave a command up, or the operation on the whole volume that has started.
 use Rattle.std.proofs.Common.{◌≡◌, ℕ, Bool, true, false, cond, List, [], length, Result, Ok, Err as Failed, OnOk}
 use Rattle.std.proofs.Common.{OnErr, IfOk, Option, Some, None, refl, ap, ◌∙◌, arith}
 use Rattle.volume_model.specs.declared.call.Call.{Call}
@@ -39,7 +39,7 @@ none_begun maint commands (Some b) g adds none = absurd (omega (arith, adds.of_b
 pub no_rebuild : (s : State) → IsSound s → s.commands ≡ [] → s.rebuild ≡ None
 no_rebuild s ok none = none_begun s.maint s.commands s.rebuild s.ended ok.adds none
 
--- what no step changes: these commands, which streams gave a rebuild up, and that operation
+-- what no step changes: these commands, which streams gave a command up, and that operation
 pub record Rest : Type 0 where
   pub commands : List MaintCall
   pub gave_up : List Bool

@@ -9,8 +9,7 @@ use Rattle.open_rebuild.specs.declared.rebuilding.Rebuilding.{Rebuilding}
 use Rattle.volume_core.specs.declared.world.EndedRebuild.{EndedRebuild}
 use Rattle.volume_core.specs.State.{State}
 use Rattle.volume_core.specs.Sound.{IsSound, AreAdds, HasAdd}
-use Rattle.volume_core.specs.Turn.{without_command}
-use Rattle.volume_maint.specs.Steps.{abandoned_with, turn_abandoned}
+use Rattle.volume_maint.specs.Steps.{abandoned_with, gives_back, turn_abandoned}
 use Rattle.stream_steps.specs.Maint.{IsNoAdd}
 use Rattle.world_steps.specs.Rebuild.{IsUnbegun}
 
@@ -30,7 +29,7 @@ no_add : (maint : List Ticket) (commands : List MaintCall) → IsNoAdd (command_
 no_add maint commands other r add = subst IsNoAdd add.turn.command other
 
 -- which gives the turn back without an answer
-pub given_back : (s : State) → IsSound s → IsNoAdd (command_at s.commands 0).command → turn_abandoned s ≡ without_command s 0
+pub given_back : (s : State) → IsSound s → IsNoAdd (command_at s.commands 0).command → turn_abandoned s ≡ gives_back s
 given_back s ok other =
     let none = no_add s.maint s.commands other in
     let begun = no_begun s.maint s.commands none s.rebuild s.ended ok.adds in

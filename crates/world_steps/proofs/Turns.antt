@@ -24,7 +24,7 @@ use Rattle.volume_core.specs.State.{State, modes_in, index_at}
 use Rattle.volume_core.specs.Sound.{IsSound}
 use Rattle.volume_core.specs.Streams.{MayGo, running, turning}
 use Rattle.volume_core.specs.Turn.{turn_ended, without_command, ForAsker, IsFreeTurn}
-use Rattle.volume_maint.specs.Steps.{whole_ticket, maint_enrolled, turn_begun, turn_abandoned}
+use Rattle.volume_maint.specs.Steps.{whole_ticket, maint_enrolled, turn_begun, gives_back, turn_abandoned}
 use Rattle.volume_maint.specs.Answers as world
 use Rattle.volume_maint.specs.Places as place
 use Rattle.world_holder.proofs.Found.{has_no_command}
@@ -272,13 +272,13 @@ module _ (a : Bool) where
     ends y (Failed e) x = tt
 
     -- it is given back
-    pub gone_without : (c : Command) (o : OwnCall) → HasTurn t c o (view a n s) → s2 ≡ without_command s 0
+    pub gone_without : (c : Command) (o : OwnCall) → HasTurn t c o (view a n s) → s2 ≡ gives_back s
         → view a n s2 ≡ with_running (view a n s) []
     gone_without c o h e =
         only_open n s s2 may a [] (ap (λ (x : State). x.book.entries) e)
         (gone_runs c o h (ap (λ (x : State). turning x n) e) (ap (λ (x : State). running x n) e))
 
   -- by a command that is no add
-  pub gives_back : (n t : ℕ) (s s2 : State) → IsSound s → (c : Command) (o : OwnCall) → HasTurn t c o (view a n s) → IsNoAdd c
-      → s2 ≡ turn_abandoned s → s2 ≡ without_command s 0
-  gives_back n t s s2 ok c o h other e = e ∙ given_back s ok (subst IsNoAdd (sym (turn_command n t s ok c o h)) other)
+  pub is_given_back : (n t : ℕ) (s s2 : State) → IsSound s → (c : Command) (o : OwnCall) → HasTurn t c o (view a n s) → IsNoAdd c
+      → s2 ≡ turn_abandoned s → s2 ≡ gives_back s
+  is_given_back n t s s2 ok c o h other e = e ∙ given_back s ok (subst IsNoAdd (sym (turn_command n t s ok c o h)) other)

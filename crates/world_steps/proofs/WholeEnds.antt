@@ -61,7 +61,7 @@ over_same (whole.Revert name) z = record { tickets = refl; calls = refl; entries
 over_same (whole.Purge f) z = record { tickets = refl; calls = refl; entries = refl; whole = refl; gave_up = refl }
 over_same (whole.Barrier r) z = record { tickets = refl; calls = refl; entries = refl; whole = refl; gave_up = refl }
 
--- where an operation has ended the World keeps none, and no stream gave a rebuild up by that
+-- where an operation has ended the World keeps none, and no stream gave a command up by that
 pub record IsOver (s s2 : State) : Type 0 where
   pub whole : s2.whole ≡ None
   pub gave_up : s2.gave_up ≡ s.gave_up

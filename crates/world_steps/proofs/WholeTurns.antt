@@ -18,13 +18,16 @@ use Rattle.volume_maint.specs.Answers.{MayAsk}
 use Rattle.volume_maint.specs.Places as place
 use Rattle.volume_maint.specs.Places.{ForCaller}
 use Rattle.stream_steps.specs.Mine.{Mine, OwnCall, with_running}
+use Rattle.stream_steps.specs.Does.{Does, StartsOrWaits}
 use Rattle.stream_steps.specs.Steps.{EnrolsAt}
-use Rattle.stream_steps.specs.Maint.{HasTurn, HasWhole, EnrolsWhole, EnrolsUnder, AdmitsWhole, IsNotLater}
-use Rattle.stream_steps.specs.Maint.{PartsTo, AcksWhole, AgainstPart, AgainstAckWhole, AgainstEndWhole, IsNoBarrier, WholeEnds}
+use Rattle.stream_steps.specs.Maint.{HasTurn, ForTurn, HasWhole, ForWhole, EnrolsWhole, EnrolsSnapshot, EnrolsUnder, EnrolsOr}
+use Rattle.stream_steps.specs.Maint.{AdmitsWhole, IsNotLater, PartsTo, AcksWhole, AgainstPart, AgainstAckWhole}
+use Rattle.stream_steps.specs.Maint.{AgainstEndWhole, IsNoBarrier, WholeEnds}
 use Rattle.stream_steps.specs.Seen.{CannotGo, WaitsWhole}
 use Rattle.world_holder.specs.View.{view, IsFound, Owes}
 use Rattle.world_holder.proofs.Grow.{found_same, over, unchanged}
 use Rattle.world_steps.proofs.Begun.{IsSameTurn, same_turn, begun_found, begun_over, begun_past, begun_same, unbegun_found}
+use Rattle.world_steps.proofs.Does.{starts_or_waits}
 use Rattle.world_steps.proofs.Own.{idle_from}
 use Rattle.world_steps.proofs.Shapes.{HasCall, has_call}
 use Rattle.world_steps.proofs.Wholes.{HasSome, Waits, HasBegun, same_op, whole_owner, whole_waits}
@@ -71,14 +74,23 @@ module _ (a : Bool) (n : ℕ) (op : WholeOp) (s x : State) (found : IsFound a n 
       pub snap_same : OnErr res (view a n u ≡ view a n s)
       snap_same = over a n s x y u found left (λ (m : Mine) (z : State). OnErr res (view a n z ≡ m)) (unchanged a n x y res err)
 
-      pub snap_to : IfOk res (λ k. EnrolsWhole k op [] (view a n s) (view a n u))
+      snap_to : IfOk res (λ k. EnrolsWhole k op [] (view a n s) (view a n u))
       snap_to = over a n s x y u found left (λ (m : Mine) (z : State). IfOk res (λ k. EnrolsWhole k op [] m (view a n z)))
           (snaps a n x y found.sound may op found_idle snap res ok)
 
-      pub snap_saw : IfOk res (λ k. EnrolsAt k (call.Command (command_of op)) (view a n s) (view a n u))
+      snap_saw : IfOk res (λ k. EnrolsAt k (call.Command (command_of op)) (view a n s) (view a n u))
       snap_saw = over a n s x y u found left
           (λ (m : Mine) (z : State). IfOk res (λ k. EnrolsAt k (call.Command (command_of op)) m (view a n z)))
           (snaps_at a n x y found.sound may op found_idle snap res ok)
+
+      pub snap_ok : IfOk res (λ k. EnrolsSnapshot k op (view a n s) (view a n u))
+      snap_ok = by res snap_to snap_saw
+        where
+          by : (q : Result ℕ E) → IfOk q (λ k. EnrolsWhole k op [] (view a n s) (view a n u))
+              → IfOk q (λ k. EnrolsAt k (call.Command (command_of op)) (view a n s) (view a n u))
+              → IfOk q (λ k. EnrolsSnapshot k op (view a n s) (view a n u))
+          by (Ok k) whole saw = record { whole = whole; saw = saw }
+          by (Failed e) whole saw = tt
 
 -- ---- what the command does that has the turn is enrolled
 
@@ -106,17 +118,17 @@ module _ (a : Bool) (n t : ℕ) (op : WholeOp) (s x : State) (found : IsFound a 
       pub under_same : OnErr res (view a n u ≡ view a n s)
       under_same = over a n s x y u found left (λ (m : Mine) (z : State). OnErr res (view a n z ≡ m)) (unchanged a n x y res err)
 
-      pub under_to : IfOk res (λ w. IfSome w (λ k. (o : OwnCall) → HasTurn t (command_of op) o (view a n s)
+      under_to : IfOk res (λ w. IfSome w (λ k. (o : OwnCall) → HasTurn t (command_of op) o (view a n s)
           → EnrolsUnder k op o (view a n s) (view a n u)))
       under_to = over a n s x y u found left (λ (m : Mine) (z : State). IfOk res (λ w. IfSome w (λ k. (o : OwnCall)
           → HasTurn t (command_of op) o m → EnrolsUnder k op o m (view a n z))))
           (under_mine a n t x found.sound op y may res ok)
 
-      pub under_not : res ≡ Ok None → view a n u ≡ view a n s
+      under_not : res ≡ Ok None → view a n u ≡ view a n s
       under_not = over a n s x y u found left (λ (m : Mine) (z : State). res ≡ Ok None → view a n z ≡ m)
           (under_none a n t x found.sound op y may res ok)
 
-      -- where the command that has the turn began no rebuild, it has begun none; and why a part of a purge is not enrolled
+      -- where the command that has the turn began no rebuild, it has begun none
       pub under_unbegun : IsUnbegun s → IsUnbegun u
       under_unbegun none = subst IsUnbegun (sym left) (by res ok err)
         where
@@ -131,7 +143,8 @@ module _ (a : Bool) (n t : ℕ) (op : WholeOp) (s x : State) (found : IsFound a 
           by (Ok w) e err = by_one w e
           by (Failed f) e err = subst IsUnbegun (sym err) here
 
-      pub under_cannot : res ≡ Ok None → CannotGo op (MayGoIn u) (modes_in u)
+      -- why a part of a purge is not enrolled
+      under_cannot : res ≡ Ok None → CannotGo op (MayGoIn u) (modes_in u)
       under_cannot none = subst (λ (z : State). CannotGo op (MayGoIn z) (modes_in z)) (sym left)
           (by op (subst (λ q. IfOk q (λ w. world.EnrolsWhole x n op w y)) none ok))
         where
@@ -141,6 +154,16 @@ module _ (a : Bool) (n t : ℕ) (op : WholeOp) (s x : State) (found : IsFound a 
           by (whole.Remove name) e = e.0
           by (whole.Revert name) e = e.0
           by (whole.Barrier r) e = e.0
+
+      pub under_ok : IfOk res (λ w. EnrolsOr t op w (CannotGo op (MayGoIn u) (modes_in u)) (view a n s) (view a n u))
+      under_ok = by res under_to under_cannot under_not
+        where
+          by : (q : Result (Option ℕ) E)
+              → IfOk q (λ w. IfSome w (λ k. ForTurn t (command_of op) (view a n s) (λ o. EnrolsUnder k op o (view a n s) (view a n u))))
+              → (q ≡ Ok None → CannotGo op (MayGoIn u) (modes_in u)) → (q ≡ Ok None → view a n u ≡ view a n s)
+              → IfOk q (λ w. EnrolsOr t op w (CannotGo op (MayGoIn u) (modes_in u)) (view a n s) (view a n u))
+          by (Ok w) some cannot none = record { some = some; cannot = λ e. cannot (ap Ok e); none = λ e. none (ap Ok e) }
+          by (Failed e) some cannot none = tt
 
 -- ---- it is asked to start
 
@@ -180,8 +203,8 @@ module _ (a : Bool) (n t : ℕ) (s x : State) (found : IsFound a n s x) (w : Wai
       admit_soon = over a n s x y u found left (λ (m : Mine) (z : State). IfOk res (λ ans. IfSome m.log (λ log. IsNotLater ans)))
           (admit_free a n t x found.sound y (waits_go y may) res ok found_open (λ alone. (found.same alone).1))
 
-      -- one that waits, waits for the first in its way; and none but a barrier may not begin
-      pub admit_waits : IfOk res (λ ans. WaitsWhole t ans (seen_of u))
+      -- one that waits, waits for the first in its way
+      admit_waits : IfOk res (λ ans. WaitsWhole t ans (seen_of u))
       admit_waits = subst (λ (z : State). IfOk res (λ ans. WaitsWhole t ans (seen_of z))) (sym left) (by res ok)
         where
           by_one : (ans : AdmitWhole) → world.AdmitsWhole x t ans y → WaitsWhole t ans (seen_of y)
@@ -195,6 +218,12 @@ module _ (a : Bool) (n t : ℕ) (s x : State) (found : IsFound a n s x) (w : Wai
           by (Ok ans) d = by_one ans d
           by (Failed e) d = tt
 
+      pub admit_starts : IfOk res (λ ans. StartsOrWaits (view a n s)
+          (ForWhole t (view a n s) (λ op turn o. AdmitsWhole op turn o ans (view a n s) (view a n u)))
+          (IsNotLater ans) (WaitsWhole t ans (seen_of u)))
+      admit_starts = starts_or_waits (view a n s) _ _ _ res admit_to admit_soon admit_waits
+
+    -- none but a barrier may not begin
     pub admit_begins : (op : WholeOp) (turn : List OwnCall) (o : OwnCall) → HasWhole t op turn o (view a n s) → IsNoBarrier op
         → res ≢ Ok admit.Never
     admit_begins op turn o h other never = by op other (subst (world.MayNotBegin x) same d.3)
@@ -255,20 +284,25 @@ module _ (a : Bool) (n t : ℕ) (s x : State) (found : IsFound a n s x) (w : Has
     }
 
     module _ (u : State) (left : u ≡ y) where
-      pub part_same : OnErr res (view a n u ≡ view a n s)
+      part_same : OnErr res (view a n u ≡ view a n s)
       part_same = over a n s x y u found left (λ (m : Mine) (z : State). OnErr res (view a n z ≡ m)) (unchanged a n x y res err)
 
-      pub part_to : OnOk res ((op : WholeOp) (turn : List OwnCall) (o : OwnCall) → HasWhole t op turn o (view a n s)
+      part_to : OnOk res ((op : WholeOp) (turn : List OwnCall) (o : OwnCall) → HasWhole t op turn o (view a n s)
           → PartsTo turn o r (view a n s) (view a n u))
       part_to = over a n s x y u found left (λ (m : Mine) (z : State). OnOk res ((op : WholeOp) (turn : List OwnCall)
           (o : OwnCall) → HasWhole t op turn o m → PartsTo turn o r m (view a n z)))
           (takes a n t x found.sound y (begun_go y may) r res ok)
 
-      pub part_why : IfErr res (world.AgainstPart x t r) → IfErr res (λ why. (op : WholeOp) (turn : List OwnCall) (o : OwnCall)
+      part_why : IfErr res (world.AgainstPart x t r) → IfErr res (λ why. (op : WholeOp) (turn : List OwnCall) (o : OwnCall)
           → HasWhole t op turn o (view a n s) → AgainstPart (modes_in u) o r why)
       part_why why = over a n s x y u found left (λ (m : Mine) (z : State). IfErr res (λ why. (op : WholeOp)
           (turn : List OwnCall) (o : OwnCall) → HasWhole t op turn o m → AgainstPart (modes_in z) o r why))
           (takes_why a n t x found.sound y (begun_go y may) r res why err found_begun)
+
+      pub part_does : IfErr res (world.AgainstPart x t r) → Does res (view a n s) (view a n u)
+          (λ v. ForWhole t (view a n s) (λ op turn o. PartsTo turn o r (view a n s) (view a n u)))
+          (λ why. ForWhole t (view a n s) (λ op turn o. AgainstPart (modes_in u) o r why))
+      part_does why = record { ok = part_to; why = part_why why; err = part_same }
 
       pub part_begun : (past : Bool) (source q : ℕ) → IsBegunIn n s past source q → IsBegunIn n u past source q
       part_begun past source q = begun_over a n s x y u found left past source q (begun_same n x y past source q (by res ok err))
@@ -292,20 +326,25 @@ module _ (a : Bool) (n t : ℕ) (s x : State) (found : IsFound a n s x) (w : Has
     }
 
     module _ (u : State) (left : u ≡ y) where
-      pub acks_same : OnErr res (view a n u ≡ view a n s)
+      acks_same : OnErr res (view a n u ≡ view a n s)
       acks_same = over a n s x y u found left (λ (m : Mine) (z : State). OnErr res (view a n z ≡ m)) (unchanged a n x y res err)
 
-      pub acks_to : OnOk res ((op : WholeOp) (turn : List OwnCall) (o : OwnCall) → HasWhole t op turn o (view a n s)
+      acks_to : OnOk res ((op : WholeOp) (turn : List OwnCall) (o : OwnCall) → HasWhole t op turn o (view a n s)
           → AcksWhole turn o r (view a n s) (view a n u))
       acks_to = over a n s x y u found left (λ (m : Mine) (z : State). OnOk res ((op : WholeOp) (turn : List OwnCall)
           (o : OwnCall) → HasWhole t op turn o m → AcksWhole turn o r m (view a n z)))
           (acks a n t x found.sound y (begun_go y may) r res ok)
 
-      pub acks_against : IfErr res (world.AgainstAckPart x t r) → IfErr res (λ why. (op : WholeOp) (turn : List OwnCall)
+      acks_against : IfErr res (world.AgainstAckPart x t r) → IfErr res (λ why. (op : WholeOp) (turn : List OwnCall)
           (o : OwnCall) → HasWhole t op turn o (view a n s) → AgainstAckWhole o r why)
       acks_against why = over a n s x y u found left (λ (m : Mine) (z : State). IfErr res (λ why. (op : WholeOp)
           (turn : List OwnCall) (o : OwnCall) → HasWhole t op turn o m → AgainstAckWhole o r why))
           (acks_why a n t x found.sound y (begun_go y may) r res why found_begun)
+
+      pub acks_does : IfErr res (world.AgainstAckPart x t r) → Does res (view a n s) (view a n u)
+          (λ v. ForWhole t (view a n s) (λ op turn o. AcksWhole turn o r (view a n s) (view a n u)))
+          (λ why. ForWhole t (view a n s) (λ op turn o. AgainstAckWhole o r why))
+      acks_does why = record { ok = acks_to; why = acks_against why; err = acks_same }
 
       pub acks_begun : (past : Bool) (source q : ℕ) → IsBegunIn n s past source q → IsBegunIn n u past source q
       acks_begun past source q = begun_over a n s x y u found left past source q (begun_same n x y past source q (by res ok err))
@@ -319,7 +358,7 @@ module _ (a : Bool) (n t : ℕ) (s x : State) (found : IsFound a n s x) (w : Has
           by (Failed e) d same = same_turn n x y same
 
   -- and it ends
-  module _ {E : Type 0} (y : State) (res : Result ℕ E) (may : ForCaller x t (λ m. MayGo m x y))
+  module _ (y : State) (res : Result ℕ NotThis) (may : ForCaller x t (λ m. MayGo m x y))
       (ok : OnOk res (world.EndsWhole x t y)) (err : OnErr res (y ≡ x)) where
     pub ends_owes : Owes n x y
     ends_owes = record {
@@ -329,21 +368,32 @@ module _ (a : Bool) (n t : ℕ) (s x : State) (found : IsFound a n s x) (w : Has
     }
 
     module _ (u : State) (left : u ≡ y) where
-      pub ends_same : OnErr res (view a n u ≡ view a n s)
+      ends_same : OnErr res (view a n u ≡ view a n s)
       ends_same = over a n s x y u found left (λ (m : Mine) (z : State). OnErr res (view a n z ≡ m)) (unchanged a n x y res err)
 
-      pub ends_to : OnOk res ((op : WholeOp) (turn : List OwnCall) (o : OwnCall) → HasWhole t op turn o (view a n s)
+      ends_to : OnOk res ((op : WholeOp) (turn : List OwnCall) (o : OwnCall) → HasWhole t op turn o (view a n s)
           → WholeEnds op turn o (view a n s) (view a n u))
       ends_to = over a n s x y u found left (λ (m : Mine) (z : State). OnOk res ((op : WholeOp) (turn : List OwnCall)
           (o : OwnCall) → HasWhole t op turn o m → WholeEnds op turn o m (view a n z)))
           (completes a n t x found.sound y (begun_go y may) res ok)
+
+      ends_against : IfErr res (world.AgainstEndWhole x t) → IfErr res (λ why. (op : WholeOp) (turn : List OwnCall) (o : OwnCall)
+          → HasWhole t op turn o (view a n s) → AgainstEndWhole (modes_in u) o why)
+      ends_against why = over a n s x y u found left (λ (m : Mine) (z : State). IfErr res (λ why. (op : WholeOp)
+          (turn : List OwnCall) (o : OwnCall) → HasWhole t op turn o m → AgainstEndWhole (modes_in z) o why))
+          (ends_why a n t x found.sound y res why err found_begun)
+
+      pub ends_does : IfErr res (world.AgainstEndWhole x t) → Does res (view a n s) (view a n u)
+          (λ at. ForWhole t (view a n s) (λ op turn o. WholeEnds op turn o (view a n s) (view a n u)))
+          (λ why. ForWhole t (view a n s) (λ op turn o. AgainstEndWhole (modes_in u) o why))
+      ends_does why = record { ok = ends_to; why = ends_against why; err = ends_same }
 
       -- its rebuild stays, and once a barrier has ended it is past that
       pub ends_past : OnOk res ((r source : ℕ) (turn : List OwnCall) (o : OwnCall) → HasWhole t (whole.Barrier r) turn o (view a n s)
           → IsBegunIn n s false source r → IsBegunIn n u true source r)
       ends_past = by res ok
         where
-          by : (q : Result ℕ E) → OnOk q (world.EndsWhole x t y) → OnOk q ((r source : ℕ) (turn : List OwnCall) (o : OwnCall)
+          by : (q : Result ℕ NotThis) → OnOk q (world.EndsWhole x t y) → OnOk q ((r source : ℕ) (turn : List OwnCall) (o : OwnCall)
               → HasWhole t (whole.Barrier r) turn o (view a n s) → IsBegunIn n s false source r → IsBegunIn n u true source r)
           by (Ok at) d = λ r source turn o h begun. subst (λ (z : State). IsBegunIn n z true source r) (sym left)
               (begun_past n x y source r a t found.sound found_some d false true (begun_found n s x false source r found.later begun))
@@ -352,15 +402,7 @@ module _ (a : Bool) (n t : ℕ) (s x : State) (found : IsFound a n s x) (w : Has
       pub ends_begun : (past : Bool) (source r : ℕ) → IsBegunIn n s past source r → IsBegunIn n u past source r
       ends_begun past source r = begun_over a n s x y u found left past source r (by res ok err)
         where
-          by : (q : Result ℕ E) → OnOk q (world.EndsWhole x t y) → OnErr q (y ≡ x) → IsBegunIn n x past source r
+          by : (q : Result ℕ NotThis) → OnOk q (world.EndsWhole x t y) → OnErr q (y ≡ x) → IsBegunIn n x past source r
               → IsBegunIn n y past source r
           by (Ok at) d same = begun_past n x y source r a t found.sound found_some d past past
           by (Failed e) d same = begun_same n x y past source r (same_turn n x y same)
-
-  -- or it does not
-  module _ (y : State) (res : Result ℕ NotThis) (err : OnErr res (y ≡ x)) (u : State) (left : u ≡ y) where
-    pub ends_against : IfErr res (world.AgainstEndWhole x t) → IfErr res (λ why. (op : WholeOp) (turn : List OwnCall) (o : OwnCall)
-        → HasWhole t op turn o (view a n s) → AgainstEndWhole (modes_in u) o why)
-    ends_against why = over a n s x y u found left (λ (m : Mine) (z : State). IfErr res (λ why. (op : WholeOp)
-        (turn : List OwnCall) (o : OwnCall) → HasWhole t op turn o m → AgainstEndWhole (modes_in z) o why))
-        (ends_why a n t x found.sound y res why err found_begun)

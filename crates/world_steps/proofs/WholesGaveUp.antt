@@ -1,4 +1,4 @@
--- Which streams gave a rebuild up, as each step on the whole volume leaves it, and so what home tells of its own stream.
+-- Which streams gave a command up, as each step on the whole volume leaves it, and so what home tells of its own stream.
 use Rattle.std.proofs.Common.{◌≡◌, ℕ, Bool, Option, Some, None, Result, Ok, OnOk, OnErr, IfOk, ap, ◌∙◌}
 use Rattle.std.proofs.Common.{Err as Failed}
 use Rattle.step_answers.specs.declared.whole_op.WholeOp.{WholeOp}
@@ -14,7 +14,7 @@ use Rattle.world_holder.specs.View.{IsFound}
 use Rattle.world_steps.proofs.GaveUp.{flag_kept, home_kept}
 use Rattle.world_steps.proofs.WholeEnds.{over_same, ends_over}
 
--- home after a turn of the stream, in which no stream gave a rebuild up
+-- home after a turn of the stream, in which no stream gave a command up
 pub home_whole : {A : Type 0} (a : Bool) (n : ℕ) (s x y u : State) (h h1 h2 : A) → IsFound a n s x → y.gave_up ≡ x.gave_up
     → u ≡ y → h1 ≡ h → h2 ≡ h1 → ◌≡◌ {A = A × ℕ × Bool} (h2, n, gave_up_at u.gave_up n) (h, n, gave_up_at s.gave_up n)
 home_whole a n s x y u h h1 h2 found gave left first next = home_kept first next (flag_kept a n s x y u found left gave)

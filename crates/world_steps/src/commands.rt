@@ -31,7 +31,7 @@ impl<H: Holder, G: Gate> CommandSteps for Steps<H, G> {
 
     ghost begun = { λ a past source r. IsBegunIn a.stream (H.seen a.holder) past source r };
 
-    // What no step of the holder changes, the stream, and whether it gave a rebuild up in the World that was seen last.
+    // What no step of the holder changes, the stream, and whether it gave a command up in the World that was seen last.
     ghost Home = { H.Home × ℕ × Bool };
 
     ghost home = { λ a. (H.home a.holder, a.stream, gave_up_at (H.seen a.holder).gave_up a.stream) };

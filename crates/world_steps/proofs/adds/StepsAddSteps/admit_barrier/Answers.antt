@@ -1,7 +1,6 @@
 use Rattle.world_holder.proofs.Taken.{found_as, owes_as}
 use Rattle.world_steps.proofs.WholesGaveUp.{home_whole}
-use Rattle.world_steps.proofs.BarrierTurns.{barrier_there, barrier_owes, barrier_gave, barrier_same, barrier_to, barrier_begun}
-use Rattle.world_steps.proofs.BarrierTurns.{barrier_still, barrier_kept, barrier_waits, barrier_free, barrier_never}
+use Rattle.world_steps.proofs.BarrierTurns.{barrier_there, barrier_owes, barrier_gave, barrier_same, barrier_ok, barrier_rebuild}
 use Rattle.world_steps.proofs.adds.StepsAddSteps.admit_barrier.Goals as goal
 
 pub barrier_in-answer-requires-clause-barrier : goal.barrier_in-answer-requires-clause-barrier
@@ -14,50 +13,36 @@ put-requires-clause-owes g c =
     let step = c.barrier_in-answer in
     let found = found_as c.deref_mut.ensures.value c.take-world.ensures.found in
     owes_as c.deref_mut.ensures.value c.take-world.ensures.seen
-    (barrier_owes _ _ c.args.t _ _ found c.requires.open _ step.result step.ensures.may step.ensures.ok step.ensures.err)
+    (barrier_owes _ _ c.args.t _ _ found c.requires.open _ step.result step.ensures.may step.ensures.ok
+    step.ensures.err)
 
-pub returns-clause-home : goal.returns-clause-home
-returns-clause-home g c =
+pub returns-clause-stands : goal.returns-clause-stands
+returns-clause-stands g c =
     let step = c.barrier_in-answer in
     let found = found_as c.deref_mut.ensures.value c.take-world.ensures.found in
-    home_whole _ _ _ _ _ _ _ _ _ found
-    (barrier_gave _ _ c.args.t _ _ found c.requires.open _ step.result step.ensures.may step.ensures.ok step.ensures.err)
-    c.put.ensures.seen c.take-world.ensures.home c.put.ensures.home
+    record {
+      ready = c.put.ensures.rests;
+      home = home_whole _ _ _ _ _ _ _ _ _ found
+          (barrier_gave _ _ c.args.t _ _ found c.requires.open _ step.result step.ensures.may step.ensures.ok
+          step.ensures.err)
+          c.put.ensures.seen c.take-world.ensures.home c.put.ensures.home;
+    }
 
 pub returns-clause-ok : goal.returns-clause-ok
 returns-clause-ok g c =
     let step = c.barrier_in-answer in
     let found = found_as c.deref_mut.ensures.value c.take-world.ensures.found in
-    barrier_to _ _ c.args.t _ _ found c.requires.open _ step.result step.ensures.may step.ensures.ok step.ensures.err
+    barrier_ok _ _ c.args.t _ _ found c.requires.open _ step.result step.ensures.may step.ensures.ok
+    step.ensures.err
     _ c.put.ensures.seen
 
-pub returns-clause-begun : goal.returns-clause-begun
-returns-clause-begun g c =
+pub returns-clause-rebuild : goal.returns-clause-rebuild
+returns-clause-rebuild g c =
     let step = c.barrier_in-answer in
     let found = found_as c.deref_mut.ensures.value c.take-world.ensures.found in
-    barrier_begun _ _ c.args.t _ _ found c.requires.open _ step.result step.ensures.may step.ensures.ok step.ensures.err
+    barrier_rebuild _ _ c.args.t _ _ found c.requires.open _ step.result step.ensures.may step.ensures.ok
+    step.ensures.err
     _ c.put.ensures.seen step.ensures.sound
-
-pub returns-clause-unbegun : goal.returns-clause-unbegun
-returns-clause-unbegun g c =
-    let step = c.barrier_in-answer in
-    let found = found_as c.deref_mut.ensures.value c.take-world.ensures.found in
-    barrier_still _ _ c.args.t _ _ found c.requires.open _ step.result step.ensures.may step.ensures.ok step.ensures.err
-    _ c.put.ensures.seen
-
-pub returns-clause-waits : goal.returns-clause-waits
-returns-clause-waits g c =
-    let step = c.barrier_in-answer in
-    let found = found_as c.deref_mut.ensures.value c.take-world.ensures.found in
-    barrier_waits _ _ c.args.t _ _ found c.requires.open _ step.result step.ensures.may step.ensures.ok step.ensures.err
-    _ c.put.ensures.seen
-
-pub returns-clause-free : goal.returns-clause-free
-returns-clause-free g c =
-    let step = c.barrier_in-answer in
-    let found = found_as c.deref_mut.ensures.value c.take-world.ensures.found in
-    barrier_free _ _ c.args.t _ _ found c.requires.open _ step.result step.ensures.may step.ensures.ok step.ensures.err
-    _ c.put.ensures.seen
 
 pub returns-clause-err : goal.returns-clause-err
 returns-clause-err g c =
@@ -65,16 +50,3 @@ returns-clause-err g c =
     let found = found_as c.deref_mut.ensures.value c.take-world.ensures.found in
     barrier_same _ _ c.args.t _ _ found c.requires.open _ step.result step.ensures.may step.ensures.ok step.ensures.err
     _ c.put.ensures.seen
-
-pub returns-clause-kept : goal.returns-clause-kept
-returns-clause-kept g c =
-    let step = c.barrier_in-answer in
-    let found = found_as c.deref_mut.ensures.value c.take-world.ensures.found in
-    barrier_kept _ _ c.args.t _ _ found c.requires.open _ step.result step.ensures.may step.ensures.ok step.ensures.err
-    _ c.put.ensures.seen
-
-pub returns-clause-never : goal.returns-clause-never
-returns-clause-never g c =
-    let step = c.barrier_in-answer in
-    let found = found_as c.deref_mut.ensures.value c.take-world.ensures.found in
-    barrier_never _ _ c.args.t _ _ found c.requires.open _ step.result step.ensures.may step.ensures.ok step.ensures.err

@@ -5,50 +5,51 @@ use Rattle.world_steps.proofs.adds.StepsAddSteps.promote.Goals as goal
 
 pub put-requires-clause-owes : goal.put-requires-clause-owes
 put-requires-clause-owes g c =
+    let step = c.promote_in-answer in
+    let found = found_as c.deref_mut.ensures.value c.take-world.ensures.found in
     owes_as c.deref_mut.ensures.value c.take-world.ensures.seen
-    (promote_owes g.H.Holder.alone c.args.self.now.stream c.args.t _ _ _
-    (found_as c.deref_mut.ensures.value c.take-world.ensures.found) c.promote_in-answer.result c.requires.turn
-    c.promote_in-answer.ensures.may c.promote_in-answer.ensures.done c.promote_in-answer.ensures.none)
+    (promote_owes _ _ c.args.t _ _ _ found step.result c.requires.turn step.ensures.may
+    step.ensures.done step.ensures.none)
 
-pub returns-clause-home : goal.returns-clause-home
-returns-clause-home g c =
-    home_kept c.take-world.ensures.home c.put.ensures.home
-    (promote_gave g.H.Holder.alone c.args.self.now.stream c.args.t _ _ _
-    (found_as c.deref_mut.ensures.value c.take-world.ensures.found) c.promote_in-answer.result c.requires.turn
-    c.promote_in-answer.ensures.may c.promote_in-answer.ensures.done c.promote_in-answer.ensures.none _
-    c.put.ensures.seen)
+pub returns-clause-stands : goal.returns-clause-stands
+returns-clause-stands g c =
+    let step = c.promote_in-answer in
+    let found = found_as c.deref_mut.ensures.value c.take-world.ensures.found in
+    record {
+      ready = c.put.ensures.rests;
+      home = home_kept c.take-world.ensures.home c.put.ensures.home
+          (promote_gave _ _ c.args.t _ _ _ found step.result c.requires.turn step.ensures.may
+          step.ensures.done step.ensures.none _ c.put.ensures.seen);
+    }
 
 pub returns-clause-done : goal.returns-clause-done
 returns-clause-done g c =
-    promote_done g.H.Holder.alone c.args.self.now.stream c.args.t _ _ _
-    (found_as c.deref_mut.ensures.value c.take-world.ensures.found) c.promote_in-answer.result c.requires.turn
-    c.promote_in-answer.ensures.may c.promote_in-answer.ensures.done c.promote_in-answer.ensures.none _
-    c.put.ensures.seen
+    let step = c.promote_in-answer in
+    let found = found_as c.deref_mut.ensures.value c.take-world.ensures.found in
+    promote_done _ _ c.args.t _ _ _ found step.result c.requires.turn step.ensures.may
+    step.ensures.done step.ensures.none _ c.put.ensures.seen
 
 pub returns-clause-none : goal.returns-clause-none
-returns-clause-none g c =
-    promote_none g.H.Holder.alone c.args.self.now.stream c.args.t _ _ _
-    (found_as c.deref_mut.ensures.value c.take-world.ensures.found) c.promote_in-answer.result c.requires.turn
-    c.promote_in-answer.ensures.may c.promote_in-answer.ensures.done c.promote_in-answer.ensures.none _
-    c.put.ensures.seen
+returns-clause-none g c e =
+    let step = c.promote_in-answer in
+    let found = found_as c.deref_mut.ensures.value c.take-world.ensures.found in
+    let known = promote_still _ _ c.args.t _ _ _ found step.result c.requires.turn step.ensures.may
+    step.ensures.done step.ensures.none _ c.put.ensures.seen e in
+    record {
+      same = promote_none _ _ c.args.t _ _ _ found step.result c.requires.turn step.ensures.may
+          step.ensures.done step.ensures.none _ c.put.ensures.seen e;
+      kept = record {
+        ended = known.rebuild.ended;
+        pages = known.rebuild.pages;
+        begun = known.rebuild.begun;
+        fewer =
+            known.rebuild.fewer;
+      };
+    }
 
 pub returns-clause-why : goal.returns-clause-why
 returns-clause-why g c =
-    promote_why g.H.Holder.alone c.args.self.now.stream c.args.t _ _ _
-    (found_as c.deref_mut.ensures.value c.take-world.ensures.found) c.promote_in-answer.result c.requires.turn
-    c.promote_in-answer.ensures.may c.promote_in-answer.ensures.done c.promote_in-answer.ensures.none _
-    c.put.ensures.seen c.promote_in-answer.ensures.why
-
-pub returns-clause-kept : goal.returns-clause-kept
-returns-clause-kept g c e =
-    (promote_still g.H.Holder.alone c.args.self.now.stream c.args.t _ _ _
-    (found_as c.deref_mut.ensures.value c.take-world.ensures.found) c.promote_in-answer.result c.requires.turn
-    c.promote_in-answer.ensures.may c.promote_in-answer.ensures.done c.promote_in-answer.ensures.none _
-    c.put.ensures.seen e).kept
-
-pub returns-clause-fewer : goal.returns-clause-fewer
-returns-clause-fewer g c e =
-    (promote_still g.H.Holder.alone c.args.self.now.stream c.args.t _ _ _
-    (found_as c.deref_mut.ensures.value c.take-world.ensures.found) c.promote_in-answer.result c.requires.turn
-    c.promote_in-answer.ensures.may c.promote_in-answer.ensures.done c.promote_in-answer.ensures.none _
-    c.put.ensures.seen e).fewer
+    let step = c.promote_in-answer in
+    let found = found_as c.deref_mut.ensures.value c.take-world.ensures.found in
+    promote_why _ _ c.args.t _ _ _ found step.result c.requires.turn step.ensures.may
+    step.ensures.done step.ensures.none _ c.put.ensures.seen step.ensures.why

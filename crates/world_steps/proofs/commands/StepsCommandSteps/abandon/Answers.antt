@@ -1,6 +1,5 @@
 use Rattle.world_holder.proofs.Taken.{found_as, owes_as}
-use Rattle.world_steps.proofs.MaintTurns.{found_free_turn, gone_flag, gone_owes, gone_to}
-use Rattle.world_steps.proofs.GaveUp.{home_kept}
+use Rattle.world_steps.proofs.MaintTurns.{found_free_turn, gone_owes, gone_to}
 use Rattle.world_steps.proofs.commands.StepsCommandSteps.abandon.Goals as goal
 
 pub abandon-requires-clause-turn : goal.abandon-requires-clause-turn
@@ -14,13 +13,6 @@ put-requires-clause-owes g c =
     (gone_owes g.H.Holder.alone c.args.self.now.stream c.args.t _ _ _
     (found_as c.deref_mut.ensures.value c.take-world.ensures.found) c.requires.turn c.abandon.ensures.may
     c.abandon.ensures.gone)
-
-pub returns-clause-home : goal.returns-clause-home
-returns-clause-home g c =
-    home_kept c.take-world.ensures.home c.put.ensures.home
-    (gone_flag g.H.Holder.alone c.args.self.now.stream c.args.t _ _ _
-    (found_as c.deref_mut.ensures.value c.take-world.ensures.found) c.requires.turn c.abandon.ensures.may
-    c.abandon.ensures.gone _ c.put.ensures.seen)
 
 pub returns-clause-gone : goal.returns-clause-gone
 returns-clause-gone g c =

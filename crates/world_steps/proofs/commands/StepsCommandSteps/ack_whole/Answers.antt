@@ -1,5 +1,5 @@
 use Rattle.world_holder.proofs.Taken.{found_as, owes_as}
-use Rattle.world_steps.proofs.WholeTurns.{acks_owes, acks_to, acks_against, acks_same, acks_begun}
+use Rattle.world_steps.proofs.WholeTurns.{acks_owes, acks_does, acks_begun}
 use Rattle.world_steps.proofs.WholesGaveUp.{home_whole, acks_gave}
 use Rattle.world_steps.proofs.commands.StepsCommandSteps.ack_whole.Goals as goal
 
@@ -8,35 +8,19 @@ put-requires-clause-owes g c =
     let step = c.ack_whole-answer in
     let found = found_as c.deref_mut.ensures.value c.take-world.ensures.found in
     owes_as c.deref_mut.ensures.value c.take-world.ensures.seen
-    (acks_owes _ _ c.args.t _ _ found c.requires.started c.args.replica _ step.result step.ensures.may step.ensures.ok step.ensures.err)
+    (acks_owes _ _ c.args.t _ _ found c.requires.started c.args.replica _ step.result step.ensures.may step.ensures.ok
+    step.ensures.err)
 
-pub returns-clause-ok : goal.returns-clause-ok
-returns-clause-ok g c =
+pub returns-clause-stands : goal.returns-clause-stands
+returns-clause-stands g c =
     let step = c.ack_whole-answer in
     let found = found_as c.deref_mut.ensures.value c.take-world.ensures.found in
-    acks_to _ _ c.args.t _ _ found c.requires.started c.args.replica _ step.result
-    step.ensures.may step.ensures.ok step.ensures.err _ c.put.ensures.seen
-
-pub returns-clause-why : goal.returns-clause-why
-returns-clause-why g c =
-    let step = c.ack_whole-answer in
-    let found = found_as c.deref_mut.ensures.value c.take-world.ensures.found in
-    acks_against _ _ c.args.t _ _ found c.requires.started c.args.replica _ step.result
-    step.ensures.may step.ensures.ok step.ensures.err _ c.put.ensures.seen step.ensures.why
-
-pub returns-clause-err : goal.returns-clause-err
-returns-clause-err g c =
-    let step = c.ack_whole-answer in
-    let found = found_as c.deref_mut.ensures.value c.take-world.ensures.found in
-    acks_same _ _ c.args.t _ _ found c.requires.started c.args.replica _ step.result
-    step.ensures.may step.ensures.ok step.ensures.err _ c.put.ensures.seen
-
-pub returns-clause-home : goal.returns-clause-home
-returns-clause-home g c =
-    let step = c.ack_whole-answer in
-    let found = found_as c.deref_mut.ensures.value c.take-world.ensures.found in
-    home_whole _ _ _ _ _ _ _ _ _ found (acks_gave _ _ c.args.t c.args.replica step.result step.ensures.ok step.ensures.err)
-    c.put.ensures.seen c.take-world.ensures.home c.put.ensures.home
+    record {
+      ready = c.put.ensures.rests;
+      home = home_whole _ _ _ _ _ _ _ _ _ found (acks_gave _ _ c.args.t c.args.replica step.result step.ensures.ok
+          step.ensures.err)
+          c.put.ensures.seen c.take-world.ensures.home c.put.ensures.home;
+    }
 
 pub returns-clause-begun : goal.returns-clause-begun
 returns-clause-begun g c =
@@ -44,3 +28,10 @@ returns-clause-begun g c =
     let found = found_as c.deref_mut.ensures.value c.take-world.ensures.found in
     acks_begun _ _ c.args.t _ _ found c.requires.started c.args.replica _ step.result
     step.ensures.may step.ensures.ok step.ensures.err _ c.put.ensures.seen
+
+pub returns-clause-does : goal.returns-clause-does
+returns-clause-does g c =
+    let step = c.ack_whole-answer in
+    let found = found_as c.deref_mut.ensures.value c.take-world.ensures.found in
+    acks_does _ _ c.args.t _ _ found c.requires.started c.args.replica _ step.result step.ensures.may step.ensures.ok
+    step.ensures.err _ c.put.ensures.seen step.ensures.why

@@ -1,6 +1,5 @@
 use Rattle.world_holder.proofs.Taken.{found_as, owes_as}
-use Rattle.world_steps.proofs.MaintTurns.{found_waiting, admit_flag, admit_owes, admit_free, admit_to}
-use Rattle.world_steps.proofs.MaintTurns.{admit_unbegun, admit_waits}
+use Rattle.world_steps.proofs.MaintTurns.{found_waiting, admit_flag, admit_owes, admit_turns, admit_unbegun}
 use Rattle.world_steps.proofs.GaveUp.{home_kept}
 use Rattle.world_steps.proofs.commands.StepsCommandSteps.admit_maint.Goals as goal
 
@@ -16,24 +15,15 @@ put-requires-clause-owes g c =
     (found_as c.deref_mut.ensures.value c.take-world.ensures.found) c.admit_maint-answer.result c.requires.waits
     c.admit_maint-answer.ensures.may c.admit_maint-answer.ensures.turns)
 
-pub returns-clause-home : goal.returns-clause-home
-returns-clause-home g c =
-    home_kept c.take-world.ensures.home c.put.ensures.home
-    (admit_flag g.H.Holder.alone c.args.self.now.stream c.args.t _ _ _
-    (found_as c.deref_mut.ensures.value c.take-world.ensures.found) c.admit_maint-answer.result c.requires.waits
-    c.admit_maint-answer.ensures.may c.admit_maint-answer.ensures.turns _ c.put.ensures.seen)
-
-pub returns-clause-turns : goal.returns-clause-turns
-returns-clause-turns g c =
-    admit_to g.H.Holder.alone c.args.self.now.stream c.args.t _ _ _
-    (found_as c.deref_mut.ensures.value c.take-world.ensures.found) c.admit_maint-answer.result c.requires.waits
-    c.admit_maint-answer.ensures.may c.admit_maint-answer.ensures.turns _ c.put.ensures.seen
-
-pub returns-clause-free : goal.returns-clause-free
-returns-clause-free g c =
-    admit_free g.H.Holder.alone c.args.self.now.stream c.args.t _ _ _
-    (found_as c.deref_mut.ensures.value c.take-world.ensures.found) c.admit_maint-answer.result c.requires.waits
-    c.admit_maint-answer.ensures.may c.admit_maint-answer.ensures.turns
+pub returns-clause-stands : goal.returns-clause-stands
+returns-clause-stands g c =
+    record {
+      ready = c.put.ensures.rests;
+      home = home_kept c.take-world.ensures.home c.put.ensures.home
+          (admit_flag g.H.Holder.alone c.args.self.now.stream c.args.t _ _ _
+          (found_as c.deref_mut.ensures.value c.take-world.ensures.found) c.admit_maint-answer.result c.requires.waits
+          c.admit_maint-answer.ensures.may c.admit_maint-answer.ensures.turns _ c.put.ensures.seen);
+    }
 
 pub returns-clause-unbegun : goal.returns-clause-unbegun
 returns-clause-unbegun g c =
@@ -41,8 +31,9 @@ returns-clause-unbegun g c =
     (found_as c.deref_mut.ensures.value c.take-world.ensures.found) c.admit_maint-answer.result c.requires.waits
     c.admit_maint-answer.ensures.may c.admit_maint-answer.ensures.turns _ c.put.ensures.seen
 
-pub returns-clause-waits : goal.returns-clause-waits
-returns-clause-waits g c =
-    admit_waits g.H.Holder.alone c.args.self.now.stream c.args.t _ _ _
-    (found_as c.deref_mut.ensures.value c.take-world.ensures.found) c.admit_maint-answer.result c.requires.waits
-    c.admit_maint-answer.ensures.may c.admit_maint-answer.ensures.turns _ c.put.ensures.seen
+pub returns-clause-turns : goal.returns-clause-turns
+returns-clause-turns g c =
+    let step = c.admit_maint-answer in
+    let found = found_as c.deref_mut.ensures.value c.take-world.ensures.found in
+    admit_turns _ _ c.args.t _ _ _ found step.result c.requires.waits step.ensures.may step.ensures.turns _
+    c.put.ensures.seen

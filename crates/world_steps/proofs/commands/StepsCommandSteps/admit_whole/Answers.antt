@@ -1,5 +1,5 @@
 use Rattle.world_holder.proofs.Taken.{found_as, owes_as}
-use Rattle.world_steps.proofs.WholeTurns.{waits_there, admit_owes, admit_to, admit_soon, admit_same, admit_waits, admit_begins}
+use Rattle.world_steps.proofs.WholeTurns.{waits_there, admit_owes, admit_starts, admit_same, admit_begins}
 use Rattle.world_steps.proofs.WholesGaveUp.{home_whole, admit_gave}
 use Rattle.world_steps.proofs.commands.StepsCommandSteps.admit_whole.Goals as goal
 
@@ -19,14 +19,7 @@ pub returns-clause-ok : goal.returns-clause-ok
 returns-clause-ok g c =
     let step = c.admit_whole-answer in
     let found = found_as c.deref_mut.ensures.value c.take-world.ensures.found in
-    admit_to _ _ c.args.t _ _ found c.requires.open _ step.result
-    step.ensures.may step.ensures.ok step.ensures.err _ c.put.ensures.seen
-
-pub returns-clause-free : goal.returns-clause-free
-returns-clause-free g c =
-    let step = c.admit_whole-answer in
-    let found = found_as c.deref_mut.ensures.value c.take-world.ensures.found in
-    admit_soon _ _ c.args.t _ _ found c.requires.open _ step.result
+    admit_starts _ _ c.args.t _ _ found c.requires.open _ step.result
     step.ensures.may step.ensures.ok step.ensures.err _ c.put.ensures.seen
 
 pub returns-clause-err : goal.returns-clause-err
@@ -36,19 +29,15 @@ returns-clause-err g c =
     admit_same _ _ c.args.t _ _ found c.requires.open _ step.result
     step.ensures.may step.ensures.ok step.ensures.err _ c.put.ensures.seen
 
-pub returns-clause-home : goal.returns-clause-home
-returns-clause-home g c =
+pub returns-clause-stands : goal.returns-clause-stands
+returns-clause-stands g c =
     let step = c.admit_whole-answer in
     let found = found_as c.deref_mut.ensures.value c.take-world.ensures.found in
-    home_whole _ _ _ _ _ _ _ _ _ found (admit_gave _ _ c.args.t step.result step.ensures.ok step.ensures.err)
-    c.put.ensures.seen c.take-world.ensures.home c.put.ensures.home
-
-pub returns-clause-waits : goal.returns-clause-waits
-returns-clause-waits g c =
-    let step = c.admit_whole-answer in
-    let found = found_as c.deref_mut.ensures.value c.take-world.ensures.found in
-    admit_waits _ _ c.args.t _ _ found c.requires.open _ step.result
-    step.ensures.may step.ensures.ok step.ensures.err _ c.put.ensures.seen
+    record {
+      ready = c.put.ensures.rests;
+      home = home_whole _ _ _ _ _ _ _ _ _ found (admit_gave _ _ c.args.t step.result step.ensures.ok step.ensures.err)
+          c.put.ensures.seen c.take-world.ensures.home c.put.ensures.home;
+    }
 
 pub returns-clause-never : goal.returns-clause-never
 returns-clause-never g c =

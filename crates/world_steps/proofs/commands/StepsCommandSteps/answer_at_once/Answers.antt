@@ -14,7 +14,8 @@ answer_now-answer-requires-clause-free g c =
 
 pub answer_now-answer-requires-clause-there : goal.answer_now-answer-requires-clause-there
 answer_now-answer-requires-clause-there g c =
-    found_there _ _ _ _ (found_as c.deref_mut.ensures.value c.take-world.ensures.found) c.args.command.now c.requires.there
+    found_there _ _ _ _ (found_as c.deref_mut.ensures.value c.take-world.ensures.found) c.args.command.now
+    c.requires.asks.there
 
 pub put-requires-clause-owes : goal.put-requires-clause-owes
 put-requires-clause-owes g c =
@@ -23,20 +24,23 @@ put-requires-clause-owes g c =
     (found_as c.deref_mut.ensures.value c.take-world.ensures.found) c.answer_now-answer.result
     c.answer_now-answer.ensures.may c.answer_now-answer.ensures.ok c.answer_now-answer.ensures.err)
 
-pub returns-clause-home : goal.returns-clause-home
-returns-clause-home g c =
-    home_kept c.take-world.ensures.home c.put.ensures.home
-    (once_flag g.H.Holder.alone c.args.self.now.stream c.args.command.now _ _ _
-    (found_as c.deref_mut.ensures.value c.take-world.ensures.found) c.answer_now-answer.result
-    c.answer_now-answer.ensures.may c.answer_now-answer.ensures.ok c.answer_now-answer.ensures.err _
-    c.put.ensures.seen)
+pub returns-clause-stands : goal.returns-clause-stands
+returns-clause-stands g c =
+    record {
+      ready = c.put.ensures.rests;
+      home = home_kept c.take-world.ensures.home c.put.ensures.home
+          (once_flag g.H.Holder.alone c.args.self.now.stream c.args.command.now _ _ _
+          (found_as c.deref_mut.ensures.value c.take-world.ensures.found) c.answer_now-answer.result
+          c.answer_now-answer.ensures.may c.answer_now-answer.ensures.ok c.answer_now-answer.ensures.err _
+          c.put.ensures.seen);
+    }
 
 pub returns-clause-ok : goal.returns-clause-ok
 returns-clause-ok g c =
     once_to g.H.Holder.alone c.args.self.now.stream c.args.command.now _ _ _
     (found_as c.deref_mut.ensures.value c.take-world.ensures.found) c.answer_now-answer.result
     c.answer_now-answer.ensures.may c.answer_now-answer.ensures.ok c.answer_now-answer.ensures.err _
-    c.put.ensures.seen c.requires.once c.requires.idle c.answer_now-answer.ensures.sees
+    c.put.ensures.seen c.requires.asks.is c.requires.idle c.answer_now-answer.ensures.sees
 
 pub returns-clause-err : goal.returns-clause-err
 returns-clause-err g c =

@@ -1,5 +1,5 @@
 use Rattle.world_holder.proofs.Taken.{found_as, owes_as}
-use Rattle.world_steps.proofs.WholeTurns.{ends_owes, ends_to, ends_same, ends_against, ends_begun, ends_past}
+use Rattle.world_steps.proofs.WholeTurns.{ends_owes, ends_does, ends_begun, ends_past}
 use Rattle.world_steps.proofs.WholesGaveUp.{home_whole, completes_gave}
 use Rattle.world_steps.proofs.commands.StepsCommandSteps.complete_whole.Goals as goal
 
@@ -8,34 +8,19 @@ put-requires-clause-owes g c =
     let step = c.complete_whole-answer in
     let found = found_as c.deref_mut.ensures.value c.take-world.ensures.found in
     owes_as c.deref_mut.ensures.value c.take-world.ensures.seen
-    (ends_owes _ _ c.args.t _ _ found c.requires.started _ step.result step.ensures.may step.ensures.ok step.ensures.err)
+    (ends_owes _ _ c.args.t _ _ found c.requires.started _ step.result step.ensures.may step.ensures.ok
+    step.ensures.err)
 
-pub returns-clause-ok : goal.returns-clause-ok
-returns-clause-ok g c =
+pub returns-clause-stands : goal.returns-clause-stands
+returns-clause-stands g c =
     let step = c.complete_whole-answer in
     let found = found_as c.deref_mut.ensures.value c.take-world.ensures.found in
-    ends_to _ _ c.args.t _ _ found c.requires.started _ step.result
-    step.ensures.may step.ensures.ok step.ensures.err _ c.put.ensures.seen
-
-pub returns-clause-err : goal.returns-clause-err
-returns-clause-err g c =
-    let step = c.complete_whole-answer in
-    let found = found_as c.deref_mut.ensures.value c.take-world.ensures.found in
-    ends_same _ _ c.args.t _ _ found c.requires.started _ step.result
-    step.ensures.may step.ensures.ok step.ensures.err _ c.put.ensures.seen
-
-pub returns-clause-home : goal.returns-clause-home
-returns-clause-home g c =
-    let step = c.complete_whole-answer in
-    let found = found_as c.deref_mut.ensures.value c.take-world.ensures.found in
-    home_whole _ _ _ _ _ _ _ _ _ found (completes_gave _ _ c.args.t step.result step.ensures.ok step.ensures.err)
-    c.put.ensures.seen c.take-world.ensures.home c.put.ensures.home
-
-pub returns-clause-why : goal.returns-clause-why
-returns-clause-why g c =
-    let step = c.complete_whole-answer in
-    let found = found_as c.deref_mut.ensures.value c.take-world.ensures.found in
-    ends_against _ _ c.args.t _ _ found c.requires.started _ step.result step.ensures.err _ c.put.ensures.seen step.ensures.why
+    record {
+      ready = c.put.ensures.rests;
+      home = home_whole _ _ _ _ _ _ _ _ _ found (completes_gave _ _ c.args.t step.result step.ensures.ok
+          step.ensures.err)
+          c.put.ensures.seen c.take-world.ensures.home c.put.ensures.home;
+    }
 
 pub returns-clause-begun : goal.returns-clause-begun
 returns-clause-begun g c =
@@ -50,3 +35,10 @@ returns-clause-past g c =
     let found = found_as c.deref_mut.ensures.value c.take-world.ensures.found in
     ends_past _ _ c.args.t _ _ found c.requires.started _ step.result
     step.ensures.may step.ensures.ok step.ensures.err _ c.put.ensures.seen
+
+pub returns-clause-does : goal.returns-clause-does
+returns-clause-does g c =
+    let step = c.complete_whole-answer in
+    let found = found_as c.deref_mut.ensures.value c.take-world.ensures.found in
+    ends_does _ _ c.args.t _ _ found c.requires.started _ step.result step.ensures.may step.ensures.ok
+    step.ensures.err _ c.put.ensures.seen step.ensures.why

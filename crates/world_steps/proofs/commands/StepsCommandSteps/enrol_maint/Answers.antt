@@ -15,11 +15,12 @@ enrol_maint-answer-requires-clause-free g c =
 
 pub enrol_maint-answer-requires-clause-wants : goal.enrol_maint-answer-requires-clause-wants
 enrol_maint-answer-requires-clause-wants g c =
-    wants_maint c.args.command.now c.requires.wants
+    wants_maint c.args.command.now c.requires.asks.is
 
 pub enrol_maint-answer-requires-clause-there : goal.enrol_maint-answer-requires-clause-there
 enrol_maint-answer-requires-clause-there g c =
-    found_there _ _ _ _ (found_as c.deref_mut.ensures.value c.take-world.ensures.found) c.args.command.now c.requires.there
+    found_there _ _ _ _ (found_as c.deref_mut.ensures.value c.take-world.ensures.found) c.args.command.now
+    c.requires.asks.there
 
 pub put-requires-clause-owes : goal.put-requires-clause-owes
 put-requires-clause-owes g c =
@@ -28,13 +29,16 @@ put-requires-clause-owes g c =
     (found_as c.deref_mut.ensures.value c.take-world.ensures.found) c.enrol_maint-answer.result
     c.enrol_maint-answer.ensures.may c.enrol_maint-answer.ensures.ok c.enrol_maint-answer.ensures.err)
 
-pub returns-clause-home : goal.returns-clause-home
-returns-clause-home g c =
-    home_kept c.take-world.ensures.home c.put.ensures.home
-    (asks_flag g.H.Holder.alone c.args.self.now.stream c.args.command.now _ _ _
-    (found_as c.deref_mut.ensures.value c.take-world.ensures.found) c.enrol_maint-answer.result
-    c.enrol_maint-answer.ensures.may c.enrol_maint-answer.ensures.ok c.enrol_maint-answer.ensures.err _
-    c.put.ensures.seen)
+pub returns-clause-stands : goal.returns-clause-stands
+returns-clause-stands g c =
+    record {
+      ready = c.put.ensures.rests;
+      home = home_kept c.take-world.ensures.home c.put.ensures.home
+          (asks_flag g.H.Holder.alone c.args.self.now.stream c.args.command.now _ _ _
+          (found_as c.deref_mut.ensures.value c.take-world.ensures.found) c.enrol_maint-answer.result
+          c.enrol_maint-answer.ensures.may c.enrol_maint-answer.ensures.ok c.enrol_maint-answer.ensures.err _
+          c.put.ensures.seen);
+    }
 
 pub returns-clause-ok : goal.returns-clause-ok
 returns-clause-ok g c =

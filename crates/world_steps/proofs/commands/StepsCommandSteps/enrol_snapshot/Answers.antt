@@ -1,5 +1,5 @@
 use Rattle.world_holder.proofs.Taken.{found_as, owes_as}
-use Rattle.world_steps.proofs.WholeTurns.{snap_idle, snap_may, snap_owes, snap_to, snap_saw, snap_same}
+use Rattle.world_steps.proofs.WholeTurns.{snap_idle, snap_may, snap_owes, snap_ok, snap_same}
 use Rattle.world_steps.proofs.WholesGaveUp.{home_whole, snap_gave}
 use Rattle.world_steps.proofs.commands.StepsCommandSteps.enrol_snapshot.Goals as goal
 
@@ -29,14 +29,7 @@ pub returns-clause-ok : goal.returns-clause-ok
 returns-clause-ok g c =
     let step = c.snapshot_in-answer in
     let found = found_as c.deref_mut.ensures.value c.take-world.ensures.found in
-    snap_to _ _ c.args.op.now _ _ found c.requires.idle c.requires.snapshot _ step.result
-    step.ensures.may step.ensures.ok step.ensures.err _ c.put.ensures.seen
-
-pub returns-clause-saw : goal.returns-clause-saw
-returns-clause-saw g c =
-    let step = c.snapshot_in-answer in
-    let found = found_as c.deref_mut.ensures.value c.take-world.ensures.found in
-    snap_saw _ _ c.args.op.now _ _ found c.requires.idle c.requires.snapshot _ step.result
+    snap_ok _ _ c.args.op.now _ _ found c.requires.idle c.requires.snapshot _ step.result
     step.ensures.may step.ensures.ok step.ensures.err _ c.put.ensures.seen
 
 pub returns-clause-err : goal.returns-clause-err
@@ -46,9 +39,13 @@ returns-clause-err g c =
     snap_same _ _ c.args.op.now _ _ found c.requires.idle c.requires.snapshot _ step.result
     step.ensures.may step.ensures.ok step.ensures.err _ c.put.ensures.seen
 
-pub returns-clause-home : goal.returns-clause-home
-returns-clause-home g c =
+pub returns-clause-stands : goal.returns-clause-stands
+returns-clause-stands g c =
     let step = c.snapshot_in-answer in
     let found = found_as c.deref_mut.ensures.value c.take-world.ensures.found in
-    home_whole _ _ _ _ _ _ _ _ _ found (snap_gave _ _ _ c.args.op.now step.result step.ensures.ok step.ensures.err)
-    c.put.ensures.seen c.take-world.ensures.home c.put.ensures.home
+    record {
+      ready = c.put.ensures.rests;
+      home = home_whole _ _ _ _ _ _ _ _ _ found (snap_gave _ _ _ c.args.op.now step.result step.ensures.ok
+          step.ensures.err)
+          c.put.ensures.seen c.take-world.ensures.home c.put.ensures.home;
+    }

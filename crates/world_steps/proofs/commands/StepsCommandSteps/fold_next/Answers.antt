@@ -12,14 +12,15 @@ pub put-requires-clause-owes : goal.put-requires-clause-owes
 put-requires-clause-owes g c =
     look_owes g.H.Holder.alone c.args.self.now.stream _ _ _ c.take-world.ensures.seen c.take-world.ensures.found
 
-pub returns-clause-home : goal.returns-clause-home
-returns-clause-home g c =
-    home_kept c.take-world.ensures.home c.put.ensures.home
-    (flag_kept g.H.Holder.alone c.args.self.now.stream _ _ _ _ c.take-world.ensures.found c.put.ensures.seen refl)
-
-pub returns-clause-same : goal.returns-clause-same
-returns-clause-same g c =
-    look_same g.H.Holder.alone c.args.self.now.stream _ _ _ c.take-world.ensures.found c.put.ensures.seen
+pub returns-clause-stands : goal.returns-clause-stands
+returns-clause-stands g c =
+    let found = c.take-world.ensures.found in
+    record {
+      ready = c.put.ensures.rests;
+      home = home_kept c.take-world.ensures.home c.put.ensures.home
+          (flag_kept g.H.Holder.alone c.args.self.now.stream _ _ _ _ found c.put.ensures.seen refl);
+      same = look_same _ _ _ _ _ found c.put.ensures.seen;
+    }
 
 pub returns-clause-is : goal.returns-clause-is
 returns-clause-is g c =
@@ -28,5 +29,6 @@ returns-clause-is g c =
 
 pub returns-clause-found : goal.returns-clause-found
 returns-clause-found g c =
-    subst (λ (z : State). FindsNext c.fold_next-next.result (seen_of z)) (sym (seen_as c.deref.ensures c.put.ensures.seen))
+    subst (λ (z : State). FindsNext c.fold_next-next.result (seen_of z)) (sym (seen_as c.deref.ensures
+    c.put.ensures.seen))
     (finds_next (state_of c.deref.result.now) c.fold_next-next.result c.fold_next-next.ensures)

@@ -10,18 +10,19 @@ put-requires-clause-owes g c =
     (found_as c.deref_mut.ensures.value c.take-world.ensures.found) c.fold_in-answer.result c.requires.turn
     c.fold_in-answer.ensures.may c.fold_in-answer.ensures.ok c.fold_in-answer.ensures.err)
 
-pub returns-clause-home : goal.returns-clause-home
-returns-clause-home g c =
-    home_kept c.take-world.ensures.home c.put.ensures.home
-    (fold_flag g.H.Holder.alone c.args.self.now.stream c.args.t c.args.replica c.args.page c.args.parent.now _ _ _
-    (found_as c.deref_mut.ensures.value c.take-world.ensures.found) c.fold_in-answer.result c.requires.turn
-    c.fold_in-answer.ensures.may c.fold_in-answer.ensures.ok c.fold_in-answer.ensures.err _ c.put.ensures.seen)
-
-pub returns-clause-same : goal.returns-clause-same
-returns-clause-same g c =
-    fold_same g.H.Holder.alone c.args.self.now.stream c.args.t c.args.replica c.args.page c.args.parent.now _ _ _
-    (found_as c.deref_mut.ensures.value c.take-world.ensures.found) c.fold_in-answer.result c.requires.turn
-    c.fold_in-answer.ensures.may c.fold_in-answer.ensures.ok c.fold_in-answer.ensures.err _ c.put.ensures.seen
+pub returns-clause-stands : goal.returns-clause-stands
+returns-clause-stands g c =
+    record {
+      ready = c.put.ensures.rests;
+      home = home_kept c.take-world.ensures.home c.put.ensures.home
+          (fold_flag g.H.Holder.alone c.args.self.now.stream c.args.t c.args.replica c.args.page c.args.parent.now _ _ _
+          (found_as c.deref_mut.ensures.value c.take-world.ensures.found) c.fold_in-answer.result c.requires.turn
+          c.fold_in-answer.ensures.may c.fold_in-answer.ensures.ok c.fold_in-answer.ensures.err _ c.put.ensures.seen);
+      same = fold_same g.H.Holder.alone c.args.self.now.stream c.args.t c.args.replica c.args.page c.args.parent.now _
+          _ _
+          (found_as c.deref_mut.ensures.value c.take-world.ensures.found) c.fold_in-answer.result c.requires.turn
+          c.fold_in-answer.ensures.may c.fold_in-answer.ensures.ok c.fold_in-answer.ensures.err _ c.put.ensures.seen;
+    }
 
 pub fold_in-answer-requires-clause-purges : goal.fold_in-answer-requires-clause-purges
 fold_in-answer-requires-clause-purges g c =

@@ -10,21 +10,24 @@ pub put-requires-clause-owes : goal.put-requires-clause-owes
 put-requires-clause-owes g c =
     look_owes g.H.Holder.alone c.args.self.now.stream _ _ _ c.take-world.ensures.seen c.take-world.ensures.found
 
-pub returns-clause-home : goal.returns-clause-home
-returns-clause-home g c =
-    home_kept c.take-world.ensures.home c.put.ensures.home
-    (flag_kept g.H.Holder.alone c.args.self.now.stream _ _ _ _ c.take-world.ensures.found c.put.ensures.seen refl)
-
-pub returns-clause-same : goal.returns-clause-same
-returns-clause-same g c =
-    look_same g.H.Holder.alone c.args.self.now.stream _ _ _ c.take-world.ensures.found c.put.ensures.seen
+pub returns-clause-stands : goal.returns-clause-stands
+returns-clause-stands g c =
+    let found = c.take-world.ensures.found in
+    record {
+      ready = c.put.ensures.rests;
+      home = home_kept c.take-world.ensures.home c.put.ensures.home
+          (flag_kept g.H.Holder.alone c.args.self.now.stream _ _ _ _ found c.put.ensures.seen refl);
+      same = look_same _ _ _ _ _ found c.put.ensures.seen;
+    }
 
 pub returns-clause-wanted : goal.returns-clause-wanted
 returns-clause-wanted g c = λ yes.
-    subst (λ (z : State). WantsFold z c.args.replica c.args.parent.now c.args.page) (sym (seen_as c.deref.ensures c.put.ensures.seen))
+    subst (λ (z : State). WantsFold z c.args.replica c.args.parent.now c.args.page)
+    (sym (seen_as c.deref.ensures c.put.ensures.seen))
     (c.fold_wanted-wanted.ensures.wanted yes)
 
 pub returns-clause-not : goal.returns-clause-not
 returns-clause-not g c = λ no.
-    subst (λ (z : State). ¬ WantsFold z c.args.replica c.args.parent.now c.args.page) (sym (seen_as c.deref.ensures c.put.ensures.seen))
+    subst (λ (z : State). ¬ WantsFold z c.args.replica c.args.parent.now c.args.page)
+    (sym (seen_as c.deref.ensures c.put.ensures.seen))
     (c.fold_wanted-wanted.ensures.not no)

@@ -22,9 +22,12 @@ returns-clause-gone g c =
     withdraw_to _ _ c.args.t _ _ found c.requires.waits _
     step.ensures.may step.ensures.gone _ c.put.ensures.seen
 
-pub returns-clause-home : goal.returns-clause-home
-returns-clause-home g c =
+pub returns-clause-stands : goal.returns-clause-stands
+returns-clause-stands g c =
     let step = c.withdraw_whole in
     let found = found_as c.deref_mut.ensures.value c.take-world.ensures.found in
-    home_whole _ _ _ _ _ _ _ _ _ found (withdraws_gave _ _ c.args.t step.ensures.gone)
-    c.put.ensures.seen c.take-world.ensures.home c.put.ensures.home
+    record {
+      ready = c.put.ensures.rests;
+      home = home_whole _ _ _ _ _ _ _ _ _ found (withdraws_gave _ _ c.args.t step.ensures.gone)
+          c.put.ensures.seen c.take-world.ensures.home c.put.ensures.home;
+    }

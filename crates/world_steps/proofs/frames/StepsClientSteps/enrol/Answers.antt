@@ -2,6 +2,7 @@ use Rattle.std.proofs.Common.{subst, sym, ◌∙◌}
 use Rattle.vol_units.specs.Size.{IsVolumeSize}
 use Rattle.volume_core.specs.declared.world.World.{World}
 use Rattle.world_holder.proofs.Taken.{found_as, owes_as}
+use Rattle.world_steps.proofs.Does.{home_free}
 use Rattle.world_steps.proofs.FrameTurns.{enrol_owes, enrol_free, enrol_to, enrol_same, found_idle, found_free}
 use Rattle.world_steps.proofs.frames.StepsClientSteps.enrol.Goals as goal
 
@@ -15,27 +16,37 @@ enrol-answer-requires-clause-free g c =
 
 pub put-requires-clause-owes : goal.put-requires-clause-owes
 put-requires-clause-owes g c =
-    owes_as c.deref_mut.ensures.value c.take-world.ensures.seen (enrol_owes g.H.Holder.alone c.args.self.now.stream c.args.call.now
-    _ _ _ (found_as c.deref_mut.ensures.value c.take-world.ensures.found) c.enrol-answer.result c.enrol-answer.ensures.may
-    c.enrol-answer.ensures.ok c.enrol-answer.ensures.err)
+    let step = c.enrol-answer in
+    let found = found_as c.deref_mut.ensures.value c.take-world.ensures.found in
+    owes_as c.deref_mut.ensures.value c.take-world.ensures.seen (enrol_owes _ _ c.args.call.now _ _ _ found
+    step.result step.ensures.may step.ensures.ok step.ensures.err)
 
-pub returns-clause-ready : goal.returns-clause-ready
-returns-clause-ready g c = (
-  c.put.ensures.rests,
-  enrol_free g.H.Holder.alone c.args.self.now.stream c.args.call.now _ _ _ (found_as c.deref_mut.ensures.value
-      c.take-world.ensures.found) c.enrol-answer.result c.enrol-answer.ensures.may c.enrol-answer.ensures.ok
-      c.enrol-answer.ensures.err _ c.put.ensures.seen c.requires.ready.1,
-)
+pub returns-clause-stands : goal.returns-clause-stands
+returns-clause-stands g c =
+    let step = c.enrol-answer in
+    let found = found_as c.deref_mut.ensures.value c.take-world.ensures.found in
+    record {
+      ready = (
+        c.put.ensures.rests,
+        enrol_free _ _ c.args.call.now _ _ _ found step.result step.ensures.may
+            step.ensures.ok step.ensures.err _ c.put.ensures.seen c.requires.ready.1,
+      );
+      home = home_free c.take-world.ensures.home c.put.ensures.home;
+    }
 
 pub returns-clause-ok : goal.returns-clause-ok
 returns-clause-ok g c =
-    enrol_to g.H.Holder.alone c.args.self.now.stream c.args.call.now _ _ _ (found_as c.deref_mut.ensures.value
-    c.take-world.ensures.found) c.enrol-answer.result c.enrol-answer.ensures.may c.enrol-answer.ensures.ok
-    c.enrol-answer.ensures.err _ c.put.ensures.seen (subst (λ (w : World). IsVolumeSize w.size) (c.deref.ensures
-    ∙ sym c.deref_mut.ensures.value) c.bytes-size.ensures.size) c.requires.range c.requires.idle c.enrol-answer.ensures.sees
+    let step = c.enrol-answer in
+    let found = found_as c.deref_mut.ensures.value c.take-world.ensures.found in
+    enrol_to _ _ c.args.call.now _ _ _ found step.result step.ensures.may step.ensures.ok step.ensures.err _
+    c.put.ensures.seen
+    (subst (λ (w : World). IsVolumeSize w.size) (c.deref.ensures ∙ sym c.deref_mut.ensures.value)
+    c.bytes-size.ensures.size)
+    c.requires.range c.requires.idle step.ensures.sees
 
 pub returns-clause-err : goal.returns-clause-err
 returns-clause-err g c =
-    enrol_same g.H.Holder.alone c.args.self.now.stream c.args.call.now _ _ _ (found_as c.deref_mut.ensures.value
-    c.take-world.ensures.found) c.enrol-answer.result c.enrol-answer.ensures.may c.enrol-answer.ensures.ok
-    c.enrol-answer.ensures.err _ c.put.ensures.seen
+    let step = c.enrol-answer in
+    let found = found_as c.deref_mut.ensures.value c.take-world.ensures.found in
+    enrol_same _ _ c.args.call.now _ _ _ found step.result step.ensures.may step.ensures.ok step.ensures.err _
+    c.put.ensures.seen

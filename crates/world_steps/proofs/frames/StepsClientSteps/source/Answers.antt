@@ -1,6 +1,7 @@
 use Rattle.std.specs.Option.{MatchOption}
 use Rattle.volume_model.specs.Modes.{IsSource, HasNoSource}
 use Rattle.world_holder.proofs.Taken.{found_as, seen_as}
+use Rattle.world_steps.proofs.Does.{home_free}
 use Rattle.world_steps.proofs.FrameTurns.{look_owes, look_free, look_same, look_modes, look_inside}
 use Rattle.world_steps.proofs.frames.StepsClientSteps.source.Goals as goal
 
@@ -8,23 +9,23 @@ pub put-requires-clause-owes : goal.put-requires-clause-owes
 put-requires-clause-owes g c =
     look_owes g.H.Holder.alone c.args.self.now.stream _ _ _ c.take-world.ensures.seen c.take-world.ensures.found
 
-pub returns-clause-ready : goal.returns-clause-ready
-returns-clause-ready g c = (
-  c.put.ensures.rests,
-  look_free g.H.Holder.alone c.args.self.now.stream _ _ _ c.take-world.ensures.found c.put.ensures.seen
-      c.requires.ready.1,
-)
-
-pub returns-clause-same : goal.returns-clause-same
-returns-clause-same g c =
-    look_same g.H.Holder.alone c.args.self.now.stream _ _ _ c.take-world.ensures.found c.put.ensures.seen
+pub returns-clause-stands : goal.returns-clause-stands
+returns-clause-stands g c =
+    let found = c.take-world.ensures.found in
+    record {
+      ready = (c.put.ensures.rests, look_free _ _ _ _ _ found c.put.ensures.seen c.requires.ready.1);
+      home = home_free c.take-world.ensures.home c.put.ensures.home;
+      same = look_same _ _ _ _ _ found c.put.ensures.seen;
+    }
 
 pub returns-clause-is : goal.returns-clause-is
 returns-clause-is g c =
-    look_modes (λ modes. MatchOption c.source-source.result (HasNoSource modes) (IsSource modes)) _ _ (seen_as c.deref.ensures
+    look_modes (λ modes. MatchOption c.source-source.result (HasNoSource modes) (IsSource modes)) _ _
+    (seen_as c.deref.ensures
     c.put.ensures.seen) c.source-source.ensures.found
 
 pub returns-clause-inside : goal.returns-clause-inside
 returns-clause-inside g c =
-    look_inside g.H.Holder.alone c.args.self.now.stream _ _ _ (found_as c.deref.ensures c.take-world.ensures.found) (seen_as
+    look_inside g.H.Holder.alone c.args.self.now.stream _ _ _ (found_as c.deref.ensures c.take-world.ensures.found)
+    (seen_as
     c.deref.ensures c.put.ensures.seen) c.source-source.result c.source-source.ensures.within
