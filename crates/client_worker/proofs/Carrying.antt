@@ -1,15 +1,14 @@
 -- What holds while calls are carried goes on, step after step and frame after frame.
-use Rattle.std.proofs.Common.{arith, ◌≡◌, ℕ, ◌≤◌, List, [], ◌++◌, length, take, map, get_or, Option, subst, sym, ap, ◌∙◌}
+use Rattle.std.proofs.Common.{arith, ◌≡◌, ℕ, ◌≤◌, List, ◌++◌, length, take, map, get_or, Option, subst, sym, ap, ◌∙◌}
 use Rattle.std.proofs.Math.Seq.{take-append_seam}
 use Rattle.outer_traits.specs.declared.ends.Ends.{Ends}
-use Rattle.outer_traits.specs.Lines.{TellsMore}
-use Rattle.outer_traits.proofs.Lines.{TellsMore-nil}
 use Rattle.stream_steps.specs.Mine.{Mine, OwnCall, IsOwn}
 use Rattle.client_worker.specs.declared.channel.Channel.{Channel}
 use Rattle.client_worker.specs.Exchanges.{told_in}
-use Rattle.client_worker.specs.Asking.{TellOn}
+use Rattle.client_worker.specs.Asking.{TellsOn, TellOn}
 use Rattle.client_worker.specs.Working.{Work, IsServing, Stays, StaysHome}
 use Rattle.client_worker.proofs.Shown.{ShowsOn, shown_later}
+use Rattle.client_worker.proofs.Told.{tells_on_same}
 
 -- what was lent whole comes back whole
 pub whole_back : {A : Type 0} (n : ℕ) (xs ys : List A) → length xs ≡ n → take n (xs ++ ys) ≡ xs
@@ -102,8 +101,5 @@ module _ {C L : Type 0} {can : C → Type 0} {mine : C → Mine} {count : L → 
       → IsServing can mine count carried (record { steps = s; channels = take n (back ++ more) })
   serving_same s cs lent back more n h is long counts told = serving_later s cs lent back more n h is long
       (λ k. omega (arith, ap (λ l. get_or l k 0) counts))
-      (λ r. (
-        [],
-        subst (λ l. TellsMore (told_in (map (λ c. carried c.line) lent) r) (told_in l r) []) (sym told)
-            (TellsMore-nil (told_in (map (λ c. carried c.line) lent) r)),
-      ))
+      (λ r. subst (λ l. TellsOn (told_in (map (λ c. carried c.line) lent) r) (told_in l r)) (sym told)
+      (tells_on_same (told_in (map (λ c. carried c.line) lent) r)))

@@ -16,13 +16,13 @@ use Rattle.step_answers.specs.Parts.{part_at}
 use Rattle.step_answers.specs.declared.answers.Job.{Job}
 use Rattle.stream_steps.specs.Mine.{Placed, Mine, OwnCall, IsOwn, with_more, with_running, answer_placed, fault_placed}
 use Rattle.stream_steps.specs.Steps.{HasStarted, IsUncarried, AnswersNow, Answers, Refuses, StartsCall, TakesTo, AcksTo, FaultsTo}
-use Rattle.client_worker.specs.Exchanges.{told_in, HasPart, AreAcked, CarriedOf, IsCarried, AreCarried}
+use Rattle.client_worker.specs.Exchanges.{told_in, CarryFrames, HasPart, AreAcked, CarriedOf, IsCarried, AreCarried}
 use Rattle.client_worker.specs.Serving.{Counted, IsShown}
 use Rattle.client_worker.specs.Ends.{KeepsShown, NoneAcked}
 use Rattle.client_worker.specs.Asking.{TellOn, TellsFrame, LacksReply}
 use Rattle.client_worker.proofs.Going.{one_of}
 use Rattle.client_worker.proofs.Counts.{counted_same, counted_later, counted_answer, counted_fault}
-use Rattle.client_worker.proofs.Told.{acked-on, are_carried-on, has_part}
+use Rattle.client_worker.proofs.Told.{acked-on, are_carried-on, frames-on, has_part}
 
 pub shown_same : (a b : Mine) → b ≡ a → KeepsShown a b
 shown_same a b e = λ counts carried h. subst (λ (m : Mine). IsShown m counts carried) (sym e) h
@@ -32,6 +32,7 @@ pub shown_later : (m : Mine) (before now : List ℕ) (told told2 : List (Option 
     → ((k : ℕ) → get_or before k 0 ≤ get_or now k 0) → TellOn told told2 → IsShown m before told → IsShown m now told2
 shown_later m before now told told2 later on h = record {
   counted = counted_later m before now later h.counted;
+  framed = frames-on told told2 on h.framed;
   answered = are_carried-on told told2 on m.replicas m.entries h.answered;
   acked = λ o e started. acked-on told told2 on o (h.acked o e started);
 }
@@ -40,12 +41,13 @@ shown_later m before now told told2 later on h = record {
 
 -- the stream has one entry more, and these calls open
 pub shown_more : (x : Placed) (os : List OwnCall) (a b : Mine) (counts : List ℕ) (carried : List (Option (List (List ℕ))))
-    → b ≡ with_more a (x ∷ []) os → Counted b counts → IsCarried a.replicas (told_in carried) x.modes x.entry
-    → AreCarried a.replicas (told_in carried) a.entries
+    → b ≡ with_more a (x ∷ []) os → Counted b counts → CarryFrames (told_in carried)
+    → IsCarried a.replicas (told_in carried) x.modes x.entry → AreCarried a.replicas (told_in carried) a.entries
     → ((o : OwnCall) → os ≡ o ∷ [] → o.started ≡ true → AreAcked (told_in carried) o) → IsShown b counts carried
-shown_more x os a b counts carried e counted here before acked =
+shown_more x os a b counts carried e counted framed here before acked =
     subst (λ (m : Mine). IsShown m counts carried) (sym e) (record {
       counted = counted_same b (with_more a (x ∷ []) os) counts (sym e) counted;
+      framed = framed;
       answered = All-push (λ (p : Placed). IsCarried a.replicas (told_in carried) p.modes p.entry) a.entries x before here;
       acked = acked;
     })
@@ -54,7 +56,7 @@ shown_fault : (r count : ℕ) (a b : Mine) (counts : List ℕ) (carried : List (
     → count ≤ get_or counts r 0 → IsShown a counts carried → IsShown b counts carried
 shown_fault r count a b counts carried s low h =
     shown_more (fault_placed s.modes a.stream r count) a.running a b counts carried s.is
-    (counted_fault r count a b counts s low h.counted) tt h.answered h.acked
+    (counted_fault r count a b counts s low h.counted) h.framed tt h.answered h.acked
 
 pub shown_told : {E : Type 0} (res : Result (Unit {0}) E) (r count : ℕ) (a b : Mine) (counts : List ℕ)
     (carried : List (Option (List (List ℕ)))) → OnOk res (FaultsTo r count a b) → OnErr res (b ≡ a)
@@ -123,7 +125,8 @@ shows_answers : (o : OwnCall) (a b : Mine) → a.running ≡ o ∷ [] → o.star
 shows_answers o a b run started s = (
   ap (λ (m : Mine). m.replicas) s.is,
   λ counts carried h.
-      shown_more (answer_placed s.modes s.answer) [] a b counts carried s.is (counted_answer s.modes s.answer [] a b counts s.is h.counted)
+      shown_more (answer_placed s.modes s.answer) [] a b counts carried s.is
+      (counted_answer s.modes s.answer [] a b counts s.is h.counted) h.framed
       (subst (λ c. CarriedOf a.replicas (told_in carried) s.modes c s.answer.reply) (sym s.call)
       (answered a.replicas (told_in carried) s.modes o.call s.answer.reply o.parts o.buffer (h.acked o run started) s.done s.read))
       h.answered (λ p e. absurd (no_call p e)),
@@ -140,7 +143,7 @@ shows_uncarried : (modes : List Mode) (answer : Answer) (c : Call) (a b : Mine) 
 shows_uncarried modes answer c a b is call none = (
   ap (λ (m : Mine). m.replicas) is,
   λ counts carried h.
-      shown_more (answer_placed modes answer) [] a b counts carried is (counted_answer modes answer [] a b counts is h.counted)
+      shown_more (answer_placed modes answer) [] a b counts carried is (counted_answer modes answer [] a b counts is h.counted) h.framed
       (subst (λ x. CarriedOf a.replicas (told_in carried) modes x answer.reply) (sym call)
       (uncarried a.replicas (told_in carried) modes c answer.reply none))
       h.answered (λ p e. absurd (no_call p e)),
@@ -160,6 +163,7 @@ shown_open : (o : OwnCall) (a b : Mine) (counts : List ℕ) (carried : List (Opt
     → IsShown b counts carried
 shown_open o a b counts carried e h acked = subst (λ (m : Mine). IsShown m counts carried) (sym e) (record {
   counted = h.counted;
+  framed = h.framed;
   answered = h.answered;
   acked = λ p same. subst (λ (x : OwnCall). x.started ≡ true → AreAcked (told_in carried) x) (one_of o p same) acked;
 })

@@ -1,9 +1,9 @@
 -- What lines tell goes on: an exchange that was told is told still.
 use Rattle.std.proofs.Common.{zero, suc, arith, ◌≡◌, ◌≢◌, ℕ, ◌+◌, ◌-◌, ◌<◌, ◌≤◌, ℤ, List, [], ◌∷◌, ◌++◌, length, take}
 use Rattle.std.proofs.Common.{drop, length-append, length-drop, get_or, set, map, Option, Some, None, IfSome, Result}
-use Rattle.std.proofs.Common.{Ok, Err, is_ok, true, subst, sym, ap, ◌∙◌, append_assoc, append-nil}
+use Rattle.std.proofs.Common.{Ok, Err, is_ok, true, subst, sym, ap, ◌∙◌, append_assoc, append-nil, All}
 use Rattle.std.proofs.lemmas.List.{length-take-le, map-set, get_or-set_other}
-use Rattle.std.proofs.lemmas.List.Elements.{All-weaker}
+use Rattle.std.proofs.lemmas.List.Elements.{All-weaker, All-append, All-push, All-nil, All-head, All-tail}
 use Rattle.std.proofs.lemmas.Slice.{between_to_end, between-put_mid}
 use borrow.Rule.Slice.PartMut.{put_mid, post_of}
 use Rattle.volume_model.specs.declared.call.Call.{Call}
@@ -14,7 +14,7 @@ use Rattle.volume_model.specs.declared.entry.Entry.{Entry}
 use Rattle.volume_model.specs.declared.entry.Entry.TheVariants as entry
 use Rattle.volume_model.specs.declared.mode.Mode.{Mode}
 use Rattle.frame_wire.specs.declared.head.Head.{Head}
-use Rattle.frame_wire.specs.Spelling.{header, header_length, frame}
+use Rattle.frame_wire.specs.Spelling.{header, header_length, frame, IsHead, IsFrame}
 use Rattle.outer_traits.specs.Lines.{TellsMore, Carries}
 use Rattle.outer_traits.proofs.Lines.{TellsMore-nil}
 use Rattle.stream_steps.specs.Mine.{OwnCall, Placed}
@@ -22,8 +22,8 @@ use Rattle.stream_steps.specs.Steps.{IsStarted, IsWriteCall}
 use Rattle.client_worker.specs.Frames.{read_head, read_reply_head, write_head, write_reply_head, read_request}
 use Rattle.client_worker.specs.Frames.{read_reply, write_request, write_reply}
 use Rattle.client_worker.specs.Exchanges.{told_in, HasExchange, HasRead, HasBlocks, HasWrite, HasPart, AreAcked}
-use Rattle.client_worker.specs.Exchanges.{CarriedOf, IsCarried, AreCarried}
-use Rattle.client_worker.specs.Asking.{TellOn, LacksReply}
+use Rattle.client_worker.specs.Exchanges.{CarryFrames, CarriedOf, IsCarried, AreCarried}
+use Rattle.client_worker.specs.Asking.{TellsOn, TellOn, LacksReply}
 use Rattle.client_worker.specs.Rooms.{CarriesWrite, CarriesRead}
 
 -- ---- with more frames behind
@@ -96,16 +96,53 @@ module _ (before now : List (Option (List (List ℕ)))) (on : TellOn before now)
   are_carried-on n ps h = All-weaker (λ (p : Placed). IsCarried n (told_in before) p.modes p.entry)
       (λ (p : Placed). IsCarried n (told_in now) p.modes p.entry) (λ p. carries-on n p.modes p.entry) ps h
 
+-- ---- whole frames
+
+pub header_alone : (h : Head) → header h ≡ frame h []
+header_alone h = sym (append-nil (header h))
+
+-- data behind a header that tells its length is one
+pub is_framed : (h : Head) (body bytes : List ℕ) → IsHead h → length body ≡ h.len → bytes ≡ frame h body → IsFrame bytes
+is_framed h body bytes fits long is = record { head = h; body = body; fits = fits; long = long; spelled = is }
+
+-- so is a header alone that tells of none
+pub is_framed_alone : (h : Head) (bytes : List ℕ) → IsHead h → h.len ≡ 0 → bytes ≡ header h → IsFrame bytes
+is_framed_alone h bytes fits none is = is_framed h [] bytes fits (sym none) (is ∙ header_alone h)
+
+-- lines that have carried nothing have carried nothing but whole frames
+pub frames_none : (told : List (Option (List (List ℕ)))) → All (λ t. IfSome t (λ frames. frames ≡ [])) told
+    → CarryFrames (told_in told)
+frames_none [] none r = tt
+frames_none (None ∷ ts) none zero = tt
+frames_none (Some frames ∷ ts) none zero =
+    subst (All IsFrame) (sym (All-head (λ t. IfSome t (λ frames. frames ≡ [])) (Some frames) ts none)) (All-nil IsFrame)
+frames_none (t ∷ ts) none (suc r) = frames_none ts (All-tail (λ t. IfSome t (λ frames. frames ≡ [])) t ts none) r
+
+-- so have lines that have carried whole frames more
+pub frames-on : (before now : List (Option (List (List ℕ)))) → TellOn before now → CarryFrames (told_in before)
+    → CarryFrames (told_in now)
+frames-on before now on framed r = further (told_in before r) (told_in now r) (on r) (framed r)
+  where
+    further : (s t : Option (List (List ℕ))) → TellsOn s t → IfSome s (All IsFrame) → IfSome t (All IsFrame)
+    further s None h framed = tt
+    further None (Some now) h framed = absurd h.1
+    further (Some before) (Some now) h framed =
+        subst (All IsFrame) (sym h.1) (All-append IsFrame before h.0 framed h.2)
+
 -- ---- one line told more
 
+-- a line that is as it was
+pub tells_on_same : (told : Option (List (List ℕ))) → TellsOn told told
+tells_on_same told = ([], TellsMore-nil told, All-nil IsFrame)
+
 -- a carry on one line of a list
-pub on_set : {L : Type 0} (told : L → Option (List (List ℕ))) (xs : List L) (i : ℕ) (x d : L) (more : List (List ℕ))
-    → i < length xs → TellsMore (told (get_or xs i d)) (told x) more → TellOn (map told xs) (map told (set xs i x))
-on_set told [] i x d more l h r = absurd (omega arith)
-on_set told (y ∷ ys) zero x d more l h zero = (more, h)
-on_set told (y ∷ ys) zero x d more l h (suc k) = ([], TellsMore-nil (told_in (map told ys) k))
-on_set told (y ∷ ys) (suc i) x d more l h zero = ([], TellsMore-nil (told y))
-on_set told (y ∷ ys) (suc i) x d more l h (suc k) = on_set told ys i x d more (omega arith) h k
+pub on_set : {L : Type 0} (told : L → Option (List (List ℕ))) (xs : List L) (i : ℕ) (x d : L) → i < length xs
+    → TellsOn (told (get_or xs i d)) (told x) → TellOn (map told xs) (map told (set xs i x))
+on_set told [] i x d l h r = absurd (omega arith)
+on_set told (y ∷ ys) zero x d l h zero = h
+on_set told (y ∷ ys) zero x d l h (suc k) = tells_on_same (told_in (map told ys) k)
+on_set told (y ∷ ys) (suc i) x d l h zero = tells_on_same (told y)
+on_set told (y ∷ ys) (suc i) x d l h (suc k) = on_set told ys i x d (omega arith) h k
 
 pub here_set : {L : Type 0} (told : L → Option (List (List ℕ))) (xs : List L) (i : ℕ) (x d : L) (more : List (List ℕ))
     → i < length xs → TellsMore (told (get_or xs i d)) (told x) more
@@ -120,10 +157,10 @@ pub other_set : {L : Type 0} (told : L → Option (List (List ℕ))) (xs : List 
 other_set told xs i r x apart = ap (λ ls. told_in ls r) (map-set told xs i x) ∙ get_or-set_other (map told xs) i r (told x) None apart
 
 -- whether the frame came through or not
-pub carry_more : {E : Type 0} (res : Result (Unit {0}) E) (s t : Option (List (List ℕ))) (frame : List ℕ)
-    → Carries s t frame res → (more : List (List ℕ)) × TellsMore s t more
-carry_more (Ok u) s t frame c = (frame ∷ [], c.ok)
-carry_more (Err e) s t frame c = ([], c.err)
+pub carry_more : {E : Type 0} (res : Result (Unit {0}) E) (s t : Option (List (List ℕ))) (frame : List ℕ) → IsFrame frame
+    → Carries s t frame res → TellsOn s t
+carry_more (Ok u) s t frame whole c = (frame ∷ [], c.ok, All-push IsFrame [] frame (All-nil IsFrame) whole)
+carry_more (Err e) s t frame whole c = ([], c.err, All-nil IsFrame)
 
 pub carry_ok : {E : Type 0} (res : Result (Unit {0}) E) (s t : Option (List (List ℕ))) (frame : List ℕ) → is_ok res ≡ true
     → Carries s t frame res → TellsMore s t (frame ∷ [])
@@ -159,9 +196,6 @@ part_of_write (call.Write offset bytes) o buffer frames w s has = record { range
 part_of_write call.Ping o buffer frames w s has = absurd w
 part_of_write (call.Other k) o buffer frames w s has = absurd w
 part_of_write (call.Command c) o buffer frames w s has = absurd w
-
-pub header_alone : (h : Head) → header h ≡ frame h []
-header_alone h = sym (append-nil (header h))
 
 -- the request of a started write came through, and its reply is next
 pub write_lacks : (o p : OwnCall) (s t : Option (List (List ℕ))) (seq first n : ℕ) (before request reply : List ℕ)

@@ -1,24 +1,50 @@
--- What the line to a replica tells while the replica is asked for its part of the open call.
-use Rattle.std.specs.Prelude.{◌≡◌, ◌≢◌, ℕ, ◌<◌, ◌⊎◌, List, [], ◌∷◌, ◌++◌, length, Option, IfSome}
+-- What a carry makes of the lines, and what the line to a replica tells while it is asked for its part of the open call.
+use Rattle.std.specs.Prelude.{◌≡◌, ◌≢◌, ℕ, ◌<◌, ◌≤◌, ◌⊎◌, Bool, true, false, List, [], ◌∷◌, ◌++◌, length, All, Option, IfSome}
+use Rattle.std.specs.Prelude.{slice_index_or}
 use Rattle.volume_model.specs.declared.mode.Mode.{Mode}
 use Rattle.volume_model.specs.declared.mode.Mode.TheVariants.{Rw, Err}
 use Rattle.volume_model.specs.Modes.{mode_of}
 use Rattle.step_answers.specs.declared.parts.Part.{Part}
 use Rattle.step_answers.specs.declared.parts.Part.TheVariants.{Owed, Acked}
 use Rattle.step_answers.specs.Parts.{part_at, IsTaken}
+use Rattle.frame_wire.specs.Spelling.{IsFrame}
 use Rattle.outer_traits.specs.Lines.{TellsMore}
 use Rattle.stream_steps.specs.Mine.{Mine, OwnCall}
 use Rattle.stream_steps.specs.Seen.{IsNextUp}
 use Rattle.client_worker.specs.Exchanges.{told_in, HasPart}
 use Rattle.client_worker.specs.Serving.{KeepsOpen}
 
--- each line tells what it told before, and maybe more
+-- ---- a carry
+
+-- a whole frame, which has a place to arrive
+pub record Arrives (frame : List ℕ) (place : ℕ) : Type 0 where
+  pub whole : IsFrame frame
+  pub room : length frame ≤ place
+
+-- no line's count is lower, and where the frame did not come through, that of the line to the replica is higher
+pub record CountsOn (r : ℕ) (came : Bool) (before now : List ℕ) : Type 0 where
+  pub later : (k : ℕ) → slice_index_or before k 0 ≤ slice_index_or now k 0
+  pub failed : came ≡ false → slice_index_or before r 0 < slice_index_or now r 0
+
+-- a line tells what it told before, and maybe whole frames behind it
+abbrev pub TellsOn : Option (List (List ℕ)) → Option (List (List ℕ)) → Type 0
+TellsOn before now = (more : List (List ℕ)) × TellsMore before now more × All IsFrame more
+
+-- so does each line
 abbrev pub TellOn : List (Option (List (List ℕ))) → List (Option (List (List ℕ))) → Type 0
-TellOn before now = (r : ℕ) → (more : List (List ℕ)) × TellsMore (told_in before r) (told_in now r) more
+TellOn before now = (r : ℕ) → TellsOn (told_in before r) (told_in now r)
 
 -- the line to a replica tells one frame more
 abbrev pub TellsFrame : List (Option (List (List ℕ))) → List (Option (List (List ℕ))) → ℕ → List ℕ → Type 0
 TellsFrame before now r frame = TellsMore (told_in before r) (told_in now r) (frame ∷ [])
+
+-- no line but that to the replica tells more, which tells the frame, where it came through
+pub record TellsOf (r : ℕ) (frame : List ℕ) (came : Bool) (before now : List (Option (List (List ℕ)))) : Type 0 where
+  pub on : TellOn before now
+  pub carried : came ≡ true → TellsFrame before now r frame
+  pub others : (q : ℕ) → q ≢ r → told_in now q ≡ told_in before q
+
+-- ---- the open call
 
 -- with this reply more, the line has carried the replica's part of the open call
 abbrev pub LacksReply : OwnCall → Option (List (List ℕ)) → List ℕ → Type 0

@@ -1,6 +1,7 @@
 -- What lines carry of a call, where they tell it: the exchange of a request and its reply.
 use Rattle.std.specs.Prelude.{◌≡◌, ℕ, ◌<◌, ℤ, List, [], ◌∷◌, ◌++◌, length, All, Option, None, slice_index_or, IfSome}
 use Rattle.vol_units.specs.declared.range.BlockRange.{BlockRange}
+use Rattle.frame_wire.specs.Spelling.{IsFrame}
 use Rattle.volume_model.specs.declared.call.Call.{Call}
 use Rattle.volume_model.specs.declared.call.Call.TheVariants as call
 use Rattle.volume_model.specs.declared.call.Reply.{Reply}
@@ -19,6 +20,10 @@ use Rattle.client_worker.specs.Frames.{read_request, read_reply, write_request, 
 -- what the line to a replica tells that it carried
 abbrev pub told_in : List (Option (List (List ℕ))) → ℕ → Option (List (List ℕ))
 told_in carried r = slice_index_or carried r None
+
+-- each line that tells has carried nothing but whole frames
+abbrev pub CarryFrames : (ℕ → Option (List (List ℕ))) → Type 0
+CarryFrames told = (r : ℕ) → IfSome (told r) (All IsFrame)
 
 -- ---- exchanges
 

@@ -11,7 +11,7 @@ use Rattle.volume_model.specs.Faults.{last_count}
 use Rattle.volume_model.specs.Modes.{HasSource}
 use Rattle.step_answers.specs.declared.parts.Part.{Part}
 use Rattle.stream_steps.specs.Mine.{Mine, OwnCall, Placed, Log, entries_in, with_more, longer, length_of}
-use Rattle.client_worker.specs.Exchanges.{told_in, AreCarried, AreAcked}
+use Rattle.client_worker.specs.Exchanges.{told_in, CarryFrames, AreCarried, AreAcked}
 
 -- ---- faults
 
@@ -29,10 +29,11 @@ abbrev pub Counted : Mine → List ℕ → Type 0
 Counted m counts = (r : ℕ) → last_count m.stream r (entries_in m.entries) ≤ slice_index_or counts r 0
 
 -- Of lines that tell these counts, and this of what they carried: none has a mark above its count, and where they tell
--- it, they have carried the exchanges of what was answered, and of what the replicas acknowledged of the open call, once
--- it has started.
+-- it, they have carried nothing but whole frames, and among these the exchanges of what was answered, and of what the
+-- replicas acknowledged of the open call, once it has started.
 pub record IsShown (m : Mine) (counts : List ℕ) (carried : List (Option (List (List ℕ)))) : Type 0 where
   pub counted : Counted m counts
+  pub framed : CarryFrames (told_in carried)
   pub answered : AreCarried m.replicas (told_in carried) m.entries
   pub acked : (o : OwnCall) → m.running ≡ o ∷ [] → o.started ≡ true → AreAcked (told_in carried) o
 

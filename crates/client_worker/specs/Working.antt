@@ -4,6 +4,7 @@ use Rattle.outer_traits.specs.declared.ends.Ends.{Ends}
 use Rattle.stream_steps.specs.Mine.{Mine}
 use Rattle.client_worker.specs.declared.channel.Channel.{Channel}
 use Rattle.client_worker.specs.Serving.{IsShown}
+use Rattle.client_worker.specs.Asking.{TellsFrame}
 
 -- its steps, and a line to each replica
 pub record Work (C L : Type 0) : Type 0 where
@@ -39,6 +40,18 @@ pub record IsIdle {C L : Type 0} (can : C → Type 0) (mine : C → Mine) (count
 pub record KeepsLines {C L : Type 0} (between : L → Ends) (w w2 : Work C L) : Type 0 where
   pub count : length w2.channels ≡ length w.channels
   pub ends : map (λ c. between c.line) w2.channels ≡ map (λ c. between c.line) w.channels
+
+-- so are these channels, and on each the same exchange was begun last
+pub record KeepsChannels {L : Type 0} (between : L → Ends) (cs cs2 : List (Channel L)) : Type 0 where
+  pub count : length cs2 ≡ length cs
+  pub ends : map (λ c. between c.line) cs2 ≡ map (λ c. between c.line) cs
+  pub begun : map (λ c. c.seq) cs2 ≡ map (λ c. c.seq) cs
+
+-- no step was taken, and the line to the replica tells one frame more
+pub record Passes {C L : Type 0} (told : L → Option (List (List ℕ))) (r : ℕ) (frame : List ℕ) (w w2 : Work C L)
+    : Type 0 where
+  pub same : w2.steps ≡ w.steps
+  pub carried : TellsFrame (told_by told w) (told_by told w2) r frame
 
 -- what stays over all that it does
 pub record Stays {C L H : Type 0} (at : C → H) (between : L → Ends) (w w2 : Work C L) : Type 0 where

@@ -1,8 +1,8 @@
 //! A line of the stream to one replica, and what is carried on it.
 
-ghost use Rattle.std.specs.Prelude.{◌≡◌, ◌≢◌, ℕ, ◌<◌, ◌≤◌, length, map, vec_capacity, slice_index_or, true, false};
-ghost use Rattle.client_worker.specs.Asking.{TellOn, TellsFrame};
-ghost use Rattle.client_worker.specs.Exchanges.{told_in};
+ghost use Rattle.std.specs.Prelude.{◌≡◌, ◌<◌, ◌≤◌, length, map, vec_capacity};
+ghost use Rattle.client_worker.specs.Asking.{Arrives, CountsOn, TellsOf};
+ghost use Rattle.client_worker.specs.Working.{KeepsChannels};
 
 use outer_traits::Line;
 
@@ -34,7 +34,7 @@ pub fn next_exchange<L: Line + Drop>(channels: &mut [Channel<L>], replica: u8) -
     channel.seq
 }
 
-/// Carries a frame on the line to a replica, and says whether it came through: where it did not, the line has failed
+/// Carries a whole frame on the line to a replica, and says whether it came through: where it did not, the line has failed
 /// once more. It arrives in the room, which takes no memory.
 pub fn carry<L: Line + Drop>(
     channels: &mut [Channel<L>],
@@ -43,20 +43,13 @@ pub fn carry<L: Line + Drop>(
     room: &mut Vec<u8>,
 ) -> bool
     requires line { replica < length channels.old }
-    requires room { length frame.now ≤ vec_capacity room.old }
-    ensures count { length channels.new ≡ length channels.old }
-    ensures ends { map (λ c. L.ends c.line) channels.new ≡ map (λ c. L.ends c.line) channels.old }
+    requires frame { Arrives frame.now (vec_capacity room.old) }
+    ensures keeps { KeepsChannels L.ends channels.old channels.new }
     ensures room { vec_capacity room.old ≤ vec_capacity room.new }
-    ensures later { (k : ℕ) → slice_index_or (map (λ c. L.count c.line) channels.old) k 0
-        ≤ slice_index_or (map (λ c. L.count c.line) channels.new) k 0 }
-    ensures failed { result ≡ false → slice_index_or (map (λ c. L.count c.line) channels.old) replica 0
-        < slice_index_or (map (λ c. L.count c.line) channels.new) replica 0 }
-    ensures told { TellOn (map (λ c. L.carried c.line) channels.old) (map (λ c. L.carried c.line) channels.new) }
-    ensures carried { result ≡ true → TellsFrame (map (λ c. L.carried c.line) channels.old)
-        (map (λ c. L.carried c.line) channels.new) replica frame.now }
-    ensures others { (r : ℕ) → r ≢ replica → told_in (map (λ c. L.carried c.line) channels.new) r
-        ≡ told_in (map (λ c. L.carried c.line) channels.old) r }
-    ensures begun { map (λ c. c.seq) channels.new ≡ map (λ c. c.seq) channels.old }
+    ensures counts { CountsOn replica result (map (λ c. L.count c.line) channels.old)
+        (map (λ c. L.count c.line) channels.new) }
+    ensures tells { TellsOf replica frame.now result (map (λ c. L.carried c.line) channels.old)
+        (map (λ c. L.carried c.line) channels.new) }
 {
     room.clear();
     channels[replica as usize].line.carry(frame, room).is_ok()

@@ -2,7 +2,7 @@
 
 ghost use Rattle.std.specs.Prelude.{◌≡◌, ◌*◌, ◌<◌, ◌≤◌, ◌^◌, length, drop, pos};
 ghost use Rattle.vol_units.specs.declared.size.TheConstants.{BLOCK_BYTES};
-ghost use Rattle.frame_wire.specs.Spelling.{header_length, frame};
+ghost use Rattle.frame_wire.specs.Spelling.{header_length, frame, IsHead};
 ghost use Rattle.client_worker.specs.Frames.{read_head, read_reply_head, write_head, write_reply_head};
 
 use frame_stream::{READ, WRITE};
@@ -13,7 +13,8 @@ use vol_units::BLOCK_BYTES;
 const RESPONSE: u32 = 2;
 
 pub(crate) fn read_head(seq: u32, offset: i64, count: u32) -> Head
-    ensures { result ≡ read_head seq offset count }
+    ensures value { result ≡ read_head seq offset count }
+    ensures fits { IsHead result }
 {
     Head {
         seq,
@@ -25,7 +26,8 @@ pub(crate) fn read_head(seq: u32, offset: i64, count: u32) -> Head
 }
 
 pub(crate) fn read_reply_head(seq: u32, offset: i64, count: u32) -> Head
-    ensures { result ≡ read_reply_head seq offset count }
+    ensures value { result ≡ read_reply_head seq offset count }
+    ensures fits { IsHead result }
 {
     Head {
         seq,
@@ -37,7 +39,8 @@ pub(crate) fn read_reply_head(seq: u32, offset: i64, count: u32) -> Head
 }
 
 pub(crate) fn write_head(seq: u32, first: u32, count: u32) -> Head
-    ensures { result ≡ write_head seq first count }
+    ensures value { result ≡ write_head seq first count }
+    ensures fits { IsHead result }
 {
     Head {
         seq,
@@ -49,7 +52,8 @@ pub(crate) fn write_head(seq: u32, first: u32, count: u32) -> Head
 }
 
 pub(crate) fn write_reply_head(seq: u32, first: u32, count: u32) -> Head
-    ensures { result ≡ write_reply_head seq first count }
+    ensures value { result ≡ write_reply_head seq first count }
+    ensures fits { IsHead result }
 {
     Head {
         seq,

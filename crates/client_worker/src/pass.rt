@@ -1,12 +1,12 @@
 //! A frame is carried to a replica, and a replica whose line fails has failed.
 
-ghost use Rattle.std.specs.Prelude.{◌≡◌, ◌<◌, ◌≤◌, length, map, vec_capacity, slice_index_or, OnOk, IfErr};
+ghost use Rattle.std.specs.Prelude.{◌<◌, ◌≤◌, length, map, vec_capacity, slice_index_or, OnOk, IfErr};
 ghost use Rattle.volume_model.specs.Faults.{last_count};
 ghost use Rattle.stream_steps.specs.Mine.{OwnCall, IsOwn, entries_in};
 ghost use Rattle.stream_steps.specs.Steps.{HasStarted};
 ghost use Rattle.client_worker.specs.Exchanges.{told_in};
-ghost use Rattle.client_worker.specs.Asking.{TellsFrame, LacksReply, HasTaken, Falls, WasAsked};
-ghost use Rattle.client_worker.specs.Working.{Stays, StaysHome};
+ghost use Rattle.client_worker.specs.Asking.{Arrives, LacksReply, HasTaken, Falls, WasAsked};
+ghost use Rattle.client_worker.specs.Working.{Passes, Stays, StaysHome};
 
 use crate::carrier::Carrier;
 use crate::channel::carry;
@@ -40,12 +40,10 @@ impl<C: ClientSteps + Drop, L: Line + Drop> Carrier<C, L> {
         room: &mut Vec<u8>,
     ) -> Result<(), Option<u8>>
         requires line { replica < length self.old.channels }
-        requires room { length frame.now ≤ vec_capacity room.old }
+        requires frame { Arrives frame.now (vec_capacity room.old) }
         ensures stays { Stays C.home L.ends self.old self.new }
         ensures room { vec_capacity room.old ≤ vec_capacity room.new }
-        ensures same { OnOk result (self.new.steps ≡ self.old.steps) }
-        ensures carried { OnOk result (TellsFrame (map (λ c. L.carried c.line) self.old.channels)
-            (map (λ c. L.carried c.line) self.new.channels) replica frame.now) }
+        ensures came { OnOk result (Passes L.carried replica frame.now self.old self.new) }
         ensures falls { IfErr result (Falls (C.modes self.new.steps) replica (C.mine self.old.steps)
             (C.mine self.new.steps)) }
     {
@@ -66,7 +64,7 @@ impl<C: ClientSteps + Drop, L: Line + Drop> Carrier<C, L> {
         room: &mut Vec<u8>,
     ) -> Option<u8>
         requires line { replica < length self.old.channels }
-        requires room { length reply.now ≤ vec_capacity room.old }
+        requires frame { Arrives reply.now (vec_capacity room.old) }
         requires own { (o : OwnCall) × IsOwn t o (C.mine self.old.steps) × HasStarted o × HasTaken o replica
             × LacksReply o (told_in (map (λ c. L.carried c.line) self.old.channels) replica) reply.now }
         ensures stays { Stays C.home L.ends self.old self.new }

@@ -1,4 +1,5 @@
 use Rattle.std.proofs.Common.{rules, arith, ◌≡◌, ◌-◌, ◌≤◌, map, drop, length, slice_set, is_err, refl, ap, sym, subst, ◌∙◌, false}
+use Rattle.frame_wire.specs.declared.head.Head.{Head}
 use Rattle.frame_wire.specs.Spelling.{header_length, frame}
 use Rattle.step_answers.specs.declared.parts.Part.TheVariants.{Taken}
 use Rattle.stream_steps.specs.Mine.{IsOwn}
@@ -10,7 +11,7 @@ use Rattle.client_worker.proofs.Asked.{has_taken, falls_goes}
 use Rattle.client_worker.proofs.Carrying.{serving_on, serving_same, stays_lent, stays_step, stays_then, steps_back}
 use Rattle.client_worker.proofs.Going.{goes_then, goes_same, goes_takes, taken_own, done_well}
 use Rattle.client_worker.proofs.Shown.{shows_reads, shows_same}
-use Rattle.client_worker.proofs.Told.{body_put, read_lacks}
+use Rattle.client_worker.proofs.Told.{body_put, is_framed, is_framed_alone, read_lacks}
 use Rattle.client_worker.proofs.carrier.Carrier.ask_read.Goals as goal
 
 pub invariant_of-self : goal.invariant_of-self
@@ -26,14 +27,23 @@ returns-then-is_err-clause-goes g c =
     rw (← c.self.view_is) (falls_goes c.pass.result (g.C.ClientSteps.modes c.pass.new.self.steps) c.args.replica
     (g.C.ClientSteps.mine c.self.inside.steps) (g.C.ClientSteps.mine c.pass.new.self.steps) (search rules) c.pass.ensures.falls)
 
+pub pass-requires-clause-frame : goal.pass-requires-clause-frame
+pass-requires-clause-frame g c =
+    let none : c.read_head.result.len ≡ 0 = ap (λ (h : Head). h.len) c.read_head.ensures.value in
+    record {
+      whole = is_framed_alone c.read_head.result c.encode_header-request.result c.read_head.ensures.fits none
+          c.encode_header-request.ensures;
+      room = search rules;
+    }
+
 pub apply_read-requires-clause-source : goal.apply_read-requires-clause-source
 apply_read-requires-clause-source g c =
-    let back = steps_back _ _ _ _ c.self-2.view_is (done_well c.pass.result (search rules) c.pass.ensures.same) c.self.view_is in
+    let back = steps_back _ _ _ _ c.self-2.view_is (done_well c.pass.result (search rules) c.pass.ensures.came).same c.self.view_is in
     subst (λ s. IsSource (g.C.ClientSteps.modes s) c.args.replica) (sym back) c.requires.source
 
 pub invariant_of-self-then-is_err-2 : goal.invariant_of-self-then-is_err-2
 invariant_of-self-then-is_err-2 g c = serving_on c.self-2.inside.steps c.apply_read.new.self c.self-2.inside.channels.items
-    c.self-2.invariant c.apply_read.ensures.ready
+    c.self-2.invariant c.apply_read.ensures.stands.ready
     (shows_same (g.C.ClientSteps.mine c.self-2.inside.steps) (g.C.ClientSteps.mine c.apply_read.new.self) (search rules))
 
 pub returns-then-is_err-2-clause-stays : goal.returns-then-is_err-2-clause-stays
@@ -44,11 +54,11 @@ returns-then-is_err-2-clause-stays g c =
     (drop (length c.next_exchange-seq.new.channels) c.self.inside.channels.items) c.self.inside.channels.len c.self.view_is
     c.deref_mut.ensures.value c.next_exchange-seq.ensures.count c.next_exchange-seq.ensures.ends (search rules)) c.pass.ensures.stays in
     stays_step c.args.self.now c.pass.new.self _ c.apply_read.new.self passed
-    c.self-2.view_is c.apply_read.ensures.home
+    c.self-2.view_is c.apply_read.ensures.stands.home
 
 pub returns-then-is_err-2-clause-goes : goal.returns-then-is_err-2-clause-goes
 returns-then-is_err-2-clause-goes g c =
-    let back = steps_back _ _ _ _ c.self-2.view_is (done_well c.pass.result (search rules) c.pass.ensures.same) c.self.view_is in
+    let back = steps_back _ _ _ _ c.self-2.view_is (done_well c.pass.result (search rules) c.pass.ensures.came).same c.self.view_is in
     let same : g.C.ClientSteps.mine c.apply_read.new.self ≡ g.C.ClientSteps.mine c.self-2.inside.steps = search rules in
     goes_same (g.C.ClientSteps.mine c.args.self.now.steps) (g.C.ClientSteps.mine c.apply_read.new.self)
     (same ∙ ap g.C.ClientSteps.mine back)
@@ -57,13 +67,30 @@ pub invariant_of-self-2 : goal.invariant_of-self-2
 invariant_of-self-2 g c =
     let before = g.C.ClientSteps.mine c.self-2.inside.steps in
     let h = c.requires.own in
-    let back = steps_back _ _ _ _ c.self-2.view_is (done_well c.pass.result (search rules) c.pass.ensures.same) c.self.view_is in
+    let back = steps_back _ _ _ _ c.self-2.view_is (done_well c.pass.result (search rules) c.pass.ensures.came).same c.self.view_is in
     let own : IsOwn c.args.read.now.ticket h.own before =
     subst (IsOwn c.args.read.now.ticket h.own) (ap g.C.ClientSteps.mine (sym back)) h.is in
     let yes : is_err c.apply_read.result ≡ false = search rules in
-    serving_on c.self-2.inside.steps c.apply_read.new.self c.self-2.inside.channels.items c.self-2.invariant c.apply_read.ensures.ready
+    let took = done_well c.apply_read.result yes c.apply_read.ensures.does.ok h.own own in
+    serving_on c.self-2.inside.steps c.apply_read.new.self
+    c.self-2.inside.channels.items c.self-2.invariant c.apply_read.ensures.stands.ready
     (shows_reads c.args.read.now.ticket c.args.replica c.apply_read.new.into h.own before (g.C.ClientSteps.mine c.apply_read.new.self) own
-    (subst NoneAcked (ap g.C.ClientSteps.mine (sym back)) h.none) (done_well c.apply_read.result yes c.apply_read.ensures.ok h.own own))
+    (subst NoneAcked (ap g.C.ClientSteps.mine (sym back)) h.none) took)
+
+pub reply_with-requires-clause-frame : goal.reply_with-requires-clause-frame
+reply_with-requires-clause-frame g c =
+    let into = c.apply_read.new.into in
+    let h = c.requires.own in
+    let long : length into ≡ length h.own.buffer = search rules in
+    let body : length into ≡ length c.args.reply.now - header_length = omega (arith, long, h.carries.long, h.carries.count) in
+    let room : header_length ≤ length c.args.reply.now = omega (arith, h.carries.count) in
+    let len : c.read_reply_head.result.len ≡ c.args.read.now.count = ap (λ (h : Head). h.len) c.read_reply_head.ensures.value in
+    record {
+      whole = is_framed c.read_reply_head.result into c.put_header.new.bytes c.read_reply_head.ensures.fits
+          (long ∙ h.carries.long ∙ sym len)
+          (c.put_header.ensures ∙ ap (frame c.read_reply_head.result) (body_put c.args.reply.now into room body));
+      room = search rules;
+    }
 
 pub reply_with-requires-clause-own : goal.reply_with-requires-clause-own
 reply_with-requires-clause-own g c =
@@ -71,11 +98,11 @@ reply_with-requires-clause-own g c =
     let before = g.C.ClientSteps.mine c.self-2.inside.steps in
     let after = g.C.ClientSteps.mine c.apply_read.new.self in
     let h = c.requires.own in
-    let back = steps_back _ _ _ _ c.self-2.view_is (done_well c.pass.result (search rules) c.pass.ensures.same) c.self.view_is in
+    let back = steps_back _ _ _ _ c.self-2.view_is (done_well c.pass.result (search rules) c.pass.ensures.came).same c.self.view_is in
     let own : IsOwn c.args.read.now.ticket h.own before =
     subst (IsOwn c.args.read.now.ticket h.own) (ap g.C.ClientSteps.mine (sym back)) h.is in
     let yes : is_err c.apply_read.result ≡ false = search rules in
-    let took : TakesTo h.own c.args.replica into before after = done_well c.apply_read.result yes c.apply_read.ensures.ok h.own own in
+    let took : TakesTo h.own c.args.replica into before after = done_well c.apply_read.result yes c.apply_read.ensures.does.ok h.own own in
     let long : length into ≡ length h.own.buffer = search rules in
     let body : length into ≡ length c.args.reply.now - header_length = omega (arith, long, h.carries.long, h.carries.count) in
     let room : header_length ≤ length c.args.reply.now = omega (arith, h.carries.count) in
@@ -90,7 +117,7 @@ reply_with-requires-clause-own g c =
           c.put_header.new.bytes c.read_head.result c.read_reply_head.result h.carries refl long
           (search rules) (search rules) (search rules)
           (c.put_header.ensures ∙ ap (frame c.read_reply_head.result) (body_put c.args.reply.now into room body))
-          (done_well c.pass.result (search rules) c.pass.ensures.carried),
+          (done_well c.pass.result (search rules) c.pass.ensures.came).carried,
     )
 
 pub returns-clause-stays : goal.returns-clause-stays
@@ -102,7 +129,7 @@ returns-clause-stays g c =
     c.deref_mut.ensures.value c.next_exchange-seq.ensures.count c.next_exchange-seq.ensures.ends (search rules)) c.pass.ensures.stays in
     stays_then c.args.self.now _ c.reply_with.new.self
     (stays_step c.args.self.now c.pass.new.self _ c.apply_read.new.self passed
-    c.self-2.view_is c.apply_read.ensures.home) c.reply_with.ensures.stays
+    c.self-2.view_is c.apply_read.ensures.stands.home) c.reply_with.ensures.stays
 
 pub returns-clause-goes : goal.returns-clause-goes
 returns-clause-goes g c =
@@ -110,7 +137,7 @@ returns-clause-goes g c =
     let before = g.C.ClientSteps.mine c.self-2.inside.steps in
     let after = g.C.ClientSteps.mine c.apply_read.new.self in
     let h = c.requires.own in
-    let back = steps_back _ _ _ _ c.self-2.view_is (done_well c.pass.result (search rules) c.pass.ensures.same) c.self.view_is in
+    let back = steps_back _ _ _ _ c.self-2.view_is (done_well c.pass.result (search rules) c.pass.ensures.came).same c.self.view_is in
     let own : IsOwn c.args.read.now.ticket h.own before =
     subst (IsOwn c.args.read.now.ticket h.own) (ap g.C.ClientSteps.mine (sym back)) h.is in
     let yes : is_err c.apply_read.result ≡ false = search rules in
@@ -118,4 +145,4 @@ returns-clause-goes g c =
     goes_then first before (g.C.ClientSteps.mine c.reply_with.new.self.steps) (goes_same first before (ap g.C.ClientSteps.mine back))
     (goes_then before after (g.C.ClientSteps.mine c.reply_with.new.self.steps)
     (goes_takes c.args.read.now.ticket c.args.replica c.apply_read.new.into h.own before after own long
-    (done_well c.apply_read.result yes c.apply_read.ensures.ok h.own own)) c.reply_with.ensures.asked.goes)
+    (done_well c.apply_read.result yes c.apply_read.ensures.does.ok h.own own)) c.reply_with.ensures.asked.goes)

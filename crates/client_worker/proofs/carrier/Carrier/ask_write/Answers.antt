@@ -1,4 +1,6 @@
-use Rattle.std.proofs.Common.{rules, ◌≡◌, ℕ, ◌<◌, map, drop, length, slice_set, IfSome, refl, ap, sym, subst, ◌∙◌}
+use Rattle.std.proofs.Common.{rules, ◌≡◌, ℕ, ◌-◌, ◌<◌, map, drop, length, length-drop, slice_set, IfSome, refl, ap, sym, subst, ◌∙◌}
+use Rattle.frame_wire.specs.declared.head.Head.{Head}
+use Rattle.frame_wire.specs.Spelling.{header_length}
 use Rattle.step_answers.specs.declared.parts.Part.TheVariants.{Taken}
 use Rattle.stream_steps.specs.Mine.{Mine, IsOwn}
 use Rattle.stream_steps.specs.Steps.{TakesTo}
@@ -7,7 +9,7 @@ use Rattle.client_worker.specs.Working.{Work}
 use Rattle.client_worker.proofs.Asked.{has_taken}
 use Rattle.client_worker.proofs.Carrying.{serving_same, stays_home, stays_lent, stays_then}
 use Rattle.client_worker.proofs.Going.{goes_then, goes_same, goes_takes, taken_own}
-use Rattle.client_worker.proofs.Told.{write_lacks}
+use Rattle.client_worker.proofs.Told.{is_framed, is_framed_alone, write_lacks}
 use Rattle.client_worker.proofs.Writing.{write_is_started}
 use Rattle.client_worker.proofs.carrier.Carrier.ask_write.Goals as goal
 
@@ -19,13 +21,33 @@ invariant_of-self g c =
     c.deref_mut.ensures.value c.next_exchange-seq.ensures.count c.next_exchange-seq.ensures.faults c.next_exchange-seq.ensures.carried
     (search rules)
 
+pub pass-requires-clause-frame : goal.pass-requires-clause-frame
+pass-requires-clause-frame g c =
+    let count : length (drop header_length c.args.request.now) ≡ length c.args.request.now - header_length =
+    length-drop header_length c.args.request.now in
+    let len : c.write_head.result.len ≡ length c.args.request.now - header_length = search rules in
+    record {
+      whole = is_framed c.write_head.result (drop header_length c.args.request.now) c.put_header.new.bytes
+          c.write_head.ensures.fits (count ∙ sym len) c.put_header.ensures;
+      room = search rules;
+    }
+
+pub reply_with-requires-clause-frame : goal.reply_with-requires-clause-frame
+reply_with-requires-clause-frame g c =
+    let none : c.write_reply_head.result.len ≡ 0 = ap (λ (h : Head). h.len) c.write_reply_head.ensures.value in
+    record {
+      whole = is_framed_alone c.write_reply_head.result c.encode_header-reply.result c.write_reply_head.ensures.fits none
+          c.encode_header-reply.ensures;
+      room = search rules;
+    }
+
 pub reply_with-requires-clause-own : goal.reply_with-requires-clause-own
 reply_with-requires-clause-own g c =
     let mine_pass = g.C.ClientSteps.mine c.pass.new.self.steps in
     let mine_take_write = g.C.ClientSteps.mine c.take_write.new.self.steps in
     let op = c.requires.own in
     let same : mine_pass ≡ g.C.ClientSteps.mine c.args.self.now.steps =
-    ap g.C.ClientSteps.mine (c.in_default.ensures.same ∙ ap (λ (w : Work g.row.C.Denot g.row.L.Denot). w.steps) c.self.view_is) in
+    ap g.C.ClientSteps.mine (c.in_default.ensures.came.same ∙ ap (λ (w : Work g.row.C.Denot g.row.L.Denot). w.steps) c.self.view_is) in
     let own : IsOwn c.args.part.now.ticket op.0 mine_pass = subst (IsOwn c.args.part.now.ticket op.0) (sym same) op.2 in
     let took : TakesTo op.0 c.args.part.now.replica op.0.buffer mine_pass mine_take_write =
     c.in_default-take_write.ensures.taken op.0 own in
@@ -38,7 +60,7 @@ reply_with-requires-clause-own g c =
           (told_in (map (λ x. g.L.Line.carried x.line) c.pass.new.self.channels) c.args.part.now.replica)
           c.next_exchange-seq.result c.args.part.now.first op.1 c.args.request.now c.put_header.new.bytes
           c.encode_header-reply.result c.write_head.result c.write_reply_head.result op.3 refl
-          (search rules) (search rules) (search rules) (search rules) c.in_default.ensures.carried,
+          (search rules) (search rules) (search rules) (search rules) c.in_default.ensures.came.carried,
     )
 
 pub returns-clause-asked : goal.returns-clause-asked
@@ -48,7 +70,7 @@ returns-clause-asked g c =
     let mine_take_write = g.C.ClientSteps.mine c.take_write.new.self.steps in
     let op = c.requires.own in
     let same : mine_pass ≡ before =
-    ap g.C.ClientSteps.mine (c.in_default.ensures.same ∙ ap (λ (w : Work g.row.C.Denot g.row.L.Denot). w.steps) c.self.view_is) in
+    ap g.C.ClientSteps.mine (c.in_default.ensures.came.same ∙ ap (λ (w : Work g.row.C.Denot g.row.L.Denot). w.steps) c.self.view_is) in
     let own : IsOwn c.args.part.now.ticket op.0 mine_pass = subst (IsOwn c.args.part.now.ticket op.0) (sym same) op.2 in
     let took : TakesTo op.0 c.args.part.now.replica op.0.buffer mine_pass mine_take_write =
     c.in_default-take_write.ensures.taken op.0 own in

@@ -8,7 +8,7 @@ use Rattle.client_worker.proofs.carrier.Carrier.serve_one.Goals as goal
 
 pub invariant_of-self-then-is_now : goal.invariant_of-self-then-is_now
 invariant_of-self-then-is_now g c = serving_on c.self.inside.steps c.answer_now.new.self c.self.inside.channels.items
-    c.self.invariant c.answer_now.ensures.ready
+    c.self.invariant c.answer_now.ensures.stands.ready
     (shows_now c.args.call (g.C.ClientSteps.mine c.self.inside.steps) (g.C.ClientSteps.mine c.answer_now.new.self)
     c.in_ok-answer_now.ensures.ok)
 
@@ -22,7 +22,7 @@ invariant_of-self-in-OutOfRange g c =
     let after = g.C.ClientSteps.mine c.enrol.new.self in
     let e : c.in_ok-enrol.field-0 ≡ enrol.OutOfRange c.in-OutOfRange.field-0 = search rules in
     serving_on c.self.inside.steps c.enrol.new.self
-    c.self.inside.channels.items c.self.invariant c.enrol.ensures.ready (shows_now c.args.call before after
+    c.self.inside.channels.items c.self.invariant c.enrol.ensures.stands.ready (shows_now c.args.call before after
     (enrol_refused c.in-OutOfRange.field-0 c.args.call c.in_ok-enrol.field-0 before after e c.in_ok-enrol.ensures.ok))
 
 pub returns-in-OutOfRange-clause-ok : goal.returns-in-OutOfRange-clause-ok

@@ -1,5 +1,6 @@
-use Rattle.std.proofs.Common.{rules, ◌≡◌, Ok, true, sym, subst}
+use Rattle.std.proofs.Common.{rules, ◌≡◌, Ok, IfOk, true, sym, subst}
 use Rattle.stream_steps.specs.Mine.{IsOwn}
+use Rattle.stream_steps.specs.Steps.{PlacesTo}
 use Rattle.client_worker.proofs.Carrying.{own_inside, serving_on}
 use Rattle.client_worker.proofs.Going.{goes_same}
 use Rattle.client_worker.proofs.Shown.{shows_takes, shows_taken}
@@ -11,18 +12,22 @@ pub invariant_of-self : goal.invariant_of-self
 invariant_of-self g c =
     let op = c.requires.own in
     let own = own_inside g.C.ClientSteps.mine _ _ c.self.view_is c.args.part.now.ticket op.0 op.2 in
+    let before = g.C.ClientSteps.mine c.self.inside.steps in
+    let after = g.C.ClientSteps.mine c.apply_in_place-placed.new.self in
     let yes : c.apply_in_place-placed.result.answer ≡ Ok true = search rules in
+    let placed : PlacesTo true c.args.part.now.ticket c.args.part.now.replica before after =
+    subst (λ a. IfOk a (λ placed. PlacesTo placed c.args.part.now.ticket c.args.part.now.replica before after)) yes
+    c.apply_in_place-placed.ensures.does.ok in
     serving_on c.self.inside.steps
-    c.apply_in_place-placed.new.self c.self.inside.channels.items c.self.invariant c.apply_in_place-placed.ensures.ready
-    (shows_takes c.args.part.now.ticket c.args.part.now.replica op.0 (g.C.ClientSteps.mine c.self.inside.steps)
-    (g.C.ClientSteps.mine c.apply_in_place-placed.new.self) own (c.apply_in_place-placed.ensures.done yes op.0 own))
+    c.apply_in_place-placed.new.self c.self.inside.channels.items c.self.invariant c.apply_in_place-placed.ensures.stands.ready
+    (shows_takes c.args.part.now.ticket c.args.part.now.replica op.0 before after own (placed op.0 own))
 
 pub returns-in-Err-clause-falls : goal.returns-in-Err-clause-falls
 returns-in-Err-clause-falls g c = rw (← c.self.view_is) (record {
   goes = goes_same (g.C.ClientSteps.mine c.self.inside.steps) (g.C.ClientSteps.mine c.apply_in_place-placed.new.self) (search rules);
   failed = search rules;
-  up = c.apply_in_place-placed.ensures.next;
-  inside = c.apply_in_place-placed.ensures.inside;
+  up = c.apply_in_place-placed.ensures.next.next;
+  inside = c.apply_in_place-placed.ensures.next.inside;
 })
 
 pub fill-requires-clause-whole : goal.fill-requires-clause-whole
@@ -47,12 +52,12 @@ invariant_of-self-2 g c =
     let op = c.requires.own in
     let same : g.C.ClientSteps.mine c.apply_in_place-placed.new.self ≡ g.C.ClientSteps.mine c.self.inside.steps = search rules in
     serving_on c.self.inside.steps
-    c.apply_write-boxed.new.self c.self.inside.channels.items c.self.invariant c.apply_write-boxed.ensures.ready
+    c.apply_write-boxed.new.self c.self.inside.channels.items c.self.invariant c.apply_write-boxed.ensures.stands.ready
     (shows_taken c.apply_write-boxed.result.answer c.args.part.now.ticket c.args.part.now.replica op.0
     (g.C.ClientSteps.mine c.self.inside.steps) (g.C.ClientSteps.mine c.apply_in_place-placed.new.self)
     (g.C.ClientSteps.mine c.apply_write-boxed.new.self)
     (own_inside g.C.ClientSteps.mine _ _ c.self.view_is c.args.part.now.ticket op.0 op.2) same
-    c.apply_write-boxed.ensures.ok c.apply_write-boxed.ensures.err)
+    c.apply_write-boxed.ensures.does.ok c.apply_write-boxed.ensures.does.err)
 
 pub returns-clause-falls : goal.returns-clause-falls
 returns-clause-falls g c = elim c.match-boxed.branch [
@@ -60,7 +65,7 @@ returns-clause-falls g c = elim c.match-boxed.branch [
   | in-Err-answer w ↦ rw (w.result-is, ← c.self.view_is) (record {
     goes = goes_same (g.C.ClientSteps.mine c.self.inside.steps) (g.C.ClientSteps.mine c.apply_write-boxed.new.self) (search rules);
     failed = search rules;
-    up = c.apply_write-boxed.ensures.next;
+    up = c.apply_write-boxed.ensures.next.next;
     inside = search rules;
   })
 ]

@@ -22,14 +22,14 @@ pub invariant_of-self : goal.invariant_of-self
 invariant_of-self g c =
     let has = c.self.invariant in
     let same = told_replicas c.fault.result.answer c.args.replica c.faults-count.result (g.C.ClientSteps.mine c.self.inside.steps)
-    (g.C.ClientSteps.mine c.fault.new.self) c.fault.ensures.ok c.fault.ensures.err in
+    (g.C.ClientSteps.mine c.fault.new.self) c.fault.ensures.does.ok c.fault.ensures.does.err in
     record {
-      ready = c.fault.ensures.ready;
+      ready = c.fault.ensures.stands.ready;
       few = has.few;
       lines = has.lines ∙ sym same;
       shown = shown_told c.fault.result.answer c.args.replica c.faults-count.result (g.C.ClientSteps.mine c.self.inside.steps)
           (g.C.ClientSteps.mine c.fault.new.self) (map (λ x. g.L.Line.count x.line) c.self.inside.channels.items)
-          (map (λ x. g.L.Line.carried x.line) c.self.inside.channels.items) c.fault.ensures.ok c.fault.ensures.err
+          (map (λ x. g.L.Line.carried x.line) c.self.inside.channels.items) c.fault.ensures.does.ok c.fault.ensures.does.err
           (omega (arith, is_count g c)) has.shown;
     }
 
@@ -41,9 +41,9 @@ returns-clause-falls g c =
     < slice_index_or (map (λ x. g.L.Line.count x.line) w.channels) c.args.replica 0) (sym c.self.view_is) c.requires.above in
     rw (← c.self.view_is) (record {
       goes = goes_told c.fault.result.answer c.args.replica c.faults-count.result a (g.C.ClientSteps.mine c.fault.new.self)
-          c.fault.ensures.ok c.fault.ensures.err;
+          c.fault.ensures.does.ok c.fault.ensures.does.err;
       failed = fault_why c.fault.result.answer (g.C.ClientSteps.modes c.fault.new.self) a c.args.replica c.faults-count.result
-          (omega (arith, is_count g c, above)) c.fault.ensures.failed c.fault.ensures.why;
-      up = c.fault.ensures.next;
-      inside = c.fault.ensures.inside;
+          (omega (arith, is_count g c, above)) c.fault.ensures.failed c.fault.ensures.does.why;
+      up = c.fault.ensures.next.next;
+      inside = c.fault.ensures.next.inside;
     })
