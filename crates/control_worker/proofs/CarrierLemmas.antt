@@ -2,7 +2,6 @@
 use Rattle.std.proofs.Common.{◌≡◌, ◌≤◌, ℕ, Bool, List, [], length, map, get_or, Option, Vec, arith, subst, sym, refl, ap, ◌∙◌}
 use Rattle.std.specs.Vec.{with_items}
 use Rattle.std.proofs.lemmas.List.{with_items_is}
-use Rattle.outer_traits.proofs.Lines.{TellsMore-nil}
 use Rattle.outer_traits.specs.declared.ends.Ends.{Ends}
 use Rattle.stream_steps.specs.Mine.{Mine, with_running}
 use Rattle.client_worker.specs.Asking.{TellOn}
@@ -11,6 +10,7 @@ use Rattle.client_worker.specs.Serving.{IsShown}
 use Rattle.client_worker.specs.Working.{Work, IsServing, Stays, counts_of, told_by}
 use Rattle.client_worker.specs.declared.channel.Channel.{Channel}
 use Rattle.client_worker.proofs.Shown.{shown_later}
+use Rattle.client_worker.proofs.Told.{tells_on_same}
 use Rattle.control_worker.specs.Carrying.{Keeps}
 use Rattle.control_worker.proofs.ShownLemmas.{StaysShown, stays_same}
 
@@ -166,4 +166,4 @@ pub later_same : (before now : List ℕ) → now ≡ before → (k : ℕ) → ge
 later_same before now e k = subst (λ xs. get_or before k 0 ≤ get_or xs k 0) (sym e) (omega (arith))
 
 pub tells_same : (before now : List (Option (List (List ℕ)))) → now ≡ before → TellOn before now
-tells_same before now e = subst (TellOn before) (sym e) (λ r. ([], TellsMore-nil (told_in before r)))
+tells_same before now e = subst (TellOn before) (sym e) (λ r. tells_on_same (told_in before r))

@@ -17,7 +17,6 @@ use Rattle.frame_wire.specs.declared.head.Head.{Head}
 use Rattle.frame_wire.specs.Spelling.{frame, IsHead}
 use Rattle.client_worker.specs.Exchanges.{told_in}
 use Rattle.stream_steps.specs.Mine.{Mine, OwnCall, with_running}
-use Rattle.stream_steps.specs.Add as step
 use Rattle.stream_steps.specs.Add.{HasAdd}
 use Rattle.client_worker.specs.Serving.{IsShown}
 use Rattle.client_worker.specs.declared.channel.Channel.{Channel}
@@ -41,11 +40,9 @@ pub quiet_now : (told told2 : Option (List (List ℕ))) (seq seq2 : ℕ) → tol
 quiet_now told told2 seq seq2 e f = record { told = subst (λ x. TellsMore told x []) (sym e) (TellsMore-nil told); seq = f }
 
 -- the texts of pages are what they were
-pub texts_kept : (a b : ℕ → Type 0) (p q : PageRef → Table → Type 0) → step.AreKept a b p q → copy.AreKept a b (IsTextOn p) (IsTextOn q)
-texts_kept a b p q k = record {
-  ended = k.ended;
-  texts = λ page text h. record { blocks = h.blocks; are = k.pages page h.blocks h.are; spelled = h.spelled };
-}
+pub texts_kept : (p q : PageRef → Table → Type 0) → ((page : PageRef) (table : Table) → p page table → q page table)
+    → (page : PageRef) (text : List ℕ) → IsTextOn p page text → IsTextOn q page text
+texts_kept p q kept page text h = record { blocks = h.blocks; are = kept page h.blocks h.are; spelled = h.spelled }
 
 -- ---- the page in hand
 

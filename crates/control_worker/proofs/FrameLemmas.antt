@@ -1,11 +1,12 @@
 -- The requests and replies are those that a line is to carry.
-use Rattle.std.proofs.Common.{◌≡◌, ℕ, ◌+◌, ◌-◌, ◌≤◌, ℤ, arith, List, [], ◌++◌, length, drop, length-drop}
+use Rattle.std.proofs.Common.{◌≡◌, ℕ, ◌+◌, ◌-◌, ◌^◌, ◌<◌, ◌≤◌, ℤ, arith, List, [], ◌++◌, length, drop, length-drop}
 use Rattle.std.proofs.Common.{length-append, subst, refl, sym, ap, ◌∙◌, append_assoc, append-nil}
 use Rattle.std.specs.Prelude.{codes}
 use Rattle.std.proofs.lemmas.List.{drop-append-le}
 use Rattle.frame_wire.specs.declared.head.Head.{Head}
-use Rattle.frame_wire.specs.Spelling.{header, frame}
-use Rattle.client_worker.proofs.Told.{header_alone}
+use Rattle.frame_wire.specs.Spelling.{header, frame, IsHead, IsFrame}
+use Rattle.rebuild_worker.specs.Copying.{numbered}
+use Rattle.client_worker.proofs.Told.{header_alone, is_framed}
 use Rattle.step_answers.specs.declared.whole_op.WholeOp.{WholeOp}
 use Rattle.step_answers.specs.declared.whole_op.WholeOp.TheVariants as whole
 use Rattle.control_worker.specs.Frames.{ask_head, ask_request, done_head, done_reply, pair_text, part_text, AsksBy, IsPartText}
@@ -21,6 +22,21 @@ asks_now seq offset text before request h asks is made =
 pub replies_now : (seq : ℕ) (offset : ℤ) (reply : List ℕ) (h : Head) → h ≡ done_head seq offset → reply ≡ header h
     → reply ≡ done_reply seq offset
 replies_now seq offset reply h is made = made ∙ ap header is ∙ header_alone (done_head seq offset)
+
+-- with its header put before its text it is a whole frame
+pub request_whole : (h : Head) (before request : List ℕ) → IsHead h → h.len ≡ length before - 26
+    → request ≡ frame h (drop 26 before) → IsFrame request
+request_whole h before request fits len made =
+    is_framed h (drop 26 before) request fits (length-drop 26 before ∙ sym len) made
+
+-- with another number it is a whole frame still
+pub whole_numbered : (seq : ℕ) (before after : List ℕ) → seq < 2 ^ 32 → IsFrame before
+    → ((h : Head) (body : List ℕ) → before ≡ frame h body → after ≡ frame (numbered seq h) body) → IsFrame after
+whole_numbered seq before after few whole spelled =
+    let f = whole.fits in
+    is_framed (numbered seq whole.head) whole.body after
+    (record { seq = few; kind = f.kind; offset = f.offset; size = f.size; len = f.len }) whole.long
+    (spelled whole.head whole.body whole.spelled)
 
 -- the text of each operation, with no name of a barrier's snapshot
 pub part_is_text : (op : WholeOp) → IsPartText op (part_text op)

@@ -1,5 +1,5 @@
 -- A round of a purge: a layer goes, or the purge is answered.
-use Rattle.std.proofs.Common.{◌≡◌, ℕ, ◌+◌, ◌*◌, ◌<◌, arith, ⊎_elim, List, [], ◌∷◌, Option, Some, None, IfSome}
+use Rattle.std.proofs.Common.{◌≡◌, ℕ, ◌+◌, ◌*◌, ◌<◌, arith, ⊎_elim, inl, inr, Bool, true, false, List, [], ◌∷◌, Option, Some, None, IfSome}
 use Rattle.std.proofs.Common.{Result, Ok, Err, OnOk, OnErr, is_ok}
 use Rattle.std.proofs.Common.{subst, sym, refl, ap, ◌∙◌}
 use Rattle.std.specs.Prelude.{All}
@@ -9,13 +9,19 @@ use Rattle.volume_model.specs.declared.call.Refusal.TheVariants.{NoReplica}
 use Rattle.volume_model.specs.declared.call.Reply.{Reply}
 use Rattle.volume_model.specs.declared.call.Reply.TheVariants as reply
 use Rattle.volume_model.specs.declared.mark.FoldOrDrop.{FoldOrDrop}
+use Rattle.volume_model.specs.declared.mode.Mode.{Mode}
+use Rattle.volume_model.specs.declared.mode.Mode.TheVariants.{Err as Failed, Rw}
+use Rattle.volume_model.specs.Modes.{mode_of}
 use Rattle.volume_model.specs.declared.command.Command.TheVariants as command
 use Rattle.step_answers.specs.declared.whole_op.WholeOp.TheVariants as whole
 use Rattle.step_answers.specs.declared.answers.NextPart.{NextPart}
 use Rattle.step_answers.specs.declared.answers.NextPart.TheVariants as next
 use Rattle.stream_steps.specs.Mine.{Mine, OwnCall, Log, entries_in, with_entries, with_running, answer_placed}
 use Rattle.stream_steps.specs.Maint.{HasTurn, AnswersWhole, EnrolsUnder, StartsWhole, IsNext}
-use Rattle.control_worker.specs.Purges.{MayComeBefore, IsPurgeReply, PurgesOn, PurgeEnds, PurgesWhole, GoesNext, RoundTo}
+use Rattle.stream_steps.specs.Seen.{Seen}
+use Rattle.client_worker.specs.Working.{Work}
+use Rattle.control_worker.specs.Carrying.{PassesOr}
+use Rattle.control_worker.specs.Purges.{MayComeBefore, IsFolded, IsPurgeReply, PurgesOn, PurgeEnds, PurgesWhole, GoesNext, RoundTo}
 use Rattle.control_worker.specs.Serving.{GrewByCommand, GaveUp}
 use Rattle.control_worker.specs.Whole.{Goes, GoesOn, RefusedWhole, EndsBehind}
 use Rattle.control_worker.proofs.InTurn.{TakesTurn}
@@ -32,6 +38,16 @@ some_of x a P is h = subst (λ y. IfSome y P) is h
 pub below_next : (P : ℕ → Type 0) (n : ℕ) → ((k : ℕ) → k < n → P k) → P n → (k : ℕ) → k < n + 1 → P k
 below_next P n before last k below =
     ⊎_elim (λ (same : k ≡ n). subst P (sym same) last) (λ other. before k (omega (arith, below, other))) (cases_eq k n)
+
+-- a page that a replica has folded is folded behind the carry of its reply too, which comes through or fails the replica
+pub folded_told : {C L : Type 0} (modes : C → List Mode) (told : L → Option (List (List ℕ))) (wants : C → Type 0)
+    (came : Bool) (r page : ℕ) (reply parent : List ℕ) (seen : Seen) (w w2 : Work C L) → ¬ wants w.steps
+    → PassesOr modes told r reply came w w2 → IsFolded (wants w2.steps) (mode_of (modes w2.steps) r) parent page seen
+folded_told modes told wants true r page reply parent seen w w2 not p = inl (λ want. not (subst wants p.same want))
+folded_told modes told wants false r page reply parent seen w w2 not p = inr (inl (λ read. not_read (sym p ∙ read)))
+  where
+    not_read : Failed ≡ Rw → ⊥
+    not_read e = cc
 
 -- a page of so many
 pub page_below : (page pages size : ℕ) → pages * PAGE_BYTES ≡ size → page * PAGE_BYTES < size → page < pages

@@ -24,7 +24,12 @@ idle_of m e = ap (with_running m) e
 -- entries that are not the stream's show nothing
 pub shown_log : (a : Mine) (own : List Placed) (es fs : List Entry) (counts : List ℕ) (carried : List (Option (List (List ℕ))))
     → IsShown (with_entries a own es []) counts carried → IsShown (with_entries a own fs []) counts carried
-shown_log a own es fs counts carried h = record { counted = h.counted; answered = h.answered; acked = h.acked }
+shown_log a own es fs counts carried h = record {
+  counted = h.counted;
+  framed = h.framed;
+  answered = h.answered;
+  acked = h.acked;
+}
 
 -- ---- while no call is open
 
@@ -64,7 +69,7 @@ stays_answer c modes answer es a b e is =
           subst (λ (m : Mine). IsShown m counts carried) (sym (ap (λ (m : Mine). with_running m []) e))
           (shown_log (with_running a []) own (entries_in own) es counts carried
           (shown_more (answer_placed modes answer) [] (with_running a []) (with_more (with_running a []) own []) counts carried refl
-          (counted_answer modes answer [] (with_running a []) (with_more (with_running a []) own []) counts refl h.counted)
+          (counted_answer modes answer [] (with_running a []) (with_more (with_running a []) own []) counts refl h.counted) h.framed
           (subst (λ (x : Call). CarriedOf a.replicas (told_in carried) modes x answer.reply) (sym is) tt)
           h.answered (λ p no. absurd (no_call p no))));
     }

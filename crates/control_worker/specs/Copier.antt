@@ -5,7 +5,8 @@ use Rattle.page_text.specs.Text.{page_text}
 use Rattle.vol_units.specs.declared.page_ref.PageRef.{PageRef}
 use Rattle.rebuild_worker.specs.declared.steps.CopySide.{CopySide}
 use Rattle.rebuild_worker.specs.declared.steps.CopySide.TheVariants.{Source, Target}
-use Rattle.rebuild_worker.specs.Copying.{Copying}
+use Rattle.rebuild_worker.specs.Copying.{Copying, OnLine}
+use Rattle.client_worker.specs.declared.channel.Channel.{Channel}
 use Rattle.client_worker.specs.Exchanges.{told_in}
 use Rattle.stream_steps.specs.Mine.{Mine, OwnCall, with_running}
 use Rattle.stream_steps.specs.Add.{HasAdd}
@@ -15,6 +16,10 @@ use Rattle.client_worker.specs.Serving.{IsShown}
 abbrev pub replica_for : CopySide → ℕ → ℕ → ℕ
 replica_for Source source target = source
 replica_for Target source target = target
+
+-- a line with what it tells, and the number of its last exchange
+abbrev pub on_line : {L : Type 0} → (L → Option (List (List ℕ))) → Channel L → OnLine
+on_line told c = record { told = told c.line; seq = c.seq }
 
 -- how far the copying is, with lines that tell this and have begun so many exchanges
 abbrev pub work_of : ℕ → Option PageRef → Bool → List (Option (List (List ℕ))) → List ℕ → ℕ → ℕ → Copying

@@ -1,6 +1,6 @@
 -- How what a worker knows of its stream grows while it answers the stream's commands. The stream's own entries have all
 -- answers of those that came (`HasAnswers`), also where the journal is not known.
-use Rattle.std.specs.Prelude.{◌≡◌, ◌⊎◌, ℕ, ◌<◌, List, [], ◌∷◌, ◌++◌, All, false, Option, IfSome}
+use Rattle.std.specs.Prelude.{◌≡◌, ◌⊎◌, ℕ, List, [], ◌∷◌, ◌++◌, All, false, Option, IfSome}
 use Rattle.vol_units.specs.Name.{begins_sys}
 use Rattle.volume_model.specs.declared.command.Command.{Command}
 use Rattle.volume_model.specs.declared.command.Command.TheVariants as command
@@ -9,7 +9,7 @@ use Rattle.volume_model.specs.declared.call.Reply.TheVariants as reply
 use Rattle.volume_model.specs.declared.entry.Answer.{Answer}
 use Rattle.volume_model.specs.declared.entry.Entry.{Entry}
 use Rattle.volume_model.specs.declared.entry.Entry.TheVariants as entry
-use Rattle.step_answers.specs.Asked.{NamesReplica}
+use Rattle.volume_model.specs.Commands.{NamesReplica}
 use Rattle.stream_steps.specs.Mine.{Mine, Placed, Log, with_entries, longer, length_of}
 use Rattle.stream_steps.specs.Steps.{AreMarks, IsCommandAt}
 use Rattle.control_worker.specs.OwnAnswers.{HasAnswers}

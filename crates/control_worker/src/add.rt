@@ -28,7 +28,7 @@ impl<C: AddSteps + Drop, L: Line + Drop> Carrier<C, L> {
     ) -> Result<(), AllocError>
         requires line { replica < length self.old.channels }
         requires idle { (C.mine self.old.steps).running ≡ [] }
-        // Where memory ran out, it may tell that the stream gave a rebuild up.
+        // Where memory ran out, it may tell that the stream gave up.
         ensures home { OnOk result (C.home self.new.steps ≡ C.home self.old.steps) }
         ensures lines { KeepsLines L.ends self.old self.new }
         ensures ok { OnOk result (GrewByCommand (Command.Add replica) (C.mine self.old.steps) (C.mine self.new.steps)) }
@@ -103,8 +103,7 @@ impl<C: AddSteps + Drop, L: Line + Drop> Carrier<C, L> {
         }
     }
 
-    /// Answers the add that its rebuild was aborted, whose mark stands at that place. An operation on the whole volume
-    /// that has started ends first.
+    /// Answers the add that its rebuild was aborted, whose mark stands at that place.
     fn answer_aborted<R: Wait>(&mut self, rt: &R, t: TicketNumber, place: u64)
         requires turn { (r : ℕ) × (o : OwnCall) × HasAdd t r o (C.mine self.old.steps) }
         requires aborted { C.is_aborted self.old.steps place }
@@ -112,11 +111,10 @@ impl<C: AddSteps + Drop, L: Line + Drop> Carrier<C, L> {
         ensures done { (r : ℕ) (o : OwnCall) → HasAdd t r o (C.mine self.old.steps)
             → EndsAborted r place o (C.mine self.old.steps) (C.mine self.new.steps) }
     {
-        for _ in rt.forever() {
-            if self.steps.end_aborted(rt, t, place).is_some() {
-                return;
-            }
+        match self.steps.end_aborted(rt, t, place) {
+            Some(_) => {}
+            // It is refused only where no such mark stands.
+            None => unreachable!(),
         }
-        unreachable!()
     }
 }

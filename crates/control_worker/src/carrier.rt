@@ -4,7 +4,7 @@ ghost use Rattle.std.specs.Prelude.{◌≡◌, ◌<◌, ◌≤◌, [], length, v
 ghost use Rattle.volume_model.specs.Faults.{last_count};
 ghost use Rattle.volume_model.specs.Modes.{mode_of};
 ghost use Rattle.stream_steps.specs.Mine.{entries_in, with_running};
-ghost use Rattle.client_worker.specs.Asking.{TellOn};
+ghost use Rattle.client_worker.specs.Asking.{Arrives, TellOn};
 ghost use Rattle.client_worker.specs.Working.{IsServing, counts_of, told_by};
 ghost use Rattle.control_worker.specs.Carrying.{Keeps, PassesOr};
 ghost use Rattle.control_worker.specs.Whole.{GoesOn};
@@ -71,7 +71,7 @@ impl<C: AddSteps + Drop, L: Line + Drop> Carrier<C, L> {
         room: &mut Vec<u8>,
     ) -> bool
         requires line { replica < length self.old.channels }
-        requires room { length frame.now ≤ vec_capacity room.old }
+        requires frame { Arrives frame.now (vec_capacity room.old) }
         ensures room { vec_capacity room.old ≤ vec_capacity room.new }
         ensures keeps { Keeps C.home C.begun L.ends self.old self.new }
         ensures told { TellOn (told_by L.carried self.old) (told_by L.carried self.new) }

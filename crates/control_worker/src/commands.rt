@@ -6,7 +6,7 @@ ghost use Rattle.volume_model.specs.declared.command.Command.{Command};
 ghost use Rattle.step_answers.specs.Asked.{command_of};
 ghost use Rattle.stream_steps.specs.Mine.{OwnCall, with_running};
 ghost use Rattle.stream_steps.specs.Maint.{AwaitsTurn, EnrolsUnder, HasTurn, HasWhole, IsMaint};
-ghost use Rattle.client_worker.specs.Working.{Stays};
+ghost use Rattle.client_worker.specs.Working.{KeepsLines, Stays};
 ghost use Rattle.control_worker.specs.Serving.{GrewByCommand};
 ghost use Rattle.control_worker.specs.Whole.{AnswersCall, IsNoPart, IsWhole, TurnBegins};
 
@@ -52,7 +52,9 @@ impl<C: AddSteps + Drop, L: Line + Drop> Carrier<C, L> {
     ) -> Result<(), AllocError>
         requires idle { (C.mine self.old.steps).running ≡ [] }
         requires wants { IsMaint (command_of op) × IsNoPart op }
-        ensures stays { Stays C.home L.ends self.old self.new }
+        // Where memory ran out, it may tell that the stream gave up.
+        ensures home { OnOk result (C.home self.new.steps ≡ C.home self.old.steps) }
+        ensures lines { KeepsLines L.ends self.old self.new }
         ensures ok { OnOk result (GrewByCommand (command_of op) (C.mine self.old.steps) (C.mine self.new.steps)) }
         ensures err { OnErr result (C.mine self.new.steps ≡ C.mine self.old.steps) }
     {
@@ -92,7 +94,9 @@ impl<C: AddSteps + Drop, L: Line + Drop> Carrier<C, L> {
     ) -> Result<TicketNumber, AllocError>
         requires turn { (o : OwnCall) × HasTurn t (command_of op.now) o (C.mine self.old.steps) }
         requires plain { IsNoPart op.now }
-        ensures stays { Stays C.home L.ends self.old self.new }
+        // Where memory ran out, it may tell that the stream gave up.
+        ensures home { OnOk result (C.home self.new.steps ≡ C.home self.old.steps) }
+        ensures lines { KeepsLines L.ends self.old self.new }
         ensures ok { IfOk result (λ n. (o : OwnCall) → HasTurn t (command_of op.now) o (C.mine self.old.steps)
             → EnrolsUnder n op.now o (C.mine self.old.steps) (C.mine self.new.steps)) }
         ensures err { OnErr result (C.mine self.new.steps ≡ with_running (C.mine self.old.steps) []) }

@@ -29,7 +29,7 @@ impl<C: AddSteps + Drop, L: Line + Drop> Carrier<C, L> {
     ) -> Result<Served, AllocError>
         requires idle { (C.mine self.old.steps).running ≡ [] }
         requires taken { All (IsForWorker (length self.old.channels)) commands.now }
-        // Where memory ran out, it may tell that the stream gave a rebuild up.
+        // Where memory ran out, it may tell that the stream gave up.
         ensures home { OnOk result (C.home self.new.steps ≡ C.home self.old.steps) }
         ensures lines { KeepsLines L.ends self.old self.new }
         ensures ok { OnOk result (Commanded commands.now (C.mine self.old.steps) (C.mine self.new.steps)) }
@@ -55,7 +55,7 @@ impl<C: AddSteps + Drop, L: Line + Drop> Carrier<C, L> {
     ) -> Result<(), AllocError>
         requires idle { (C.mine self.old.steps).running ≡ [] }
         requires taken { IsForWorker (length self.old.channels) command.now }
-        // Where memory ran out, it may tell that the stream gave a rebuild up.
+        // Where memory ran out, it may tell that the stream gave up.
         ensures home { OnOk result (C.home self.new.steps ≡ C.home self.old.steps) }
         ensures lines { KeepsLines L.ends self.old self.new }
         ensures ok { OnOk result (GrewByCommand command.now (C.mine self.old.steps) (C.mine self.new.steps)) }

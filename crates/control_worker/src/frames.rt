@@ -2,7 +2,7 @@
 
 ghost use Rattle.std.specs.Prelude.{◌≡◌, ◌*◌, ◌+◌, ◌≤◌, ◌++◌, length, pos, vec_capacity, vec_len, codes};
 ghost use Rattle.vol_units.specs.declared.size.TheConstants.{PAGE_BYTES};
-ghost use Rattle.frame_wire.specs.Spelling.{header_length};
+ghost use Rattle.frame_wire.specs.Spelling.{header_length, IsHead};
 ghost use Rattle.control_worker.specs.Frames.{AsksBy, ask_head, done_head, fold_text, longest_text, pair_text, part_text};
 
 use frame_stream::PING;
@@ -16,7 +16,8 @@ const RESPONSE: u32 = 2;
 
 /// Asks with so many bytes of text.
 pub(crate) fn ask_head(seq: u32, offset: i64, count: u32) -> Head
-    ensures { result ≡ ask_head seq offset count }
+    ensures value { result ≡ ask_head seq offset count }
+    ensures fits { IsHead result }
 {
     Head {
         seq,
@@ -29,7 +30,8 @@ pub(crate) fn ask_head(seq: u32, offset: i64, count: u32) -> Head
 
 /// Tells that it is done.
 pub(crate) fn done_head(seq: u32, offset: i64) -> Head
-    ensures { result ≡ done_head seq offset }
+    ensures value { result ≡ done_head seq offset }
+    ensures fits { IsHead result }
 {
     Head {
         seq,

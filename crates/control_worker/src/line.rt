@@ -1,10 +1,9 @@
 //! A frame of a rebuild on a line to a replica.
 
-ghost use Rattle.std.specs.Prelude.{◌≡◌, ℕ, ◌<◌, ◌≤◌, List, [], ◌∷◌, length, vec_capacity, true, false};
-ghost use Rattle.frame_wire.specs.declared.head.Head.{Head};
-ghost use Rattle.frame_wire.specs.Spelling.{frame, header_length, IsHead};
-ghost use Rattle.outer_traits.specs.Lines.{TellsMore};
-ghost use Rattle.rebuild_worker.specs.Copying.{number_after, numbered};
+ghost use Rattle.std.specs.Prelude.{◌≡◌, ◌<◌, ◌≤◌, vec_capacity, true, false};
+ghost use Rattle.client_worker.specs.Asking.{Arrives, TellsOn};
+ghost use Rattle.rebuild_worker.specs.Copying.{CarriesOn};
+ghost use Rattle.control_worker.specs.Copier.{on_line};
 
 use client_worker::{Channel, Line};
 use rebuild_worker::put_number;
@@ -16,18 +15,13 @@ pub(crate) fn carry_on<L: Line + Drop>(
     bytes: &mut [u8],
     room: &mut Vec<u8>,
 ) -> bool
-    requires header { header_length ≤ length bytes.old }
-    requires room { length bytes.old ≤ vec_capacity room.old }
+    requires frame { Arrives bytes.old (vec_capacity room.old) }
     ensures ends { L.ends channel.new.line ≡ L.ends channel.old.line }
     ensures later { L.count channel.old.line ≤ L.count channel.new.line }
     ensures failed { result ≡ false → L.count channel.old.line < L.count channel.new.line }
-    ensures told { (more : List (List ℕ)) × TellsMore (L.carried channel.old.line) (L.carried channel.new.line) more }
-    ensures carried { result ≡ true → TellsMore (L.carried channel.old.line) (L.carried channel.new.line)
-        (bytes.new ∷ []) }
-    ensures spelled { (h : Head) (body : List ℕ) → bytes.old ≡ frame h body
-        → bytes.new ≡ frame (numbered channel.new.seq h) body }
-    ensures number { (h : Head) (body : List ℕ) → IsHead h → bytes.old ≡ frame h body
-        → channel.new.seq ≡ number_after channel.old.seq h.kind }
+    ensures told { TellsOn (L.carried channel.old.line) (L.carried channel.new.line) }
+    ensures carries { result ≡ true → CarriesOn (on_line L.carried channel.old) (on_line L.carried channel.new)
+        bytes.old bytes.new }
 {
     channel.seq = put_number(bytes, channel.seq);
     room.clear();

@@ -7,7 +7,7 @@ ghost use Rattle.volume_model.specs.declared.mark.FoldOrDrop.{FoldOrDrop};
 ghost use Rattle.volume_model.specs.Modes.{mode_of};
 ghost use Rattle.stream_steps.specs.Mine.{OwnCall};
 ghost use Rattle.stream_steps.specs.Maint.{HasTurn};
-ghost use Rattle.client_worker.specs.Working.{Stays};
+ghost use Rattle.client_worker.specs.Working.{KeepsLines, Stays};
 ghost use Rattle.control_worker.specs.Frames.{IsRequest, KeepsText};
 ghost use Rattle.control_worker.specs.Purges.{GoesNext, IsFolded, PurgesOn, PurgesWhole, RoundTo};
 ghost use Rattle.control_worker.specs.Serving.{GaveUp, GrewByCommand};
@@ -44,7 +44,9 @@ impl<C: AddSteps + Drop, L: Line + Drop> Carrier<C, L> {
         rooms: &mut Rooms,
     ) -> Result<(), AllocError>
         requires idle { (C.mine self.old.steps).running ≡ [] }
-        ensures stays { Stays C.home L.ends self.old self.new }
+        // Where memory ran out, it may tell that the stream gave up.
+        ensures home { OnOk result (C.home self.new.steps ≡ C.home self.old.steps) }
+        ensures lines { KeepsLines L.ends self.old self.new }
         ensures ok { OnOk result (GrewByCommand Command.Purge (C.mine self.old.steps) (C.mine self.new.steps)) }
         ensures err { OnErr result (GaveUp (C.mine self.old.steps) (C.mine self.new.steps)) }
     {
@@ -62,7 +64,9 @@ impl<C: AddSteps + Drop, L: Line + Drop> Carrier<C, L> {
         rooms: &mut Rooms,
     ) -> Result<(), AllocError>
         requires turn { (o : OwnCall) × HasTurn t Command.Purge o (C.mine self.old.steps) }
-        ensures stays { Stays C.home L.ends self.old self.new }
+        // Where memory ran out, it may tell that the stream gave up.
+        ensures home { OnOk result (C.home self.new.steps ≡ C.home self.old.steps) }
+        ensures lines { KeepsLines L.ends self.old self.new }
         ensures ok { OnOk result ((o : OwnCall) → HasTurn t Command.Purge o (C.mine self.old.steps)
             → PurgesWhole o (C.mine self.old.steps) (C.mine self.new.steps)) }
         ensures err { OnErr result (GaveUp (C.mine self.old.steps) (C.mine self.new.steps)) }

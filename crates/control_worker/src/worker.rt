@@ -57,7 +57,7 @@ impl<C: AddSteps + Drop, L: Line + Drop> ControlWorker<C, L> {
         commands: &[Command],
     ) -> Result<Served, AllocError>
         requires taken { All (IsForWorker (length self.old.channels)) commands.now }
-        // Where memory ran out, it may tell that the stream gave a rebuild up.
+        // Where memory ran out, it may tell that the stream gave up.
         ensures home { OnOk result (C.home self.new.steps ≡ C.home self.old.steps) }
         ensures lines { KeepsLines L.ends self.old self.new }
         ensures ok { OnOk result (Commanded commands.now (C.mine self.old.steps) (C.mine self.new.steps)) }

@@ -46,7 +46,7 @@ returns-in_err-t-clause-err g c =
 pub invariant_of-self-2 : goal.invariant_of-self-2
 invariant_of-self-2 g c =
     let e = c.in_ok-t.ensures.ok in
-    serves_step g.C.CommandSteps.mine _ _ c.in_ok-t.ensures.ready (stays_running (e.own ∷ []) _ _ e.is) c.self.invariant
+    serves_step g.C.CommandSteps.mine _ _ c.in_ok-t.ensures.stands.ready (stays_running (e.own ∷ []) _ _ e.is) c.self.invariant
 
 pub await_turn-requires : goal.await_turn-requires
 await_turn-requires g c =
@@ -98,7 +98,7 @@ returns-then-is_err-clause-err g c =
 
 pub returns-else-is_err-clause-home : goal.returns-else-is_err-clause-home
 returns-else-is_err-clause-home g c =
-    on_ok c.rebuild-done.result (c.rebuild-done.ensures.stays.home ∙ c.await_turn.ensures.stays.home ∙ c.enrol_maint.ensures.home
+    on_ok c.rebuild-done.result (c.rebuild-done.ensures.stays.home ∙ c.await_turn.ensures.stays.home ∙ c.enrol_maint.ensures.stands.home
     ∙ ap (λ (w : Work g.row.C.Denot g.row.L.Denot). g.C.CommandSteps.home w.steps) c.self.view_is)
 
 pub returns-else-is_err-clause-ok : goal.returns-else-is_err-clause-ok

@@ -21,14 +21,14 @@ complete_whole-requires-clause-started g c =
 pub invariant_of-self : goal.invariant_of-self
 invariant_of-self g c =
     let yes : is_ok c.complete_whole.result ≡ true = search rules in
-    serves_step g.C.CommandSteps.mine _ _ c.complete_whole.ensures.ready
-    (ends_stays c.loop.invariant.unchanged.same (ok_of c.complete_whole.result yes c.complete_whole.ensures.ok) c.requires.started)
+    serves_step g.C.CommandSteps.mine _ _ c.complete_whole.ensures.stands.ready
+    (ends_stays c.loop.invariant.unchanged.same (ok_of c.complete_whole.result yes c.complete_whole.ensures.does.ok) c.requires.started)
     c.loop.invariant.unchanged.serves
 
 pub returns-then-is_ok-clause-done : goal.returns-then-is_ok-clause-done
 returns-then-is_ok-clause-done g c =
     let yes : is_ok c.complete_whole.result ≡ true = search rules in
-    ends_still c.loop.invariant.unchanged.same (ok_of c.complete_whole.result yes c.complete_whole.ensures.ok)
+    ends_still c.loop.invariant.unchanged.same (ok_of c.complete_whole.result yes c.complete_whole.ensures.does.ok)
 
 pub returns-then-is_ok-clause-past : goal.returns-then-is_ok-clause-past
 returns-then-is_ok-clause-past g c = λ r turn o h source begun.

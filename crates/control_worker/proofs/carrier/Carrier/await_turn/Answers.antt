@@ -9,16 +9,16 @@ loop-init g c = unchanged_first _ _ c.self.view_is c.self.invariant
 
 pub invariant_of-self : goal.invariant_of-self
 invariant_of-self g c =
-    serves_step g.C.CommandSteps.mine _ _ c.admit_maint.ensures.ready
-    (turn_stays _ c.admit_maint.result c.loop.invariant.same c.admit_maint.ensures.turns c.requires.waits) c.loop.invariant.serves
+    serves_step g.C.CommandSteps.mine _ _ c.admit_maint.ensures.stands.ready
+    (turn_stays _ c.admit_maint.result c.loop.invariant.same c.admit_maint.ensures.turns.ok c.requires.waits) c.loop.invariant.serves
 
 pub returns-then-eq-clause-turn : goal.returns-then-eq-clause-turn
 returns-then-eq-clause-turn g c =
     let is : c.admit_maint.result ≡ may.Yes = search rules in
-    turn_begins _ c.admit_maint.result c.loop.invariant.same c.admit_maint.ensures.turns is
+    turn_begins _ c.admit_maint.result c.loop.invariant.same c.admit_maint.ensures.turns.ok is
 
 pub loop-preserved : goal.loop-preserved
 loop-preserved g c =
     let other : c.admit_maint.result ≡ may.Yes → ⊥ = search rules in
-    unchanged_next _ _ _ c.admit_maint.ensures.ready c.admit_maint.ensures.home
-    (turn_waits _ c.admit_maint.result c.loop.invariant.same c.admit_maint.ensures.turns other c.requires.waits) c.loop.invariant
+    unchanged_next _ _ _ c.admit_maint.ensures.stands.ready c.admit_maint.ensures.stands.home
+    (turn_waits _ c.admit_maint.result c.loop.invariant.same c.admit_maint.ensures.turns.ok other c.requires.waits) c.loop.invariant

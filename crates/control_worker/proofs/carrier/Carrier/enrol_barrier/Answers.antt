@@ -18,7 +18,7 @@ under : (g : Over) (c : In-Some g) (r : ℕ) (o : OwnCall) → c.args.op.now ≡
     → EnrolsUnder c.in-Some.barrier c.args.op.now o (g.C.CommandSteps.mine c.self.inside.steps)
     (g.C.CommandSteps.mine c.enrol_whole.new.self)
 under g c r o is h =
-    some_of c.in_ok-barrier.field-0 c.in-Some.barrier _ c.in-Some.is c.in_ok-barrier.ensures.ok o
+    some_of c.in_ok-barrier.field-0 c.in-Some.barrier _ c.in-Some.is c.in_ok-barrier.ensures.ok.some o
     (subst (λ op. HasTurn c.args.t (command_of op) o (g.C.CommandSteps.mine c.self.inside.steps)) (sym is) h)
 
 pub invariant_of-self-2 : goal.invariant_of-self-2
@@ -27,7 +27,7 @@ invariant_of-self-2 g c =
     let h = subst (λ (w : Work g.row.C.Denot g.row.L.Denot). HasAdd c.args.t t.0 t.1 (g.C.CommandSteps.mine w.steps))
     (sym c.self.view_is) t.3 in
     let e = under g (goal.at.invariant_of-self-2 g c).In-Some t.0 t.1 t.2 h in
-    serves_step g.C.CommandSteps.mine _ _ c.in_ok-barrier.ensures.ready (stays_running (t.1 ∷ e.whole.own ∷ []) _ _ e.whole.is)
+    serves_step g.C.CommandSteps.mine _ _ c.in_ok-barrier.ensures.stands.ready (stays_running (t.1 ∷ e.whole.own ∷ []) _ _ e.whole.is)
     c.self.invariant
 
 pub returns-clause-ok : goal.returns-clause-ok

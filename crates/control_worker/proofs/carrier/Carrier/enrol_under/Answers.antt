@@ -20,15 +20,15 @@ pub invariant_of-self : goal.invariant_of-self
 invariant_of-self g c =
     let o = c.requires.turn.0 in
     let is : c.in-Ok-Some.field-0 ≡ Some c.in-Ok-Some.whole = search rules in
-    let e = some_of c.in-Ok-Some.field-0 c.in-Ok-Some.whole _ is c.in-Ok-Some.ensures.ok o
+    let e = some_of c.in-Ok-Some.field-0 c.in-Ok-Some.whole _ is c.in-Ok-Some.ensures.ok.some o
     (turn g (goal.at.invariant_of-self g c).After-enrol_whole) in
-    serves_step g.C.CommandSteps.mine _ _ c.in-Ok-Some.ensures.ready (stays_running (o ∷ e.whole.own ∷ []) _ _ e.whole.is)
+    serves_step g.C.CommandSteps.mine _ _ c.in-Ok-Some.ensures.stands.ready (stays_running (o ∷ e.whole.own ∷ []) _ _ e.whole.is)
     c.self.invariant
 
 pub returns-in-Ok-Some-clause-ok : goal.returns-in-Ok-Some-clause-ok
 returns-in-Ok-Some-clause-ok g c =
     let is : c.in-Ok-Some.field-0 ≡ Some c.in-Ok-Some.whole = search rules in
-    rw (is, ← c.self.view_is) (some_of c.in-Ok-Some.field-0 c.in-Ok-Some.whole _ is c.in-Ok-Some.ensures.ok)
+    rw (is, ← c.self.view_is) (some_of c.in-Ok-Some.field-0 c.in-Ok-Some.whole _ is c.in-Ok-Some.ensures.ok.some)
 
 pub abandon-requires-clause-turn : goal.abandon-requires-clause-turn
 abandon-requires-clause-turn g c = (

@@ -3,9 +3,8 @@ use Rattle.std.specs.Vec.{with_items}
 use Rattle.volume_model.specs.Faults.{last_count}
 use Rattle.stream_steps.specs.Mine.{entries_in}
 use Rattle.client_worker.specs.Asking.{TellOn}
-use Rattle.client_worker.specs.Working.{counts_of, told_by}
+use Rattle.client_worker.specs.Working.{Passes, counts_of, told_by}
 use Rattle.client_worker.specs.declared.channel.Channel.{Channel}
-use Rattle.control_worker.specs.Carrying.{Passes}
 use Rattle.control_worker.proofs.CarrierLemmas.{GoesFurther, lines_further, of_lines, keeps_both}
 use Rattle.control_worker.proofs.Goes.{goes_same}
 use Rattle.control_worker.proofs.carrier.Carrier.pass.Given.{Over}
@@ -18,8 +17,9 @@ further : (g : Over) (c : After-carry g) → GoesFurther g.C.CommandSteps.ready 
     (record { steps = c.self.inside.steps; channels = (with_items c.self.inside.channels c.carry.new.channels).items })
 further g c =
     lines_further c.self.inside.steps c.self.inside.steps c.self.inside.channels c.deref_mut.result.now c.carry.new.channels
-    c.args.self.now c.self.view_is c.deref_mut.ensures.value c.deref_mut.ensures.len c.carry.ensures.count c.carry.ensures.ends
-    c.carry.ensures.later c.carry.ensures.told c.self.invariant.ready refl refl (λ past source r begun. begun) c.self.invariant
+    c.args.self.now c.self.view_is c.deref_mut.ensures.value c.deref_mut.ensures.len c.carry.ensures.keeps.count
+    c.carry.ensures.keeps.ends c.carry.ensures.counts.later c.carry.ensures.tells.on
+    c.self.invariant.ready refl refl (λ past source r begun. begun) c.self.invariant
 
 pub invariant_of-self : goal.invariant_of-self
 invariant_of-self g c = (further g (goal.at.invariant_of-self g c).After-carry).serves
@@ -38,8 +38,8 @@ pub returns-then-carry-clause-passes : goal.returns-then-carry-clause-passes
 returns-then-carry-clause-passes g c =
     of_lines (Passes g.L.Line.carried c.args.replica c.args.frame.now) c.self.inside.steps c.self.inside.steps
     c.self.inside.channels c.deref_mut.result.now c.carry.new.channels c.args.self.now c.self.view_is
-    c.deref_mut.ensures.value c.deref_mut.ensures.len c.carry.ensures.count
-    (record { same = refl; carried = c.carry.ensures.carried c.if-carry.true })
+    c.deref_mut.ensures.value c.deref_mut.ensures.len c.carry.ensures.keeps.count
+    (record { same = refl; carried = c.carry.ensures.tells.carried c.if-carry.true })
 
 pub invariant_of-self-2 : goal.invariant_of-self-2
 invariant_of-self-2 g c = (further g (goal.at.invariant_of-self-2 g c).After-carry).serves
@@ -53,8 +53,8 @@ tell_fault-requires-clause-above g c =
     (sym c.deref_mut.ensures.value) (c.self.invariant.shown.counted c.args.replica) in
     of_lines (λ w x. last < slice_index_or (counts_of g.L.Line.count x) c.args.replica 0) c.self.inside.steps c.self.inside.steps
     c.self.inside.channels c.deref_mut.result.now c.carry.new.channels c.args.self.now c.self.view_is
-    c.deref_mut.ensures.value c.deref_mut.ensures.len c.carry.ensures.count
-    (omega (arith, counted, c.carry.ensures.failed c.if-carry.false))
+    c.deref_mut.ensures.value c.deref_mut.ensures.len c.carry.ensures.keeps.count
+    (omega (arith, counted, c.carry.ensures.counts.failed c.if-carry.false))
 
 pub returns-clause-keeps : goal.returns-clause-keeps
 returns-clause-keeps g c =

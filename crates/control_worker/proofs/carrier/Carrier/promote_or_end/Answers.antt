@@ -12,14 +12,14 @@ invariant_of-self g c =
     let came : is_some c.promote.result ≡ true = search rules in
     let h = add_same c.args.t _ (g.C.CommandSteps.mine c.self.inside.steps)
     (ap (λ (w : Work g.row.C.Denot g.row.L.Denot). g.C.CommandSteps.mine w.steps) c.self.view_is) c.requires.turn in
-    serves_step g.C.CommandSteps.mine _ _ c.promote.ensures.ready
+    serves_step g.C.CommandSteps.mine _ _ c.promote.ensures.stands.ready
     (ends_stays c.args.t h.0 h.1 _ _ h.2
     (inl (some_holds c.promote.result came c.promote.ensures.done h.0 h.1 h.2))) c.self.invariant
 
 pub returns-clause-done : goal.returns-clause-done
 returns-clause-done g c = λ r o h.
     let none : c.promote.result ≡ None = none_holds c.promote.result (search rules) in
-    let same = c.aborted.ensures.same ∙ c.promote.ensures.none none
+    let same = c.aborted.ensures.stands.same ∙ (c.promote.ensures.none none).same
     ∙ ap (λ (w : Work g.row.C.Denot g.row.L.Denot). g.C.CommandSteps.mine w.steps) c.self.view_is in
     inr (
       c.in-Some.place,

@@ -23,7 +23,7 @@ returns-in_err-t-clause-err g c =
 pub invariant_of-self-2 : goal.invariant_of-self-2
 invariant_of-self-2 g c =
     let e = c.in_ok-t.ensures.ok in
-    serves_step g.C.CommandSteps.mine _ _ c.in_ok-t.ensures.ready (stays_running (e.own ∷ []) _ _ e.is) c.self.invariant
+    serves_step g.C.CommandSteps.mine _ _ c.in_ok-t.ensures.stands.ready (stays_running (e.own ∷ []) _ _ e.is) c.self.invariant
 
 pub await_turn-requires : goal.await_turn-requires
 await_turn-requires g c =

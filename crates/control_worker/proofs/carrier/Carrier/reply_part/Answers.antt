@@ -23,9 +23,9 @@ shown g c =
 pub invariant_of-self : goal.invariant_of-self
 invariant_of-self g c =
     let at = (goal.at.invariant_of-self g c).After-ack_whole in
-    serves_step g.C.CommandSteps.mine _ _ c.ack_whole.ensures.ready
-    (stays_set c.ack_whole.result Acked _ c.args.replica _ _ _ (shown g at).started c.ack_whole.ensures.ok c.ack_whole.ensures.err)
-    c.self.invariant
+    serves_step g.C.CommandSteps.mine _ _ c.ack_whole.ensures.stands.ready
+    (stays_set c.ack_whole.result Acked _ c.args.replica _ _ _ (shown g at).started c.ack_whole.ensures.does.ok
+    c.ack_whole.ensures.does.err) c.self.invariant
 
 pub returns-then-pass-clause-shown : goal.returns-then-pass-clause-shown
 returns-then-pass-clause-shown g c =
@@ -35,10 +35,11 @@ returns-then-pass-clause-shown g c =
     c.args.self.now c.pass.new.self) c.if-pass.true c.pass.ensures.passes in
     shown_acks c.ack_whole.result _ c.args.replica c.args.seq _ _ _ before _
     c.encode_header-reply.result c.requires.asked
-    (replies_now c.args.seq (pos 0) c.encode_header-reply.result c.done_head.result c.done_head.ensures c.encode_header-reply.ensures)
+    (replies_now c.args.seq (pos 0) c.encode_header-reply.result c.done_head.result c.done_head.ensures.value
+    c.encode_header-reply.ensures)
     (subst (λ (w : Work g.row.C.Denot g.row.L.Denot). TellsFrame before (told_by g.L.Line.carried w) c.args.replica
     c.encode_header-reply.result) (sym c.self.view_is) came.carried)
-    c.ack_whole.ensures.ok c.ack_whole.ensures.err (shown g at)
+    c.ack_whole.ensures.does.ok c.ack_whole.ensures.does.err (shown g at)
 
 pub returns-then-pass-clause-goes : goal.returns-then-pass-clause-goes
 returns-then-pass-clause-goes g c =
@@ -46,14 +47,14 @@ returns-then-pass-clause-goes g c =
     keeps_then _ _ _ _
     (subst (λ (w : Work g.row.C.Denot g.row.L.Denot). KeepsWhole c.args.whole.now.ticket mine_before (g.C.CommandSteps.mine w.steps))
     (sym c.self.view_is) (keeps_on c.args.whole.now.ticket _ _ c.pass.ensures.goes))
-    (keeps_set c.ack_whole.result Acked not_acked c.args.whole.now.ticket c.args.replica _ _ c.ack_whole.ensures.ok
-    c.ack_whole.ensures.err)
+    (keeps_set c.ack_whole.result Acked not_acked c.args.whole.now.ticket c.args.replica _ _ c.ack_whole.ensures.does.ok
+    c.ack_whole.ensures.does.err)
 
 pub returns-then-pass-clause-replied : goal.returns-then-pass-clause-replied
 returns-then-pass-clause-replied g c =
     let at = (goal.at.returns-then-pass-clause-replied g c).After-ack_whole in
     inl (part_replied c.ack_whole.result _ c.args.replica _ _ _ (shown g at).started
-    c.ack_whole.ensures.ok c.ack_whole.ensures.why c.ack_whole.ensures.err)
+    c.ack_whole.ensures.does.ok c.ack_whole.ensures.does.why c.ack_whole.ensures.does.err)
 
 pub returns-else-pass-clause-shown : goal.returns-else-pass-clause-shown
 returns-else-pass-clause-shown g c =

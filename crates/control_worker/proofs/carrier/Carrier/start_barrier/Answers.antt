@@ -17,39 +17,40 @@ loop-init g c = record {
 
 pub invariant_of-self : goal.invariant_of-self
 invariant_of-self g c =
-    serves_step g.C.CommandSteps.mine _ _ c.in-Ok-Go.ensures.ready
-    (admits_stays _ c.in-Ok-Go.field-0 c.loop.invariant.unchanged.same c.in-Ok-Go.ensures.ok
+    serves_step g.C.CommandSteps.mine _ _ c.in-Ok-Go.ensures.stands.ready
+    (admits_stays _ c.in-Ok-Go.field-0 c.loop.invariant.unchanged.same c.in-Ok-Go.ensures.ok.ok
     (c.requires.waits.0, c.requires.waits.1)) c.loop.invariant.unchanged.serves
 
 pub returns-in-Ok-Go-clause-ok : goal.returns-in-Ok-Go-clause-ok
 returns-in-Ok-Go-clause-ok g c =
     let e : c.in-Ok-Go.field-0 ≡ barrier.Go c.in-Ok-Go.added = search rules in
-    goes _ c.in-Ok-Go.field-0 c.loop.invariant.unchanged.same c.in-Ok-Go.ensures.ok c.in-Ok-Go.added e
+    goes _ c.in-Ok-Go.field-0 c.loop.invariant.unchanged.same c.in-Ok-Go.ensures.ok.ok c.in-Ok-Go.added e
 
 pub returns-in-Ok-Go-clause-begun : goal.returns-in-Ok-Go-clause-begun
 returns-in-Ok-Go-clause-begun g c =
     let e : c.in-Ok-Go.field-0 ≡ barrier.Go c.in-Ok-Go.added = search rules in
-    begins c.in-Ok-Go.field-0 c.loop.invariant.unchanged.same c.in-Ok-Go.added e _ c.in-Ok-Go.ensures.begun
+    begins c.in-Ok-Go.field-0 c.loop.invariant.unchanged.same c.in-Ok-Go.added e _ c.in-Ok-Go.ensures.rebuild.begun
 
 pub invariant_of-self-in-Ok-Refused : goal.invariant_of-self-in-Ok-Refused
 invariant_of-self-in-Ok-Refused g c =
-    serves_step g.C.CommandSteps.mine _ _ c.in-Ok-Refused.ensures.ready
-    (admits_stays _ c.in-Ok-Refused.field-0 c.loop.invariant.unchanged.same c.in-Ok-Refused.ensures.ok
+    serves_step g.C.CommandSteps.mine _ _ c.in-Ok-Refused.ensures.stands.ready
+    (admits_stays _ c.in-Ok-Refused.field-0 c.loop.invariant.unchanged.same c.in-Ok-Refused.ensures.ok.ok
     (c.requires.waits.0, c.requires.waits.1)) c.loop.invariant.unchanged.serves
 
 pub returns-in-Ok-Refused-clause-ok : goal.returns-in-Ok-Refused-clause-ok
 returns-in-Ok-Refused-clause-ok g c =
     let e : c.in-Ok-Refused.field-0 ≡ barrier.Refused = search rules in
-    refused _ c.in-Ok-Refused.field-0 c.loop.invariant.unchanged.same c.in-Ok-Refused.ensures.ok e
+    refused _ c.in-Ok-Refused.field-0 c.loop.invariant.unchanged.same c.in-Ok-Refused.ensures.ok.ok e
 
 pub loop-preserved : goal.loop-preserved
 loop-preserved g c =
     let e : c.in-Ok-After.field-0 ≡ barrier.After c.in-Ok-After.field-0-0 = search rules in
     record {
-      unchanged = unchanged_next _ _ _ c.in-Ok-After.ensures.ready c.in-Ok-After.ensures.home
-          (waits _ c.in-Ok-After.field-0 c.loop.invariant.unchanged.same c.in-Ok-After.ensures.ok c.in-Ok-After.field-0-0 e
+      unchanged = unchanged_next _ _ _ c.in-Ok-After.ensures.stands.ready c.in-Ok-After.ensures.stands.home
+          (waits _ c.in-Ok-After.field-0 c.loop.invariant.unchanged.same c.in-Ok-After.ensures.ok.ok c.in-Ok-After.field-0-0 e
           (c.requires.waits.0, c.requires.waits.1)) c.loop.invariant.unchanged;
-      unbegun = unbegun_still c.in-Ok-After.field-0 c.in-Ok-After.field-0-0 e _ _ c.in-Ok-After.ensures.unbegun c.loop.invariant.unbegun;
+      unbegun = unbegun_still c.in-Ok-After.field-0 c.in-Ok-After.field-0-0 e _ _ c.in-Ok-After.ensures.rebuild.unbegun
+          c.loop.invariant.unbegun;
     }
 
 pub invariant_of-self-in-Err : goal.invariant_of-self-in-Err
@@ -58,5 +59,5 @@ invariant_of-self-in-Err g c =
     let w = c.requires.waits.1 in
     let left = c.withdraw_whole.ensures.gone (whole.Barrier r) w.0 w.1
     (subst (HasWhole c.args.t (whole.Barrier r) w.0 w.1) (sym (c.in-Err.ensures.err ∙ c.loop.invariant.unchanged.same)) w.2) in
-    serves_step g.C.CommandSteps.mine _ _ c.withdraw_whole.ensures.ready
+    serves_step g.C.CommandSteps.mine _ _ c.withdraw_whole.ensures.stands.ready
     (stays_running w.0 _ _ (left ∙ ap (λ (m : Mine). with_running m w.0) c.in-Err.ensures.err)) c.loop.invariant.unchanged.serves

@@ -4,7 +4,7 @@ use Rattle.stream_steps.specs.Mine.{with_running}
 use Rattle.stream_steps.specs.Maint.{HasTurn}
 use Rattle.client_worker.specs.Working.{Work}
 use Rattle.control_worker.specs.Purges.{RoundTo}
-use Rattle.control_worker.proofs.CarrierLemmas.{serves_step, stays_lines, stays_both}
+use Rattle.control_worker.proofs.CarrierLemmas.{serves_step, stays_both}
 use Rattle.control_worker.proofs.PurgeLemmas.{gave_up}
 use Rattle.control_worker.proofs.RoundLemmas.{on_turn, rounds_on, rounds_end, none_open}
 use Rattle.control_worker.proofs.ShownLemmas.{stays_running}
@@ -20,9 +20,6 @@ pub round-requires : goal.round-requires
 round-requires g c =
     let op = c.requires.turn in
     record { turn = (op.0, on_turn c.args.t op.0 _ _ op.1 (c.loop.invariant.on op.0 op.1)) }
-
-pub returns-in-Ok-true-clause-stays : goal.returns-in-Ok-true-clause-stays
-returns-in-Ok-true-clause-stays g c = stays_both _ _ _ c.loop.invariant.stays c.round.ensures.stays
 
 pub returns-in-Ok-true-clause-ok : goal.returns-in-Ok-true-clause-ok
 returns-in-Ok-true-clause-ok g c =
@@ -55,13 +52,6 @@ abandon-requires-clause-turn g c =
 pub invariant_of-self : goal.invariant_of-self
 invariant_of-self g c =
     serves_step g.C.CommandSteps.mine _ _ c.abandon.ensures.ready (stays_running [] _ _ c.abandon.ensures.gone) c.self.invariant
-
-pub returns-in-Err-clause-stays : goal.returns-in-Err-clause-stays
-returns-in-Err-clause-stays g c =
-    stays_both _ _ _ (stays_both _ _ _ c.loop.invariant.stays c.round.ensures.stays)
-    (stays_lines _ _
-    (c.abandon.ensures.home ∙ ap (λ (w : Work g.row.C.Denot g.row.L.Denot). g.C.CommandSteps.home w.steps) c.self.view_is)
-    (ap (λ (w : Work g.row.C.Denot g.row.L.Denot). w.channels) c.self.view_is))
 
 pub returns-in-Err-clause-err : goal.returns-in-Err-clause-err
 returns-in-Err-clause-err g c =

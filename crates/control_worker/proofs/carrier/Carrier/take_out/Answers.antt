@@ -1,4 +1,4 @@
-use Rattle.std.proofs.Common.{rules, ◌≡◌, [], ◌∷◌, true, false, subst, sym, Ok, None}
+use Rattle.std.proofs.Common.{rules, ◌≡◌, [], ◌∷◌, true, false, subst, sym, None}
 use Rattle.volume_model.specs.declared.command.Command.TheVariants as command
 use Rattle.step_answers.specs.declared.whole_op.WholeOp.TheVariants as whole
 use Rattle.stream_steps.specs.Mine.{OwnCall}
@@ -27,7 +27,7 @@ under : (g : Over) (c : In-Some g) (o : OwnCall)
     → EnrolsUnder c.in-Some.ticket (whole.Purge c.args.part) o (g.C.CommandSteps.mine c.self.inside.steps)
     (g.C.CommandSteps.mine c.enrol_whole.new.self)
 under g c o h =
-    some_of c.in_ok-ticket.field-0 c.in-Some.ticket _ c.in-Some.is c.in_ok-ticket.ensures.ok o
+    some_of c.in_ok-ticket.field-0 c.in-Some.ticket _ c.in-Some.is c.in_ok-ticket.ensures.ok.some o
     (turn_there c.args.t o (g.C.CommandSteps.mine c.args.self.now.steps) (g.C.CommandSteps.mine c.self.inside.steps) c.args.part h
     (subst (λ (w : Work g.row.C.Denot g.row.L.Denot). GoesOn (g.C.CommandSteps.mine c.args.self.now.steps) (g.C.CommandSteps.mine w.steps))
     (sym c.self.view_is) c.fold_before.ensures.goes))
@@ -48,14 +48,14 @@ returns-in_err-ticket-clause-err g c =
 
 pub returns-in_default-clause-ok : goal.returns-in_default-clause-ok
 returns-in_default-clause-ok g c = λ o h.
-    let none : c.enrol_whole.result ≡ Ok None = search rules in
+    let none : c.in_ok-ticket.field-0 ≡ None = search rules in
     out_same c.args.t o _ _ c.args.part h (folds g (goal.at.returns-in_default-clause-ok g c).After-enrol_whole) _
-    (c.enrol_whole.ensures.none none)
+    (c.in_ok-ticket.ensures.ok.none none)
 
 pub invariant_of-self-2 : goal.invariant_of-self-2
 invariant_of-self-2 g c =
     let w = under g (goal.at.invariant_of-self-2 g c).In-Some c.requires.turn.0 c.requires.turn.1 in
-    serves_step g.C.CommandSteps.mine _ _ c.enrol_whole.ensures.ready
+    serves_step g.C.CommandSteps.mine _ _ c.enrol_whole.ensures.stands.ready
     (stays_running (c.requires.turn.0 ∷ w.whole.own ∷ []) _ _ w.whole.is) c.self.invariant
 
 pub start-requires : goal.start-requires

@@ -14,16 +14,16 @@ invariant_of-self g c =
     let at = at_map (λ x. g.L.Line.count x.line) channels c.args.replica c.index.result.now line in
     let is : c.faults-count.result ≡ g.L.Line.count (slice_index_or channels c.args.replica c.index.result.now).line = search rules in
     let goes = goes_told c.line_failed.result c.args.replica c.faults-count.result _ _
-    c.line_failed.ensures.ok c.line_failed.ensures.err in
+    c.line_failed.ensures.does.ok c.line_failed.ensures.does.err in
     record {
-      ready = c.line_failed.ensures.ready;
+      ready = c.line_failed.ensures.stands.ready;
       few = c.self.invariant.few;
       lines = c.self.invariant.lines ∙ sym (ap (λ (m : Mine). m.replicas) goes.is);
       shown = idle_told c.line_failed.result c.args.replica c.faults-count.result _ _
-          (map (λ x. g.L.Line.count x.line) channels) (map (λ x. g.L.Line.carried x.line) channels) c.line_failed.ensures.ok
-          c.line_failed.ensures.err (omega (arith, at, is)) c.self.invariant.shown;
+          (map (λ x. g.L.Line.count x.line) channels) (map (λ x. g.L.Line.carried x.line) channels) c.line_failed.ensures.does.ok
+          c.line_failed.ensures.does.err (omega (arith, at, is)) c.self.invariant.shown;
     }
 
 pub returns-clause-goes : goal.returns-clause-goes
 returns-clause-goes g c = rw (← c.self.view_is)
-    (goes_told c.line_failed.result c.args.replica c.faults-count.result _ _ c.line_failed.ensures.ok c.line_failed.ensures.err)
+    (goes_told c.line_failed.result c.args.replica c.faults-count.result _ _ c.line_failed.ensures.does.ok c.line_failed.ensures.does.err)
