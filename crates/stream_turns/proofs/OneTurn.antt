@@ -24,6 +24,7 @@ use Rattle.volume_model.proofs.LegalLemmas.{answers_from-append}
 use Rattle.volume_model.proofs.OneWorkerLemmas.{length-modes_after}
 use Rattle.stream_steps.specs.Mine.{Placed, entries_in}
 use Rattle.stream_steps.specs.Steps.{IsFrameCall}
+use Rattle.frame_wire.specs.Spelling.{IsFrame}
 use Rattle.client_worker.specs.Exchanges.{CarriedOf, IsCarried, AreCarried, HasRead, HasWrite}
 use Rattle.client_worker.specs.Serving.{AreServed}
 use Rattle.control_worker.specs.Serving.{AreCommanded}
@@ -129,7 +130,8 @@ module _ (opening : Spot) (replicas w : ℕ) (before added after : List Entry) (
 
   module _ (counts : ℕ → ℕ) (told : ℕ → Option (List (List ℕ))) (past : (r : ℕ) → replicas ≤ r → counts r ≡ 0)
       (counted : (r : ℕ) → last_count w r (entries_in (own_entries w opening.modes after)) ≤ counts r)
-      (carried : AreCarried replicas told (own_entries w opening.modes after)) where
+      (carried : AreCarried replicas told (own_entries w opening.modes after))
+      (framed : (r : ℕ) → r < replicas → IfSome (told r) (All IsFrame)) where
     shown : (r : ℕ) → last_count w r after ≤ counts r
     shown r = subst (λ l. last_in 0 l ≤ counts r) (own_counts w r opening.modes after) (counted r)
 
@@ -153,6 +155,7 @@ module _ (opening : Spot) (replicas w : ℕ) (before added after : List Entry) (
       calls = groups_calls w 0 cs added (served_groups w (Some (log_at opening before)) cs added served);
       counted = shown;
       carried = carried;
+      framed = framed;
       turn = λ well. frames_turn opening w 0 0 cs before added frames served (unfaulted well) legal_added order_added;
     }
 
@@ -165,6 +168,7 @@ module _ (opening : Spot) (replicas w : ℕ) (before added after : List Entry) (
       calls = groups_calls w 0 (map call.Command cs) added (commanded_groups w (Some (log_at opening before)) cs added done);
       counted = shown;
       carried = carried;
+      framed = framed;
       turn = λ well. commands_turn opening w 0 0 cs before added done (unfaulted well) order_added;
     }
 
@@ -186,5 +190,6 @@ noted opening replicas w cs before after counts counts' told told' many turn pas
     | inr high ↦ omega (arith, past r high, turn.counted r)
   ];
   carried = told_carried replicas w told told' same_told opening.modes after many turn.carried;
+  framed = λ r low. subst (λ t. IfSome t (All IsFrame)) (sym (same_told r low)) (turn.framed r low);
   turn = λ well. turn.turn (λ r low. sym (same_counts r low) ∙ well r low);
 }

@@ -2,6 +2,7 @@
 use Rattle.std.proofs.Common.{◌≡◌, ◌≢◌, ℕ, zero, suc, false, ◌+◌, ◌<◌, ◌≤◌, inl, inr, List, [], ◌∷◌, ◌++◌, length}
 use Rattle.std.proofs.Common.{map, replicate, Option, Result, Ok, Err as Failed, IfOk, sym, refl, ap, subst, ◌∙◌}
 use Rattle.std.proofs.Common.{arith, append_assoc, append-nil, All}
+use Rattle.std.specs.Prelude.{IfSome}
 use Rattle.std.proofs.lemmas.List.Elements.{All-head, All-tail}
 use Rattle.std.proofs.lemmas.Bool.{cases_lt}
 use Rattle.std.proofs.lemmas.List.{length-append, length-map, map-append, length-replicate, get_or-replicate, get_or_past}
@@ -20,8 +21,10 @@ use Rattle.replica_node.specs.Volume.{volume_of_node}
 use Rattle.volume_core.specs.declared.world.World.{World}
 use Rattle.volume_core.specs.Opened.{IsOpenedOn, blank_opening}
 use Rattle.volume_core.specs.State.{State, state_of, opening_of, gave_up_at}
-use Rattle.volume_core.specs.Sound.{IsSound, NoneGaveUp}
+use Rattle.volume_core.specs.Sound.{IsSound, AreCaused, NoneGaveUp}
 use Rattle.volume_core.specs.Streams.{Origin}
+use Rattle.volume_core.proofs.Caused.{caused_ends}
+use Rattle.frame_wire.specs.Spelling.{IsFrame}
 use Rattle.client_worker.specs.Exchanges.{AreCarried, ExchangesShown}
 use Rattle.script_text.specs.declared.script.Script.{Script}
 use Rattle.script_text.specs.declared.script.Stream.{Stream}
@@ -207,6 +210,9 @@ module _ (script : Script) (w : World) (s : ServedStreams) (streams : List Strea
   abbrev entries : List Entry
   entries = s.world.journal.entries
 
+  caused : AreCaused s.world.maint.tickets s.world.commands.items entries
+  caused = between.sound.caused between.gave_up
+
   as_many_modes : length (opening_of (state_of w)).modes ≡ script.replicas
   as_many_modes = ap (λ (o : Spot). length o.modes) start ∙ length-replicate script.replicas Rw
 
@@ -215,8 +221,9 @@ module _ (script : Script) (w : World) (s : ServedStreams) (streams : List Strea
       → ((v : ℕ) → calls_of v entries ≡ stream_of (map stream_calls streams) v)
       → ((v r : ℕ) → last_count v r entries ≤ counts v r)
       → ((v : ℕ) → AreCarried (length w.nodes.items) (told v) (own_entries v (opening_of (state_of w)).modes entries))
+      → ((v r : ℕ) → v < length (map stream_calls streams) → r < length w.nodes.items → IfSome (told v r) (All IsFrame))
       → s.heads.items ≡ map heads_of streams → IsServed script counts told s
-  served_is counts told none calls counted carried heads = record {
+  served_is counts told none calls counted carried framed heads = record {
     heads = heads ∙ ap (map heads_of) same;
     opening = ap (λ (o : Opening). o.modes) opened;
     layers = ap (λ (o : Opening). o.layers) opened;
@@ -224,7 +231,8 @@ module _ (script : Script) (w : World) (s : ServedStreams) (streams : List Strea
     run = record {
       history = record {
         legal = subst (λ (o : Spot). IsLegal o entries) start legal;
-        fell = between.sound.fell between.gave_up;
+        fell = caused.fell;
+        within = caused_ends s.world.maint.tickets s.world.commands.items entries caused between.turns;
         order = between.sound.on.told.ordered.order;
         each_once = subst (λ (ss : List Stream). (v : ℕ) → calls_of v entries ≡ stream_of (map stream_calls ss) v) same calls;
         faults = faults_shown counts entries between.sound.on.told.ordered.rise counted;
@@ -236,6 +244,8 @@ module _ (script : Script) (w : World) (s : ServedStreams) (streams : List Strea
       carried = subst (λ ms. ExchangesShown script.replicas told ms entries) (ap (λ (o : Spot). o.modes) start)
           (subst (λ m. ExchangesShown m told (opening_of (state_of w)).modes entries) many
           (exchanged (length w.nodes.items) told (opening_of (state_of w)).modes entries carried));
+      framed = λ v r low there. framed v r (omega (arith, low, length-map streams stream_calls, ap length same))
+          (omega (arith, there, many));
     };
     many = as_many (state_of s.world) between.sound;
     replicas = λ r up. replicas_are (state_of s.world) between.sound between.rest r up
@@ -260,7 +270,8 @@ pub each_served : {E : Type 0} (script : Script) (w : World) (res : Result Serve
     → streams ≡ script.streams
     → IfOk res (λ s. s.heads.items ≡ map heads_of streams) → IfOk res (IsServed script counts told)
 each_served script w (Ok s) streams counts told n begun between origin turns same heads =
-    served_is script w s streams n begun between origin same counts told turns.none turns.calls turns.counted turns.carried heads
+    served_is script w s streams n begun between origin same counts told turns.none turns.calls turns.counted turns.carried
+    turns.framed heads
 each_served script w (Failed e) streams counts told n begun between origin turns same heads = tt
 
 pub each_in_turn : {E : Type 0} (script : Script) (w : World) (res : Result ServedStreams E) (streams : List Stream)

@@ -1,6 +1,8 @@
 -- One stream's turn behind those of others.
 use Rattle.std.proofs.Common.{◌≡◌, ◌≢◌, ℕ, zero, suc, ◌+◌, ◌<◌, ◌≤◌, inl, inr, Bool, true, false, cond, eqb, List, []}
 use Rattle.std.proofs.Common.{◌∷◌, ◌++◌, length, map, Option, sym, refl, ap, subst, ◌∙◌, arith}
+use Rattle.std.specs.Prelude.{IfSome}
+use Rattle.std.specs.List.{All}
 use Rattle.std.proofs.lemmas.Bool.Decides.{eqb_tells}
 use Rattle.std.proofs.lemmas.List.{append-nil, length-append, map-append, get_or_past}
 use Rattle.volume_model.specs.declared.call.Call.{Call}
@@ -14,6 +16,7 @@ use Rattle.volume_model.specs.OneWorker.{behind_entries, behind, served_from, af
 use Rattle.volume_model.proofs.FaultLemmas.{last_count-append}
 use Rattle.volume_model.proofs.LegalLemmas.{answers_from-append}
 use Rattle.volume_model.proofs.ServedLemmas.{behind-streams, served_streams-push}
+use Rattle.frame_wire.specs.Spelling.{IsFrame}
 use Rattle.client_worker.specs.Exchanges.{AreCarried}
 use Rattle.world_holder.specs.View.{own_entries}
 use Rattle.stream_turns.specs.Run.{StandInTurn}
@@ -68,6 +71,7 @@ no_turns opening replicas counts carried = record {
   calls = λ w. refl;
   counted = λ w r. omega arith;
   carried = λ w. All-nil (λ (p : Placed). IsCarried replicas (carried w) p.modes p.entry);
+  framed = λ w r low. absurd (omega (arith, low));
   order = tt;
   turns = λ well. refl;
 }
@@ -142,6 +146,11 @@ module _ (opening : Spot) (replicas : ℕ) (css : List (List Call)) (cs : List C
       | inr other ↦ subst (AreCarried replicas (carried' w)) (sym (own_stays w other.1))
           (subst (λ told. AreCarried replicas told (own_entries w opening.modes before))
           (λ i r. sym (same_carried w r other.1) i) (turns.carried w))
+    ];
+    framed = λ w r low there. elim (eqb_tells w (length css)) [
+      | inl is ↦ subst (λ n. IfSome (carried' n r) (All IsFrame)) (sym is.1) (one.framed r there)
+      | inr other ↦ subst (λ t. IfSome t (All IsFrame)) (sym (same_carried w r other.1))
+          (turns.framed w r (omega (arith, low, many, other.1)) there)
     ];
     order = subst (StandInTurn 0) (sym one.is) (
         more_in_turn (length css) 0 opening.modes before one.added (omega arith) turns.none one.own turns.order);

@@ -122,7 +122,7 @@ module _ (n m : ℕ) (w w2 : World) (sound : IsSound (state_of w2)) (origin : or
       frames_are (opening_of s) (length w.nodes.items) n s.book.entries (entries_in grew.added) s2.book.entries
       (ap (λ (x : Mine). log_entries x.log) grew.is) none legal
       sound.on.told.ordered.order sound.on.told.ordered.rise (λ r. slice_index_or counts r 0) (told_in told) past
-      (counted shown.counted) (carried shown.answered)
+      (counted shown.counted) (carried shown.answered) (λ r low. shown.framed r)
       (map call_of frames) (frame_calls frames) grew.served
 
   pub commands_turned : (cs : List Command) → IsShown (view true m s2) counts told
@@ -132,7 +132,7 @@ module _ (n m : ℕ) (w w2 : World) (sound : IsSound (state_of w2)) (origin : or
       commands_are (opening_of s) (length w.nodes.items) n s.book.entries grew.all s2.book.entries
       (ap (λ (x : Mine). log_entries x.log) grew.is) none legal
       sound.on.told.ordered.order sound.on.told.ordered.rise (λ r. slice_index_or counts r 0) (told_in told) past
-      (counted shown.counted) (carried shown.answered)
+      (counted shown.counted) (carried shown.answered) (λ r low. shown.framed r)
       cs grew.done
 
 -- ---- a World that was given to a worker's hands as x, and taken back as x2

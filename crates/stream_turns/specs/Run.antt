@@ -1,11 +1,12 @@
 -- What the journal of a script's run is, and what it is besides where one worker serves all streams.
-use Rattle.std.specs.Prelude.{◌≡◌, ℕ, ◌<◌, ◌≤◌, List, [], ◌∷◌, length, All, Option}
+use Rattle.std.specs.Prelude.{◌≡◌, ℕ, ◌<◌, ◌≤◌, List, [], ◌∷◌, length, All, Option, IfSome}
 use Rattle.volume_model.specs.declared.entry.Entry.{Entry}
 use Rattle.volume_model.specs.declared.entry.Entry.TheVariants as entry
 use Rattle.volume_model.specs.declared.mark.Mark.TheVariants as mark
 use Rattle.volume_model.specs.History.{IsHistory}
 use Rattle.volume_model.specs.OneWorker.{served, stream_of}
 use Rattle.client_worker.specs.Exchanges.{ExchangesShown}
+use Rattle.frame_wire.specs.Spelling.{IsFrame}
 use Rattle.script_text.specs.declared.script.Script.{Script}
 use Rattle.stream_turns.specs.Volume.{opening_of, calls_in}
 
@@ -15,13 +16,14 @@ NamesLine streams replicas (entry.Mark (mark.Fault stream replica count)) = (str
 NamesLine streams replicas e = Unit {0}
 
 -- The journal is one legal history of the script's calls, over lines that counted these faults and told that they carried
--- this, by stream and replica. The faults that it shows are of the run's own lines, and what it tells as read and written
--- was carried.
+-- this, by stream and replica. The faults that it shows are of the run's own lines, what it tells as read and written was
+-- carried, and nothing that is no whole frame was.
 pub record IsRun (counted : ℕ → ℕ → ℕ) (told : ℕ → ℕ → Option (List (List ℕ))) (script : Script) (journal : List Entry)
     : Type 0 where
   pub history : IsHistory (opening_of script) counted (stream_of (calls_in script)) journal
   pub faults : All (NamesLine (length script.streams) script.replicas) journal
   pub carried : ExchangesShown script.replicas told (opening_of script).modes journal
+  pub framed : (w r : ℕ) → w < length script.streams → r < script.replicas → IfSome (told w r) (All IsFrame)
 
 -- the answers stand stream by stream, from this one on, in the order of their numbers
 abbrev pub StandInTurn : ℕ → List Entry → Type 0

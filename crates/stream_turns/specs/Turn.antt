@@ -19,7 +19,7 @@ abbrev pub IsTaken : ℕ → Stream → Type 0
 IsTaken replicas (stream.Frames frames) = All IsAsked frames
 IsTaken replicas (stream.Control commands) = All (IsForWorker replicas) commands
 
--- No call is open, no command has the maintenance turn or waits for it, no stream gave a rebuild up, and there are few
+-- No call is open, no command has the maintenance turn or waits for it, no stream gave a command up, and there are few
 -- replicas.
 pub record IsBetween (w : World) : Type 0 where
   pub sound : IsSound (state_of w)

@@ -1,11 +1,13 @@
-use Rattle.std.proofs.Common.{ℕ, Bool, map, ap}
-use Rattle.volume_core.specs.State.{state_of, gave_up_at}
+use Rattle.std.proofs.Common.{ℕ, Bool, length, map, ap, sym, ◌∙◌, arith, rules}
+use Rattle.std.proofs.lemmas.List.{length-map}
+use Rattle.volume_core.specs.State.{State, state_of, gave_up_at}
 use Rattle.volume_core.specs.Streams.{Origin, origin_of}
 use Rattle.world_holder.specs.declared.hand.Hand.{Hand}
 use Rattle.world_steps.specs.declared.gates.NoGate.{NoGate}
 use Rattle.world_steps.specs.declared.steps.Steps.{Steps}
 use Rattle.frame_stream.specs.Asked.{call_of}
 use Rattle.client_worker.specs.Serving.{Grew}
+use Rattle.client_worker.proofs.Told.{frames_none}
 use Rattle.control_worker.specs.Serving.{Commanded}
 use Rattle.stream_turns.proofs.Channels.{many_told}
 use Rattle.stream_turns.proofs.Parts.{stays_of, lines_of, home_of, idle_of, mine_of}
@@ -19,6 +21,38 @@ home_at s = (
   s.stream,
   gave_up_at (state_of s.holder.last.value.value).gave_up s.stream,
 )
+
+pub new-worker-requires : goal.new-worker-requires
+new-worker-requires g c =
+    let many = length-map c.args.channels.items (λ x. g.L.Line.ends x.line) in
+    record {
+      ready = search rules;
+      idle = search rules;
+      few = omega (arith, many, c.requires.new.many, c.requires.between.few);
+      lines = sym many ∙ c.requires.new.many ∙ ap (λ (x : State). length x.nodes) (sym c.of.ensures.seen);
+      shown = record {
+        counted = search rules;
+        answered = search rules;
+        acked = search rules;
+        framed = frames_none _ c.requires.new.empty;
+      };
+    }
+
+pub new-worker-requires-in-Control : goal.new-worker-requires-in-Control
+new-worker-requires-in-Control g c =
+    let many = length-map c.args.channels.items (λ x. g.L.Line.ends x.line) in
+    record {
+      ready = search rules;
+      idle = search rules;
+      few = omega (arith, many, c.requires.new.many, c.requires.between.few);
+      lines = sym many ∙ c.requires.new.many ∙ ap (λ (x : State). length x.nodes) (sym c.of.ensures.seen);
+      shown = record {
+        counted = search rules;
+        answered = search rules;
+        acked = search rules;
+        framed = frames_none _ c.requires.new.empty;
+      };
+    }
 
 pub returns-in-Ok-clause-between : goal.returns-in-Ok-clause-between
 returns-in-Ok-clause-between g c =
