@@ -1,6 +1,8 @@
 -- What a worker leaves of its stream at a desk, and that it stays so whatever others do.
 use Rattle.std.proofs.Common.{◌≡◌, ℕ, ◌≤◌, ◌<◌, false, List, [], ◌++◌, length, map, Option, None, inl, inr, sym}
 use Rattle.std.proofs.Common.{ap, subst, ◌∙◌, arith, slice_index_or}
+use Rattle.std.specs.Prelude.{IfSome}
+use Rattle.std.specs.List.{All}
 use Rattle.std.proofs.lemmas.Bool.{cases_lt}
 use Rattle.std.proofs.lemmas.List.{get_or_past}
 use Rattle.volume_model.specs.declared.command.Command.{Command}
@@ -22,6 +24,7 @@ use Rattle.stream_turns.proofs.OneTurn.{told_carried}
 use Rattle.world_holder.proofs.Grow.{found_same}
 use Rattle.world_holder.proofs.Open.{has_none}
 use Rattle.stream_turns.proofs.Turned.{modes_many}
+use Rattle.frame_wire.specs.Spelling.{IsFrame}
 use Rattle.stream_workers.specs.Ended.{HasEnded}
 use Rattle.world_holder.proofs.Entries.{own_last}
 use Rattle.stream_workers.proofs.Own.{own_asked, answered}
@@ -49,6 +52,7 @@ module _ (n : ℕ) (s s2 : State) (counts : List ℕ) (told : List (Option (List
             ∙ groups_calls n 0 cs (entries_in grew.added) (served_groups n None cs (entries_in grew.added) grew.served);
         counted = counted shown.counted;
         carried = shown.answered;
+        framed = λ r low. shown.framed r;
       }
 
   pub commands_ended : (cs : List Command) → (view false n s).entries ≡ []
@@ -66,6 +70,7 @@ module _ (n : ℕ) (s s2 : State) (counts : List ℕ) (told : List (Option (List
             ∙ own_calls cs (view false n s) (view false n s2) grew;
         counted = counted shown.counted;
         carried = shown.answered;
+        framed = λ r low. shown.framed r;
       }
 
 -- ---- it stays so
@@ -84,6 +89,7 @@ ended_later n cs counts told s t found ended = record {
       (sym (sym (own_last n r t.book.opening.modes t.book.entries) ∙ ap (λ ps. last_count n r (entries_in ps)) own
       ∙ own_last n r s.book.opening.modes s.book.entries)) (ended.counted r);
   carried = subst (λ (m : Mine). AreCarried m.replicas told m.entries) (sym same) ended.carried;
+  framed = λ r low. ended.framed r (omega (arith, low, ap (λ (m : Mine). m.replicas) same));
 }
   where
     same : view false n t ≡ view false n s
@@ -108,4 +114,5 @@ ended_noted n k cs ns ts counts told t sound many as_many same_counts same_told 
   ];
   carried = told_carried (length t.nodes) n (told_in ts) told (λ r low. same_told r (omega (arith, low, many)))
       t.book.opening.modes t.book.entries (modes_many t sound) ended.carried;
+  framed = λ r low. subst (λ x. IfSome x (All IsFrame)) (sym (same_told r (omega (arith, low, many)))) (ended.framed r low);
 }

@@ -1,6 +1,8 @@
 -- Streams that have ended so are served.
-use Rattle.std.proofs.Common.{◌≡◌, ℕ, ◌≤◌, List, [], length, map, replicate, Option, Result, Ok, Err as Failed, IfOk}
+use Rattle.std.proofs.Common.{◌≡◌, ℕ, ◌<◌, ◌≤◌, List, [], length, map, replicate, Option, Result, Ok, Err as Failed, IfOk}
 use Rattle.std.proofs.Common.{inl, inr, sym, ap, subst, ◌∙◌, arith}
+use Rattle.std.specs.Prelude.{IfSome}
+use Rattle.std.specs.List.{All}
 use Rattle.std.proofs.lemmas.Bool.{cases_lt}
 use Rattle.std.proofs.lemmas.List.{get_or_past}
 use Rattle.std.proofs.lemmas.List.Elements.{All-nil}
@@ -16,6 +18,7 @@ use Rattle.volume_core.specs.Streams.{Origin}
 use Rattle.replica_node.specs.Node.{blank}
 use Rattle.stream_steps.specs.Mine.{Placed, entries_in}
 use Rattle.client_worker.specs.Exchanges.{IsCarried, AreCarried}
+use Rattle.frame_wire.specs.Spelling.{IsFrame}
 use Rattle.script_text.specs.declared.script.Script.{Script}
 use Rattle.script_text.specs.declared.script.Stream.{Stream}
 use Rattle.world_holder.specs.View.{own_entries}
@@ -64,6 +67,9 @@ module _ (css : List (List Call)) (counts : ℕ → ℕ → ℕ) (told : ℕ →
   each_carried : (v : ℕ) → AreCarried (length w.nodes.items) (told v) (own_entries v (opening_of (state_of w)).modes entries)
   each_carried v = subst (λ (o : Origin). AreCarried o.replicas (told v) (own_entries v o.opening.modes entries)) origin (each_here v)
 
+  each_framed : (v r : ℕ) → v < length css → r < length w.nodes.items → IfSome (told v r) (All IsFrame)
+  each_framed v r low there = (ended.each v low).framed r (omega (arith, there, ap (λ (o : Origin). o.replicas) origin))
+
 pub each_served : {E : Type 0} (script : Script) (w : World) (res : Result ServedStreams E) (streams : List Stream)
     (counts : ℕ → ℕ → ℕ) (told : ℕ → ℕ → Option (List (List ℕ))) (n : ℕ)
     → IsOpenedOn script.size (blank_opening script.replicas) (replicate script.replicas (blank script.size)) n (state_of w)
@@ -74,5 +80,5 @@ each_served script w (Ok s) streams counts told n begun between origin ended sam
     let css = map stream_calls streams in
     served_is script w s streams n begun between origin same counts told (each_none css counts told w s.world origin ended)
     (each_asked css counts told w s.world origin ended) (each_counted css counts told w s.world origin ended)
-    (each_carried css counts told w s.world origin ended) heads
+    (each_carried css counts told w s.world origin ended) (each_framed css counts told w s.world origin ended) heads
 each_served script w (Failed e) streams counts told n begun between origin ended same heads = tt

@@ -1,13 +1,30 @@
-use Rattle.std.proofs.Common.{rules, ◌≡◌, true, ap, sym, subst, ◌∙◌, map, Some, OnOk}
+use Rattle.std.proofs.Common.{rules, ◌≡◌, true, ap, sym, subst, ◌∙◌, map, Some, OnOk, length, arith}
 use Rattle.std.proofs.lemmas.List.{length-map}
 use Rattle.std.specs.Prelude.{is_ok}
 use Rattle.desk_lock.specs.Seats.{last_of, IsSeatOf}
 use Rattle.world_holder.specs.Laid.{laid}
 use Rattle.frame_stream.specs.Asked.{call_of}
 use Rattle.client_worker.specs.Serving.{Grew}
+use Rattle.client_worker.proofs.Told.{frames_none}
 use Rattle.stream_turns.proofs.Parts.{stays_of, idle_of, mine_of}
 use Rattle.stream_workers.proofs.AtEnd.{frames_at}
 use Rattle.stream_workers.proofs.task.serve_frames.Goals as goal
+
+pub new-worker-requires : goal.new-worker-requires
+new-worker-requires g c =
+    let many = length-map c.args.channels.items (λ x. g.L.Line.ends x.line) in
+    record {
+      ready = search rules;
+      idle = search rules;
+      few = omega (arith, many, c.requires.lines.many, c.requires.few);
+      lines = sym many ∙ c.requires.lines.many;
+      shown = record {
+        counted = search rules;
+        answered = search rules;
+        acked = search rules;
+        framed = frames_none _ c.requires.lines.empty;
+      };
+    }
 
 pub returns-clause-count : goal.returns-clause-count
 returns-clause-count g c =
