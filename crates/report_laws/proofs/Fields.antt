@@ -7,7 +7,7 @@ use Rattle.std.proofs.lemmas.Fmt.{decimal_injective, signed_decimal_injective}
 use Rattle.image_runs.specs.Runs.{runs_text}
 use Rattle.image_runs.proofs.TextTells.{runs_text_injective}
 use Rattle.vol_units.specs.Name.{IsName}
-use Rattle.report_laws.specs.Numbers.{Fits64, AreBytes}
+use Rattle.report_laws.specs.Fits.{Fits64, AreBytes}
 use Rattle.report_laws.proofs.Words.{cut, IsWord-decimal, IsWord-signed, IsWord-runs, IsWord-name}
 
 -- the first of two texts is that of the second, and what is behind it too

@@ -11,8 +11,7 @@ use Rattle.volume_model.specs.declared.entry.Entry.TheVariants as entry
 use Rattle.volume_model.specs.declared.mark.Mark.{Mark}
 use Rattle.run_report.specs.Lines.{call_text, reply_text, mark_text, entry_line}
 use Rattle.run_report.specs.Report.{journal_lines}
-use Rattle.report_laws.specs.Names.{CallNames, EntryNames, HaveNames}
-use Rattle.report_laws.specs.Numbers.{AnswerFits, EntryFits, HaveNumbers}
+use Rattle.report_laws.specs.Fits.{AnswerFits, EntryFits, AllFit}
 use Rattle.report_laws.proofs.Words.{cut, space, IsWord-decimal, decimal_low}
 use Rattle.report_laws.proofs.Fields.{AreOne, one_by}
 use Rattle.report_laws.proofs.Fields as field
@@ -31,14 +30,14 @@ unfolding behind
 line_words place (entry.Answer a) xs = simp append_assoc
 line_words place (entry.Mark m) xs = simp append_assoc
 
-same_answer : (a b : Answer) (xs ys : List ℕ) → CallNames a.call → CallNames b.call → AnswerFits a → AnswerFits b
+same_answer : (a b : Answer) (xs ys : List ℕ) → AnswerFits a → AnswerFits b
     → behind (entry.Answer a) xs ≡ behind (entry.Answer b) ys → AreOne a b xs ys
 unfolding behind
-same_answer a b xs ys m n p q e =
+same_answer a b xs ys p q e =
     let saw = field.number 32 space _ _ a.saw b.saw p.saw q.saw e in
     let stream = field.number 32 space _ _ a.stream b.stream p.stream q.stream saw.rest in
     let index = field.number 32 space _ _ a.index b.index p.index q.index stream.rest in
-    let asked = same_call a.call b.call _ _ m n p.call q.call index.rest in
+    let asked = same_call a.call b.call _ _ p.call q.call index.rest in
     let told = same_reply a.reply b.reply xs ys p.reply q.reply asked.rest in
     record { same = same_parts asked.same told.same index.same saw.same stream.same; rest = told.rest }
   where
@@ -66,36 +65,34 @@ no_mark : (a : Answer) (m : Mark) (xs ys : List ℕ) → behind (entry.Answer a)
 unfolding behind
 no_mark a m xs ys e = no_number (decimal a.saw) _ (codes "mark " ++ mark_text m ++ 10 ∷ ys) (decimal_low a.saw) (omega arith) e
 
-same_behind : (e f : Entry) (xs ys : List ℕ) → EntryNames e → EntryNames f → EntryFits e → EntryFits f → behind e xs ≡ behind f ys
+same_behind : (e f : Entry) (xs ys : List ℕ) → EntryFits e → EntryFits f → behind e xs ≡ behind f ys
     → AreOne e f xs ys
 unfolding behind
-same_behind (entry.Answer a) (entry.Answer b) xs ys m n p q e = one_by entry.Answer (same_answer a b xs ys m n p q e)
-same_behind (entry.Answer a) (entry.Mark k) xs ys m n p q e = absurd (no_mark a k xs ys e)
-same_behind (entry.Mark l) (entry.Answer b) xs ys m n p q e = absurd (no_mark b l ys xs (sym e))
-same_behind (entry.Mark l) (entry.Mark k) xs ys m n p q e = one_by entry.Mark (same_mark l k xs ys m n p q (ap (drop 5) e))
+same_behind (entry.Answer a) (entry.Answer b) xs ys p q e = one_by entry.Answer (same_answer a b xs ys p q e)
+same_behind (entry.Answer a) (entry.Mark k) xs ys p q e = absurd (no_mark a k xs ys e)
+same_behind (entry.Mark l) (entry.Answer b) xs ys p q e = absurd (no_mark b l ys xs (sym e))
+same_behind (entry.Mark l) (entry.Mark k) xs ys p q e = one_by entry.Mark (same_mark l k xs ys p q (ap (drop 5) e))
 
-same_entry : (place : ℕ) (e f : Entry) (xs ys : List ℕ) → EntryNames e → EntryNames f → EntryFits e → EntryFits f
+same_entry : (place : ℕ) (e f : Entry) (xs ys : List ℕ) → EntryFits e → EntryFits f
     → entry_line place e ++ xs ≡ entry_line place f ++ ys → AreOne e f xs ys
-same_entry place e f xs ys m n p q same =
+same_entry place e f xs ys p q same =
     let text = sym (line_words place e xs) ∙ same ∙ line_words place f ys in
     let c = cut (decimal place) (decimal place) 32 32 _ _ (IsWord-decimal place) (IsWord-decimal place) space space text in
-    same_behind e f xs ys m n p q c.rest
+    same_behind e f xs ys p q c.rest
 
 no_line : (place : ℕ) (e : Entry) (xs rest : List ℕ) → BeginsLater rest → entry_line place e ++ xs ≡ rest → ⊥
 no_line place e xs rest later same = no_number (decimal place) _ rest (decimal_low place) later (sym (line_words place e xs) ∙ same)
 
-pub same_journal : (place : ℕ) (es fs : List Entry) (xs ys : List ℕ) → HaveNames es → HaveNames fs → HaveNumbers es → HaveNumbers fs
+pub same_journal : (place : ℕ) (es fs : List Entry) (xs ys : List ℕ) → AllFit es → AllFit fs
     → BeginsLater xs → BeginsLater ys → journal_lines place es ++ xs ≡ journal_lines place fs ++ ys → es ≡ fs
-same_journal place [] [] xs ys m n p q x y same = refl
-same_journal place [] (f ∷ fs) xs ys m n p q x y same =
+same_journal place [] [] xs ys p q x y same = refl
+same_journal place [] (f ∷ fs) xs ys p q x y same =
     absurd (no_line place f _ xs x (sym (append_assoc (entry_line place f) _ ys) ∙ sym same))
-same_journal place (e ∷ es) [] xs ys m n p q x y same =
+same_journal place (e ∷ es) [] xs ys p q x y same =
     absurd (no_line place e _ ys y (sym (append_assoc (entry_line place e) _ xs) ∙ same))
-same_journal place (e ∷ es) (f ∷ fs) xs ys m n p q x y same =
+same_journal place (e ∷ es) (f ∷ fs) xs ys p q x y same =
     let text = sym (append_assoc (entry_line place e) _ xs) ∙ same ∙ append_assoc (entry_line place f) _ ys in
-    let first = same_entry place e f _ _ (All-head EntryNames e es m) (All-head EntryNames f fs n)
-    (All-head EntryFits e es p) (All-head EntryFits f fs q) text in
-    let more = same_journal (suc place) es fs xs ys (All-tail EntryNames e es m) (All-tail EntryNames f fs n)
-    (All-tail EntryFits e es p) (All-tail EntryFits f fs q) x y first.rest in
+    let first = same_entry place e f _ _ (All-head EntryFits e es p) (All-head EntryFits f fs q) text in
+    let more = same_journal (suc place) es fs xs ys (All-tail EntryFits e es p) (All-tail EntryFits f fs q) x y first.rest in
     let front : e ≡ f = first.same in
     cc

@@ -12,7 +12,7 @@ use Rattle.volume_model.specs.declared.mode.Mode.TheVariants.{Rw, Wo, Err}
 use Rattle.volume_model.specs.Texts.{refusal_text}
 use Rattle.run_report.specs.Lines.{mode_text, modes_text, reply_text}
 use Rattle.image_runs.specs.Runs.{runs_text}
-use Rattle.report_laws.specs.Numbers.{ReplyFits}
+use Rattle.report_laws.specs.Fits.{ReplyFits}
 use Rattle.report_laws.proofs.Words.{cut, space, line_end, three, IsWord-runs}
 use Rattle.report_laws.proofs.Fields.{AreOne, one_by, two_by}
 use Rattle.report_laws.proofs.Fields as field

@@ -13,8 +13,7 @@ use Rattle.volume_model.specs.Snapshots.{chain_of}
 use Rattle.run_report.specs.Digest.{digest_text}
 use Rattle.run_report.specs.Lines.{chain_line, head_line}
 use Rattle.run_report.specs.Report.{journal_lines, reply_lines, replies_from, mode_lines, source_lines, end_lines, report_of}
-use Rattle.report_laws.specs.Names.{HaveNames}
-use Rattle.report_laws.specs.Numbers.{HaveNumbers}
+use Rattle.report_laws.specs.Fits.{AllFit}
 use Rattle.report_laws.proofs.JournalTells.{BeginsLater, same_journal}
 
 later-append : (xs ys : List ℕ) → BeginsLater xs → BeginsLater ys → BeginsLater (xs ++ ys)
@@ -51,10 +50,10 @@ later-end modes volume =
     later-append (mode_lines 0 modes ++ source_lines chain 0 modes) (source_lines head 0 modes)
     (later-append (mode_lines 0 modes) (source_lines chain 0 modes) (later-modes 0 modes) chains) heads
 
-pub same_lines : (journal other : List Entry) → HaveNames journal → HaveNames other → HaveNumbers journal → HaveNumbers other
+pub same_lines : (journal other : List Entry) → AllFit journal → AllFit other
     → journal_lines 0 journal ≡ journal_lines 0 other → journal ≡ other
-same_lines journal other m n p q same =
-    same_journal 0 journal other [] [] m n p q tt tt
+same_lines journal other p q same =
+    same_journal 0 journal other [] [] p q tt tt
     (append-nil (journal_lines 0 journal) ∙ same ∙ sym (append-nil (journal_lines 0 other)))
 
 -- what stands in a report behind the lines of the entries
@@ -68,10 +67,10 @@ later-behind heads opening journal =
     later-append (replies_from 0 heads journal) _ (later-replies 0 heads journal) (later-end _ (replay opening.state journal).volume)
 
 pub same_report : (heads heads_too : List (List Head)) (opening opening_too : Spot) (journal other : List Entry)
-    → HaveNames journal → HaveNames other → HaveNumbers journal → HaveNumbers other
+    → AllFit journal → AllFit other
     → report_of heads opening journal ≡ report_of heads_too opening_too other → journal ≡ other
 unfolding behind_entries
-same_report heads heads_too opening opening_too journal other m n p q same =
-    same_journal 0 journal other (behind_entries heads opening journal) (behind_entries heads_too opening_too other) m n p q
+same_report heads heads_too opening opening_too journal other p q same =
+    same_journal 0 journal other (behind_entries heads opening journal) (behind_entries heads_too opening_too other) p q
     (later-behind heads opening journal) (later-behind heads_too opening_too other)
     (sym (append_assoc (journal_lines 0 journal) _ _) ∙ same ∙ append_assoc (journal_lines 0 other) _ _)

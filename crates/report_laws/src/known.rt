@@ -1,24 +1,22 @@
-ghost use Rattle.report_laws.specs.Names.{CallNames, CommandNames, EntryNames, HaveNames, MarkNames, PartNames};
-ghost use Rattle.report_laws.specs.Numbers.{AnswerFits, AreBytes, CallFits, CommandFits, EntryFits, HaveNumbers};
-ghost use Rattle.report_laws.specs.Numbers.{MarkFits, ReplyFits};
+ghost use Rattle.report_laws.specs.Fits.{AllFit, AnswerFits, AreBytes, CallFits, CommandFits, EntryFits, MarkFits, PartFits, ReplyFits};
 ghost use Rattle.vol_units.specs.Name.{IsName};
 
+use journal_book::Journal;
 use volume_model::{Answer, Call, Command, Entry, FoldOrDrop, LayerName, Mark, Reply};
 
-/// Entries that a program holds have names and numbers, since each value is one of its type. A law ranges over all
-/// lists of bytes and all numbers, so this looks at each field once, and does nothing.
-pub fn know_entries(entries: &[Entry])
-    ensures names { HaveNames entries.now }
-    ensures numbers { HaveNumbers entries.now }
+/// What the entries of a program's journal hold fits its type, as is known of each value that is looked at: names are names,
+/// numbers have at most 64 bits. A law ranges over all lists of bytes and all numbers, so this looks at each field once, and
+/// does nothing.
+pub fn know_journal(journal: &Journal)
+    ensures { AllFit journal.now.entries }
 {
-    for entry in entries {
-        know_entry(entry);
+    for place in 0..journal.len() {
+        know_entry(journal.entry(place));
     }
 }
 
 fn know_entry(entry: &Entry)
-    ensures names { EntryNames entry.now }
-    ensures numbers { EntryFits entry.now }
+    ensures { EntryFits entry.now }
 {
     match entry {
         Entry::Answer(answer) => know_answer(answer),
@@ -27,8 +25,7 @@ fn know_entry(entry: &Entry)
 }
 
 fn know_answer(answer: &Answer)
-    ensures names { CallNames answer.now.call }
-    ensures numbers { AnswerFits answer.now }
+    ensures { AnswerFits answer.now }
 {
     know_call(&answer.call);
     know_reply(&answer.reply);
@@ -38,8 +35,7 @@ fn know_answer(answer: &Answer)
 }
 
 fn know_call(call: &Call)
-    ensures names { CallNames call.now }
-    ensures numbers { CallFits call.now }
+    ensures { CallFits call.now }
 {
     match call {
         Call::Read { offset, length } => {
@@ -59,8 +55,7 @@ fn know_call(call: &Call)
 }
 
 fn know_command(command: &Command)
-    ensures names { CommandNames command.now }
-    ensures numbers { CommandFits command.now }
+    ensures { CommandFits command.now }
 {
     match command {
         Command::Snapshot(name) => {
@@ -90,8 +85,7 @@ fn know_reply(reply: &Reply)
 }
 
 fn know_mark(mark: &Mark)
-    ensures names { MarkNames mark.now }
-    ensures numbers { MarkFits mark.now }
+    ensures { MarkFits mark.now }
 {
     match mark {
         Mark::Purged(part) => know_part(part),
@@ -120,7 +114,7 @@ fn know_mark(mark: &Mark)
 }
 
 fn know_part(part: &FoldOrDrop)
-    ensures { PartNames part.now }
+    ensures { PartFits part.now }
 {
     match part {
         FoldOrDrop::Fold { parent, child } => {

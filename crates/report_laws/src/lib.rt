@@ -4,4 +4,4 @@
 mod known;
 pub mod laws;
 
-pub use known::know_entries;
+pub use known::know_journal;
