@@ -8,6 +8,7 @@ use Rattle.volume_model.specs.declared.entry.Entry.{Entry}
 use Rattle.program_words.specs.declared.words.Workers.TheVariants.{One}
 use Rattle.program_words.specs.declared.words.Words.{Words}
 use Rattle.program_words.specs.declared.words.Words.TheVariants.{Run}
+use Rattle.report_laws.specs.Fits.{AllFit}
 use Rattle.run_report.specs.Report.{report_of}
 use Rattle.script_text.specs.declared.error.ScriptError.{ScriptError}
 use Rattle.script_text.specs.declared.error.ScriptError.TheVariants as script_error
@@ -68,12 +69,14 @@ HadScript left script = (input : List ℕ) × IsScript input script × IfSome le
 abbrev pub RunFact : Type 1
 RunFact = Script → List Entry → Type 0
 
--- The journal is that of a run of the script, over lines that counted these faults and told that they carried this. Where
--- the wiring tells which lines it was asked for, before the run and now, in between these were the script's, each to fail
--- as it plans. Where one worker was asked for, the journal is one worker's.
+-- The journal is that of a run of the script, over lines that counted these faults and told that they carried this. What
+-- its entries hold fits its type, so that no two such journals have one report. Where the wiring tells which lines it was
+-- asked for, before the run and now, in between these were the script's, each to fail as it plans. Where one worker was
+-- asked for, the journal is one worker's.
 pub record IsRunOf (asked : Option Words) (before now : Option (List Asked)) (counted : ℕ → ℕ → ℕ)
     (told : ℕ → ℕ → Option (List (List ℕ))) (script : Script) (journal : List Entry) : Type 0 where
   pub run : IsRun counted told script journal
+  pub fits : AllFit journal
   pub lines : TellsMore before now (asks_in script)
   pub turns : asked ≡ Some (Run One) → IsOneWorkersRun counted script journal
 

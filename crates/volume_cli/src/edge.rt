@@ -3,12 +3,14 @@ ghost use Rattle.std.specs.Io.KnownBytes.{Appends, Consumes, IsAtEnd};
 ghost use Rattle.journal_book.specs.Book.{modes_of};
 ghost use Rattle.outer_traits.specs.Passing.{GivesAtMost, WritesPrefix};
 ghost use Rattle.replica_node.specs.Volume.{volume_of_node};
+ghost use Rattle.report_laws.specs.Fits.{AllFit};
 ghost use Rattle.report_writer.specs.Written.{written_text};
 ghost use Rattle.volume_cli.specs.Stops.{ReadCounts, WriteCounts};
 
 use crate::stop::Stop;
 use journal_book::Bytes;
 use outer_traits::{OuterError, Sink, Source, read_whole};
+use report_laws::know_journal;
 use report_writer::write_report;
 use script_text::MOST_INPUT;
 use std::alloc::Global;
@@ -41,8 +43,10 @@ pub fn write_output<K: Sink>(
     ensures prefix { WritesPrefix (K.contents sink.old) (K.contents sink.new)
         (written_text served.now.heads.items served.now.world.journal (map volume_of_node served.now.world.nodes.items)) }
     ensures counts { WriteCounts result (K.faults sink.old) (K.faults sink.new) }
+    ensures fits { AllFit served.now.world.journal.entries }
 {
     let world = &served.world;
+    know_journal(&world.journal);
     match write_report(alloc, &served.heads, &world.journal, &world.nodes, sink) {
         Ok(()) => Ok(()),
         Err(OuterError::Failed) => Err(Stop::WriteFault),

@@ -62,12 +62,13 @@ pub fn longhorn<R: Threads + Wait + Sync, S: Source, K: Sink, W: Wiring, G: Gate
     ensures most { GivesAtMost (S.left source.old) (S.left source.new) 268435457 }
 
     // However the workers' steps interleave, at Done the sink has the report of one journal. It is one legal history of
-    // the script's calls, and its fault marks are faults that the run's own lines counted. Where the wiring tells which
-    // lines it was asked for, these were one of each stream to each replica, to fail as the script plans it, and no
-    // other. Where the lines tell what they carried, each write that was done was carried whole to each replica that is
-    // read and written there, and the bytes of each read from one. One worker, where it was asked for, answers stream
-    // after stream, by their numbers, and while no line has failed the journal is a function of the script. After a
-    // write fault the sink has a prefix of the report, and after a refusal and a read fault it is as it was.
+    // the script's calls, and its fault marks are faults that the run's own lines counted. What it holds fits its types,
+    // so that no two such journals have one report. Where the wiring tells which lines it was asked for, these were one
+    // of each stream to each replica, to fail as the script plans it, and no other. Where the lines tell what they
+    // carried, it was whole frames alone; each write that was done was carried whole to each replica that is read and
+    // written there, and the bytes of each read from one. One worker, where it was asked for, answers stream after
+    // stream, by their numbers, and while no line has failed the journal is a function of the script. After a write
+    // fault the sink has a prefix of the report, and after a refusal and a read fault it is as it was.
     ensures printed { Leaves (IsRunOf (asked_for words.now) (W.asked wiring.old) (W.asked wiring.new)
         (W.counts wiring.new) (W.carried wiring.new))
         result (sink.new ≡ sink.old) (S.left source.old) (K.contents sink.old) (K.contents sink.new) }

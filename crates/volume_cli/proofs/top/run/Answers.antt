@@ -28,6 +28,7 @@ returns-clause-printed g c =
     (had_script _ _ c.in_ok-input.input script c.in_ok-input.ensures.bytes c.in_ok-input.ensures.whole c.in_ok-script.ensures.found)
     (record {
       run = c.in_ok-served.ensures.served.run;
+      fits = c.write_output.ensures.fits;
       lines = c.in_ok-served.ensures.asked;
       turns = λ asked. c.in_ok-served.ensures.turns (same_workers c.args.workers One asked);
     })
