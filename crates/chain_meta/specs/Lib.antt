@@ -1,0 +1,5 @@
+pub mod Answers
+pub mod DiskMetas
+pub mod ImageNames
+pub mod Kinds
+pub mod VolumeMetas
