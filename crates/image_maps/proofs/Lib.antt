@@ -1,0 +1,5 @@
+pub mod BegunLemmas
+pub mod Cuts
+pub mod DigitLemmas
+pub mod MapLemmas
+pub mod StandingLemmas

@@ -1,0 +1,4 @@
+pub mod Begun
+pub mod Maps
+pub mod Reading
+pub mod Standing
