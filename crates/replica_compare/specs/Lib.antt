@@ -1,0 +1,4 @@
+pub mod Blocks
+pub mod Comparing
+pub mod Least
+pub mod Order
