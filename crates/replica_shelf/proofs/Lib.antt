@@ -1,0 +1,8 @@
+pub mod CallLemmas
+pub mod ClearLemmas
+pub mod FileLemmas
+pub mod FolderLemmas
+pub mod ImageLemmas
+pub mod NameLemmas
+pub mod PartLemmas
+pub mod SpanLemmas

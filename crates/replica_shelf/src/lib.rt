@@ -1,0 +1,16 @@
+//! A replica's folder: a replica is saved to one.
+#![tactic(auto)]
+
+mod clearing;
+mod file;
+mod image;
+mod map;
+mod metas;
+mod names;
+mod parts;
+mod saving;
+
+pub use replica_node::ReplicaNode;
+pub use saving::{SaveMeta, save};
+pub use shelf_traits::{Outer, OuterError, Shelves};
+pub use vol_units::TimeText;
