@@ -1,7 +1,7 @@
 ghost use Rattle.std.specs.Prelude.{◌≡◌, ◌≤◌, OnOk, Err, true};
 ghost use Rattle.outer_traits.specs.Causes.{HasOuterCause};
 ghost use Rattle.shelf_traits.specs.Files.{Both};
-ghost use Rattle.chain_meta.specs.declared.image_name.TheConstants.{LARGEST_HEAD};
+ghost use Rattle.chain_meta.specs.Kinds.{largest_head};
 ghost use Rattle.replica_shelf.specs.Folder.{IsVolumeOf, IsFolderOf, volume_meta_of};
 ghost use Rattle.replica_shelf.specs.Saving.{IsSaved, ForeignStay, FellElsewhere};
 
@@ -29,7 +29,7 @@ pub fn save<S: Shelves>(
     shelf: u8,
     shelves: &mut S,
 ) -> Outer<()>
-    ensures ok { OnOk result (node.now.number ≤ LARGEST_HEAD → Both (S.holds shelves.old) (S.holds shelves.new)
+    ensures ok { OnOk result (node.now.number ≤ largest_head → Both (S.holds shelves.old) (S.holds shelves.new)
         (λ old new. IsFolderOf (new shelf) meta.now.time meta.now.failed node.now)) }
 
     // Whatever the head's number is, just these files are there of it, and of no other image.
@@ -39,7 +39,7 @@ pub fn save<S: Shelves>(
 
     // Where a call failed that was to change another file than the metadata of the volume, that says Dirty.
     ensures dirty { result ≡ Err OuterError.Failed → FellElsewhere (S.failed_at shelves.new)
-        → node.now.number ≤ LARGEST_HEAD → Both (S.holds shelves.old) (S.holds shelves.new)
+        → node.now.number ≤ largest_head → Both (S.holds shelves.old) (S.holds shelves.new)
         (λ old new. IsVolumeOf (new shelf) (volume_meta_of true meta.now.failed node.now)) }
     ensures cause { HasOuterCause (S.faults shelves.old) (S.faults shelves.new) result }
 {
