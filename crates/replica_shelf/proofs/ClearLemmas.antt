@@ -7,7 +7,7 @@ use Rattle.std.proofs.lemmas.List.{get_or_default}
 use Rattle.std.proofs.lemmas.Slice.Eq.{bytes_eq-Decides}
 use Rattle.shelf_traits.specs.Files.{Files, Both, OthersStay, Lists}
 use Rattle.chain_meta.specs.ImageNames.{IsImageName}
-use Rattle.replica_shelf.specs.Files.{IsOfAnImage, IsFileOf}
+use Rattle.folder_names.specs.Files.{IsOfAnImage, IsFileOf}
 use Rattle.replica_shelf.specs.Saving.{OnlyImages, OtherImagesStay, PartChanges, ClearsFirst, IsClear}
 use Rattle.replica_shelf.proofs.CallLemmas.{both_then, both_map}
 

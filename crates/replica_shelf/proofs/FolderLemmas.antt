@@ -10,11 +10,11 @@ use Rattle.chain_meta.specs.ImageNames.{snapshot_file}
 use Rattle.chain_meta.specs.declared.volume_meta.VolumeMeta.{VolumeMeta}
 use Rattle.replica_node.specs.Node.{Node, Kept, layer_names}
 use Rattle.replica_node.specs.Places.{kept_at, IsPlace}
-use Rattle.replica_shelf.specs.Files.{Folder, IsMeta, meta_of, volume_file}
+use Rattle.folder_names.specs.Files.{Folder, IsMeta, meta_of, volume_file}
 use Rattle.replica_shelf.specs.Folder.{HasParts, IsVolumeOf, IsFolderOf, image_at, volume_meta_of}
 use Rattle.replica_shelf.specs.Saving.{AreWritten, IsVolumeText, IsSaved, ForeignStay, OnlyImages}
 use Rattle.replica_shelf.proofs.CallLemmas.{both_then, both_and, both_map}
-use Rattle.replica_shelf.proofs.NameLemmas.{one_image, snapshots_differ, head_no_snapshot, image_not_volume, volume_is_not_ours}
+use Rattle.folder_names.proofs.NameLemmas.{one_image, snapshots_differ, head_no_snapshot, image_not_volume, volume_is_not_ours}
 use Rattle.replica_shelf.proofs.PartLemmas.{part_stays, part_is_read, ends_at, snapshot_ends, not_volume}
 
 -- a name is among those of the layers, or is none of them

@@ -10,7 +10,7 @@ use Rattle.vol_units.proofs.BytesLemmas.{length-with_bytes_at, take-within}
 use Rattle.replica_node.specs.Node.{has_own}
 use Rattle.replica_node.specs.Held.{block_of}
 use Rattle.replica_node.proofs.ReadLemmas.{part_at}
-use Rattle.replica_shelf.specs.Files.{Folder}
+use Rattle.folder_names.specs.Files.{Folder}
 use Rattle.replica_shelf.specs.Saving.{IsImageOf, HoldsBelow, PutsBlock}
 use Rattle.replica_shelf.proofs.CallLemmas.{both_then}
 

@@ -3,6 +3,5 @@ pub mod ClearLemmas
 pub mod FileLemmas
 pub mod FolderLemmas
 pub mod ImageLemmas
-pub mod NameLemmas
 pub mod PartLemmas
 pub mod SpanLemmas

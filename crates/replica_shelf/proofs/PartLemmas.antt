@@ -11,12 +11,12 @@ use Rattle.coalesce.specs.Folding.{snapshot_of}
 use Rattle.replica_node.specs.Node.{Node, Kept}
 use Rattle.replica_node.specs.Fold.{tree_of}
 use Rattle.replica_node.specs.Places.{kept_at, IsPlace}
-use Rattle.replica_shelf.specs.Files.{Folder, IsFileOf, IsImage, IsMap, IsMeta, meta_of, map_of, volume_file}
+use Rattle.folder_names.specs.Files.{Folder, IsFileOf, IsImage, IsMap, IsMeta, meta_of, map_of, volume_file}
 use Rattle.replica_shelf.specs.Folder.{IsMapOf, IsPartOf, image_at, meta_at}
 use Rattle.replica_shelf.specs.Saving.{IsImageOf, IsMetaText, IsWritten, IsWrittenAt, AreWritten, IsBelow, PartChanges}
 use Rattle.replica_shelf.proofs.CallLemmas.{both_then, both_and}
-use Rattle.replica_shelf.proofs.NameLemmas.{Ends, IsEnd, Begins, IsBegin, one_image, snapshots_differ, head_no_snapshot}
-use Rattle.replica_shelf.proofs.NameLemmas.{begins_file, no_volume}
+use Rattle.folder_names.proofs.NameLemmas.{Ends, IsEnd, Begins, IsBegin, one_image, snapshots_differ, head_no_snapshot}
+use Rattle.folder_names.proofs.NameLemmas.{begins_file, no_volume}
 
 -- ---- one part
 

@@ -13,7 +13,7 @@ use Rattle.layer_chain.specs.declared.layer.LayerMeta.{LayerMeta}
 use Rattle.replica_node.specs.Node.{Node, has_own, layer_names}
 use Rattle.replica_node.specs.Held.{block_of}
 use Rattle.replica_node.specs.Places.{kept_at, IsPlace, disk_at, own_at}
-use Rattle.replica_shelf.specs.Files.{Folder, volume_file, meta_of, map_of}
+use Rattle.folder_names.specs.Files.{Folder, volume_file, meta_of, map_of}
 
 -- ---- the files of one layer, or of the head
 

@@ -16,7 +16,7 @@ use Rattle.shelf_traits.specs.Files.{Files, AllStay, Becomes, written}
 use Rattle.replica_node.specs.Node.{Node, has_own}
 use Rattle.replica_node.specs.Held.{block_of}
 use Rattle.replica_node.specs.Places.{IsPlace, disk_at, own_at}
-use Rattle.replica_shelf.specs.Files.{Folder, volume_file, meta_of, IsFileOf, IsOfAnImage}
+use Rattle.folder_names.specs.Files.{Folder, volume_file, meta_of, IsFileOf, IsOfAnImage}
 use Rattle.replica_shelf.specs.Folder.{IsMapOf, image_at, meta_at, volume_meta_of}
 
 -- ---- the files of one layer, or of the head

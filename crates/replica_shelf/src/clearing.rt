@@ -1,7 +1,7 @@
 ghost use Rattle.std.specs.Prelude.{◌≡◌, OnOk, None};
 ghost use Rattle.outer_traits.specs.Causes.{HasOuterCause};
 ghost use Rattle.shelf_traits.specs.Files.{Both, OthersStay};
-ghost use Rattle.replica_shelf.specs.Files.{IsOfAnImage};
+ghost use Rattle.folder_names.specs.Files.{IsOfAnImage};
 ghost use Rattle.replica_shelf.specs.Saving.{IsClear, OnlyImages};
 
 use crate::names::is_of_an_image;

@@ -4,12 +4,12 @@ ghost use Rattle.outer_traits.specs.Causes.{HasOuterCause};
 ghost use Rattle.shelf_traits.specs.Files.{Both, OthersStay};
 ghost use Rattle.replica_node.specs.Node.{has_own};
 ghost use Rattle.replica_node.specs.Places.{IsPlace, disk_at, own_at};
-ghost use Rattle.replica_shelf.specs.Files.{map_of};
+ghost use Rattle.folder_names.specs.Files.{map_of};
 ghost use Rattle.replica_shelf.specs.Folder.{IsMapOf};
 ghost use Rattle.replica_shelf.specs.Saving.{ListsBelow, IsRun};
 
 use crate::file::put_file;
-use crate::names::map_file;
+use folder_names::map_file;
 use chain_meta::ImageName;
 use image_maps::{BlockSpan, write_map};
 use replica_node::ReplicaNode;

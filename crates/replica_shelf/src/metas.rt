@@ -6,12 +6,12 @@ ghost use Rattle.shelf_traits.specs.Failing.{FailsAt};
 ghost use Rattle.shelf_traits.specs.Files.{Both, OthersStay, Becomes};
 ghost use Rattle.chain_meta.specs.ImageNames.{snapshot_file};
 ghost use Rattle.replica_node.specs.Places.{IsPlace};
-ghost use Rattle.replica_shelf.specs.Files.{meta_of, volume_file};
+ghost use Rattle.folder_names.specs.Files.{meta_of, volume_file};
 ghost use Rattle.replica_shelf.specs.Folder.{meta_at, volume_meta_of};
 ghost use Rattle.replica_shelf.specs.Saving.{IsMetaText, IsVolumeText};
 
 use crate::file::put_file;
-use crate::names::{VOLUME_FILE, layer_image, meta_file};
+use folder_names::{VOLUME_FILE, layer_image, meta_file};
 use chain_meta::{DiskMeta, ImageName, VolumeMeta};
 use replica_node::ReplicaNode;
 use shelf_traits::{Outer, Shelves};

@@ -1,6 +1,6 @@
 use Rattle.std.proofs.Common.{subst}
 use Rattle.chain_meta.specs.ImageNames.{IsImageName}
-use Rattle.replica_shelf.proofs.NameLemmas.{one_front}
+use Rattle.folder_names.proofs.NameLemmas.{one_front}
 use Rattle.replica_shelf.proofs.names.is_image_before.Goals as goal
 
 pub returns-in-Some : goal.returns-in-Some

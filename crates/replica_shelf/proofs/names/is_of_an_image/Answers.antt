@@ -1,5 +1,5 @@
 use Rattle.std.proofs.Common.{rules}
-use Rattle.replica_shelf.proofs.NameLemmas.{of_map, of_meta, only_meta}
+use Rattle.folder_names.proofs.NameLemmas.{of_map, of_meta, only_meta}
 use Rattle.replica_shelf.proofs.names.is_of_an_image.Goals as goal
 
 pub returns-then-is_image_before : goal.returns-then-is_image_before

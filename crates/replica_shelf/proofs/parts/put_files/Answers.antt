@@ -1,6 +1,6 @@
 use Rattle.std.proofs.Common.{ap, refl}
 use Rattle.replica_node.specs.Places.{disk_at, own_at}
-use Rattle.replica_shelf.specs.Files.{IsImage, IsMap, IsMeta, meta_of, map_of}
+use Rattle.folder_names.specs.Files.{IsImage, IsMap, IsMeta, meta_of, map_of}
 use Rattle.replica_shelf.proofs.ClearLemmas.{part_of, part_then}
 use Rattle.replica_shelf.proofs.PartLemmas.{part_is}
 use Rattle.replica_shelf.proofs.parts.put_files.Goals as goal

@@ -4,7 +4,7 @@ use Rattle.std.proofs.Common.{refl, sym, ap, subst, ◌∙◌, arith, lit<, ◌<
 use Rattle.std.proofs.lemmas.List.{append_cancel_left, append_cancel_right, reverse-append}
 use Rattle.std.specs.Prelude.{reverse}
 use Rattle.chain_meta.specs.ImageNames.{head_file, snapshot_file, head_digits, IsImageName}
-use Rattle.replica_shelf.specs.Files.{IsFileOf, IsImage, IsMap, IsMeta, IsOfAnImage, meta_of, map_of, volume_file}
+use Rattle.folder_names.specs.Files.{IsFileOf, IsImage, IsMap, IsMeta, IsOfAnImage, meta_of, map_of, volume_file}
 
 -- what an image's name ends with
 pub data Ends (file : List ℕ) : Type 0 where
