@@ -5,4 +5,5 @@ mod Found
 mod KindLemmas
 mod OneAnswer
 mod OneKind
+mod ShortLemmas
 mod VolumeLemmas

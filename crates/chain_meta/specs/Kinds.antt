@@ -41,6 +41,10 @@ IsParent d (Some file) = IsImage d file
 abbrev pub largest_head : ℕ
 largest_head = 999999
 
+-- the most bytes of metadata that are read
+abbrev pub largest_meta : ℕ
+largest_meta = 1048576
+
 -- the file of the head of that number, which is one that is opened
 abbrev pub IsHead : Data → ℕ → Type 0
 IsHead d n = (file : List ℕ) × (as_str d ≡ Some file) × IsHeadFile n file × (n ≤ largest_head)

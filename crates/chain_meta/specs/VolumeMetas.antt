@@ -1,8 +1,8 @@
 -- The metadata of the volume, as JSON. The format is this project's profile of what Longhorn's replicas write.
-use Rattle.std.specs.Prelude.{◌≡◌, ℕ, Bool, false, if◌then◌else◌, List, codes, Option, Some, None, Result}
+use Rattle.std.specs.Prelude.{◌≡◌, ◌<◌, ◌^◌, ℕ, Bool, false, if◌then◌else◌, List, codes, Option, Some, None, Result}
 use Rattle.serde_json.specs.Data.{Data, boolean, string, number, unsigned, object, member, no_members}
 use Rattle.serde_json.specs.Find.{get}
-use Rattle.chain_meta.specs.ImageNames.{head_file, parent_text}
+use Rattle.chain_meta.specs.ImageNames.{head_file, parent_text, IsGoodParent}
 use Rattle.chain_meta.specs.Kinds.{HasKind, IsFlag, IsParent, IsHead, IsSize, HasError, has_backing}
 use Rattle.chain_meta.specs.declared.error.MetaMember.{MetaMember}
 use Rattle.chain_meta.specs.declared.error.MetaError.{MetaError}
@@ -56,6 +56,12 @@ pub record TellsVolume (m : VolumeMembers) (meta : VolumeMeta) : Type 0 where
   pub parent : m.parent ≡ Some meta.parent
   pub size : m.size ≡ Some meta.size
   pub backed : m.backed ≡ false
+
+-- what each value of the type keeps
+pub record IsGoodVolume (m : VolumeMeta) : Type 0 where
+  pub head : m.head < 2 ^ 64
+  pub parent : IsGoodParent m.parent
+  pub size : m.size < 2 ^ 64
 
 -- the answer is true of the bytes
 abbrev pub AnswersVolume : List ℕ → Result VolumeMeta MetaError → Type 0

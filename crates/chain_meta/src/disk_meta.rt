@@ -1,7 +1,8 @@
-ghost use Rattle.std.specs.Prelude.{◌≡◌, IfOk, IfErr};
+ghost use Rattle.std.specs.Prelude.{◌≡◌, ◌≤◌, IfOk, IfErr, length};
 ghost use Rattle.serde_json.specs.View.{view};
 ghost use Rattle.serde_json.specs.Written.{compact_text};
 ghost use Rattle.chain_meta.specs.Answers.{Finds};
+ghost use Rattle.chain_meta.specs.Kinds.{largest_meta};
 ghost use Rattle.chain_meta.specs.DiskMetas.{disk_data, IsGoodDisk, HasDiskMembers, AnswersDisk, CompletesDisk};
 ghost use Rattle.chain_meta.specs.DiskMetas.{SaysDisk, RefusesDisk, IsOnlyDisk};
 
@@ -39,6 +40,7 @@ impl DiskMeta {
     /// The metadata as compact JSON, its members in the order of their names.
     pub fn write(&self, alloc: Global) -> Result<Vec<u8>, AllocError>
         ensures text { IfOk result (λ bytes. bytes.items ≡ compact_text (disk_data self.now)) }
+        ensures short { IfOk result (λ bytes. length bytes.items ≤ largest_meta) }
 
         // What was written is read as the same.
         ensures reads_back { IfOk result (λ bytes. SaysDisk bytes.items self.now) }

@@ -1,10 +1,9 @@
-ghost use Rattle.std.specs.Prelude.{◌≡◌, ◌≤◌, IfOk, IfErr};
+ghost use Rattle.std.specs.Prelude.{◌≡◌, ◌≤◌, IfOk, IfErr, length};
 ghost use Rattle.serde_json.specs.View.{view};
 ghost use Rattle.serde_json.specs.Written.{compact_text};
 ghost use Rattle.chain_meta.specs.Answers.{Finds};
-ghost use Rattle.chain_meta.specs.ImageNames.{IsGoodParent};
-ghost use Rattle.chain_meta.specs.Kinds.{largest_head};
-ghost use Rattle.chain_meta.specs.VolumeMetas.{volume_data, error_text, HasVolumeMembers, AnswersVolume};
+ghost use Rattle.chain_meta.specs.Kinds.{largest_head, largest_meta};
+ghost use Rattle.chain_meta.specs.VolumeMetas.{volume_data, IsGoodVolume, error_text, HasVolumeMembers, AnswersVolume};
 ghost use Rattle.chain_meta.specs.VolumeMetas.{CompletesVolume, SaysVolume, RefusesVolume, IsOnlyVolume};
 
 use crate::error::{MetaError, MetaMember};
@@ -44,6 +43,7 @@ impl VolumeMeta {
     /// The metadata as compact JSON, its members in the order of their names.
     pub fn write(&self, alloc: Global) -> Result<Vec<u8>, AllocError>
         ensures text { IfOk result (λ bytes. bytes.items ≡ compact_text (volume_data self.now)) }
+        ensures short { IfOk result (λ bytes. length bytes.items ≤ largest_meta) }
 
         // What was written is read as the same, where the number of the head is one that is opened.
         ensures reads_back { IfOk result (λ bytes. self.now.head ≤ largest_head → SaysVolume bytes.items self.now) }
@@ -54,7 +54,7 @@ impl VolumeMeta {
 
     fn value(&self, alloc: Global) -> Result<Value, AllocError>
         ensures value { IfOk result (λ v. view v ≡ volume_data self.now) }
-        ensures good { IfOk result (λ _. IsGoodParent self.now.parent) }
+        ensures good { IfOk result (λ _. IsGoodVolume self.now) }
     {
         let parent = members::parent_text(&self.parent);
         let head = ImageName::head(alloc, self.head)?;
