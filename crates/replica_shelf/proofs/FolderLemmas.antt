@@ -88,7 +88,7 @@ saved_is (Ok v) shelf now failed node meta a b c d is first parts others told =
 folder_is : (folder : Folder) (now : List ℕ) (failed : Bool) (node : Node) → node.number ≤ 999999
     → IsSaved folder now failed node → IsFolderOf folder now failed node
 folder_is folder now failed node low saved = record {
-  volume = record { text = _; there = saved.volume.there; says = saved.volume.says low };
+  volume = record { text = _; there = saved.volume.there; few = saved.volume.few; says = saved.volume.says low };
   layers = parts_are_read folder now node saved.layers;
 }
 
@@ -111,6 +111,7 @@ dirty_stays shelf failed node meta a b c low is told only =
     record {
       text = _;
       there = stays shelf volume_file (inr volume_is_not_ours) ∙ text.there;
+      few = text.few;
       says = text.says low;
     })
 

@@ -42,7 +42,7 @@ image_stays f g image disk own same h = record {
 
 meta_stays : (f g : Folder) (image : List ℕ) (meta : DiskMeta) → g (meta_of image) ≡ f (meta_of image) → IsMetaText f image meta
     → IsMetaText g image meta
-meta_stays f g image meta same m = record { there = same ∙ m.there; says = m.says }
+meta_stays f g image meta same m = record { there = same ∙ m.there; few = m.few; says = m.says }
 
 -- a part is as its three files are
 pub part_stays : (f g : Folder) (image : List ℕ) (meta : DiskMeta) (disk : List ℕ) (own : List Bool)
@@ -59,7 +59,7 @@ pub part_is_read : (f : Folder) (image : List ℕ) (meta : DiskMeta) (disk : Lis
 part_is_read f image meta disk own p = record {
   listed = p.listed;
   held = record { bytes = p.held.bytes; there = p.held.there; whole = p.held.whole; blocks = p.held.blocks };
-  described = record { text = _; there = p.described.there; says = p.described.says };
+  described = record { text = _; there = p.described.there; few = p.described.few; says = p.described.says };
 }
 
 -- the three files of one image differ

@@ -1,10 +1,11 @@
 -- The replica that a folder is: its layers, the number of its head, and the blocks that each of them itself has.
-use Rattle.std.specs.Prelude.{◌≡◌, ℕ, Bool, true, false, List, length, Option, Some, None, option_map, unwrap_or}
+use Rattle.std.specs.Prelude.{◌≡◌, ◌≤◌, ℕ, Bool, true, false, List, length, Option, Some, None, option_map, unwrap_or}
 use Rattle.std.specs.Prelude.{Contains}
 use Rattle.vol_units.specs.Name.{IsName}
 use Rattle.image_maps.specs.Maps.{IsMap, has_block}
 use Rattle.image_maps.specs.declared.span.BlockSpan.{BlockSpan}
 use Rattle.chain_meta.specs.ImageNames.{head_file, snapshot_file}
+use Rattle.chain_meta.specs.Kinds.{largest_meta}
 use Rattle.chain_meta.specs.DiskMetas.{SaysDisk}
 use Rattle.chain_meta.specs.VolumeMetas.{SaysVolume}
 use Rattle.chain_meta.specs.declared.disk_meta.DiskMeta.{DiskMeta}
@@ -32,10 +33,11 @@ pub record HoldsBlocks (folder : Folder) (image disk : List ℕ) (own : List Boo
   pub whole : length bytes ≡ length disk
   pub blocks : (block : ℕ) → has_own own block ≡ true → block_of bytes block ≡ block_of disk block
 
--- the metadata of the image is there, and says this
+-- the metadata of the image is there, short enough to be read, and says this
 pub record IsMetaOf (folder : Folder) (image : List ℕ) (meta : DiskMeta) : Type 0 where
   pub text : List ℕ
   pub there : folder (meta_of image) ≡ Some text
+  pub few : length text ≤ largest_meta
   pub says : SaysDisk text meta
 
 -- the three files tell this of it, and hold the blocks that it itself has
@@ -44,10 +46,11 @@ pub record IsPartOf (folder : Folder) (image : List ℕ) (meta : DiskMeta) (disk
   pub held : HoldsBlocks folder image disk own
   pub described : IsMetaOf folder image meta
 
--- the metadata of the volume is there, and says this
+-- the metadata of the volume is there, short enough to be read, and says this
 pub record IsVolumeOf (folder : Folder) (meta : VolumeMeta) : Type 0 where
   pub text : List ℕ
   pub there : folder volume_file ≡ Some text
+  pub few : length text ≤ largest_meta
   pub says : SaysVolume text meta
 
 -- ---- what is told of a replica, where `now` is the time of the run that saves it

@@ -8,7 +8,7 @@ use Rattle.image_maps.specs.Maps.{AreSpans, end_of, has_block}
 use Rattle.image_maps.specs.declared.span.BlockSpan.{BlockSpan}
 use Rattle.chain_meta.specs.DiskMetas.{disk_data, SaysDisk}
 use Rattle.chain_meta.specs.VolumeMetas.{volume_data, SaysVolume}
-use Rattle.chain_meta.specs.Kinds.{largest_head}
+use Rattle.chain_meta.specs.Kinds.{largest_head, largest_meta}
 use Rattle.chain_meta.specs.declared.volume_meta.VolumeMeta.{VolumeMeta}
 use Rattle.chain_meta.specs.declared.disk_meta.DiskMeta.{DiskMeta}
 use Rattle.shelf_traits.specs.Failing.{FileOn}
@@ -32,6 +32,7 @@ pub record IsImageOf (folder : Folder) (image disk : List ℕ) (own : List Bool)
 -- the metadata of the image is just what is written of this
 pub record IsMetaText (folder : Folder) (image : List ℕ) (meta : DiskMeta) : Type 0 where
   pub there : folder (meta_of image) ≡ Some (compact_text (disk_data meta))
+  pub few : length (compact_text (disk_data meta)) ≤ largest_meta
   pub says : SaysDisk (compact_text (disk_data meta)) meta
 
 -- the three files are written
@@ -60,6 +61,7 @@ pub record AreWritten (These : Option ℕ → Type 0) (folder : Folder) (now : L
 -- the metadata of the volume is just what is written of this, which is read where the head's number is low
 pub record IsVolumeText (folder : Folder) (meta : VolumeMeta) : Type 0 where
   pub there : folder volume_file ≡ Some (compact_text (volume_data meta))
+  pub few : length (compact_text (volume_data meta)) ≤ largest_meta
   pub says : meta.head ≤ largest_head → SaysVolume (compact_text (volume_data meta)) meta
 
 -- the folder has these files of the replica, and none of another image
