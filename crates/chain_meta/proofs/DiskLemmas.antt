@@ -8,13 +8,13 @@ use Rattle.serde_json.proofs.OnLiterals.{serde_json_on_literals}
 use Rattle.chain_meta.specs.Answers.{IsObject}
 use Rattle.chain_meta.specs.DiskMetas.{disk_data, HasDiskMembers, missing_of_disk, TellsDisk, IsGoodDisk}
 use Rattle.chain_meta.specs.DiskMetas.{AnswersDisk, SaysDisk, IsOnlyDisk}
-use Rattle.chain_meta.specs.ImageNames.{parent_text, IsGoodParent}
-use Rattle.chain_meta.specs.Kinds.{IsFlag, IsImage, IsParent}
+use Rattle.chain_meta.specs.ImageNames.{parent_text, IsImageName, IsGoodParent}
+use Rattle.chain_meta.specs.Kinds.{HasKind, IsFlag, IsImage, IsParent}
 use Rattle.chain_meta.specs.declared.disk_meta.DiskMembers.{DiskMembers}
 use Rattle.chain_meta.specs.declared.disk_meta.DiskMeta.{DiskMeta}
 use Rattle.chain_meta.specs.declared.error.MetaError.{MetaError}
 use Rattle.chain_meta.proofs.Found.{same_value}
-use Rattle.chain_meta.proofs.OneAnswer.{only_answer}
+use Rattle.chain_meta.proofs.OneAnswer.{one_said, only_answer}
 use Rattle.chain_meta.proofs.OneKind.{one_kind, one_flag, one_image, one_parent}
 
 -- the members with which it is written
@@ -90,8 +90,25 @@ one_meta m a b is too =
 whole : (m : DiskMembers) (meta : DiskMeta) → TellsDisk m meta → missing_of_disk m ≡ None
 whole m meta is = rw (is.name, is.parent, is.removed) refl
 
+-- bytes say one thing of a layer
+pub one_disk : (bytes : List ℕ) (a b : DiskMeta) → SaysDisk bytes a → SaysDisk bytes b → a ≡ b
+one_disk =
+    one_said HasDiskMembers missing_of_disk (λ m. m.backed) TellsDisk one_members one_meta whole
+    (λ m meta is. is.backed)
+
 pub only_disk : (bytes : List ℕ) (answer : Result DiskMeta MetaError) → AnswersDisk bytes answer
     → IsOnlyDisk bytes answer
 only_disk =
     only_answer HasDiskMembers missing_of_disk (λ m. m.backed) TellsDisk one_members one_meta whole
     (λ m meta is. is.backed)
+
+image_told : (found : Option Data) (value : Option (List ℕ)) (file : List ℕ) → HasKind IsImage found value → value ≡ Some file
+    → IsImageName file
+image_told None None file has e = absurd (cc)
+image_told None (Some v) file has e = absurd has
+image_told (Some d) None file has e = absurd has
+image_told (Some d) (Some v) file has e = let same : v ≡ file = cc in subst IsImageName same has.1
+
+-- what bytes say of a layer names an image
+pub names_image : (bytes : List ℕ) (m : DiskMeta) → SaysDisk bytes m → IsImageName m.name
+names_image bytes m (members, (d, object, has), is) = image_told _ members.name m.name has.name is.name

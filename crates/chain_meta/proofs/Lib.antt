@@ -1,9 +1,9 @@
 mod CutLemmas
-mod DiskLemmas
+pub mod DiskLemmas
 mod FileLemmas
 mod Found
 mod KindLemmas
 mod OneAnswer
 mod OneKind
 mod ShortLemmas
-mod VolumeLemmas
+pub mod VolumeLemmas

@@ -3,7 +3,7 @@ use Rattle.std.proofs.Common.{◌≡◌, ℕ, Bool, true, false, true≢false, L
 use Rattle.std.proofs.Common.{inl, inr, refl, sym, ap, subst, ◌∙◌}
 use Rattle.serde_json.specs.Data.{Data}
 use Rattle.serde_json.specs.Read.{read}
-use Rattle.chain_meta.specs.Answers.{HasMembers, Answers, IsOnlyAnswer}
+use Rattle.chain_meta.specs.Answers.{HasMembers, Says, Answers, IsOnlyAnswer}
 use Rattle.chain_meta.specs.declared.error.MetaError.{MetaError}
 use Rattle.chain_meta.specs.declared.error.MetaError.TheVariants.{Syntax, Missing, Backing, NoMemory}
 use Rattle.chain_meta.specs.declared.error.MetaMember.{MetaMember}
@@ -24,10 +24,14 @@ module _ {M T : Type 0} (Has : Data → M → Type 0) (missing : M → Option Me
       → HasMembers Has missing backed Tells bytes n → P n → P m
   beside bytes m n P has too holds = subst P (one_members bytes n m too has) holds
 
+  -- bytes say one thing
+  pub one_said : (bytes : List ℕ) (t u : T) → Says Has missing backed Tells bytes t → Says Has missing backed Tells bytes u
+      → t ≡ u
+  one_said bytes t u (m, has, is) (n, too, also) = one_tells m t u is (beside bytes m n (λ x. Tells x u) has too also)
+
   pub only_answer : (bytes : List ℕ) (a : Result T MetaError) → Answers Has missing backed Tells bytes a
       → IsOnlyAnswer Has missing backed Tells bytes a
-  only_answer bytes (Ok t) (m, has, is) (Ok u) told (n, too, also) =
-      inl (ap Ok (one_tells m t u is (beside bytes m n (λ x. Tells x u) has too also)))
+  only_answer bytes (Ok t) is (Ok u) told too = inl (ap Ok (one_said bytes t u is too))
   only_answer bytes (Ok t) (m, has, is) (Err Syntax) told none = absurd (none m has)
   only_answer bytes (Ok t) (m, has, is) (Err (Missing k)) told (n, too, also) =
       absurd (no_value (missing m) (whole m t is) (beside bytes m n (λ x. missing x ≡ Some k) has too also))

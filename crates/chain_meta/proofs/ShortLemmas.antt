@@ -1,6 +1,8 @@
 -- What is written of a layer and of the volume is short enough to be read.
-use Rattle.std.proofs.Common.{◌≡◌, ◌+◌, ◌*◌, ◌<◌, ◌≤◌, ◌^◌, ℕ, Bool, true, false, cond, nat_lt, if◌then◌else◌, codes, List, [], ◌∷◌, ◌++◌, length}
-use Rattle.std.proofs.Common.{Option, Some, None, Result, Ok, Err, IfOk, Vec, Global, decimal, inl, inr, sym, ap, subst, ◌∙◌, arith, length-append}
+use Rattle.std.proofs.Common.{◌≡◌, ◌+◌, ◌*◌, ◌<◌, ◌≤◌, ◌^◌, ℕ, Bool, true, false, cond, nat_lt, if◌then◌else◌, codes}
+use Rattle.std.proofs.Common.{List, [], ◌∷◌, ◌++◌, length}
+use Rattle.std.proofs.Common.{Option, Some, None, Result, Ok, Err, IfOk, Vec, Global, decimal, inl, inr}
+use Rattle.std.proofs.Common.{sym, ap, subst, ◌∙◌, arith, length-append}
 use Rattle.std.proofs.lemmas.Fmt.{length-decimal-le}
 use Rattle.json.specs.Print.{escape_byte, escape, quoted}
 use Rattle.serde_json.specs.Data.{Data, boolean, string, number, unsigned, object, Members, member, no_members}
@@ -44,8 +46,14 @@ member_short : (later : Bool) (k : List ℕ) (d : Data) (ms : Members) (value mo
 member_short later k d ms value more a b c =
     let rest = compact_text d ++ members_text true ms in
     omega (
-      arith, length-append (comma_if later) (quoted k ++ 58 ∷ rest), length-append (quoted k) (58 ∷ rest),
-      length-append (compact_text d) (members_text true ms), comma_short later, short_quoted k 16 a, b, c,
+      arith,
+      length-append (comma_if later) (quoted k ++ 58 ∷ rest),
+      length-append (quoted k) (58 ∷ rest),
+      length-append (compact_text d) (members_text true ms),
+      comma_short later,
+      short_quoted k 16 a,
+      b,
+      c,
     )
 
 -- ---- what stands in them
@@ -63,8 +71,11 @@ zeros_short n = zeros_cases (nat_lt n 10) (nat_lt n 100)
 
 head_short : (n : ℕ) → n < 2 ^ 64 → length (head_file n) ≤ 80
 head_short n small = omega (
-  arith, length-append (head_digits n) (codes ".img"), length-append (zeros_before n) (decimal n),
-  digits_short n small, zeros_short n,
+  arith,
+  length-append (head_digits n) (codes ".img"),
+  length-append (zeros_before n) (decimal n),
+  digits_short n small,
+  zeros_short n,
 )
 
 image_short : (file : List ℕ) → IsImageName file → length file ≤ 80
@@ -89,15 +100,16 @@ short_disk m good =
     let parent = member (codes "Parent") (string (parent_text m.parent)) removed in
     let name = member (codes "Name") (string m.name) parent in
     let labels = member (codes "Labels") (object no_members) name in
-    let last = member_short true (codes "UserCreated") (boolean m.user_created) no_members 5 1 (omega arith) (bool_short m.user_created) (omega arith) in
+    let last = member_short true (codes "UserCreated") (boolean m.user_created) no_members 5 1 (omega arith)
+    (bool_short m.user_created) (omega arith) in
     let more = member_short true (codes "Removed") (boolean m.removed) user 5 106 (omega arith) (bool_short m.removed) last in
     let more = member_short true (codes "Parent") (string (parent_text m.parent)) removed 482 211 (omega arith)
-        (short_quoted (parent_text m.parent) 80 (parent_short m.parent good.parent)) more in
+    (short_quoted (parent_text m.parent) 80 (parent_short m.parent good.parent)) more in
     let more = member_short true (codes "Name") (string m.name) parent 482 793 (omega arith)
-        (short_quoted m.name 80 (image_short m.name good.name)) more in
+    (short_quoted m.name 80 (image_short m.name good.name)) more in
     let more = member_short true (codes "Labels") (object no_members) name 2 1375 (omega arith) (omega arith) more in
     let all = member_short false (codes "Created") (string m.created) labels 242 1477 (omega arith)
-        (short_quoted m.created 40 good.created.most) more in
+    (short_quoted m.created 40 good.created.most) more in
     omega (arith, all)
 
 error_short : (failed : Bool) → length (error_text failed) ≤ 3
@@ -113,16 +125,16 @@ short_volume m good =
     let named = member (codes "Head") (string (head_file m.head)) parent in
     let failed = member (codes "Error") (string (error_text m.failed)) named in
     let last = member_short true (codes "Size") (number (unsigned m.size)) no_members 20 1 (omega arith)
-        (digits_short m.size good.size) (omega arith) in
+    (digits_short m.size good.size) (omega arith) in
     let more = member_short true (codes "SectorSize") (number (unsigned 512)) sized 20 121 (omega arith)
-        (digits_short 512 (omega arith)) last in
+    (digits_short 512 (omega arith)) last in
     let more = member_short true (codes "Rebuilding") (boolean m.rebuilding) sector 5 241 (omega arith) (bool_short m.rebuilding) more in
     let more = member_short true (codes "Parent") (string (parent_text m.parent)) rebuilding 482 346 (omega arith)
-        (short_quoted (parent_text m.parent) 80 (parent_short m.parent good.parent)) more in
+    (short_quoted (parent_text m.parent) 80 (parent_short m.parent good.parent)) more in
     let more = member_short true (codes "Head") (string (head_file m.head)) parent 482 928 (omega arith)
-        (short_quoted (head_file m.head) 80 (head_short m.head good.head)) more in
+    (short_quoted (head_file m.head) 80 (head_short m.head good.head)) more in
     let more = member_short true (codes "Error") (string (error_text m.failed)) named 20 1510 (omega arith)
-        (short_quoted (error_text m.failed) 3 (error_short m.failed)) more in
+    (short_quoted (error_text m.failed) 3 (error_short m.failed)) more in
     let all = member_short false (codes "Dirty") (boolean m.dirty) failed 5 1630 (omega arith) (bool_short m.dirty) more in
     omega (arith, all)
 

@@ -15,7 +15,7 @@ use Rattle.chain_meta.specs.declared.volume_meta.VolumeMembers.{VolumeMembers}
 use Rattle.chain_meta.specs.declared.volume_meta.VolumeMeta.{VolumeMeta}
 use Rattle.chain_meta.proofs.DiskLemmas.{has_parent}
 use Rattle.chain_meta.proofs.Found.{same_value}
-use Rattle.chain_meta.proofs.OneAnswer.{only_answer}
+use Rattle.chain_meta.proofs.OneAnswer.{one_said, only_answer}
 use Rattle.chain_meta.proofs.OneKind.{one_kind, one_flag, one_head, one_parent, one_size}
 
 -- the members with which it is written
@@ -111,6 +111,12 @@ one_meta m a b is too =
 
 whole : (m : VolumeMembers) (meta : VolumeMeta) → TellsVolume m meta → missing_of_volume m ≡ None
 whole m meta is = rw (is.dirty, is.rebuilding, is.head, is.parent, is.size) refl
+
+-- bytes say one thing of the volume
+pub one_volume : (bytes : List ℕ) (a b : VolumeMeta) → SaysVolume bytes a → SaysVolume bytes b → a ≡ b
+one_volume =
+    one_said HasVolumeMembers missing_of_volume (λ m. m.backed) TellsVolume one_members one_meta whole
+    (λ m meta is. is.backed)
 
 pub only_volume : (bytes : List ℕ) (answer : Result VolumeMeta MetaError) → AnswersVolume bytes answer
     → IsOnlyVolume bytes answer
