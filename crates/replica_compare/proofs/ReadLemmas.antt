@@ -65,7 +65,7 @@ layer_size : (node : Node) (layer : Option (List ℕ)) (count : ℕ) → IsChain
 layer_size node None count chained = omega (arith, chained.head.size)
 layer_size node (Some name) count chained = named_size node.layers name count chained.layers
 
-same_readings : (a b : Node) (layer : Option (List ℕ)) (count : ℕ) → IsChained a count → IsChained b count
+pub same_readings : (a b : Node) (layer : Option (List ℕ)) (count : ℕ) → IsChained a count → IsChained b count
     → ((block : ℕ) → block < count → ReadsAlikeAt a b layer block) → ReadsAlike a b layer
 same_readings a b layer count p q same =
     same_disk (disk_of_layer a layer) (disk_of_layer b layer) count (layer_size a layer count p) (layer_size b layer count q) same
@@ -143,7 +143,7 @@ named_place (k ∷ ks) name e = go (bytes_eq name k.meta.name) refl e (named_pla
     go true is e older = (0, omega arith, sym ((bytes_eq-Decides name k.meta.name).0 is))
     go false is e older = let at = older e in (suc at.0, omega (arith, at.1), at.2)
 
-parent_older : (ks : List Kept) (count block place : ℕ) (name : List ℕ) → AreChained ks count → block < count → place < length ks
+pub parent_older : (ks : List Kept) (count block place : ℕ) (name : List ℕ) → AreChained ks count → block < count → place < length ks
     → has_own (kept_at ks place).own block ≡ false → (kept_at ks place).meta.parent ≡ Some name
     → (older : ℕ) × (place < older) × (older < length ks) × ((kept_at ks older).meta.name ≡ name)
 parent_older [] count block place name chained inside less absent is = absurd (omega (arith, less))
@@ -159,7 +159,7 @@ parent_older (k ∷ ks) count block (suc place) name chained inside less absent 
 
 -- ---- layers by places and by names
 
-disk_place : (ks : List Kept) (place : ℕ) → NamesOnce (snapshots ks) → place < length ks
+pub disk_place : (ks : List Kept) (place : ℕ) → NamesOnce (snapshots ks) → place < length ks
     → disk_named ks (kept_at ks place).meta.name ≡ (kept_at ks place).disk
 disk_place [] place once less = absurd (omega (arith, less))
 disk_place (k ∷ ks) zero once less = ap (λ t. cond t k.disk (disk_named ks k.meta.name)) (same_name k.meta.name)
@@ -171,7 +171,7 @@ disk_place (k ∷ ks) (suc place) once less =
     ap (λ t. cond t k.disk (disk_named ks name)) (other_name name k.meta.name other) ∙ disk_place ks place once.1 within
 
 -- a layer reads as its parent at a block that it has not itself
-falls : (a : Node) (count block place : ℕ) → IsChained a count → NamesOnce (tree_of a) → block < count → place < length a.layers
+pub falls : (a : Node) (count block place : ℕ) → IsChained a count → NamesOnce (tree_of a) → block < count → place < length a.layers
     → has_own (kept_at a.layers place).own block ≡ false
     → block_of (disk_named a.layers (kept_at a.layers place).meta.name) block ≡ read_below a.layers
     (kept_at a.layers place).meta.parent block
