@@ -15,6 +15,7 @@ pub mod PageLemmas
 pub mod PlaceLemmas
 pub mod ReadLemmas
 pub mod RoomLemmas
+pub mod ShapeLemmas
 pub mod TreeOf
 pub mod WriteLemmas
 pub mod VolumeLemmas

@@ -7,6 +7,7 @@ ghost use Rattle.sparse_image.specs.Image.{IsLent};
 ghost use Rattle.layer_chain.specs.Tree.{IsAt, IsThere, IsWholeTree};
 ghost use Rattle.sparse_image.specs.Listed.{bytes_in};
 ghost use Rattle.replica_node.specs.Room.{HasRoom, KeepsRoom, with_room, with_room_of, put_at, head_blocks};
+ghost use Rattle.replica_node.specs.Shape.{AreLayers};
 ghost use Rattle.volume_model.specs.Names.{NamesOnce};
 ghost use Rattle.volume_model.specs.Purge.{CanFold, CanDrop, next_in};
 ghost use Rattle.volume_model.specs.Snapshots.{is_live, chain_of};
@@ -280,11 +281,14 @@ impl ReplicaNode {
         self.tree.head_number()
     }
 
-    /// The layer on which the head stands, if there is one.
+    /// The layer on which the head stands, if there is one. Each layer below it stands on an older one, or on none.
     pub fn head_parent(&self) -> Option<LayerName>
         ensures on { result ≡ self.now.on }
         ensures kept { IsKept self.now result }
+        ensures older { AreLayers self.now.layers }
     {
+        // That the layers are a tree, a proof learns here.
+        let _count = self.tree.count();
         self.tree.head_parent()
     }
 
