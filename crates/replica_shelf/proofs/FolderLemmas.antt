@@ -40,6 +40,7 @@ some_none p q = cc
 -- what is written is read so, and no layer besides
 parts_are_read : (folder : Folder) (now : List ℕ) (node : Node) → AreWritten (IsPlace node) folder now node → HasParts folder now node
 parts_are_read folder now node had = record {
+  user = false;
   parts = λ place is. part_is_read folder _ _ _ _ (had.parts place is);
   no_more = λ name text named there. ⊎_elim (λ c. c) (λ none. absurd (none_more name text named there none)) (find node.layers name);
 }

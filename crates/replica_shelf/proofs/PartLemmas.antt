@@ -104,7 +104,7 @@ part_is (Ok v) shelf image file meta disk own a b c d same name p1 p2 o2 p3 o3 =
 
 -- ---- layers by their places
 
-pub name_at : (now : List ℕ) (node : Node) (place : Option ℕ) → (meta_at now node place).name ≡ image_at node place
+pub name_at : (now : List ℕ) (node : Node) (place : Option ℕ) → (meta_at now false node place).name ≡ image_at node place
 name_at now node None = refl
 name_at now node (Some place) = refl
 

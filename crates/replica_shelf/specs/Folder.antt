@@ -64,19 +64,20 @@ layer_meta_of now m = record {
   user_created = m.user_created;
 }
 
-abbrev pub head_meta_of : List ℕ → Node → DiskMeta
-head_meta_of now node = record {
+-- of the head, told to be taken by a user or not
+abbrev pub head_meta_of : List ℕ → Bool → Node → DiskMeta
+head_meta_of now user node = record {
   created = now;
   name = head_file node.number;
   parent = option_map snapshot_file node.on;
   removed = false;
-  user_created = false;
+  user_created = user;
 }
 
 -- of the layer at a place, or of the head where none is given
-abbrev pub meta_at : List ℕ → Node → Option ℕ → DiskMeta
-meta_at now node None = head_meta_of now node
-meta_at now node (Some place) = layer_meta_of now (kept_at node.layers place).meta
+abbrev pub meta_at : List ℕ → Bool → Node → Option ℕ → DiskMeta
+meta_at now user node None = head_meta_of now user node
+meta_at now user node (Some place) = layer_meta_of now (kept_at node.layers place).meta
 
 -- its image
 abbrev pub image_at : Node → Option ℕ → List ℕ
@@ -96,10 +97,11 @@ volume_meta_of dirty failed node = record {
 
 -- ---- the whole
 
--- the folder has each layer of the replica and its head, and no other layer
+-- The folder has each layer of the replica and its head, and no other layer. Of the head it may be told that a user took it.
 pub record HasParts (folder : Folder) (now : List ℕ) (node : Node) : Type 0 where
+  pub user : Bool
   pub parts : (place : Option ℕ) → IsPlace node place
-      → IsPartOf folder (image_at node place) (meta_at now node place) (disk_at node place) (own_at node place)
+      → IsPartOf folder (image_at node place) (meta_at now user node place) (disk_at node place) (own_at node place)
   pub no_more : (name text : List ℕ) → IsName name → folder (meta_of (snapshot_file name)) ≡ Some text
       → Contains (layer_names node.layers) name
 

@@ -44,7 +44,7 @@ pub record IsWritten (folder : Folder) (image : List ℕ) (meta : DiskMeta) (dis
 -- those of the layer at a place, or of the head where none is given
 abbrev pub IsWrittenAt : Folder → List ℕ → Node → Option ℕ → Type 0
 IsWrittenAt folder now node place =
-    IsWritten folder (image_at node place) (meta_at now node place) (disk_at node place) (own_at node place)
+    IsWritten folder (image_at node place) (meta_at now false node place) (disk_at node place) (own_at node place)
 
 -- ---- the whole
 

@@ -9,8 +9,8 @@ ghost use Rattle.replica_shelf.specs.Folder.{IsMapOf};
 ghost use Rattle.replica_shelf.specs.Saving.{ListsBelow, IsRun};
 
 use crate::file::put_file;
-use folder_names::map_file;
 use chain_meta::ImageName;
+use folder_names::map_file;
 use image_maps::{BlockSpan, write_map};
 use replica_node::ReplicaNode;
 use shelf_traits::{Outer, Shelves};

@@ -1,4 +1,4 @@
-ghost use Rattle.std.specs.Prelude.{◌≡◌, ◌≤◌, IfOk, OnOk, Some, None, true};
+ghost use Rattle.std.specs.Prelude.{◌≡◌, ◌≤◌, IfOk, OnOk, Some, None, true, false};
 ghost use Rattle.std.specs.Option.{option_map};
 ghost use Rattle.serde_json.specs.Written.{compact_text};
 ghost use Rattle.outer_traits.specs.Causes.{HasOuterCause};
@@ -11,8 +11,8 @@ ghost use Rattle.replica_shelf.specs.Folder.{meta_at, volume_meta_of};
 ghost use Rattle.replica_shelf.specs.Saving.{IsMetaText, IsVolumeText};
 
 use crate::file::put_file;
-use folder_names::{VOLUME_FILE, layer_image, meta_file};
 use chain_meta::{DiskMeta, ImageName, VolumeMeta};
+use folder_names::{VOLUME_FILE, layer_image, meta_file};
 use replica_node::ReplicaNode;
 use shelf_traits::{Outer, Shelves};
 use std::alloc::{AllocError, Global};
@@ -61,7 +61,7 @@ pub(crate) fn disk_meta(
     now: &TimeText,
 ) -> Result<DiskMeta, AllocError>
     requires { IsPlace node.now place }
-    ensures { IfOk result (λ meta. meta ≡ meta_at now.now node.now place) }
+    ensures { IfOk result (λ meta. meta ≡ meta_at now.now false node.now place) }
 {
     match place {
         Some(place) => layer_meta(alloc, node, place, now),
@@ -70,7 +70,7 @@ pub(crate) fn disk_meta(
 }
 
 fn head_meta(alloc: Global, node: &ReplicaNode, now: &TimeText) -> Result<DiskMeta, AllocError>
-    ensures { IfOk result (λ meta. meta ≡ meta_at now.now node.now None) }
+    ensures { IfOk result (λ meta. meta ≡ meta_at now.now false node.now None) }
 {
     Ok(DiskMeta {
         created: same_time(alloc, now)?,
@@ -88,7 +88,7 @@ fn layer_meta(
     now: &TimeText,
 ) -> Result<DiskMeta, AllocError>
     requires { IsPlace node.now (Some place) }
-    ensures { IfOk result (λ meta. meta ≡ meta_at now.now node.now (Some place)) }
+    ensures { IfOk result (λ meta. meta ≡ meta_at now.now false node.now (Some place)) }
 {
     let meta = node.meta(place);
     let created = match &meta.created {
