@@ -1,0 +1,9 @@
+pub mod AnswerLemmas
+pub mod FolderLemmas
+pub mod KnownLemmas
+pub mod LayerLemmas
+pub mod ListLemmas
+pub mod NameLemmas
+pub mod OpenLemmas
+pub mod PartLemmas
+pub mod ReadLemmas
