@@ -1,0 +1,2 @@
+pub mod FolderFiles
+pub mod FolderPaths
