@@ -1,0 +1,263 @@
+use crate::fixed::{CLEAN, DIRTY, FAILED, fixed_folder, put_older_files};
+use crate::hollow::HollowShelves;
+use crate::replica::{keep, meta, replica, size};
+use chain_meta::{DiskMeta, ImageName};
+use folder_names::{map_file, meta_file};
+use outer_memory::FaultPlan;
+use replica_compare::compare;
+use replica_node::ReplicaNode;
+use replica_open::{Flag, Opened, open};
+use replica_shelf::save;
+use shelf_memory::{MemoryShelves, NoFaultShelves};
+use shelf_traits::{OuterError, Shelves};
+use std::alloc::Global;
+use std::process::Abort;
+use std::test::Fail;
+use vol_units::{TimeText, VolumeSize};
+
+/// The replica that the folder is.
+fn opened<S: Shelves>(alloc: Global, shelves: &mut S) -> Result<ReplicaNode, Fail> {
+    match open(alloc, size()?, 0, shelves)? {
+        Opened::Clean(node) => Ok(node),
+        Opened::Unclean(_) => Err(Fail::new("unclean")),
+        Opened::Damaged(_) => Err(Fail::new("damaged")),
+    }
+}
+
+/// The folder opens as the replica.
+pub fn opens_as(
+    rt: &impl Abort,
+    alloc: Global,
+    node: &ReplicaNode,
+    shelves: &mut impl Shelves,
+) -> Result<(), Fail> {
+    assert!(rt; compare(node, &opened(alloc, shelves)?).is_none());
+    Ok(())
+}
+
+/// The folder is unclean by that.
+pub fn is_flagged(opened: Opened, flag: Flag) -> bool {
+    match opened {
+        Opened::Unclean(found) => found == flag,
+        Opened::Clean(_) | Opened::Damaged(_) => false,
+    }
+}
+
+/// The file is damaged, and that is the place.
+fn is_damaged(opened: Opened, file: &str, place: u64) -> bool {
+    match opened {
+        Opened::Damaged(damage) => damage.file.as_str() == file && damage.place == place,
+        Opened::Clean(_) | Opened::Unclean(_) => false,
+    }
+}
+
+#[test]
+fn what_was_saved_is_opened(rt: HostRuntime) -> Result<(), Fail> {
+    let (alloc, node) = (rt.alloc(), replica(rt.alloc())?);
+    let mut shelves = NoFaultShelves::new(alloc);
+    put_older_files(&mut shelves)?;
+    save(alloc, &node, &meta(alloc, false)?, 0, &mut shelves)?;
+    opens_as(&rt, alloc, &node, &mut shelves)
+}
+
+#[test]
+fn a_folder_of_an_earlier_version_is_opened(rt: HostRuntime) -> Result<(), Fail> {
+    let (alloc, node) = (rt.alloc(), replica(rt.alloc())?);
+    opens_as(&rt, alloc, &node, &mut fixed_folder(alloc, CLEAN)?)
+}
+
+#[test]
+fn a_folder_that_was_left_so_is_unclean(rt: HostRuntime) -> Result<(), Fail> {
+    let alloc = rt.alloc();
+    for (volume, flag) in [(DIRTY, Flag::Dirty), (FAILED, Flag::Error)] {
+        let found = open(alloc, size()?, 0, &mut fixed_folder(alloc, volume)?)?;
+        assert!(rt; is_flagged(found, flag));
+    }
+    let larger = VolumeSize::new(4_194_304)?;
+    let found = open(alloc, larger, 0, &mut fixed_folder(alloc, CLEAN)?)?;
+    assert!(rt; is_flagged(found, Flag::Size));
+    Ok(())
+}
+
+/// The fixed folder with one file changed or gone, and the file and the place that are told.
+const DAMAGED: [(&str, Option<&str>, &str, u64); 9] = [
+    ("volume.meta", None, "volume.meta", 0),
+    ("volume.meta", Some("{}"), "volume.meta", 0),
+    (
+        "volume-head-004.img.meta",
+        None,
+        "volume-head-004.img.meta",
+        0,
+    ),
+    (
+        "volume-head-004.img.map",
+        None,
+        "volume-head-004.img.map",
+        0,
+    ),
+    ("volume-head-004.img", None, "volume-head-004.img", 0),
+    (
+        "volume-snap-a.img.map",
+        Some("3 2\n5 1\n"),
+        "volume-snap-a.img.map",
+        4,
+    ),
+    ("volume-snap-b.img", Some("short"), "volume-snap-b.img", 5),
+    (
+        "volume-snap-c.img.meta",
+        Some("{}"),
+        "volume-snap-c.img.meta",
+        0,
+    ),
+    (
+        "volume-snap-sys-1.img.meta",
+        Some("{}"),
+        "volume-snap-sys-1.img.meta",
+        0,
+    ),
+];
+
+#[test]
+fn a_file_that_is_damaged_is_told(rt: HostRuntime) -> Result<(), Fail> {
+    let alloc = rt.alloc();
+    for (file, text, told, place) in DAMAGED {
+        let mut shelves = fixed_folder(alloc, CLEAN)?;
+        shelves.remove(0, file)?;
+        if let Some(text) = text {
+            shelves.write_at(0, file, 0, text.as_bytes())?;
+        }
+        let found = open(alloc, size()?, 0, &mut shelves)?;
+        assert!(rt; is_damaged(found, told, place), "{file}");
+    }
+    Ok(())
+}
+
+/// A snapshot without a block, on that parent, in place of the one that there may be.
+fn put_snapshot(
+    shelves: &mut impl Shelves,
+    alloc: Global,
+    image: &str,
+    parent: &str,
+) -> Result<(), Fail> {
+    let meta = DiskMeta {
+        created: TimeText::read(alloc, "")?.ok_or("no time")?,
+        name: ImageName::read(alloc, image)?.ok_or("no image")?,
+        parent: ImageName::read(alloc, parent)?,
+        removed: false,
+        user_created: false,
+    };
+    let (map, told) = (map_file(alloc, &meta.name)?, meta_file(alloc, &meta.name)?);
+    for file in [image, map.as_str(), told.as_str()] {
+        shelves.remove(0, file)?;
+    }
+    shelves.set_len(0, image, 2_097_152)?;
+    shelves.set_len(0, map.as_str(), 0)?;
+    shelves.write_at(0, told.as_str(), 0, meta.write(alloc)?.as_slice())?;
+    Ok(())
+}
+
+/// The parent that a snapshot of the fixed folder is given, and the file that is told.
+const MISFITS: [(&str, &str, &str); 6] = [
+    (
+        "volume-snap-a.img",
+        "volume-snap-c.img",
+        "volume-snap-a.img.meta",
+    ),
+    (
+        "volume-snap-b.img",
+        "volume-snap-b.img",
+        "volume-snap-b.img.meta",
+    ),
+    (
+        "volume-snap-b.img",
+        "volume-snap-d.img",
+        "volume-snap-b.img.meta",
+    ),
+    (
+        "volume-snap-b.img",
+        "volume-head-004.img",
+        "volume-snap-b.img.meta",
+    ),
+    ("volume-snap-sys-4.img", "", "volume-snap-sys-4.img.meta"),
+    ("volume-snap-sys-03.img", "", "volume-snap-sys-03.img.meta"),
+];
+
+#[test]
+fn a_layer_that_cannot_stand_is_told(rt: HostRuntime) -> Result<(), Fail> {
+    let alloc = rt.alloc();
+    for (image, parent, told) in MISFITS {
+        let mut shelves = fixed_folder(alloc, CLEAN)?;
+        put_snapshot(&mut shelves, alloc, image, parent)?;
+        let found = open(alloc, size()?, 0, &mut shelves)?;
+        assert!(rt; is_damaged(found, told, 0), "{image}");
+    }
+    let mut shelves = fixed_folder(alloc, CLEAN)?;
+    put_snapshot(
+        &mut shelves,
+        alloc,
+        "volume-snap-sys-3.img",
+        "volume-snap-b.img",
+    )?;
+    opened(alloc, &mut shelves)?;
+    Ok(())
+}
+
+#[test]
+fn each_call_of_an_open_may_fail(rt: HostRuntime) -> Result<(), Fail> {
+    let alloc = rt.alloc();
+    let mut shelves = MemoryShelves::new(alloc, FaultPlan::new(Vec::new(alloc)));
+    shelves.shelves = fixed_folder(alloc, CLEAN)?;
+    // The last plan fails none: there are not so many calls.
+    for call in 1..60u64 {
+        shelves.plan = FaultPlan::new(Vec::from_slice(alloc, &[call])?);
+        match open(alloc, size()?, 0, &mut shelves) {
+            Err(error) => assert_eq!(rt; error, OuterError::Failed, "at call {call}"),
+            Ok(Opened::Clean(_)) => return Ok(()),
+            Ok(_) => return Err(Fail::new("no replica")),
+        }
+        assert_eq!(rt; shelves.faults, call);
+    }
+    Err(Fail::new("too many calls"))
+}
+
+/// Names of all characters that there may be, one of the longest among them.
+const NAMES: [&str; 4] = [
+    "abcdefghijklmnopqrstuvwxyzABCDEFGHIJKLMNOPQRSTUVWXYZ0123456789._",
+    "-.",
+    "Sys-1",
+    "_",
+];
+
+#[test]
+fn names_of_all_characters_are_opened(rt: HostRuntime) -> Result<(), Fail> {
+    let alloc = rt.alloc();
+    let mut node = ReplicaNode::blank(alloc, size()?)?;
+    for name in NAMES {
+        keep(&mut node, alloc, name.as_bytes())?;
+    }
+    let mut shelves = NoFaultShelves::new(alloc);
+    save(alloc, &node, &meta(alloc, false)?, 0, &mut shelves)?;
+    opens_as(&rt, alloc, &node, &mut shelves)
+}
+
+/// The last digit of a number.
+fn digit(number: u32) -> u8 {
+    b'0' + (number % 10) as u8
+}
+
+#[test]
+fn a_folder_of_250_layers_is_opened_and_no_more(rt: HostRuntime) -> Result<(), Fail> {
+    let alloc = rt.alloc();
+    let mut node = ReplicaNode::blank(alloc, size()?)?;
+    for number in 0..249 {
+        let name = [digit(number / 100), digit(number / 10), digit(number)];
+        keep(&mut node, alloc, &name)?;
+    }
+    let mut shelves = HollowShelves::new(alloc);
+    save(alloc, &node, &meta(alloc, false)?, 0, &mut shelves)?;
+    assert_eq!(rt; opened(alloc, &mut shelves)?.layer_count(), 250);
+    put_snapshot(&mut shelves, alloc, "volume-snap-x.img", "")?;
+    let found = open(alloc, size()?, 0, &mut shelves)?;
+    assert!(rt; is_damaged(found, "volume-snap-x.img.meta", 0));
+    Ok(())
+}
