@@ -129,7 +129,7 @@ def lost_paths(path):
 
 def defines(text, name):
     """Whether a file of specs or of code defines the name, in public."""
-    words = r'(?:abbrev|unfoldable|record|enum|struct|trait|const|fn|type|ghost)'
+    words = r'(?:abbrev|unfoldable|record|data|enum|struct|trait|const|fn|type|ghost)'
     line = r'^ *(?:%s )*pub (?:%s )*%s(?![\w-])' % (words, words, re.escape(name))
     return re.search(line, text, re.MULTILINE) is not None
 
