@@ -11,8 +11,8 @@ use Rattle.std.proofs.lemmas.Map.Keys.{IsDistinct-head, IsDistinct-tail}
 use Rattle.std.proofs.lemmas.Map.Made.{is_some-lookup}
 use Rattle.std.proofs.lemmas.Slice.Eq.{bytes_eq-Decides}
 use Rattle.volume_model.specs.declared.names.UsedName.{UsedName}
-use Rattle.volume_model.specs.Names.{is_used_in, is_live_in, with_name, name_marked}
-use Rattle.journal_book.specs.Taken.{used_name, taken_of}
+use Rattle.volume_model.specs.Names.{is_used_in, is_live_in, name_marked}
+use Rattle.journal_book.specs.Taken.{used_name, taken_of, with_found}
 
 -- the oldest name is the last
 taken-cons : (e : List ℕ × Bool) (es : List (List ℕ × Bool)) → taken_of (e ∷ es) ≡ taken_of es ++ used_name e ∷ []
@@ -93,17 +93,17 @@ none_there None none = refl
 none_there (Some marked) none = absurd cc
 
 -- one that was not there
-pub taken_new : (es : List (List ℕ × Bool)) (q : List ℕ) → lookup (bytes_eq q) es ≡ None
-    → taken_of (es ++ (q, false) ∷ []) ≡ with_name (taken_of es) q
-taken_new es q new =
-    taken-push es (q, false)
-    ∙ sym (cond-false (is_used_in (taken_of es) q) (taken_of es) (used_name (q, false) ∷ taken_of es) (used_there es q ∙ ap is_some new))
+pub taken_new : (es : List (List ℕ × Bool)) (q : List ℕ) (marked : Bool) → lookup (bytes_eq q) es ≡ None
+    → taken_of (es ++ (q, marked) ∷ []) ≡ with_found (taken_of es) q marked
+taken_new es q marked new =
+    taken-push es (q, marked)
+    ∙ sym (cond-false (is_used_in (taken_of es) q) (taken_of es) (used_name (q, marked) ∷ taken_of es) (used_there es q ∙ ap is_some new))
 
 -- and one that was
-pub taken_again : (es : List (List ℕ × Bool)) (q : List ℕ) → is_some (lookup (bytes_eq q) es) ≡ true
-    → taken_of es ≡ with_name (taken_of es) q
-taken_again es q there =
-    sym (cond-true (is_used_in (taken_of es) q) (taken_of es) (used_name (q, false) ∷ taken_of es)
+pub taken_again : (es : List (List ℕ × Bool)) (q : List ℕ) (marked : Bool) → is_some (lookup (bytes_eq q) es) ≡ true
+    → taken_of es ≡ with_found (taken_of es) q marked
+taken_again es q marked there =
+    sym (cond-true (is_used_in (taken_of es) q) (taken_of es) (used_name (q, marked) ∷ taken_of es)
     (used_there es q ∙ there))
 
 -- ---- a name's mark

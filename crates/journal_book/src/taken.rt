@@ -1,7 +1,7 @@
 ghost use Rattle.std.specs.Prelude.{◌≡◌, ◌+◌, ◌<◌, ◌≤◌, [], map, OnOk, OnErr};
 ghost use Rattle.indexmap.specs.IndexMap.{spare};
 ghost use Rattle.volume_model.specs.Names.{is_used_in, is_live_in, with_name, name_marked};
-ghost use Rattle.journal_book.specs.Taken.{taken_of};
+ghost use Rattle.journal_book.specs.Taken.{taken_of, with_found};
 
 use indexmap::IndexMap;
 use std::alloc::{AllocError, Global};
@@ -48,6 +48,16 @@ impl TakenNames {
         Ok(())
     }
 
+    /// One name more, marked or not, as it was found in a replica's folder, unless it is there already.
+    pub fn take_found(&mut self, name: LayerName, marked: bool) -> Result<(), AllocError>
+        ensures ok { OnOk result (self.new ≡ with_found self.old name marked) }
+        ensures err { OnErr result (self.new ≡ self.old) }
+    {
+        self.map.reserve(1)?;
+        put_reserved(&mut self.map, name, marked);
+        Ok(())
+    }
+
     /// Whether a snapshot was taken under the name.
     pub fn is_used(&self, name: &LayerName) -> bool
         ensures { result ≡ is_used_in self.now name.now }
@@ -86,8 +96,17 @@ pub(crate) fn take_reserved(names: &mut NameMap, name: LayerName)
     ensures names { taken_of names.new.entries ≡ with_name (taken_of names.old.entries) name }
     ensures spare { spare names.old ≤ spare names.new + 1 }
 {
+    put_reserved(names, name, false);
+}
+
+/// One name more with its mark, unless it is there already. It takes no memory.
+fn put_reserved(names: &mut NameMap, name: LayerName, marked: bool)
+    requires { 0 < spare names.old }
+    ensures names { taken_of names.new.entries ≡ with_found (taken_of names.old.entries) name marked }
+    ensures spare { spare names.old ≤ spare names.new + 1 }
+{
     if !names.contains_key(&name) {
-        names.insert(name, false).unwrap();
+        names.insert(name, marked).unwrap();
     }
 }
 
