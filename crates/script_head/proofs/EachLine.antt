@@ -23,7 +23,7 @@ use Rattle.script_head.specs.declared.head.StreamHead.TheVariants as stream
 use Rattle.script_head.specs.declared.line_plan.LinePlan.{LinePlan}
 use Rattle.script_head.specs.declared.member.Member.{Member}
 use Rattle.script_head.specs.declared.member.Member.TheVariants as member_of
-use Rattle.script_head.specs.Limits.{most_input, most_replicas, most_streams, most_calls, most_failures, largest_carry, may_open, may_save}
+use Rattle.script_head.specs.Limits.{most_input, most_replicas, most_streams, most_calls, most_failures, largest_carry}
 use Rattle.script_head.specs.LinePlans.{RisesAbove, AreApart, NoPairTwice}
 use Rattle.script_head.specs.Values.{whole, member, member_or}
 use Rattle.script_head.specs.Members.{IsCommandItem, IsStreamItem, HasReplicas, HasFlag, HasStreams, IsCarryItem}
@@ -31,7 +31,7 @@ use Rattle.script_head.specs.Members.{HasFail, HasNumberBelow, IsLinePlan, ArePl
 use Rattle.script_head.specs.Head.{IsObject, IsScriptHead, Says, RefusesLine}
 use Rattle.script_head.proofs.Known.{Known, known_along, known_both, known_either, known_not, known_less, known_most, known_true}
 use Rattle.script_head.proofs.Known.{known_false, known_text, known_none, known_held, known_of_one, known_below, known_behind}
-use Rattle.script_head.proofs.Known.{known_all, known_list, known_if, known_test, known_two, known_three}
+use Rattle.script_head.proofs.Known.{known_all, known_list, known_test, known_two, known_three}
 use Rattle.script_head.proofs.OneValue.{same_value, same_list, same_streams, one_command, one_carry, one_plan}
 use Rattle.script_head.proofs.OneAnswer.{AreGood}
 
@@ -217,16 +217,22 @@ known_replicas d =
 one_count : (d : Data) (m n : ℕ) → HasReplicas d m → HasReplicas d n → m ≡ n
 one_count d m n is too = same_value (member whole (codes "replicas") d) is.0 too.0
 
-known_flag : (d : Data) (name : List ℕ) (may : Bool) → Known ((flag : Bool) × HasFlag d name may flag)
-known_flag d name may =
-    known_two (known_held (member_or false as_bool name d) (λ flag. known_if (known_true flag) (known_true may)))
+known_flag : (d : Data) (name : List ℕ) → Known ((flag : Bool) × HasFlag d name flag)
+known_flag d name = of_flag (member_or false as_bool name d)
+  where
+    of_flag : (found : Option Bool) → Known ((flag : Bool) × (found ≡ Some flag))
+    of_flag None = inr (λ told. is_none told.1)
+      where
+        is_none : {flag : Bool} → None ≡ Some flag → ⊥
+        is_none e = cc
+    of_flag (Some flag) = inl (flag, refl)
 
 known_good : (d : Data) (m : Member) → Known (IsGood d m)
 known_good d member_of.Volume = known_two (known_held (member as_str (codes "volume") d) known_plain_name)
 known_good d member_of.Size = known_two (known_held (member whole (codes "size") d) known_size)
 known_good d member_of.Replicas = known_replicas d
-known_good d member_of.Open = known_flag d (codes "open") may_open
-known_good d member_of.Save = known_flag d (codes "save") may_save
+known_good d member_of.Open = known_flag d (codes "open")
+known_good d member_of.Save = known_flag d (codes "save")
 known_good d member_of.Now = known_two (known_held (member_or [] as_str (codes "now") d) known_time)
 known_good d member_of.Streams =
     known_along (λ found. (found.0, found.2.0, found.1, found.2.1)) (λ found. (found.0, found.2, (found.1, found.3)))
@@ -250,10 +256,11 @@ first_bad (n ∷ ns) d = by_cases (known_good d n) (first_bad ns d)
     by_cases (inr none) others = inr (n, inl (refl, none))
 
 head_of_good : (d : Data) → AreGood d in_order → (head : ScriptHead) × IsScriptHead d head
-head_of_good d ((volume, v), ((size, s), (count, (opens, (saves, ((now, n), (listed, ((replicas, streams, plans, r, ss, ps), end)))))))) = (
-  record { streams = streams; lines = plans; now = now; volume = volume; size = size; replicas = replicas },
-  record { volume = v; size = s; replicas = r; open_flag = opens; save_flag = saves; now = n; streams = ss; lines = ps },
-)
+head_of_good d ((volume, v), ((size, s), (count, ((opens, o), ((saves, t), ((now, n), (listed, (last, end)))))))) =
+    let (replicas, streams, plans, r, ss, ps) = last in (
+      record { streams = streams; lines = plans; now = now; volume = volume; size = size; replicas = replicas; opens = opens; saves = saves },
+      record { volume = v; size = s; replicas = r; opens = o; saves = t; now = n; streams = ss; lines = ps },
+    )
 
 -- ---- the line
 

@@ -33,11 +33,6 @@ known_either (inl p) known = inl (inl p)
 known_either (inr none) (inl q) = inl (inr q)
 known_either (inr none) (inr nor) = inr (neither none nor)
 
-pub known_if : {P Q : Type 0} → Known P → Known Q → Known (P → Q)
-known_if known (inl q) = inl (λ p. q)
-known_if (inl p) (inr none) = inr (λ to. none (to p))
-known_if (inr none) (inr nor) = inl (λ p. absurd (none p))
-
 pub known_not : {P : Type 0} → Known P → Known (P → ⊥)
 known_not (inl p) = inr (λ none. none p)
 known_not (inr none) = inl none

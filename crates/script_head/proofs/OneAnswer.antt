@@ -1,5 +1,5 @@
 -- One answer is true of a line, unless memory runs out.
-use Rattle.std.proofs.Common.{◌≡◌, ◌≢◌, ◌∙◌, List, [], ◌∷◌, ℕ, length, Result, Ok, Err, inl, inr, refl, sym, ap, subst}
+use Rattle.std.proofs.Common.{◌≡◌, ◌≢◌, ◌∙◌, List, [], ◌∷◌, ℕ, Bool, length, Result, Ok, Err, inl, inr, refl, sym, ap, subst}
 use Rattle.serde_json.specs.Data.{Data}
 use Rattle.serde_json.specs.Read.{read}
 use Rattle.script_head.specs.declared.error.HeadError.{HeadError}
@@ -16,14 +16,14 @@ use Rattle.script_head.proofs.OneValue.{same_value, same_streams, same_plans}
 same_object : (line : List ℕ) (d e : Data) → IsObject line d → IsObject line e → d ≡ e
 same_object line d e p q = same_value (read line) p.value q.value
 
-abbrev head_of : List StreamHead → List LinePlan → List ℕ → List ℕ → ℕ → ℕ → ScriptHead
-head_of streams lines now volume size replicas =
-    record { streams = streams; lines = lines; now = now; volume = volume; size = size; replicas = replicas }
+abbrev head_of : List StreamHead → List LinePlan → List ℕ → List ℕ → ℕ → ℕ → Bool → Bool → ScriptHead
+head_of streams lines now volume size replicas opens saves =
+    record { streams = streams; lines = lines; now = now; volume = volume; size = size; replicas = replicas; opens = opens; saves = saves }
 
 same_parts : {streams ss : List StreamHead} {lines ls : List LinePlan} {now n volume v : List ℕ} {size s replicas r : ℕ}
-    → streams ≡ ss → lines ≡ ls → now ≡ n → volume ≡ v → size ≡ s → replicas ≡ r
-    → head_of streams lines now volume size replicas ≡ head_of ss ls n v s r
-same_parts a b c d e f = cc
+    → {opens o saves t : Bool} → streams ≡ ss → lines ≡ ls → now ≡ n → volume ≡ v → size ≡ s → replicas ≡ r → opens ≡ o → saves ≡ t
+    → head_of streams lines now volume size replicas opens saves ≡ head_of ss ls n v s r o t
+same_parts a b c d e f g h = cc
 
 pub same_head : (d : Data) (a b : ScriptHead) → IsScriptHead d a → IsScriptHead d b → a ≡ b
 same_head d a b p q =
@@ -35,6 +35,7 @@ same_head d a b p q =
     same_parts streams (same_plans (length b.streams) b.replicas _ a.lines b.lines lines q.lines)
     (same_value _ p.now.0 q.now.0) (same_value _ p.volume.0 q.volume.0)
     (same_value _ p.size.0 q.size.0) replicas
+    (same_value _ p.opens q.opens) (same_value _ p.saves q.saves)
 
 -- these members are all good
 abbrev pub AreGood : Data → List Member → Type 0
@@ -49,9 +50,9 @@ all_good d head is = (
     (
       (head.replicas, is.replicas),
       (
-        is.open_flag,
+        (head.opens, is.opens),
         (
-          is.save_flag,
+          (head.saves, is.saves),
           (
             (head.now, is.now),
             (

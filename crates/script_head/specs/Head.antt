@@ -1,6 +1,6 @@
 -- What the first line of a script says, and why a line says nothing.
 -- JSON is read by serde_json's definition, with its depth of 127.
-use Rattle.std.specs.Prelude.{◌≡◌, List, ℕ, length, Bool, true, codes, IsUtf8, Some, Result, MatchResult, is_some}
+use Rattle.std.specs.Prelude.{◌≡◌, List, ℕ, length, true, codes, IsUtf8, Some, Result, MatchResult, is_some}
 use Rattle.serde_json.specs.Data.{Data}
 use Rattle.serde_json.specs.Find.{as_object}
 use Rattle.serde_json.specs.Read.{read}
@@ -10,7 +10,6 @@ use Rattle.script_head.specs.declared.head.ScriptHead.{ScriptHead}
 use Rattle.script_head.specs.declared.head.StreamHead.{StreamHead}
 use Rattle.script_head.specs.declared.head.StreamHead.TheVariants as stream
 use Rattle.script_head.specs.declared.member.Member.{Member}
-use Rattle.script_head.specs.Limits.{may_open, may_save}
 use Rattle.script_head.specs.Members.{HasVolume, HasSize, HasReplicas, HasFlag, HasNow, HasStreams, HasLines, in_order, IsFirstBadOf}
 
 -- how many bytes of the input a stream has
@@ -29,13 +28,13 @@ pub record IsObject (line : List ℕ) (d : Data) : Type 0 where
   pub value : read line ≡ Some d
   pub object : is_some (as_object d) ≡ true
 
--- the object's members say this; flags, which no field tells, are good
+-- the object's members say this
 pub record IsScriptHead (d : Data) (head : ScriptHead) : Type 0 where
   pub volume : HasVolume d head.volume
   pub size : HasSize d head.size
   pub replicas : HasReplicas d head.replicas
-  pub open_flag : (flag : Bool) × HasFlag d (codes "open") may_open flag
-  pub save_flag : (flag : Bool) × HasFlag d (codes "save") may_save flag
+  pub opens : HasFlag d (codes "open") head.opens
+  pub saves : HasFlag d (codes "save") head.saves
   pub now : HasNow d head.now
   pub streams : HasStreams d head.replicas head.streams
   pub lines : HasLines d (length head.streams) head.replicas head.lines

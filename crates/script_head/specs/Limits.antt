@@ -1,6 +1,6 @@
 -- What a script may ask for, and what its input may have. A member that asks for more is a bad one. The limits are this
 -- project's own.
-use Rattle.std.specs.Prelude.{ℕ, Bool, false}
+use Rattle.std.specs.Prelude.{ℕ}
 
 -- the most bytes of an input, and so of the frames of a stream
 abbrev pub most_input : ℕ
@@ -29,10 +29,3 @@ most_failures = 1024
 -- the largest number of a carry that is planned to fail
 abbrev pub largest_carry : ℕ
 largest_carry = 4294967295
-
--- whether a run may open the replicas' folders, and save them
-abbrev pub may_open : Bool
-may_open = false
-
-abbrev pub may_save : Bool
-may_save = false

@@ -1,6 +1,6 @@
 -- The members of a script's first line, each with the values that it may have. Other members say nothing.
 -- The format is this project's own.
-use Rattle.std.specs.Prelude.{◌≡◌, ◌⊎◌, ℕ, ◌<◌, ◌≤◌, List, [], ◌∷◌, length, Bool, false, IsTrue, codes, Option, Some, None}
+use Rattle.std.specs.Prelude.{◌≡◌, ◌⊎◌, ℕ, ◌<◌, ◌≤◌, List, [], ◌∷◌, length, Bool, false, codes, Option, Some, None}
 use Rattle.serde_json.specs.Data.{Data}
 use Rattle.serde_json.specs.Find.{get, as_bool, as_str}
 use Rattle.vol_units.specs.Name.{IsPlainName}
@@ -13,7 +13,7 @@ use Rattle.script_head.specs.declared.line_plan.LinePlan.{LinePlan}
 use Rattle.script_head.specs.declared.member.Member.{Member}
 use Rattle.script_head.specs.declared.member.Member.TheVariants.{Volume, Size, Replicas, Open, Save, Now, Streams, Lines}
 use Rattle.vol_units.specs.Time.{IsTimeText}
-use Rattle.script_head.specs.Limits.{most_input, most_replicas, most_streams, most_calls, most_failures, largest_carry, may_open, may_save}
+use Rattle.script_head.specs.Limits.{most_input, most_replicas, most_streams, most_calls, most_failures, largest_carry}
 use Rattle.script_head.specs.LinePlans.{RisesAbove, NoPairTwice}
 use Rattle.script_head.specs.Values.{whole, member, member_or, HasItems}
 
@@ -30,9 +30,9 @@ abbrev pub HasReplicas : Data → ℕ → Type 0
 HasReplicas line count = (member whole (codes "replicas") line ≡ Some count)
     × (1 ≤ count) × (count ≤ most_replicas)
 
--- `open` and `save`: false where it is missing, and true only where it may be
-abbrev pub HasFlag : Data → List ℕ → Bool → Bool → Type 0
-HasFlag line name may flag = (member_or false as_bool name line ≡ Some flag) × (IsTrue flag → IsTrue may)
+-- `open` and `save`: true or false, and false where it is missing
+abbrev pub HasFlag : Data → List ℕ → Bool → Type 0
+HasFlag line name flag = member_or false as_bool name line ≡ Some flag
 
 -- `now`: the time of the run, empty where it is missing
 abbrev pub HasNow : Data → List ℕ → Type 0
@@ -89,8 +89,8 @@ abbrev pub IsGood : Data → Member → Type 0
 IsGood line Volume = (name : List ℕ) × HasVolume line name
 IsGood line Size = (size : ℕ) × HasSize line size
 IsGood line Replicas = (count : ℕ) × HasReplicas line count
-IsGood line Open = (flag : Bool) × HasFlag line (codes "open") may_open flag
-IsGood line Save = (flag : Bool) × HasFlag line (codes "save") may_save flag
+IsGood line Open = (flag : Bool) × HasFlag line (codes "open") flag
+IsGood line Save = (flag : Bool) × HasFlag line (codes "save") flag
 IsGood line Now = (text : List ℕ) × HasNow line text
 IsGood line Streams = (replicas : ℕ) × (streams : List StreamHead)
     × HasReplicas line replicas × HasStreams line replicas streams

@@ -5,7 +5,6 @@ ghost use Rattle.script_head.specs.Head.{byte_count, command_count, Says, Refuse
 ghost use Rattle.script_head.specs.Refusals.{AnswersObject};
 
 use crate::error::HeadError;
-use crate::limits::{MAY_OPEN, MAY_SAVE};
 use crate::line_plan::LinePlan;
 use crate::lines::lines_in;
 use crate::member::Member;
@@ -56,6 +55,10 @@ pub struct ScriptHead {
     pub volume: PlainName,
     pub size: VolumeSize,
     pub replicas: u8,
+    /// The run begins with the replicas' folders.
+    pub opens: bool,
+    /// The run leaves the replicas in their folders.
+    pub saves: bool,
 }
 
 /// What the first line of a script says, its line feed left out.
@@ -86,8 +89,8 @@ fn head_in(alloc: Global, line: &Value) -> Result<ScriptHead, HeadError>
     let volume = members::volume_in(line)?;
     let size = members::size_in(line)?;
     let replicas = members::replicas_in(line)?;
-    members::flag_in(line, "open", MAY_OPEN, Member::Open)?;
-    members::flag_in(line, "save", MAY_SAVE, Member::Save)?;
+    let opens = members::flag_in(line, "open", Member::Open)?;
+    let saves = members::flag_in(line, "save", Member::Save)?;
     let now = members::now_in(alloc, line)?;
     let streams = members::streams_in(alloc, line, replicas)?;
     let lines = lines_in(alloc, line, streams.len() as u8, replicas)?;
@@ -98,5 +101,7 @@ fn head_in(alloc: Global, line: &Value) -> Result<ScriptHead, HeadError>
         volume,
         size,
         replicas,
+        opens,
+        saves,
     })
 }

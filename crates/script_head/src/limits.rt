@@ -15,12 +15,6 @@ pub const MOST_STREAMS: usize = 16;
 /// The most calls of a run, and so the most commands of a stream.
 pub const MOST_CALLS: usize = 65_536;
 
-/// Whether a run may open the replicas' folders.
-pub const MAY_OPEN: bool = false;
-
-/// Whether a run may save the replicas' folders.
-pub const MAY_SAVE: bool = false;
-
 /// The most failures that are planned of one line.
 pub const MOST_FAILURES: usize = 1_024;
 

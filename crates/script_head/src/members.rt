@@ -37,24 +37,14 @@ pub(crate) fn replicas_in(line: &Value) -> Result<u8, HeadError>
     }
 }
 
-/// A member that is true or false.
-pub(crate) fn flag_in(
-    line: &Value,
-    name: &str,
-    may_be: bool,
-    member: Member,
-) -> Result<bool, HeadError>
-    ensures { Reads member (spec.HasFlag (view line.now) name.now may_be) result }
+/// A member that is true or false, and false where it is missing.
+pub(crate) fn flag_in(line: &Value, name: &str, member: Member) -> Result<bool, HeadError>
+    ensures { Reads member (spec.HasFlag (view line.now) name.now) result }
 {
-    let bad = HeadError::BadMember(member);
-    let flag = match line.get(name) {
-        None => false,
-        Some(value) => value.as_bool().ok_or(bad)?,
-    };
-    if flag && !may_be {
-        return Err(bad);
+    match line.get(name) {
+        None => Ok(false),
+        Some(value) => value.as_bool().ok_or(HeadError::BadMember(member)),
     }
-    Ok(flag)
 }
 
 pub(crate) fn now_in(alloc: Global, line: &Value) -> Result<TimeText, HeadError>

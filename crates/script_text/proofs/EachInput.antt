@@ -64,6 +64,8 @@ module _ (input : List ℕ) where
           volume = head.volume;
           size = head.size;
           replicas = head.replicas;
+          opens = head.opens;
+          saves = head.saves;
         },
         record {
           line = line;
@@ -75,6 +77,8 @@ module _ (input : List ℕ) where
           volume = refl;
           size = refl;
           replicas = refl;
+          opens = refl;
+          saves = refl;
           whole = whole;
           streams = are;
           calls = few;

@@ -1,5 +1,5 @@
 -- One answer is true of an input, unless memory runs out.
-use Rattle.std.proofs.Common.{◌≡◌, ◌≢◌, ◌⊎◌, ◌∙◌, ℕ, ◌+◌, ◌-◌, ◌<◌, ◌≤◌, min, List, ◌∷◌, length, sum_by, Result, Ok}
+use Rattle.std.proofs.Common.{◌≡◌, ◌≢◌, ◌⊎◌, ◌∙◌, ℕ, Bool, ◌+◌, ◌-◌, ◌<◌, ◌≤◌, min, List, ◌∷◌, length, sum_by, Result, Ok}
 use Rattle.std.proofs.Common.{Err, refl, sym, ap, subst, inl, inr, arith, length-append}
 use Rattle.script_head.specs.declared.error.HeadError.{HeadError}
 use Rattle.script_head.specs.declared.error.HeadError.TheVariants as fault
@@ -89,21 +89,21 @@ one_body place heads body r (Err NoMemory) told also x y = absurd (also refl)
 
 -- ---- the whole input
 
-abbrev script_with : List Stream → List LinePlan → List ℕ → List ℕ → ℕ → ℕ → Script
-script_with streams lines now volume size replicas =
-    record { streams = streams; lines = lines; now = now; volume = volume; size = size; replicas = replicas }
+abbrev script_with : List Stream → List LinePlan → List ℕ → List ℕ → ℕ → ℕ → Bool → Bool → Script
+script_with streams lines now volume size replicas opens saves =
+    record { streams = streams; lines = lines; now = now; volume = volume; size = size; replicas = replicas; opens = opens; saves = saves }
 
-same_parts : {ss : List Stream} {lines ls : List LinePlan} {now n volume v : List ℕ} {size s replicas r : ℕ} → lines ≡ ls
-    → now ≡ n → volume ≡ v → size ≡ s → replicas ≡ r
-    → script_with ss lines now volume size replicas ≡ script_with ss ls n v s r
-same_parts a b c d e = cc
+same_parts : {ss : List Stream} {lines ls : List LinePlan} {now n volume v : List ℕ} {size s replicas r : ℕ} {opens o saves t : Bool}
+    → lines ≡ ls → now ≡ n → volume ≡ v → size ≡ s → replicas ≡ r → opens ≡ o → saves ≡ t
+    → script_with ss lines now volume size replicas opens saves ≡ script_with ss ls n v s r o t
+same_parts a b c d e f g = cc
 
 -- the script of a first line and of streams
 abbrev script_of : ScriptHead → List Stream → Script
-script_of head streams = script_with streams head.lines head.now head.volume head.size head.replicas
+script_of head streams = script_with streams head.lines head.now head.volume head.size head.replicas head.opens head.saves
 
 is_script_of : (input : List ℕ) (script : Script) (is : IsScript input script) → script ≡ script_of is.head script.streams
-is_script_of input script is = same_parts is.lines is.now is.volume is.size is.replicas
+is_script_of input script is = same_parts is.lines is.now is.volume is.size is.replicas is.opens is.saves
 
 -- the script of a first line and of what its streams are, or their refusal
 with_head : ScriptHead → Result (List Stream) ScriptError → Result Script ScriptError

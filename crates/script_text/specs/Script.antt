@@ -27,6 +27,8 @@ pub record IsScript (input : List ℕ) (script : Script) : Type 0 where
   pub volume : script.volume ≡ head.volume
   pub size : script.size ≡ head.size
   pub replicas : script.replicas ≡ head.replicas
+  pub opens : script.opens ≡ head.opens
+  pub saves : script.saves ≡ head.saves
   pub whole : sum_by byte_count head.streams ≡ length body
   pub streams : AreStreams head.streams body script.streams
   pub calls : sum_by stream_length script.streams ≤ most_calls

@@ -47,6 +47,10 @@ pub struct Script {
     pub volume: PlainName,
     pub size: VolumeSize,
     pub replicas: u8,
+    /// The run begins with the replicas' folders.
+    pub opens: bool,
+    /// The run leaves the replicas in their folders.
+    pub saves: bool,
 }
 
 /// The script that an input is. Its frames share the input's bytes.
@@ -82,6 +86,8 @@ fn script_in(alloc: Global, input: &Bytes) -> Result<Script, ScriptError>
         volume,
         size,
         replicas,
+        opens,
+        saves,
     } = read_head(alloc, &input.as_slice()[..length])?;
     let body = input.slice(length + 1..)?;
     let streams = read_body(alloc, heads, body, length as u64 + 1)?;
@@ -92,6 +98,8 @@ fn script_in(alloc: Global, input: &Bytes) -> Result<Script, ScriptError>
         volume,
         size,
         replicas,
+        opens,
+        saves,
     })
 }
 

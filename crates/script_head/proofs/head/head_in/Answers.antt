@@ -13,8 +13,8 @@ good c = record {
   volume = (_, c.in_ok-volume.ensures);
   size = (_, c.in_ok-size.ensures);
   replica_count = c.in_ok-replicas.ensures;
-  opens = (_, c.in_ok-flag_in.ensures);
-  saves = (_, c.in_ok-flag_in-2.ensures);
+  opens = (_, c.in_ok-opens.ensures);
+  saves = (_, c.in_ok-saves.ensures);
   now = (_, c.in_ok-now.ensures);
 }
 
