@@ -1,5 +1,5 @@
--- The lines that a run prints: one for an entry of the journal, an answer or a mark, one for the frame that replies to a
--- frame, and those of a replica at the end. The form is this project's own.
+-- The lines that a run prints: one for a replica whose folder was opened, one for an entry of the journal, an answer or a
+-- mark, one for the frame that replies to a frame, and those of a replica at the end. The form is this project's own.
 use Rattle.std.specs.Prelude.{ℕ, List, [], ◌∷◌, ◌++◌, length, map, codes, Bool, if◌then◌else◌, Option, Some, None}
 use Rattle.std.specs.List.{flat_map, join_with_byte}
 use Rattle.std.specs.Fmt.{decimal, signed_decimal}
@@ -21,6 +21,8 @@ use Rattle.volume_model.specs.declared.mode.Mode.{Mode}
 use Rattle.volume_model.specs.declared.mode.Mode.TheVariants as mode
 use Rattle.volume_model.specs.Replay.{is_refusal}
 use Rattle.volume_model.specs.Texts.{refusal_text}
+use Rattle.run_report.specs.declared.reason.Reason.{Reason}
+use Rattle.run_report.specs.declared.reason.Reason.TheVariants as reason
 
 -- a word of a line, and the space behind it
 abbrev pub word : List ℕ → List ℕ
@@ -39,6 +41,28 @@ mode_text mode.Err = codes "ERR"
 -- modes, parted by commas: 44 is one
 abbrev pub modes_text : List Mode → List ℕ
 modes_text modes = join_with_byte 44 (map mode_text modes)
+
+-- a layer: by its name, and the head where it is none
+abbrev pub layer_text : Option (List ℕ) → List ℕ
+layer_text None = codes "head"
+layer_text (Some name) = name
+
+-- why a replica that was opened is not read: its folder is unclean by a flag, or damaged in a file at a place; or it
+-- differs from the replica that is read, by the shape of a layer, or by what the layer reads as at a block
+abbrev pub reason_text : Reason → List ℕ
+reason_text (reason.Unclean flag) = codes "unclean " ++ flag.now
+reason_text (reason.Damaged file place) = codes "damaged " ++ word file.now ++ decimal place
+reason_text (reason.Shape layer) = codes "shape " ++ layer_text layer
+reason_text (reason.Differs layer block) = codes "differs " ++ word (layer_text layer) ++ decimal block
+
+-- the mode that a replica was opened in, with the text of the reason where it is not read
+abbrev pub opened_text : Option (List ℕ) → List ℕ
+opened_text None = mode_text mode.Rw
+opened_text (Some why) = word (mode_text mode.Err) ++ why
+
+-- how a replica was opened
+abbrev pub opening_line : ℕ → Option (List ℕ) → List ℕ
+opening_line r why = codes "open " ++ word (replica_text r) ++ opened_text why ++ 10 ∷ []
 
 -- what is asked
 abbrev pub call_text : Call → List ℕ

@@ -1,5 +1,6 @@
--- The report of a run: a line for each entry of the journal, one for each reply, by streams, and then what the run leaves.
-use Rattle.std.specs.Prelude.{ℕ, suc, List, [], ◌∷◌, ◌++◌, Some}
+-- The report of a run: a line for each replica that was opened, one for each entry of the journal, one for each reply, by
+-- streams, and then what the run leaves.
+use Rattle.std.specs.Prelude.{ℕ, suc, List, [], ◌∷◌, ◌++◌, Option, Some}
 use Rattle.std.specs.List.{flat_map, zip}
 use Rattle.frame_wire.specs.declared.head.Head.{Head}
 use Rattle.volume_model.specs.declared.entry.Answer.{Answer}
@@ -12,7 +13,12 @@ use Rattle.volume_model.specs.Replay.{replay}
 use Rattle.volume_model.specs.Modes.{modes_after}
 use Rattle.volume_model.specs.History.{Spot, answers_of}
 use Rattle.run_report.specs.Digest.{digest_text}
-use Rattle.run_report.specs.Lines.{entry_line, reply_line, mode_line, chain_line, head_line}
+use Rattle.run_report.specs.Lines.{opening_line, entry_line, reply_line, mode_line, chain_line, head_line}
+
+-- how the replicas were opened, each with the text of the reason where it is not read; the first of them is r
+abbrev pub opening_lines : ℕ → List (Option (List ℕ)) → List ℕ
+opening_lines r [] = []
+opening_lines r (why ∷ more) = opening_line r why ++ opening_lines (suc r) more
 
 -- the lines of these entries, the first of which stands at `place`
 abbrev pub journal_lines : ℕ → List Entry → List ℕ
@@ -48,7 +54,8 @@ abbrev pub end_lines : List Mode → Volume → List ℕ
 end_lines modes volume = mode_lines 0 modes ++ source_lines (λ r. chain_line (Some r) (chain_of volume.snapshots)) 0 modes
     ++ source_lines (λ r. head_line r (digest_text volume.disk)) 0 modes
 
--- the whole report of a journal, for streams whose frames have these headers
-abbrev pub report_of : List (List Head) → Spot → List Entry → List ℕ
-report_of streams opening journal =
-    call_lines streams journal ++ end_lines (modes_after opening.modes journal) (replay opening.state journal).volume
+-- the whole report of a journal, for replicas that were opened with these reasons, none where no folder was opened, and
+-- for streams whose frames have these headers
+abbrev pub report_of : List (Option (List ℕ)) → List (List Head) → Spot → List Entry → List ℕ
+report_of reasons streams opening journal = opening_lines 0 reasons ++ call_lines streams journal
+    ++ end_lines (modes_after opening.modes journal) (replay opening.state journal).volume

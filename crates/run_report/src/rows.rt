@@ -1,4 +1,5 @@
-//! Worked rows of the report, computed by the checker: of calls on small disks, and of what a run leaves.
+//! Worked rows of the report, computed by the checker: of replicas that were opened, of calls on small disks, and of what a run
+//! leaves.
 
 ghost use Rattle.std.specs.Prelude.{◌≡◌, ◌∷◌, [], map, codes, pos, true, false, Some, None};
 ghost use Rattle.volume_model.specs.declared.command.Command.TheVariants as command;
@@ -12,8 +13,37 @@ ghost use Rattle.volume_model.specs.declared.entry.Entry.TheVariants as entry;
 ghost use Rattle.volume_model.specs.declared.mark.FoldOrDrop.TheVariants as part;
 ghost use Rattle.volume_model.specs.declared.mark.Mark.TheVariants as mark;
 ghost use Rattle.volume_model.specs.declared.mode.Mode.TheVariants as mode;
-ghost use Rattle.run_report.specs.Lines.{reply_text, reply_line, mode_line, chain_line};
-ghost use Rattle.run_report.specs.Report.{journal_lines, call_lines};
+ghost use Rattle.run_report.specs.declared.reason.Reason.TheVariants as reason;
+ghost use Rattle.run_report.specs.Lines.{reason_text, opening_line, reply_text, reply_line, mode_line, chain_line};
+ghost use Rattle.run_report.specs.Report.{opening_lines, journal_lines, call_lines};
+
+use crate::reason::Reason;
+
+/// What is printed of replicas that were opened: of one that is read, of one that differs in its head, of one that has another
+/// layer, and of none.
+pub fn the_opening_reads()
+    ensures two { opening_lines 0 (None ∷ Some (reason_text (reason.Differs None 3)) ∷ [])
+        ≡ codes "open r0 RW\nopen r1 ERR differs head 3\n" }
+    ensures shape { opening_line 2 (Some (reason_text (reason.Shape (Some (codes "s"))))) ≡ codes "open r2 ERR shape s\n" }
+    ensures unopened { opening_lines 0 [] ≡ [] }
+{}
+
+/// How it reads that a folder is unclean.
+pub fn a_dirty_folder_reads() -> Reason<'static>
+    ensures { reason_text result ≡ codes "unclean Dirty" }
+{
+    Reason::Unclean("Dirty")
+}
+
+/// How it reads that a file is damaged.
+pub fn a_damaged_file_reads() -> Reason<'static>
+    ensures { reason_text result ≡ codes "damaged volume.meta 0" }
+{
+    Reason::Damaged {
+        file: "volume.meta",
+        place: 0,
+    }
+}
 
 /// What is printed of a write that was done, of a read, of a read past the end, and of a ping.
 pub fn the_report_reads()
