@@ -1,5 +1,5 @@
 -- The lines of entries, and what stands behind them that begins as no entry does, tell the entries.
-use Rattle.std.proofs.Common.{◌≡◌, ℕ, suc, ◌<◌, ◌≤◌, List, [], ◌∷◌, ◌++◌, drop, codes, refl, ap, ◌∙◌, sym, append_assoc, arith}
+use Rattle.std.proofs.Common.{◌≡◌, ℕ, suc, ◌<◌, List, [], ◌∷◌, ◌++◌, drop, codes, refl, ap, subst, ◌∙◌, sym, append_assoc, arith}
 use Rattle.std.specs.Fmt.{decimal}
 use Rattle.std.specs.List.{AllByRecursion}
 use Rattle.std.proofs.lemmas.List.Elements.{All-head, All-tail}
@@ -12,6 +12,7 @@ use Rattle.volume_model.specs.declared.mark.Mark.{Mark}
 use Rattle.run_report.specs.Lines.{call_text, reply_text, mark_text, entry_line}
 use Rattle.run_report.specs.Report.{journal_lines}
 use Rattle.report_laws.specs.Fits.{AnswerFits, EntryFits, AllFit}
+use Rattle.report_laws.proofs.Begins.{BeginsLater, BeginsUnopened}
 use Rattle.report_laws.proofs.Words.{cut, space, IsWord-decimal, decimal_low}
 use Rattle.report_laws.proofs.Fields.{AreOne, one_by}
 use Rattle.report_laws.proofs.Fields as field
@@ -47,11 +48,6 @@ same_answer a b xs ys p q e =
     same_parts : {c d : Call} {r s : Reply} {i j k l m n : ℕ} → c ≡ d → r ≡ s → i ≡ j → k ≡ l → m ≡ n
         → answer_of c r i k m ≡ answer_of d s j l n
     same_parts c r i k m = cc
-
--- a text that begins with no entry: with a letter, or with nothing
-abbrev pub BeginsLater : List ℕ → Type 0
-BeginsLater [] = Unit {0}
-BeginsLater (b ∷ bs) = 97 ≤ b
 
 -- a number does not begin so
 no_number : (word xs rest : List ℕ) → AllByRecursion (λ b. b < 97) word → BeginsLater rest → word ++ 32 ∷ xs ≡ rest → ⊥
@@ -96,3 +92,14 @@ same_journal place (e ∷ es) (f ∷ fs) xs ys p q x y same =
     let more = same_journal (suc place) es fs xs ys (All-tail EntryFits e es p) (All-tail EntryFits f fs q) x y first.rest in
     let front : e ≡ f = first.same in
     cc
+
+-- a number begins as no line of an opening does
+number_unopened : (word xs : List ℕ) → AllByRecursion (λ b. b < 97) word → BeginsUnopened (word ++ 32 ∷ xs)
+number_unopened [] xs low = λ e. omega arith
+number_unopened (c ∷ cs) xs low = λ e. omega (arith, low.0, e)
+
+pub unopened-journal : (place : ℕ) (es : List Entry) (xs : List ℕ) → BeginsUnopened xs → BeginsUnopened (journal_lines place es ++ xs)
+unopened-journal place [] xs begins = begins
+unopened-journal place (e ∷ es) xs begins =
+    subst BeginsUnopened (sym (append_assoc (entry_line place e) _ xs ∙ line_words place e _))
+    (number_unopened (decimal place) _ (decimal_low place))

@@ -3,6 +3,8 @@ mod Fields
 mod CallTells
 mod ReplyTells
 mod MarkTells
+mod Begins
 mod JournalTells
+mod OpeningTells
 mod ReportTells
 mod Knowing

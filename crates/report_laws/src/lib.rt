@@ -1,4 +1,4 @@
-//! A report tells its journal: the law that it has one, and which entries it is of.
+//! A report tells its opening and its journal: the laws that it has one of each, and which entries it is of.
 #![tactic(auto)]
 
 mod known;
