@@ -1,5 +1,5 @@
 -- Where each replica that is read and written is one volume, what is written of them is the end of its report.
-use Rattle.std.proofs.Common.{◌≡◌, ℕ, zero, suc, List, [], ◌∷◌, ◌++◌, length, map, get_or, refl, ap, ◌∙◌, arith}
+use Rattle.std.proofs.Common.{◌≡◌, ℕ, zero, suc, List, [], ◌∷◌, ◌++◌, length, map, get_or, Option, refl, ap, ◌∙◌, arith}
 use Rattle.std.proofs.lemmas.List.{length-map}
 use Rattle.frame_wire.specs.declared.head.Head.{Head}
 use Rattle.journal_book.specs.Book.{Book, modes_of}
@@ -11,7 +11,7 @@ use Rattle.volume_model.specs.PlainState.{Volume}
 use Rattle.volume_model.specs.Replay.{replay}
 use Rattle.replica_node.specs.Node.{Node}
 use Rattle.replica_node.specs.Volume.{volume_of_node}
-use Rattle.run_report.specs.Report.{call_lines, mode_lines, source_lines, end_lines, report_of}
+use Rattle.run_report.specs.Report.{opening_lines, call_lines, mode_lines, source_lines, end_lines, report_of}
 use Rattle.report_writer.specs.Written.{replica_line, replica_lines, end_text, written_text}
 use Rattle.report_writer.specs.declared.end.EndLine.{EndLine}
 use Rattle.report_writer.specs.declared.end.EndLine.TheVariants.{Chain, Digest}
@@ -48,14 +48,16 @@ same_end ms vs v many each =
     ap (λ l. mode_lines 0 ms ++ l ++ replica_lines Digest 0 ms vs) (same_lines Chain 0 ms vs v many each)
     ∙ ap (λ l. mode_lines 0 ms ++ source_lines (λ r. replica_line Chain r v) 0 ms ++ l) (same_lines Digest 0 ms vs v many each)
 
--- Where each replica that is read and written is the volume that the journal tells of, what is written is the report.
-pub written_is_report : (heads : List (List Head)) (book : Book) (opening : Spot) (nodes : List Node) (other : Node)
-    → book.opening.modes ≡ opening.modes
+-- Where each replica that is read and written is the volume that the journal tells of, what is written behind the lines of
+-- an opening is the report.
+pub written_is_report : (reasons : List (Option (List ℕ))) (opened : List ℕ) (heads : List (List Head)) (book : Book) (opening : Spot)
+    (nodes : List Node) (other : Node) → opened ≡ opening_lines 0 reasons → book.opening.modes ≡ opening.modes
     → length nodes ≡ length (modes_of book) → EachNodeIs (modes_of book) nodes other (replay opening.state book.entries).volume
-    → written_text heads book (map volume_of_node nodes) ≡ report_of heads opening book.entries
-written_is_report heads book opening nodes other began many each =
+    → written_text opened heads book (map volume_of_node nodes) ≡ report_of reasons heads opening book.entries
+written_is_report reasons opened heads book opening nodes other lines began many each =
     let v = (replay opening.state book.entries).volume in
-    ap (λ l. call_lines heads book.entries ++ l)
+    ap (λ l. opened ++ call_lines heads book.entries ++ l)
     (same_end (modes_of book) (map volume_of_node nodes) v (length-map nodes volume_of_node ∙ many)
     (each_volume (modes_of book) nodes other v many each))
-    ∙ ap (λ ms. call_lines heads book.entries ++ end_lines (modes_after ms book.entries) v) began
+    ∙ ap (λ l. l ++ call_lines heads book.entries ++ end_lines (modes_of book) v) lines
+    ∙ ap (λ ms. opening_lines 0 reasons ++ call_lines heads book.entries ++ end_lines (modes_after ms book.entries) v) began

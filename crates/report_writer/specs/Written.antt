@@ -29,6 +29,7 @@ abbrev pub end_text : List Mode → List Volume → List ℕ
 end_text modes volumes =
     mode_lines 0 modes ++ replica_lines Chain 0 modes volumes ++ replica_lines Digest 0 modes volumes
 
--- the lines of the calls of streams whose frames have these headers, and then of the replicas, which are these volumes
-abbrev pub written_text : List (List Head) → Book → List Volume → List ℕ
-written_text heads book volumes = call_lines heads book.entries ++ end_text (modes_of book) volumes
+-- what was opened, the lines of the calls of streams whose frames have these headers, and then of the replicas, which are
+-- these volumes
+abbrev pub written_text : List ℕ → List (List Head) → Book → List Volume → List ℕ
+written_text opened heads book volumes = opened ++ call_lines heads book.entries ++ end_text (modes_of book) volumes

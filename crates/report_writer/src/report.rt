@@ -19,10 +19,12 @@ use run_report::{print_entry, print_reply};
 use std::alloc::Global;
 use volume_model::{Answer, Entry, Sequence};
 
-/// Writes the report of a run on these replicas, at most 255, as they are at its end. The headers are those of each
-/// stream's frames: a control stream has none.
+/// Writes the report of a run on these replicas, at most 255, as they are at its end. It begins with what was opened: the
+/// lines of the replicas whose folders were, and nothing where none was. The headers are those of each stream's frames: a
+/// control stream has none.
 pub fn write_report<K: Sink>(
     alloc: Global,
+    opened: Vec<u8>,
     heads: &[Sequence<Head>],
     journal: &Journal,
     replicas: &[ReplicaNode],
@@ -31,12 +33,13 @@ pub fn write_report<K: Sink>(
     requires few { length (modes_of journal.now) < 256 }
     requires each { length replicas.now ≡ length (modes_of journal.now) }
     ensures whole { OnOk result (Appends (K.contents sink.old) (K.contents sink.new)
-        (written_text heads.now journal.now (map volume_of_node replicas.now))) }
+        (written_text opened.items heads.now journal.now (map volume_of_node replicas.now))) }
     ensures prefix { WritesPrefix (K.contents sink.old) (K.contents sink.new)
-        (written_text heads.now journal.now (map volume_of_node replicas.now)) }
+        (written_text opened.items heads.now journal.now (map volume_of_node replicas.now)) }
     ensures cause { HasOuterCause (K.faults sink.old) (K.faults sink.new) result }
 {
-    let mut buffer = Vec::new(alloc);
+    // The lines of the opening go out first, with those behind them.
+    let mut buffer = opened;
     pass_entries(journal, sink, &mut buffer)?;
     pass_streams(heads, journal, sink, &mut buffer)?;
     print_end(alloc, journal.modes(), replicas, &mut buffer)?;
