@@ -30,7 +30,7 @@ module _ (folder : Folder) (size : ℕ) (volume : VolumeMeta) (is : IsVolumeOf f
   one_flag v flag.Size told flagged = absurd (not_clean v told flagged.0)
 
   pub one_answer : (opened : Opened) → AnswersOpen folder size opened → opened ≡ found.Unclean flag.Dirty
-  one_answer (found.Clean node) answer = absurd (false≢true (says_dirty _ answer.1.volume))
+  one_answer (found.Clean node head) answer = absurd (false≢true (says_dirty _ answer.1.volume))
   one_answer (found.Unclean f) answer = ap found.Unclean (one_flag answer.0 f answer.1 answer.2)
   one_answer (found.Damaged damage) (inl (BadVolume none)) = absurd (none volume (volume_told folder volume is))
   one_answer (found.Damaged damage) (inl (BadHead _ _ v clean fault)) = absurd (not_clean v clean.told clean.clean.clean)

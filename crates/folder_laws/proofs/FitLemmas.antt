@@ -12,7 +12,7 @@ use Rattle.folder_names.specs.Files.{Folder, meta_of}
 use Rattle.folder_names.proofs.NameLemmas.{snapshots_differ}
 use Rattle.replica_node.specs.Node.{Node, Kept, IsKept}
 use Rattle.replica_node.specs.Places.{kept_at}
-use Rattle.replica_shelf.specs.Folder.{IsFolderOf, head_meta_of, layer_meta_of}
+use Rattle.replica_shelf.specs.Folder.{Stamps, IsFolderOf, head_meta_of, layer_meta_of}
 use Rattle.replica_compare.proofs.ShapeLemmas.{kept_place, place_kept}
 use Rattle.folder_checks.specs.Snapshots.{name_at, told_at, metas_of}
 use Rattle.folder_checks.specs.Checks.{AreAllGood}
@@ -41,8 +41,8 @@ record IsLayerAt (now : List ℕ) (ks : List Kept) (names : List (List ℕ)) (me
   named : name_of ks i ≡ name_at names place
   told : told_at metas place ≡ layer_meta_of now (kept_at ks i).meta
 
-module _ (folder : Folder) (now : List ℕ) (node : Node) (count : ℕ) (sound : IsSoundNode node count)
-    (is : IsFolderOf folder now false node) (size blocks : ℕ) (v : VolumeMeta) (head : ImageParts) (names : List (List ℕ))
+module _ (folder : Folder) (stamps : Stamps) (node : Node) (count : ℕ) (sound : IsSoundNode node count)
+    (is : IsFolderOf folder stamps false node) (size blocks : ℕ) (v : VolumeMeta) (head : ImageParts) (names : List (List ℕ))
     (snapshots : List ImageParts) (good : AreAllGood folder size blocks v head names snapshots) where
   abbrev metas : List DiskMeta
   metas = metas_of snapshots
@@ -52,7 +52,7 @@ module _ (folder : Folder) (now : List ℕ) (node : Node) (count : ℕ) (sound :
 
   -- the number that is told is that of the replica's head
   number : v.head ≡ node.number
-  number = ap (λ (m : VolumeMeta). m.head) (volume_is folder now node v is good.volume.told)
+  number = ap (λ (m : VolumeMeta). m.head) (volume_is folder stamps node v is good.volume.told)
 
   -- ---- snapshots and layers
 
@@ -60,16 +60,16 @@ module _ (folder : Folder) (now : List ℕ) (node : Node) (count : ℕ) (sound :
   as_many = length-map snapshots (λ p. p.meta) ∙ good.good.count_is
 
   -- each snapshot is a layer
-  layer_of : (place : ℕ) → place < length names → (i : ℕ) × IsLayerAt now ks names metas place i
+  layer_of : (place : ℕ) → place < length names → (i : ℕ) × IsLayerAt stamps.now ks names metas place i
   layer_of place inside =
       let name = name_at names place in
-      let at = snapshot_place folder now node name is.layers (good.listed.there name (name_there names place inside)) in
+      let at = snapshot_place folder stamps node name is.layers (good.listed.there name (name_there names place inside)) in
       let part = slice_index_or snapshots place head in
       let told : told_at metas place ≡ part.meta =
       get_or-map (λ (p : ImageParts). p.meta) snapshots place head _ (omega (arith, inside, good.good.count_is)) in
-      let one : part.meta ≡ layer_meta_of now (kept_at ks at.0).meta =
+      let one : part.meta ≡ layer_meta_of stamps.now (kept_at ks at.0).meta =
       meta_is_one folder (snapshot_file name) (snapshot_file (name_of ks at.0)) part.meta
-      (layer_meta_of now (kept_at ks at.0).meta) (sym (ap snapshot_file at.2))
+      (layer_meta_of stamps.now (kept_at ks at.0).meta) (sym (ap snapshot_file at.2))
       (meta_there folder (snapshot_file name) part.meta (good.good.good place head inside).good.told)
       (is.layers.parts (Some at.0) at.1).described in
       (at.0, record { within = at.1; named = at.2; told = told ∙ one })
@@ -80,20 +80,20 @@ module _ (folder : Folder) (now : List ℕ) (node : Node) (count : ℕ) (sound :
       let name = name_of ks i in
       let told = (is.layers.parts (Some i) less).described in
       let there : IsTrue (is_some (folder (meta_of (snapshot_file name)))) = ap (λ (f : Option (List ℕ)). is_some f) told.there in
-      let at = good.listed.all name (name_told told.text (layer_meta_of now (kept_at ks i).meta) name refl told.says, there) in
+      let at = good.listed.all name (name_told told.text (layer_meta_of stamps.now (kept_at ks i).meta) name refl told.says, there) in
       (at.0, at.1, get_or_default names at.0 [] name at.1 ∙ at.2)
 
   -- what is told under a layer's image is told of the layer
   told_of : (m : DiskMeta) (j : ℕ) → Contains metas m → j < length ks → m.name ≡ snapshot_file (name_of ks j)
-      → m ≡ layer_meta_of now (kept_at ks j).meta
+      → m ≡ layer_meta_of stamps.now (kept_at ks j).meta
   told_of m j has less same =
       let at = layer_of has.0 (omega (arith, has.1, as_many)) in
-      let told : m ≡ layer_meta_of now (kept_at ks at.0).meta =
+      let told : m ≡ layer_meta_of stamps.now (kept_at ks at.0).meta =
       sym has.2 ∙ get_or_default metas has.0 m _ has.1 ∙ at.1.told in
       let file : snapshot_file (name_of ks at.0) ≡ snapshot_file (name_of ks j) = sym (ap (λ (x : DiskMeta). x.name) told) ∙ same in
       let place : at.0 ≡ j =
       one_layer ks sound.layers at.0 j at.1.within less (snapshots_differ (name_of ks at.0) (name_of ks j) file) in
-      told ∙ ap (λ i. layer_meta_of now (kept_at ks i).meta) place
+      told ∙ ap (λ i. layer_meta_of stamps.now (kept_at ks i).meta) place
 
   -- ---- each stands on one
 
@@ -109,14 +109,14 @@ module _ (folder : Folder) (now : List ℕ) (node : Node) (count : ℕ) (sound :
       )
 
   -- what is told to be a layer's parent is an older layer's image
-  parent_layer : (j : ℕ) (image : List ℕ) → j < length ks → (layer_meta_of now (kept_at ks j).meta).parent ≡ Some image
+  parent_layer : (j : ℕ) (image : List ℕ) → j < length ks → (layer_meta_of stamps.now (kept_at ks j).meta).parent ≡ Some image
       → (k : ℕ) × (j < k) × (k < length ks) × (snapshot_file (name_of ks k) ≡ image)
   parent_layer j image less told =
       let p = parent_is (kept_at ks j).meta.parent image told in
       let k = parent_older ks sound.layers j p.0 less p.1 in
       (k.0, k.1, k.2, ap snapshot_file k.3 ∙ p.2)
 
-  layer_stands : (j : ℕ) → j < length ks → StandsOnOne metas (layer_meta_of now (kept_at ks j).meta)
+  layer_stands : (j : ℕ) → j < length ks → StandsOnOne metas (layer_meta_of stamps.now (kept_at ks j).meta)
   layer_stands j less image told = let k = parent_layer j image less told in has_image k.0 image k.2 k.3
 
   stands : (place : ℕ) → place < length names → StandsOnOne metas (told_at metas place)
@@ -124,15 +124,15 @@ module _ (folder : Folder) (now : List ℕ) (node : Node) (count : ℕ) (sound :
       let at = layer_of place inside in
       subst (StandsOnOne metas) (sym at.1.told) (layer_stands at.0 at.1.within)
 
-  head_told : head.meta ≡ head_meta_of now is.layers.user node
+  head_told : head.meta ≡ head_meta_of stamps.head node
   head_told =
-      meta_is_one folder (head_file v.head) (head_file node.number) head.meta (head_meta_of now is.layers.user node) (ap head_file number)
+      meta_is_one folder (head_file v.head) (head_file node.number) head.meta (head_meta_of stamps.head node) (ap head_file number)
       (meta_there folder (head_file v.head) head.meta good.head_good.good.told) (is.layers.parts None tt).described
 
   head_stands : StandsOnOne metas head.meta
   head_stands = subst (StandsOnOne metas) (sym head_told) on
     where
-      on : StandsOnOne metas (head_meta_of now is.layers.user node)
+      on : StandsOnOne metas (head_meta_of stamps.head node)
       on image told =
           let p = parent_is node.on image told in
           let at = kept_place ks p.0 (subst (IsKept node) p.1 sound.head_kept) in
@@ -206,8 +206,8 @@ module _ (folder : Folder) (now : List ℕ) (node : Node) (count : ℕ) (sound :
   no_misfit earlier m (IsFirst place inside on below unfit) = unfit (is_fit earlier place (omega (arith, inside, as_many)))
   no_misfit earlier m (AreTooMany on below many) = omega (arith, many, no_more, as_many, sound.few)
 
-pub fit : (folder : Folder) (now : List ℕ) (node : Node) (count : ℕ) (file : List ℕ) (place : ℕ) → IsSoundNode node count
-    → IsFolderOf folder now false node → HasEarlierNames node → HasMisfit folder (length node.disk) file place → ⊥
-fit folder now node count file place sound is earlier bad =
-    no_misfit folder now node count sound is (length node.disk) (length node.disk / 4096) bad.v bad.head bad.names bad.snapshots
+pub fit : (folder : Folder) (stamps : Stamps) (node : Node) (count : ℕ) (file : List ℕ) (place : ℕ) → IsSoundNode node count
+    → IsFolderOf folder stamps false node → HasEarlierNames node → HasMisfit folder (length node.disk) file place → ⊥
+fit folder stamps node count file place sound is earlier bad =
+    no_misfit folder stamps node count sound is (length node.disk) (length node.disk / 4096) bad.v bad.head bad.names bad.snapshots
     bad.good earlier bad.misfit bad.first

@@ -13,7 +13,7 @@ use Rattle.chain_meta.specs.declared.volume_meta.VolumeMeta.{VolumeMeta}
 use Rattle.folder_names.specs.Files.{Folder, volume_file, meta_of, map_of}
 use Rattle.replica_node.specs.Node.{Node}
 use Rattle.replica_node.specs.Places.{IsPlace, disk_at, own_at}
-use Rattle.replica_shelf.specs.Folder.{IsMapOf, HoldsBlocks, IsMetaOf, IsPartOf, IsVolumeOf, HasParts, IsFolderOf}
+use Rattle.replica_shelf.specs.Folder.{Stamps, IsMapOf, HoldsBlocks, IsMetaOf, IsPartOf, IsVolumeOf, HasParts, IsFolderOf}
 use Rattle.replica_shelf.specs.Folder.{head_meta_of, meta_at, image_at, volume_meta_of}
 use Rattle.replica_compare.proofs.ShapeLemmas.{kept_place}
 use Rattle.folder_checks.specs.Told.{FileTells}
@@ -42,9 +42,9 @@ meta_told folder image m is = record { text = is.text; short = record { there = 
 
 -- ---- the volume
 
-pub volume_is : (folder : Folder) (now : List ℕ) (node : Node) (v : VolumeMeta) → IsFolderOf folder now false node
+pub volume_is : (folder : Folder) (stamps : Stamps) (node : Node) (v : VolumeMeta) → IsFolderOf folder stamps false node
     → FileTells folder volume_file SaysVolume v → v ≡ volume_meta_of false false node
-volume_is folder now node v is told =
+volume_is folder stamps node v is told =
     volume_is_one folder v (volume_meta_of false false node) (volume_there folder v told) is.volume
 
 no_flag : (node : Node) (f : Flag) → IsFlagged (length node.disk) (volume_meta_of false false node) f → ⊥
@@ -53,10 +53,10 @@ no_flag node flag.Rebuilding is = cc
 no_flag node flag.Error is = cc
 no_flag node flag.Size is = is.3 refl
 
-pub unflagged : (folder : Folder) (now : List ℕ) (node : Node) (v : VolumeMeta) (f : Flag) → IsFolderOf folder now false node
+pub unflagged : (folder : Folder) (stamps : Stamps) (node : Node) (v : VolumeMeta) (f : Flag) → IsFolderOf folder stamps false node
     → FileTells folder volume_file SaysVolume v → IsFlagged (length node.disk) v f → ⊥
-unflagged folder now node v f is told flagged =
-    no_flag node f (subst (λ m. IsFlagged (length node.disk) m f) (volume_is folder now node v is told) flagged)
+unflagged folder stamps node v f is told flagged =
+    no_flag node f (subst (λ m. IsFlagged (length node.disk) m f) (volume_is folder stamps node v is told) flagged)
 
 -- ---- one image
 
@@ -104,20 +104,20 @@ disk_size : (node : Node) (count : ℕ) (place : Option ℕ) → IsSoundNode nod
 disk_size node count None sound there = refl
 disk_size node count (Some place) sound there = sound.disks place _ there
 
-no_part_fault : (folder : Folder) (now : List ℕ) (node : Node) (count : ℕ) (at : Option ℕ) (head : Option VolumeMeta)
-    (file : List ℕ) (place : ℕ) → IsSoundNode node count → (parts : HasParts folder now node) → IsPlace node at
-    → IsRight (image_at node at) head (meta_at now parts.user node at)
+no_part_fault : (folder : Folder) (stamps : Stamps) (node : Node) (count : ℕ) (at : Option ℕ) (head : Option VolumeMeta)
+    (file : List ℕ) (place : ℕ) → IsSoundNode node count → (parts : HasParts folder stamps node) → IsPlace node at
+    → IsRight (image_at node at) head (meta_at stamps node at)
     → ImageFault folder (length node.disk) (length node.disk / 4096) (image_at node at) head file place → ⊥
-no_part_fault folder now node count at head file place sound parts there right fault =
+no_part_fault folder stamps node count at head file place sound parts there right fault =
     let blocks : count ≡ length node.disk / 4096 = omega (arith, sound.size) in
     let own = own_size node count at sound there in
-    no_fault folder (image_at node at) head (meta_at now parts.user node at) (disk_at node at) (own_at node at) (length node.disk)
+    no_fault folder (image_at node at) head (meta_at stamps node at) (disk_at node at) (own_at node at) (length node.disk)
     (length node.disk / 4096) file place (parts.parts at there) right (disk_size node count at sound there)
     (own ∙ blocks) (omega (arith, sound.small, blocks)) fault
 
-head_right : (now : List ℕ) (user : Bool) (node : Node) (v : VolumeMeta) → v ≡ volume_meta_of false false node
-    → IsRight (head_file node.number) (Some v) (head_meta_of now user node)
-head_right now user node v same = record {
+head_right : (stamps : Stamps) (node : Node) (v : VolumeMeta) → v ≡ volume_meta_of false false node
+    → IsRight (head_file node.number) (Some v) (head_meta_of stamps.head node)
+head_right stamps node v same = record {
   named = refl;
   alike = λ w e. (refl, parent w (values w e));
 }
@@ -128,9 +128,9 @@ head_right now user node v same = record {
     parent : (w : VolumeMeta) → v ≡ w → option_map snapshot_file node.on ≡ w.parent
     parent w e = sym (ap (λ (m : VolumeMeta). m.parent) same) ∙ ap (λ (m : VolumeMeta). m.parent) e
 
-layer_right : (now : List ℕ) (user : Bool) (node : Node) (place : ℕ)
-    → IsRight (image_at node (Some place)) None (meta_at now user node (Some place))
-layer_right now user node place = record { named = refl; alike = λ v e. absurd (no v e) }
+layer_right : (stamps : Stamps) (node : Node) (place : ℕ)
+    → IsRight (image_at node (Some place)) None (meta_at stamps node (Some place))
+layer_right stamps node place = record { named = refl; alike = λ v e. absurd (no v e) }
   where
     no : (v : VolumeMeta) → ◌≡◌ {A = Option VolumeMeta} None (Some v) → ⊥
     no v e = cc
@@ -138,9 +138,9 @@ layer_right now user node place = record { named = refl; alike = λ v e. absurd 
 -- ---- the snapshots of the folder
 
 -- a snapshot that the folder has is a layer
-pub snapshot_place : (folder : Folder) (now : List ℕ) (node : Node) (name : List ℕ) → HasParts folder now node
+pub snapshot_place : (folder : Folder) (stamps : Stamps) (node : Node) (name : List ℕ) → HasParts folder stamps node
     → HasSnapshot folder name → (i : ℕ) × (i < length node.layers) × (name_of node.layers i ≡ name)
-snapshot_place folder now node name parts has = by_file (folder (meta_of (snapshot_file name))) refl has.1
+snapshot_place folder stamps node name parts has = by_file (folder (meta_of (snapshot_file name))) refl has.1
   where
     by_file : (file : Option (List ℕ)) → folder (meta_of (snapshot_file name)) ≡ file → IsTrue (is_some file)
         → (i : ℕ) × (i < length node.layers) × (name_of node.layers i ≡ name)
@@ -152,18 +152,18 @@ name_there names place inside = (place, inside, get_or_default names place _ _ i
 
 -- ---- the whole
 
-pub undamaged : (folder : Folder) (now : List ℕ) (node : Node) (count : ℕ) (file : List ℕ) (place : ℕ) → IsSoundNode node count
-    → IsFolderOf folder now false node → FolderFault folder (length node.disk) (length node.disk / 4096) file place → ⊥
-undamaged folder now node count file place sound is (BadVolume none) =
+pub undamaged : (folder : Folder) (stamps : Stamps) (node : Node) (count : ℕ) (file : List ℕ) (place : ℕ) → IsSoundNode node count
+    → IsFolderOf folder stamps false node → FolderFault folder (length node.disk) (length node.disk / 4096) file place → ⊥
+undamaged folder stamps node count file place sound is (BadVolume none) =
     none (volume_meta_of false false node) (volume_told folder (volume_meta_of false false node) is.volume)
-undamaged folder now node count file place sound is (BadHead _ _ v clean fault) =
-    let same = volume_is folder now node v is clean.told in
-    no_part_fault folder now node count None (Some v) file place sound is.layers tt (head_right now is.layers.user node v same)
+undamaged folder stamps node count file place sound is (BadHead _ _ v clean fault) =
+    let same = volume_is folder stamps node v is clean.told in
+    no_part_fault folder stamps node count None (Some v) file place sound is.layers tt (head_right stamps node v same)
     (subst (λ n. ImageFault folder (length node.disk) (length node.disk / 4096) (head_file n) (Some v) file place)
     (ap (λ (m : VolumeMeta). m.head) same) fault)
-undamaged folder now node count file place sound is (BadSnapshot _ _ v head names clean good listed has) =
+undamaged folder stamps node count file place sound is (BadSnapshot _ _ v head names clean good listed has) =
     let name = name_at names has.at in
-    let at = snapshot_place folder now node name is.layers (listed.there name (name_there names has.at has.within)) in
-    no_part_fault folder now node count (Some at.0) None file place sound is.layers at.1 (layer_right now is.layers.user node at.0)
+    let at = snapshot_place folder stamps node name is.layers (listed.there name (name_there names has.at has.within)) in
+    no_part_fault folder stamps node count (Some at.0) None file place sound is.layers at.1 (layer_right stamps node at.0)
     (subst (λ n. ImageFault folder (length node.disk) (length node.disk / 4096) (snapshot_file n) None file place)
     (sym at.2) has.fault)

@@ -11,7 +11,7 @@ use Rattle.replica_node.specs.Node.{Node, Kept, has_own, disk_named}
 use Rattle.replica_node.specs.Fold.{tree_of}
 use Rattle.replica_node.specs.Held.{block_of, read_below, IsChained}
 use Rattle.replica_node.specs.Places.{kept_at, IsPlace, disk_at, own_at}
-use Rattle.replica_shelf.specs.Folder.{HasParts, IsFolderOf, image_at, meta_at, volume_meta_of}
+use Rattle.replica_shelf.specs.Folder.{Stamps, HasParts, IsFolderOf, image_at, meta_at, volume_meta_of}
 use Rattle.replica_compare.specs.Comparing.{shape_in, ReadsAlikeAt, AreAlike}
 use Rattle.replica_compare.proofs.ShapeLemmas.{kept_place}
 use Rattle.replica_compare.proofs.ReadLemmas.{disk_place, parent_older, falls, same_readings}
@@ -30,14 +30,14 @@ pub record IsSound (node : Node) (count : ℕ) : Type 0 where
 -- two replicas of so many blocks whose parts a folder has, their heads of one number and on one layer
 record Pair : Type 0 where
   folder : Folder
-  now : List ℕ
-  later : List ℕ
+  stamps : Stamps
+  later : Stamps
   one : Node
   other : Node
   count : ℕ
   sound : IsSound one count
   sound_other : IsSound other count
-  parts : HasParts folder now one
+  parts : HasParts folder stamps one
   parts_other : HasParts folder later other
   number : one.number ≡ other.number
   on : one.on ≡ other.on
@@ -45,8 +45,8 @@ record Pair : Type 0 where
 abbrev turned : Pair → Pair
 turned p = record {
   folder = p.folder;
-  now = p.later;
-  later = p.now;
+  stamps = p.later;
+  later = p.stamps;
   one = p.other;
   other = p.one;
   count = p.count;
@@ -73,10 +73,10 @@ twin_layers : (p : Pair) (i j : ℕ) → i < length p.one.layers → j < length 
 twin_layers p i j here there same = record { place = here; place_other = there; image = ap snapshot_file same }
 
 twin_metas : (p : Pair) (x y : Option ℕ) → AreTwinPlaces p x y
-    → meta_at p.now p.parts.user p.one x ≡ meta_at p.later p.parts_other.user p.other y
+    → meta_at p.stamps p.one x ≡ meta_at p.later p.other y
 twin_metas p x y t =
-    meta_is_one p.folder (image_at p.one x) (image_at p.other y) (meta_at p.now p.parts.user p.one x)
-    (meta_at p.later p.parts_other.user p.other y) t.image
+    meta_is_one p.folder (image_at p.one x) (image_at p.other y) (meta_at p.stamps p.one x)
+    (meta_at p.later p.other y) t.image
     (p.parts.parts x t.place).described (p.parts_other.parts y t.place_other).described
 
 own_length : (node : Node) (count : ℕ) (place : Option ℕ) → IsSound node count → IsPlace node place
@@ -113,23 +113,24 @@ twin_of p i less =
     let part = p.parts.parts (Some i) less in
     let name = (kept_at p.one.layers i).meta.name in
     kept_place p.other.layers name (p.parts_other.no_more name part.described.text
-    (name_told part.described.text (meta_at p.now p.parts.user p.one (Some i)) name refl part.described.says) part.described.there)
+    (name_told part.described.text (meta_at p.stamps p.one (Some i)) name refl part.described.says) part.described.there)
 
-not_absent : (p : Pair) (name : List ℕ) (i : ℕ) → IsFirst p.now p.one.layers name i → IsAbsent p.later p.other.layers name → ⊥
+not_absent : (p : Pair) (name : List ℕ) (i : ℕ) → IsFirst p.stamps.now p.one.layers name i
+    → IsAbsent p.later.now p.other.layers name → ⊥
 not_absent p name i at none =
     let twin = twin_of p i at.within in
     none.none twin.0 twin.1 (twin.2 ∙ at.named)
 
 -- what is told of the layers of a name
 record IsOne (p : Pair) (name : List ℕ) : Type 0 where
-  told : told_of_name p.now p.one.layers name ≡ told_of_name p.later p.other.layers name
+  told : told_of_name p.stamps.now p.one.layers name ≡ told_of_name p.later.now p.other.layers name
   shape : shape_in p.one.layers name ≡ shape_in p.other.layers name
 
 one_shape : (x y : Option (List ℕ)) (m n : Bool) → x ≡ y → m ≡ n
     → ◌≡◌ {A = Option (Option (List ℕ) × Bool)} (Some (x, m)) (Some (y, n))
 one_shape x y m n e f = cc
 
-name_is_one : (p : Pair) (name : List ℕ) → IsLooked p.now p.one.layers name → IsLooked p.later p.other.layers name
+name_is_one : (p : Pair) (name : List ℕ) → IsLooked p.stamps.now p.one.layers name → IsLooked p.later.now p.other.layers name
     → IsOne p name
 name_is_one p name (inl (i, at)) (inl (j, there)) =
     let t = twin_layers p i j at.within there.within (at.named ∙ sym there.named) in
@@ -146,7 +147,7 @@ name_is_one p name (inr none) (inr absent) = record {
 }
 
 one_name : (p : Pair) (name : List ℕ) → IsOne p name
-one_name p name = name_is_one p name (look p.now p.one.layers name) (look p.later p.other.layers name)
+one_name p name = name_is_one p name (look p.stamps.now p.one.layers name) (look p.later.now p.other.layers name)
 
 -- ---- readings at a block
 
@@ -196,9 +197,9 @@ all_alike p block (suc left) i inside all less =
 below_alike : (p : Pair) (block : ℕ) (on : Option (List ℕ)) → block < p.count
     → read_below p.one.layers on block ≡ read_below p.other.layers on block
 below_alike p block None inside = refl
-below_alike p block (Some name) inside = by_look (look p.now p.one.layers name) (look p.later p.other.layers name)
+below_alike p block (Some name) inside = by_look (look p.stamps.now p.one.layers name) (look p.later.now p.other.layers name)
   where
-    by_look : IsLooked p.now p.one.layers name → IsLooked p.later p.other.layers name
+    by_look : IsLooked p.stamps.now p.one.layers name → IsLooked p.later.now p.other.layers name
         → block_of (disk_named p.one.layers name) block ≡ block_of (disk_named p.other.layers name) block
     by_look (inl (i, at)) there =
         subst (λ n. ReadsAlikeAt p.one p.other (Some n) block) at.named
@@ -234,21 +235,30 @@ are_alike p = record {
       (λ block inside. layer_alike p layer block inside);
 }
 
-are_told_alike : (p : Pair) → AreToldAlike p.now p.later p.one p.other
+are_told_alike : (p : Pair) → AreToldAlike p.stamps.now p.later.now p.one p.other
 are_told_alike p = λ name. (one_name p name).told
 
+-- what is told of their heads is one
+head_is_one : (p : Pair) → p.stamps.head ≡ p.later.head
+head_is_one p =
+    let metas = twin_metas p None None (twin_heads p) in
+    λ i. record {
+      created = ap (λ (m : DiskMeta). m.created) metas i;
+      user_created = ap (λ (m : DiskMeta). m.user_created) metas i;
+    }
+
 -- two replicas that one folder is
-pub one_folder : (folder : Folder) (now later : List ℕ) (failed failed_later : Bool) (one other : Node) (count counts : ℕ)
-    → IsSound one count → IsSound other counts → IsFolderOf folder now failed one → IsFolderOf folder later failed_later other
-    → AreAlike one other × AreToldAlike now later one other × (failed ≡ failed_later)
-one_folder folder now later failed failed_later one other count counts sound also is too =
+pub one_folder : (folder : Folder) (stamps later : Stamps) (failed failed_later : Bool) (one other : Node) (count counts : ℕ)
+    → IsSound one count → IsSound other counts → IsFolderOf folder stamps failed one → IsFolderOf folder later failed_later other
+    → AreAlike one other × AreToldAlike stamps.now later.now one other × (stamps.head ≡ later.head) × (failed ≡ failed_later)
+one_folder folder stamps later failed failed_later one other count counts sound also is too =
     let volume : volume_meta_of false failed one ≡ volume_meta_of false failed_later other =
     volume_is_one folder (volume_meta_of false failed one) (volume_meta_of false failed_later other) is.volume too.volume in
     let size : length one.disk ≡ length other.disk = ap (λ (m : VolumeMeta). m.size) volume in
     let same : counts ≡ count = omega (arith, size, sound.size, also.size) in
     let p : Pair = record {
       folder = folder;
-      now = now;
+      stamps = stamps;
       later = later;
       one = one;
       other = other;
@@ -260,4 +270,4 @@ one_folder folder now later failed failed_later one other count counts sound als
       number = ap (λ (m : VolumeMeta). m.head) volume;
       on = parent_is_one one.on other.on (ap (λ (m : VolumeMeta). m.parent) volume);
     } in
-    (are_alike p, are_told_alike p, ap (λ (m : VolumeMeta). m.failed) volume)
+    (are_alike p, are_told_alike p, head_is_one p, ap (λ (m : VolumeMeta). m.failed) volume)

@@ -18,7 +18,7 @@ use vol_units::{TimeText, VolumeSize};
 /// The replica that the folder is.
 fn opened<S: Shelves>(alloc: Global, shelves: &mut S) -> Result<ReplicaNode, Fail> {
     match open(alloc, size()?, 0, shelves)? {
-        Opened::Clean(node) => Ok(node),
+        Opened::Clean(node, _) => Ok(node),
         Opened::Unclean(_) => Err(Fail::new("unclean")),
         Opened::Damaged(_) => Err(Fail::new("damaged")),
     }
@@ -39,7 +39,7 @@ pub fn opens_as(
 pub fn is_flagged(opened: Opened, flag: Flag) -> bool {
     match opened {
         Opened::Unclean(found) => found == flag,
-        Opened::Clean(_) | Opened::Damaged(_) => false,
+        Opened::Clean(_, _) | Opened::Damaged(_) => false,
     }
 }
 
@@ -47,7 +47,7 @@ pub fn is_flagged(opened: Opened, flag: Flag) -> bool {
 fn is_damaged(opened: Opened, file: &str, place: u64) -> bool {
     match opened {
         Opened::Damaged(damage) => damage.file.as_str() == file && damage.place == place,
-        Opened::Clean(_) | Opened::Unclean(_) => false,
+        Opened::Clean(_, _) | Opened::Unclean(_) => false,
     }
 }
 
@@ -64,6 +64,30 @@ fn what_was_saved_is_opened(rt: HostRuntime) -> Result<(), Fail> {
 fn a_folder_of_an_earlier_version_is_opened(rt: HostRuntime) -> Result<(), Fail> {
     let (alloc, node) = (rt.alloc(), replica(rt.alloc())?);
     opens_as(&rt, alloc, &node, &mut fixed_folder(alloc, CLEAN)?)
+}
+
+/// What another program may tell of the fixed folder's head.
+const HEAD: &str = "{\"Created\":\"2020-02-29\",\"Labels\":{},\"Name\":\"volume-head-004.img\",\
+    \"Parent\":\"volume-snap-c.img\",\"Removed\":false,\"UserCreated\":true}";
+
+#[test]
+fn a_head_that_was_opened_keeps_what_is_told_of_it(rt: HostRuntime) -> Result<(), Fail> {
+    let (alloc, file) = (rt.alloc(), "volume-head-004.img.meta");
+    let mut shelves = fixed_folder(alloc, CLEAN)?;
+    shelves.remove(0, file)?;
+    shelves.write_at(0, file, 0, HEAD.as_bytes())?;
+    let Opened::Clean(node, head) = open(alloc, size()?, 0, &mut shelves)? else {
+        return Err(Fail::new("no replica"));
+    };
+    assert_eq!(rt;
+        (head.created.as_str(), head.user_created),
+        ("2020-02-29", true)
+    );
+    let (mut saved, mut told) = (NoFaultShelves::new(alloc), meta(alloc, false)?);
+    told.head = head.copied(alloc)?;
+    save(alloc, &node, &told, 0, &mut saved)?;
+    assert_eq!(rt; saved.held(0, file), Some(HEAD.as_bytes()));
+    opens_as(&rt, alloc, &node, &mut saved)
 }
 
 #[test]
@@ -212,7 +236,7 @@ fn each_call_of_an_open_may_fail(rt: HostRuntime) -> Result<(), Fail> {
         shelves.plan = FaultPlan::new(Vec::from_slice(alloc, &[call])?);
         match open(alloc, size()?, 0, &mut shelves) {
             Err(error) => assert_eq!(rt; error, OuterError::Failed, "at call {call}"),
-            Ok(Opened::Clean(_)) => return Ok(()),
+            Ok(Opened::Clean(_, _)) => return Ok(()),
             Ok(_) => return Err(Fail::new("no replica")),
         }
         assert_eq!(rt; shelves.faults, call);

@@ -1,5 +1,5 @@
 use replica_node::{BLOCK_BYTES, BlockRange, Blocks, LayerName, ReplicaNode, VolumeSize};
-use replica_shelf::SaveMeta;
+use replica_shelf::{HeadMeta, SaveMeta};
 use std::alloc::Global;
 use std::test::Fail;
 use vol_units::{MOST_LAYERS, TimeText};
@@ -68,8 +68,7 @@ pub fn replica(alloc: Global) -> Result<ReplicaNode, Fail> {
 }
 
 pub fn meta(alloc: Global, failed: bool) -> Result<SaveMeta, Fail> {
-    Ok(SaveMeta {
-        time: TimeText::read(alloc, "2026-01-02")?.ok_or("no time")?,
-        failed,
-    })
+    let time = TimeText::read(alloc, "2026-01-02")?.ok_or("no time")?;
+    let head = HeadMeta::made_at(alloc, &time)?;
+    Ok(SaveMeta { time, head, failed })
 }

@@ -22,7 +22,8 @@ use Rattle.folder_layers.specs.declared.misfit.Misfit.{Misfit}
 use Rattle.folder_layers.specs.declared.misfit.Misfit.TheVariants as at
 use Rattle.replica_node.specs.Node.{Node}
 use Rattle.replica_shelf.specs.Folder.{IsFolderOf}
-use Rattle.replica_open.specs.Building.{IsReadReplica}
+use Rattle.replica_shelf.specs.declared.head.HeadMeta.{HeadMeta}
+use Rattle.replica_open.specs.Building.{IsReadReplica, head_in}
 use Rattle.replica_open.specs.Opening.{IsDamageOf}
 
 -- ---- a layer that cannot stand where it is
@@ -77,12 +78,16 @@ misfit_is_told a shelf size parts misfit damage first told =
     }))
 
 pub replica_is_told : (a : Option Files) (shelf size : ℕ) (parts : FolderParts) (found : Result Node Damage) (node : Node)
-    → found ≡ Ok node → Told a (λ files. IsReadReplica (files shelf) size parts found)
-    → Told a (λ files. AreGoodParts (files shelf) size parts → (now : List ℕ) × IsFolderOf (files shelf) now false node)
-replica_is_told a shelf size parts found node is told =
+    (head : HeadMeta) → found ≡ Ok node → head ≡ head_in parts → Told a (λ files. IsReadReplica (files shelf) size parts found)
+    → Told a (λ files. AreGoodParts (files shelf) size parts
+    → (now : List ℕ) × IsFolderOf (files shelf) (record { now = now; head = head }) false node)
+replica_is_told a shelf size parts found node head is head_is told =
     told_map a (λ files. IsReadReplica (files shelf) size parts (Ok node)) _
     (subst (λ r. Told a (λ files. IsReadReplica (files shelf) size parts r)) is told)
-    (λ files read good. (parts.head.meta.created, read good))
+    (λ files read good. (
+      parts.head.meta.created,
+      subst (λ h. IsFolderOf (files shelf) (record { now = parts.head.meta.created; head = h }) false node) (sym head_is) (read good),
+    ))
 
 pub none_is_short : (a : Option Files) (shelf size : ℕ) (parts : FolderParts) (found : Result Node Damage) (damage : Damage)
     (P : Files → Type 0) → found ≡ Err damage → Told a (λ files. IsReadReplica (files shelf) size parts found)

@@ -1,5 +1,5 @@
 -- The folder is the replica that is built of its images.
-use Rattle.std.proofs.Common.{◌≡◌, ℕ, Bool, ◌/◌, ◌<◌, false, List, [], length, map, get_or, Option, Some, None}
+use Rattle.std.proofs.Common.{◌≡◌, ℕ, ◌/◌, ◌<◌, false, List, [], length, map, get_or, Option, Some, None}
 use Rattle.std.proofs.Common.{refl, sym, ap, subst, ◌∙◌, arith, string_bytes, unwrap_or}
 use Rattle.std.specs.Prelude.{All, Contains, is_some}
 use Rattle.std.specs.Option.{option_map}
@@ -15,7 +15,7 @@ use Rattle.replica_node.specs.Node.{Node, Kept}
 use Rattle.replica_node.specs.Held.{metas_of}
 use Rattle.replica_node.specs.Places.{kept_at, disk_at, own_at, IsPlace, IsBuiltOf}
 use Rattle.folder_names.specs.Files.{Folder}
-use Rattle.replica_shelf.specs.Folder.{IsPartOf, IsFolderOf, image_at, meta_at, layer_meta_of, head_meta_of}
+use Rattle.replica_shelf.specs.Folder.{Stamps, IsPartOf, IsFolderOf, image_at, meta_at, layer_meta_of, head_meta_of}
 use Rattle.folder_checks.specs.Images.{IsGoodImage, HasLength}
 use Rattle.folder_checks.specs.Snapshots as snapshots
 use Rattle.folder_checks.specs.Snapshots.{name_at, told_at, AreSnapshots}
@@ -25,7 +25,7 @@ use Rattle.folder_checks.specs.declared.parts.FolderParts.{FolderParts}
 use Rattle.folder_layers.specs.Ordered.{AreOrdered, IsSnapshotAt}
 use Rattle.folder_layers.specs.declared.order.OrderedLayer.{OrderedLayer}
 use Rattle.replica_open.specs.Reading.{IsReadFrom}
-use Rattle.replica_open.specs.Building.{newest_first, IsLayerRead, HasSizes, CanBeBuilt}
+use Rattle.replica_open.specs.Building.{newest_first, stamps_in, IsLayerRead, HasSizes, CanBeBuilt}
 use Rattle.replica_open.proofs.ListLemmas.{map-map}
 use Rattle.replica_open.proofs.NameLemmas.{name_in, named_in}
 use Rattle.replica_open.proofs.PartLemmas.{part_of, length_by_name, volume_of}
@@ -56,13 +56,12 @@ same_meta node t i e less =
     )
 
 -- the files of a layer
-pub layer_part : (folder : Folder) (size : ℕ) (now : List ℕ) (names : List (List ℕ)) (parts : List ImageParts)
+pub layer_part : (folder : Folder) (size : ℕ) (stamps : Stamps) (names : List (List ℕ)) (parts : List ImageParts)
     (ordered : List OrderedLayer) (node : Node) (t : Tree) (i : ℕ) → i < length node.layers → IsBuiltOf t size node
     → HasSizes size node → AreOrdered names (snapshots.metas_of parts) ordered
     → AreGood folder size (size / 4096) names (length names) parts → All (IsLayerRead folder size parts ordered) t.layers
-    → (user : Bool)
-    → IsPartOf folder (image_at node (Some i)) (meta_at now user node (Some i)) (disk_at node (Some i)) (own_at node (Some i))
-layer_part folder size now names parts ordered node t i less built sizes turns good read user =
+    → IsPartOf folder (image_at node (Some i)) (meta_at stamps node (Some i)) (disk_at node (Some i)) (own_at node (Some i))
+layer_part folder size stamps names parts ordered node t i less built sizes turns good read =
     let metas = snapshots.metas_of parts in
     let l = layer_at t.layers i in
     let same = same_meta node t i built.metas less in
@@ -76,10 +75,10 @@ layer_part folder size now names parts ordered node t i less built sizes turns g
     subst (IsGoodImage folder size (size / 4096) file None) r.at (good.good r.place r.part (omega (arith, within, good.count_is))) in
     let part_told : told_at metas r.place ≡ r.part.meta =
     get_or-map (λ (p : ImageParts). p.meta) parts r.place r.part _ within ∙ ap (λ (p : ImageParts). p.meta) r.at in
-    subst (λ f. IsPartOf folder f (meta_at now user node (Some i)) (disk_at node (Some i)) (own_at node (Some i)))
+    subst (λ f. IsPartOf folder f (meta_at stamps node (Some i)) (disk_at node (Some i)) (own_at node (Some i)))
     (sym (ap (λ (m : LayerMeta). snapshot_file m.name) same.1 ∙ ap snapshot_file s.named))
-    (part_of folder size file None r.part (meta_at now user node (Some i)) (disk_at node (Some i)) (own_at node (Some i)) l.image g
-    (ap (layer_meta_of now) same.1 ∙ told_now now l.meta (told_at metas r.place) s.told s.timed ∙ part_told)
+    (part_of folder size file None r.part (meta_at stamps node (Some i)) (disk_at node (Some i)) (own_at node (Some i)) l.image g
+    (ap (layer_meta_of stamps.now) same.1 ∙ told_now stamps.now l.meta (told_at metas r.place) s.told s.timed ∙ part_told)
     (sizes.disks (Some i) less) (sizes.owns (Some i) less) (λ k. built.own (Some i) k less)
     (subst (λ f. IsReadFrom folder f r.part.spans.items l.image) g.good.right.named
     (r.read (length_by_name folder size (size / 4096) file None r.part g))))
@@ -87,7 +86,8 @@ layer_part folder size now names parts ordered node t i less built sizes turns g
 -- ---- the head
 
 head_told : (node : Node) (number : ℕ) (m : DiskMeta) → node.number ≡ number → m.name ≡ head_file number
-    → option_map snapshot_file node.on ≡ m.parent → m.removed ≡ false → head_meta_of m.created m.user_created node ≡ m
+    → option_map snapshot_file node.on ≡ m.parent → m.removed ≡ false
+    → head_meta_of (record { created = m.created; user_created = m.user_created }) node ≡ m
 head_told node number m n name on kept = λ i. record {
   created = m.created;
   name = (ap head_file n ∙ sym name) i;
@@ -100,13 +100,13 @@ pub head_part : (folder : Folder) (size : ℕ) (parts : FolderParts) (node : Nod
     → node.number ≡ parts.volume.head → option_map snapshot_file node.on ≡ parts.head.meta.parent
     → IsGoodImage folder size (size / 4096) (head_file parts.volume.head) (Some parts.volume) parts.head
     → (HasLength folder parts.head.meta.name size → IsReadFrom folder parts.head.meta.name parts.head.spans.items t.head)
-    → IsPartOf folder (image_at node None) (meta_at parts.head.meta.created parts.head.meta.user_created node None) (disk_at node None)
+    → IsPartOf folder (image_at node None) (meta_at (stamps_in parts) node None) (disk_at node None)
     (own_at node None)
 head_part folder size parts node t built sizes number on g read =
     let v = parts.volume in
     let m = parts.head.meta in
     let file = head_file v.head in
-    let meta = meta_at m.created m.user_created node None in
+    let meta = meta_at (stamps_in parts) node None in
     subst (λ f. IsPartOf folder f meta (disk_at node None) (own_at node None)) (sym (ap head_file number))
     (part_of folder size file (Some v) parts.head meta (disk_at node None) (own_at node None) t.head g
     (head_told node v.head m number g.good.right.named on (g.good.right.alike v refl).0)
@@ -120,7 +120,7 @@ pub folder_of : (folder : Folder) (size : ℕ) (parts : FolderParts) (ordered : 
     (t : Tree) → CanBeBuilt size parts ordered below → IsBuiltOf t size node → HasSizes size node → metas_of node ≡ newest_first ordered
     → node.number ≡ parts.volume.head → node.on ≡ below → All (IsLayerRead folder size parts.snapshots.items ordered) t.layers
     → (HasLength folder parts.head.meta.name size → IsReadFrom folder parts.head.meta.name parts.head.spans.items t.head)
-    → AreGoodParts folder size parts → IsFolderOf folder parts.head.meta.created false node
+    → AreGoodParts folder size parts → IsFolderOf folder (stamps_in parts) false node
 folder_of folder size parts ordered below node t can built sizes metas number on layers head has =
     let names = map string_bytes parts.names.items in
     let stands : option_map snapshot_file node.on ≡ parts.head.meta.parent = ap (option_map snapshot_file) on ∙ can.file in
@@ -128,7 +128,6 @@ folder_of folder size parts ordered below node t can built sizes metas number on
       volume = volume_of folder size parts.volume node has.volume number
           (stands ∙ (has.head_good.good.right.alike parts.volume refl).1) built.disk;
       layers = record {
-        user = parts.head.meta.user_created;
         parts = λ place. part_at place;
         no_more = λ name text named there.
             subst (λ ns. Contains ns name) (map-map (λ (k : Kept). k.meta) name_in node.layers)
@@ -138,10 +137,10 @@ folder_of folder size parts ordered below node t can built sizes metas number on
     }
   where
     part_at : (place : Option ℕ) → IsPlace node place
-        → IsPartOf folder (image_at node place) (meta_at parts.head.meta.created parts.head.meta.user_created node place)
+        → IsPartOf folder (image_at node place) (meta_at (stamps_in parts) node place)
         (disk_at node place) (own_at node place)
     part_at None there =
         head_part folder size parts node t built sizes number (ap (option_map snapshot_file) on ∙ can.file) has.head_good head
     part_at (Some i) there =
-        layer_part folder size parts.head.meta.created (map string_bytes parts.names.items) parts.snapshots.items ordered node t i there
-        built sizes can.in_turn has.good layers parts.head.meta.user_created
+        layer_part folder size (stamps_in parts) (map string_bytes parts.names.items) parts.snapshots.items ordered node t i there
+        built sizes can.in_turn has.good layers

@@ -14,7 +14,8 @@ use Rattle.replica_node.specs.Held.{metas_of}
 use Rattle.replica_node.specs.Places.{IsPlace, disk_at, own_at}
 use Rattle.replica_compare.specs.Order.{AreInTurn, IsInOrder}
 use Rattle.folder_names.specs.Files.{Folder}
-use Rattle.replica_shelf.specs.Folder.{IsFolderOf}
+use Rattle.replica_shelf.specs.Folder.{Stamps, IsFolderOf}
+use Rattle.replica_shelf.specs.declared.head.HeadMeta.{HeadMeta}
 use Rattle.folder_checks.specs.Images.{HasLength}
 use Rattle.folder_checks.specs.Snapshots as snapshots
 use Rattle.folder_checks.specs.Checks.{AreGoodParts, AreKnown}
@@ -78,10 +79,18 @@ abbrev pub IsBuiltOrNot : ℕ → FolderParts → List OrderedLayer → Option (
 IsBuiltOrNot bytes parts ordered below (Ok node) = IsBuilt bytes parts ordered below node
 IsBuiltOrNot bytes parts ordered below (Err damage) = ⊤
 
+-- what is told of the head
+abbrev pub head_in : FolderParts → HeadMeta
+head_in parts = record { created = parts.head.meta.created; user_created = parts.head.meta.user_created }
+
+-- what is told beside the replica, of which each layer tells a time, so that this one is the time of none
+abbrev pub stamps_in : FolderParts → Stamps
+stamps_in parts = record { now = parts.head.meta.created; head = head_in parts }
+
 -- where its parts are those of a folder, the folder is that replica, of which no image fell short
 abbrev pub IsReadReplica : Folder → ℕ → FolderParts → Result Node Damage → Type 0
 IsReadReplica folder bytes parts (Ok node) =
-    AreGoodParts folder bytes parts → IsFolderOf folder parts.head.meta.created false node
+    AreGoodParts folder bytes parts → IsFolderOf folder (stamps_in parts) false node
 IsReadReplica folder bytes parts (Err damage) = AreGoodParts folder bytes parts → ⊥
 
 -- ---- how far

@@ -30,13 +30,13 @@ pub record IsWholeOpened (size : ℕ) (node : Node) : Type 0 where
 
 -- what is known whether or not shelves tell what they hold
 abbrev pub IsKnownOpened : ℕ → Opened → Type 0
-IsKnownOpened size (found.Clean node) = IsWholeOpened size node
+IsKnownOpened size (found.Clean node head) = IsWholeOpened size node
 IsKnownOpened size (found.Unclean flag) = ⊤
 IsKnownOpened size (found.Damaged damage) = ⊤
 
 -- the answer is true of the folder of a replica of a volume of that size
 abbrev pub AnswersOpen : Folder → ℕ → Opened → Type 0
-AnswersOpen folder size (found.Clean node) = (now : List ℕ) × IsFolderOf folder now false node
+AnswersOpen folder size (found.Clean node head) = (now : List ℕ) × IsFolderOf folder (record { now = now; head = head }) false node
 AnswersOpen folder size (found.Unclean flag) = (v : VolumeMeta) × FileTells folder volume_file SaysVolume v × IsFlagged size v flag
 AnswersOpen folder size (found.Damaged damage) = let file = string_bytes damage.file in
     FolderFault folder size (size / BLOCK_BYTES) file damage.place ⊎ HasMisfit folder size file damage.place

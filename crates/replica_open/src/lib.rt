@@ -9,5 +9,6 @@ mod replica;
 pub use folder_checks::{Damage, Flag};
 pub use opening::{Opened, open};
 pub use replica_node::ReplicaNode;
+pub use replica_shelf::{HeadMeta, TimeText};
 pub use shelf_traits::{Outer, OuterError, Shelves};
 pub use vol_units::VolumeSize;

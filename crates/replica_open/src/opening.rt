@@ -14,6 +14,7 @@ use folder_checks::{Damage, Flag, FolderCheck, FolderParts, ImageParts, check_fo
 use folder_layers::{Misfit, first_misfit, order_layers, parent_name};
 use folder_names::meta_file;
 use replica_node::ReplicaNode;
+use replica_shelf::HeadMeta;
 use shelf_traits::{Outer, Shelves};
 use std::alloc::{AllocError, Global};
 use vol_units::VolumeSize;
@@ -21,8 +22,8 @@ use vol_units::VolumeSize;
 /// What a folder is found to be.
 #[derive(Drop)]
 pub enum Opened {
-    /// The replica that it is.
-    Clean(ReplicaNode),
+    /// The replica that it is, and what is told of its head.
+    Clean(ReplicaNode, HeadMeta),
     /// It was left dirty, or while it was rebuilt, or in ERR, or it is of a volume of another size.
     Unclean(Flag),
     /// The first file that is damaged, and where.
@@ -97,8 +98,19 @@ fn open_layers<S: Shelves>(
     let layers = order_layers(alloc, names, snapshots)?;
     let on = parent_name(names, snapshots, &parts.head.meta);
     match read_replica(alloc, size, &parts, layers, on, shelf, shelves)? {
-        Ok(node) => Ok(Opened::Clean(node)),
+        Ok(node) => Ok(Opened::Clean(node, head_of(parts.head))),
         Err(damage) => Ok(Opened::Damaged(damage)),
+    }
+}
+
+/// What the parts of its image tell of the head.
+fn head_of(head: ImageParts) -> HeadMeta
+    ensures { result ≡ record { created = head.meta.created; user_created = head.meta.user_created } }
+{
+    let meta = head.meta;
+    HeadMeta {
+        created: meta.created,
+        user_created: meta.user_created,
     }
 }
 

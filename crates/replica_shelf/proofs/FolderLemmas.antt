@@ -11,7 +11,7 @@ use Rattle.chain_meta.specs.declared.volume_meta.VolumeMeta.{VolumeMeta}
 use Rattle.replica_node.specs.Node.{Node, Kept, layer_names}
 use Rattle.replica_node.specs.Places.{kept_at, IsPlace}
 use Rattle.folder_names.specs.Files.{Folder, IsMeta, meta_of, volume_file}
-use Rattle.replica_shelf.specs.Folder.{HasParts, IsVolumeOf, IsFolderOf, image_at, volume_meta_of}
+use Rattle.replica_shelf.specs.Folder.{Stamps, HasParts, IsVolumeOf, IsFolderOf, image_at, volume_meta_of}
 use Rattle.replica_shelf.specs.Saving.{AreWritten, IsVolumeText, IsSaved, ForeignStay, OnlyImages}
 use Rattle.replica_shelf.proofs.CallLemmas.{both_then, both_and, both_map}
 use Rattle.folder_names.proofs.NameLemmas.{one_image, snapshots_differ, head_no_snapshot, image_not_volume, volume_is_not_ours}
@@ -38,9 +38,9 @@ some_none : {A : Type 0} {x : A} {o : Option A} → o ≡ Some x → o ≡ None 
 some_none p q = cc
 
 -- what is written is read so, and no layer besides
-parts_are_read : (folder : Folder) (now : List ℕ) (node : Node) → AreWritten (IsPlace node) folder now node → HasParts folder now node
-parts_are_read folder now node had = record {
-  user = false;
+parts_are_read : (folder : Folder) (stamps : Stamps) (node : Node)
+    → AreWritten (IsPlace node) folder stamps node → HasParts folder stamps node
+parts_are_read folder stamps node had = record {
   parts = λ place is. part_is_read folder _ _ _ _ (had.parts place is);
   no_more = λ name text named there. ⊎_elim (λ c. c) (λ none. absurd (none_more name text named there none)) (find node.layers name);
 }
@@ -60,46 +60,46 @@ parts_are_read folder now node had = record {
         (one_image (image_at node p) (snapshot_file name) f (ends_at node p) (snapshot_ends name) here (IsMeta refl))))
 
 -- the metadata of the volume is none of these files
-written_apart : (shelf : ℕ) (now : List ℕ) (node : Node) (x y : Files) → OthersStay shelf volume_file x y
-    → AreWritten (IsPlace node) (x shelf) now node → AreWritten (IsPlace node) (y shelf) now node
-written_apart shelf now node x y others had = record {
+written_apart : (shelf : ℕ) (stamps : Stamps) (node : Node) (x y : Files) → OthersStay shelf volume_file x y
+    → AreWritten (IsPlace node) (x shelf) stamps node → AreWritten (IsPlace node) (y shelf) stamps node
+written_apart shelf stamps node x y others had = record {
   parts = λ place is. part_stays (x shelf) (y shelf) _ _ _ _ (λ f file. others shelf f (inr (not_volume node place f file)))
       (had.parts place is);
   no_more = λ f of not. others shelf f (inr (image_not_volume f of)) ∙ had.no_more f of not;
 }
 
 -- what was written last makes the folder whole
-pub saved_is : {T E : Type 0} (r : Result T E) (shelf : ℕ) (now : List ℕ) (failed : Bool) (node : Node) (meta : VolumeMeta)
+pub saved_is : {T E : Type 0} (r : Result T E) (shelf : ℕ) (stamps : Stamps) (failed : Bool) (node : Node) (meta : VolumeMeta)
     (a b c d : Option Files) → meta ≡ volume_meta_of false failed node → Both a b (OthersStay shelf volume_file)
-    → Both b c (λ old new. AreWritten (IsPlace node) (new shelf) now node)
+    → Both b c (λ old new. AreWritten (IsPlace node) (new shelf) stamps node)
     → Both c d (OthersStay shelf volume_file) → OnOk r (Both c d (λ old new. IsVolumeText (new shelf) meta))
-    → OnOk r (Both a d (λ old new. IsSaved (new shelf) now failed node))
-saved_is (Err e) shelf now failed node meta a b c d is first parts others told = tt
-saved_is (Ok v) shelf now failed node meta a b c d is first parts others told =
-    let Written : Files → Files → Type 0 = λ x w. AreWritten (IsPlace node) (w shelf) now node in
-    both_then a c d Written _ (λ x w. IsSaved (w shelf) now failed node)
+    → OnOk r (Both a d (λ old new. IsSaved (new shelf) stamps failed node))
+saved_is (Err e) shelf stamps failed node meta a b c d is first parts others told = tt
+saved_is (Ok v) shelf stamps failed node meta a b c d is first parts others told =
+    let Written : Files → Files → Type 0 = λ x w. AreWritten (IsPlace node) (w shelf) stamps node in
+    both_then a c d Written _ (λ x w. IsSaved (w shelf) stamps failed node)
     (both_then a b c _ Written Written first parts (λ x y w stays had. had))
     (both_and c d _ _ others told)
     (λ x w z had (stays, says). record {
       volume = subst (IsVolumeText (z shelf)) is says;
-      layers = written_apart shelf now node w z stays had;
+      layers = written_apart shelf stamps node w z stays had;
     })
 
 -- it is the replica, where its metadata is read
-folder_is : (folder : Folder) (now : List ℕ) (failed : Bool) (node : Node) → node.number ≤ 999999
-    → IsSaved folder now failed node → IsFolderOf folder now failed node
-folder_is folder now failed node low saved = record {
+folder_is : (folder : Folder) (stamps : Stamps) (failed : Bool) (node : Node) → node.number ≤ 999999
+    → IsSaved folder stamps failed node → IsFolderOf folder stamps failed node
+folder_is folder stamps failed node low saved = record {
   volume = record { text = _; there = saved.volume.there; few = saved.volume.few; says = saved.volume.says low };
-  layers = parts_are_read folder now node saved.layers;
+  layers = parts_are_read folder stamps node saved.layers;
 }
 
 -- the same of the last call
-pub folder_is_ok : {T E : Type 0} (r : Result T E) (shelf : ℕ) (now : List ℕ) (failed : Bool) (node : Node) (a d : Option Files)
-    → OnOk r (Both a d (λ old new. IsSaved (new shelf) now failed node))
-    → OnOk r (node.number ≤ 999999 → Both a d (λ old new. IsFolderOf (new shelf) now failed node))
-folder_is_ok (Err e) shelf now failed node a d saved = tt
-folder_is_ok (Ok v) shelf now failed node a d saved =
-    λ low. both_map a d _ _ saved (λ x w is. folder_is (w shelf) now failed node low is)
+pub folder_is_ok : {T E : Type 0} (r : Result T E) (shelf : ℕ) (stamps : Stamps) (failed : Bool) (node : Node) (a d : Option Files)
+    → OnOk r (Both a d (λ old new. IsSaved (new shelf) stamps failed node))
+    → OnOk r (node.number ≤ 999999 → Both a d (λ old new. IsFolderOf (new shelf) stamps failed node))
+folder_is_ok (Err e) shelf stamps failed node a d saved = tt
+folder_is_ok (Ok v) shelf stamps failed node a d saved =
+    λ low. both_map a d _ _ saved (λ x w is. folder_is (w shelf) stamps failed node low is)
 
 -- while images are written, the folder is dirty
 pub dirty_stays : (shelf : ℕ) (failed : Bool) (node : Node) (meta : VolumeMeta) (a b c : Option Files) → node.number ≤ 999999

@@ -12,7 +12,7 @@ use Rattle.replica_node.specs.Node.{Node, Kept}
 use Rattle.replica_node.specs.Fold.{tree_of}
 use Rattle.replica_node.specs.Places.{kept_at, IsPlace}
 use Rattle.folder_names.specs.Files.{Folder, IsFileOf, IsImage, IsMap, IsMeta, meta_of, map_of, volume_file}
-use Rattle.replica_shelf.specs.Folder.{IsMapOf, IsPartOf, image_at, meta_at}
+use Rattle.replica_shelf.specs.Folder.{Stamps, IsMapOf, IsPartOf, image_at, meta_at}
 use Rattle.replica_shelf.specs.Saving.{IsImageOf, IsMetaText, IsWritten, IsWrittenAt, AreWritten, IsBelow, PartChanges}
 use Rattle.replica_shelf.proofs.CallLemmas.{both_then, both_and}
 use Rattle.folder_names.proofs.NameLemmas.{Ends, IsEnd, Begins, IsBegin, one_image, snapshots_differ, head_no_snapshot}
@@ -104,9 +104,9 @@ part_is (Ok v) shelf image file meta disk own a b c d same name p1 p2 o2 p3 o3 =
 
 -- ---- layers by their places
 
-pub name_at : (now : List ℕ) (node : Node) (place : Option ℕ) → (meta_at now false node place).name ≡ image_at node place
-name_at now node None = refl
-name_at now node (Some place) = refl
+pub name_at : (stamps : Stamps) (node : Node) (place : Option ℕ) → (meta_at stamps node place).name ≡ image_at node place
+name_at stamps node None = refl
+name_at stamps node (Some place) = refl
 
 pub snapshot_ends : (name : List ℕ) → Ends (snapshot_file name)
 snapshot_ends name = IsEnd (codes "volume-snap-" ++ name) (sym (append_assoc (codes "volume-snap-") name (codes ".img")))
@@ -161,12 +161,12 @@ record IsWith (These Those : Option ℕ → Type 0) (node : Node) (place : Optio
   not : These place → ⊥
   one : (p : Option ℕ) → Those p → (p ≡ place) ⊎ (These p × IsPlace node p)
 
-written_more : (These Those : Option ℕ → Type 0) (shelf : ℕ) (now : List ℕ) (node : Node) (place : Option ℕ) (y z : Files)
-    → NamesOnce (tree_of node) → IsWith These Those node place → AreWritten These (y shelf) now node
-    → IsWrittenAt (z shelf) now node place → PartChanges shelf (image_at node place) y z → AreWritten Those (z shelf) now node
-written_more These Those shelf now node place y z names w had part changes = record {
+written_more : (These Those : Option ℕ → Type 0) (shelf : ℕ) (stamps : Stamps) (node : Node) (place : Option ℕ) (y z : Files)
+    → NamesOnce (tree_of node) → IsWith These Those node place → AreWritten These (y shelf) stamps node
+    → IsWrittenAt (z shelf) stamps node place → PartChanges shelf (image_at node place) y z → AreWritten Those (z shelf) stamps node
+written_more These Those shelf stamps node place y z names w had part changes = record {
   parts = λ p those. ⊎_elim
-      (λ (same : p ≡ place). subst (IsWrittenAt (z shelf) now node) (sym same) part)
+      (λ (same : p ≡ place). subst (IsWrittenAt (z shelf) stamps node) (sym same) part)
       (λ (older : These p × IsPlace node p). part_stays (y shelf) (z shelf) _ _ _ _
       (λ f is. changes.others shelf f (inr (λ here. apart p older f is here)))
       (had.parts p older.0))
@@ -180,11 +180,11 @@ written_more These Those shelf now node place y z names w had part changes = rec
     apart p older f is here = w.not (subst These (one_place node p place f names older.1 w.here is here) older.0)
 
 -- the next layer
-pub layers_more : (shelf : ℕ) (now : List ℕ) (node : Node) (place : ℕ) (y z : Files) → NamesOnce (tree_of node) → place < length node.layers
-    → AreWritten (IsBelow place) (y shelf) now node → IsWrittenAt (z shelf) now node (Some place)
-    → PartChanges shelf (image_at node (Some place)) y z → AreWritten (IsBelow (place + 1)) (z shelf) now node
-layers_more shelf now node place y z names within =
-    written_more (IsBelow place) (IsBelow (place + 1)) shelf now node (Some place) y z names (record {
+pub layers_more : (shelf : ℕ) (stamps : Stamps) (node : Node) (place : ℕ) (y z : Files) → NamesOnce (tree_of node)
+    → place < length node.layers → AreWritten (IsBelow place) (y shelf) stamps node → IsWrittenAt (z shelf) stamps node (Some place)
+    → PartChanges shelf (image_at node (Some place)) y z → AreWritten (IsBelow (place + 1)) (z shelf) stamps node
+layers_more shelf stamps node place y z names within =
+    written_more (IsBelow place) (IsBelow (place + 1)) shelf stamps node (Some place) y z names (record {
       here = within;
       those = omega arith;
       more = below;
@@ -205,11 +205,11 @@ layers_more shelf now node place y z names within =
         by_order p less = grind arith
 
 -- the head, behind all layers
-pub parts_all : (shelf : ℕ) (now : List ℕ) (node : Node) (y z : Files) → NamesOnce (tree_of node)
-    → AreWritten (IsBelow (length node.layers)) (y shelf) now node → IsWrittenAt (z shelf) now node None
-    → PartChanges shelf (image_at node None) y z → AreWritten (IsPlace node) (z shelf) now node
-parts_all shelf now node y z names =
-    written_more (IsBelow (length node.layers)) (IsPlace node) shelf now node None y z names (record {
+pub parts_all : (shelf : ℕ) (stamps : Stamps) (node : Node) (y z : Files) → NamesOnce (tree_of node)
+    → AreWritten (IsBelow (length node.layers)) (y shelf) stamps node → IsWrittenAt (z shelf) stamps node None
+    → PartChanges shelf (image_at node None) y z → AreWritten (IsPlace node) (z shelf) stamps node
+parts_all shelf stamps node y z names =
+    written_more (IsBelow (length node.layers)) (IsPlace node) shelf stamps node None y z names (record {
       here = tt;
       those = tt;
       more = below;
@@ -228,9 +228,9 @@ parts_all shelf now node y z names =
 -- ---- what is written stays
 
 -- where no file of the shelf changes
-pub written_stay : (shelf : ℕ) (now : List ℕ) (node : Node) (x y : Files) → ((f : List ℕ) → y shelf f ≡ x shelf f)
-    → AreWritten (IsPlace node) (x shelf) now node → AreWritten (IsPlace node) (y shelf) now node
-written_stay shelf now node x y same had = record {
+pub written_stay : (shelf : ℕ) (stamps : Stamps) (node : Node) (x y : Files) → ((f : List ℕ) → y shelf f ≡ x shelf f)
+    → AreWritten (IsPlace node) (x shelf) stamps node → AreWritten (IsPlace node) (y shelf) stamps node
+written_stay shelf stamps node x y same had = record {
   parts = λ place is. part_stays (x shelf) (y shelf) _ _ _ _ (λ f file. same f) (had.parts place is);
   no_more = λ f of not. same f ∙ had.no_more f of not;
 }

@@ -1,4 +1,4 @@
--- The replica that a folder is: its layers, the number of its head, and the blocks that each of them itself has.
+-- The replica that a folder is: its layers, its head with what is told of it, and the blocks that each of them itself has.
 use Rattle.std.specs.Prelude.{◌≡◌, ◌≤◌, ℕ, Bool, true, false, List, length, Option, Some, None, option_map, unwrap_or}
 use Rattle.std.specs.Prelude.{Contains}
 use Rattle.vol_units.specs.Name.{IsName}
@@ -15,6 +15,7 @@ use Rattle.replica_node.specs.Node.{Node, has_own, layer_names}
 use Rattle.replica_node.specs.Held.{block_of}
 use Rattle.replica_node.specs.Places.{kept_at, IsPlace, disk_at, own_at}
 use Rattle.folder_names.specs.Files.{Folder, volume_file, meta_of, map_of}
+use Rattle.replica_shelf.specs.declared.head.HeadMeta.{HeadMeta}
 
 -- ---- the files of one layer, or of the head
 
@@ -53,7 +54,14 @@ pub record IsVolumeOf (folder : Folder) (meta : VolumeMeta) : Type 0 where
   pub few : length text ≤ largest_meta
   pub says : SaysVolume text meta
 
--- ---- what is told of a replica, where `now` is the time of the run that saves it
+-- ---- what is told of a replica
+
+-- beside the replica: the time of the run that saves it, and what is told of its head
+pub record Stamps : Type 0 where
+  pub now : List ℕ
+  pub head : HeadMeta
+
+-- of a layer, where one that came with no time was made by the run that saves it
 
 abbrev pub layer_meta_of : List ℕ → LayerMeta → DiskMeta
 layer_meta_of now m = record {
@@ -64,20 +72,20 @@ layer_meta_of now m = record {
   user_created = m.user_created;
 }
 
--- of the head, told to be taken by a user or not
-abbrev pub head_meta_of : List ℕ → Bool → Node → DiskMeta
-head_meta_of now user node = record {
-  created = now;
+-- of the head
+abbrev pub head_meta_of : HeadMeta → Node → DiskMeta
+head_meta_of head node = record {
+  created = head.created;
   name = head_file node.number;
   parent = option_map snapshot_file node.on;
   removed = false;
-  user_created = user;
+  user_created = head.user_created;
 }
 
 -- of the layer at a place, or of the head where none is given
-abbrev pub meta_at : List ℕ → Bool → Node → Option ℕ → DiskMeta
-meta_at now user node None = head_meta_of now user node
-meta_at now user node (Some place) = layer_meta_of now (kept_at node.layers place).meta
+abbrev pub meta_at : Stamps → Node → Option ℕ → DiskMeta
+meta_at stamps node None = head_meta_of stamps.head node
+meta_at stamps node (Some place) = layer_meta_of stamps.now (kept_at node.layers place).meta
 
 -- its image
 abbrev pub image_at : Node → Option ℕ → List ℕ
@@ -97,15 +105,14 @@ volume_meta_of dirty failed node = record {
 
 -- ---- the whole
 
--- The folder has each layer of the replica and its head, and no other layer. Of the head it may be told that a user took it.
-pub record HasParts (folder : Folder) (now : List ℕ) (node : Node) : Type 0 where
-  pub user : Bool
+-- the folder has each layer of the replica and its head, and no other layer
+pub record HasParts (folder : Folder) (stamps : Stamps) (node : Node) : Type 0 where
   pub parts : (place : Option ℕ) → IsPlace node place
-      → IsPartOf folder (image_at node place) (meta_at now user node place) (disk_at node place) (own_at node place)
+      → IsPartOf folder (image_at node place) (meta_at stamps node place) (disk_at node place) (own_at node place)
   pub no_more : (name text : List ℕ) → IsName name → folder (meta_of (snapshot_file name)) ≡ Some text
       → Contains (layer_names node.layers) name
 
 -- the folder is that replica, whole and not dirty, in ERR or not
-pub record IsFolderOf (folder : Folder) (now : List ℕ) (failed : Bool) (node : Node) : Type 0 where
+pub record IsFolderOf (folder : Folder) (stamps : Stamps) (failed : Bool) (node : Node) : Type 0 where
   pub volume : IsVolumeOf folder (volume_meta_of false failed node)
-  pub layers : HasParts folder now node
+  pub layers : HasParts folder stamps node

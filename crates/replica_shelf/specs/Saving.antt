@@ -17,7 +17,12 @@ use Rattle.replica_node.specs.Node.{Node, has_own}
 use Rattle.replica_node.specs.Held.{block_of}
 use Rattle.replica_node.specs.Places.{IsPlace, disk_at, own_at}
 use Rattle.folder_names.specs.Files.{Folder, volume_file, meta_of, IsFileOf, IsOfAnImage}
-use Rattle.replica_shelf.specs.Folder.{IsMapOf, image_at, meta_at, volume_meta_of}
+use Rattle.replica_shelf.specs.Folder.{Stamps, IsMapOf, image_at, meta_at, volume_meta_of}
+use Rattle.replica_shelf.specs.declared.saving.SaveMeta.{SaveMeta}
+
+-- what is told beside a replica
+abbrev pub stamps_of : SaveMeta → Stamps
+stamps_of meta = record { now = meta.time; head = meta.head }
 
 -- ---- the files of one layer, or of the head
 
@@ -42,9 +47,9 @@ pub record IsWritten (folder : Folder) (image : List ℕ) (meta : DiskMeta) (dis
   pub described : IsMetaText folder image meta
 
 -- those of the layer at a place, or of the head where none is given
-abbrev pub IsWrittenAt : Folder → List ℕ → Node → Option ℕ → Type 0
-IsWrittenAt folder now node place =
-    IsWritten folder (image_at node place) (meta_at now false node place) (disk_at node place) (own_at node place)
+abbrev pub IsWrittenAt : Folder → Stamps → Node → Option ℕ → Type 0
+IsWrittenAt folder stamps node place =
+    IsWritten folder (image_at node place) (meta_at stamps node place) (disk_at node place) (own_at node place)
 
 -- ---- the whole
 
@@ -53,8 +58,8 @@ abbrev pub IsClear : Folder → Type 0
 IsClear folder = (f : List ℕ) → IsOfAnImage f → folder f ≡ None
 
 -- those of these places are written, and no file of another image is there
-pub record AreWritten (These : Option ℕ → Type 0) (folder : Folder) (now : List ℕ) (node : Node) : Type 0 where
-  pub parts : (place : Option ℕ) → These place → IsWrittenAt folder now node place
+pub record AreWritten (These : Option ℕ → Type 0) (folder : Folder) (stamps : Stamps) (node : Node) : Type 0 where
+  pub parts : (place : Option ℕ) → These place → IsWrittenAt folder stamps node place
   pub no_more : (f : List ℕ) → IsOfAnImage f → ((place : Option ℕ) → These place → IsFileOf (image_at node place) f → ⊥)
       → folder f ≡ None
 
@@ -65,9 +70,9 @@ pub record IsVolumeText (folder : Folder) (meta : VolumeMeta) : Type 0 where
   pub says : meta.head ≤ largest_head → SaysVolume (compact_text (volume_data meta)) meta
 
 -- the folder has these files of the replica, and none of another image
-pub record IsSaved (folder : Folder) (now : List ℕ) (failed : Bool) (node : Node) : Type 0 where
+pub record IsSaved (folder : Folder) (stamps : Stamps) (failed : Bool) (node : Node) : Type 0 where
   pub volume : IsVolumeText folder (volume_meta_of false failed node)
-  pub layers : AreWritten (IsPlace node) folder now node
+  pub layers : AreWritten (IsPlace node) folder stamps node
 
 -- the layers at the first places, so many
 abbrev pub IsBelow : ℕ → Option ℕ → Type 0

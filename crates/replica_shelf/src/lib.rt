@@ -3,6 +3,7 @@
 
 mod clearing;
 mod file;
+mod head;
 mod image;
 mod map;
 mod metas;
@@ -10,6 +11,7 @@ mod names;
 mod parts;
 mod saving;
 
+pub use head::HeadMeta;
 pub use replica_node::ReplicaNode;
 pub use saving::{SaveMeta, save};
 pub use shelf_traits::{Outer, OuterError, Shelves};

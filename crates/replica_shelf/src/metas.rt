@@ -1,16 +1,18 @@
-ghost use Rattle.std.specs.Prelude.{◌≡◌, ◌≤◌, IfOk, OnOk, Some, None, true, false};
+ghost use Rattle.std.specs.Prelude.{◌≡◌, ◌≤◌, IfOk, OnOk, Some, true};
 ghost use Rattle.std.specs.Option.{option_map};
 ghost use Rattle.serde_json.specs.Written.{compact_text};
 ghost use Rattle.outer_traits.specs.Causes.{HasOuterCause};
 ghost use Rattle.shelf_traits.specs.Failing.{FailsAt};
 ghost use Rattle.shelf_traits.specs.Files.{Both, OthersStay, Becomes};
 ghost use Rattle.chain_meta.specs.ImageNames.{snapshot_file};
-ghost use Rattle.replica_node.specs.Places.{IsPlace};
+ghost use Rattle.replica_node.specs.Places.{kept_at, IsPlace};
 ghost use Rattle.folder_names.specs.Files.{meta_of, volume_file};
-ghost use Rattle.replica_shelf.specs.Folder.{meta_at, volume_meta_of};
-ghost use Rattle.replica_shelf.specs.Saving.{IsMetaText, IsVolumeText};
+ghost use Rattle.replica_shelf.specs.Folder.{layer_meta_of, head_meta_of, meta_at, volume_meta_of};
+ghost use Rattle.replica_shelf.specs.Saving.{stamps_of, IsMetaText, IsVolumeText};
 
 use crate::file::put_file;
+use crate::head::HeadMeta;
+use crate::saving::SaveMeta;
 use chain_meta::{DiskMeta, ImageName, VolumeMeta};
 use folder_names::{VOLUME_FILE, layer_image, meta_file};
 use replica_node::ReplicaNode;
@@ -58,26 +60,26 @@ pub(crate) fn disk_meta(
     alloc: Global,
     node: &ReplicaNode,
     place: Option<usize>,
-    now: &TimeText,
+    meta: &SaveMeta,
 ) -> Result<DiskMeta, AllocError>
     requires { IsPlace node.now place }
-    ensures { IfOk result (λ meta. meta ≡ meta_at now.now false node.now place) }
+    ensures { IfOk result (λ told. told ≡ meta_at (stamps_of meta.now) node.now place) }
 {
     match place {
-        Some(place) => layer_meta(alloc, node, place, now),
-        None => head_meta(alloc, node, now),
+        Some(place) => layer_meta(alloc, node, place, &meta.time),
+        None => head_meta(alloc, node, &meta.head),
     }
 }
 
-fn head_meta(alloc: Global, node: &ReplicaNode, now: &TimeText) -> Result<DiskMeta, AllocError>
-    ensures { IfOk result (λ meta. meta ≡ meta_at now.now false node.now None) }
+fn head_meta(alloc: Global, node: &ReplicaNode, head: &HeadMeta) -> Result<DiskMeta, AllocError>
+    ensures { IfOk result (λ meta. meta ≡ head_meta_of head.now node.now) }
 {
     Ok(DiskMeta {
-        created: same_time(alloc, now)?,
+        created: same_time(alloc, &head.created)?,
         name: ImageName::head(alloc, node.head_number())?,
         parent: parent_image(alloc, &node.head_parent())?,
         removed: false,
-        user_created: false,
+        user_created: head.user_created,
     })
 }
 
@@ -88,7 +90,7 @@ fn layer_meta(
     now: &TimeText,
 ) -> Result<DiskMeta, AllocError>
     requires { IsPlace node.now (Some place) }
-    ensures { IfOk result (λ meta. meta ≡ meta_at now.now false node.now (Some place)) }
+    ensures { IfOk result (λ meta. meta ≡ layer_meta_of now.now (kept_at node.now.layers place).meta) }
 {
     let meta = node.meta(place);
     let created = match &meta.created {
@@ -116,7 +118,7 @@ fn parent_image(alloc: Global, parent: &Option<LayerName>) -> Result<Option<Imag
 }
 
 /// The same text once more.
-fn same_time(alloc: Global, time: &TimeText) -> Result<TimeText, AllocError>
+pub(crate) fn same_time(alloc: Global, time: &TimeText) -> Result<TimeText, AllocError>
     ensures { IfOk result (λ same. same ≡ time.now) }
 {
     match TimeText::read(alloc, time.as_str())? {

@@ -3,55 +3,55 @@ ghost use Rattle.outer_traits.specs.Causes.{HasOuterCause};
 ghost use Rattle.shelf_traits.specs.Files.{Both};
 ghost use Rattle.replica_node.specs.Places.{IsPlace, disk_at, own_at};
 ghost use Rattle.replica_shelf.specs.Folder.{image_at};
-ghost use Rattle.replica_shelf.specs.Saving.{IsWritten, IsWrittenAt, AreWritten, IsBelow, IsClear, PartChanges, OnlyImages};
+ghost use Rattle.replica_shelf.specs.Saving.{stamps_of, IsWritten, IsWrittenAt, AreWritten, IsBelow, IsClear, PartChanges, OnlyImages};
 
 use crate::clearing::clear;
 use crate::image::put_image;
 use crate::map::put_map;
 use crate::metas::{disk_meta, put_meta};
 use crate::names::image_name;
+use crate::saving::SaveMeta;
 use chain_meta::{DiskMeta, ImageName};
 use replica_node::ReplicaNode;
 use shelf_traits::{Outer, Shelves};
 use std::alloc::Global;
-use vol_units::TimeText;
 
 /// Writes the layers and the head in the place of all files of images that stand there, and what was written stays.
 pub(crate) fn put_parts<S: Shelves>(
     alloc: Global,
     node: &ReplicaNode,
-    now: &TimeText,
+    meta: &SaveMeta,
     shelf: u8,
     shelves: &mut S,
 ) -> Outer<()>
     ensures ok { OnOk result (Both (S.holds shelves.old) (S.holds shelves.new)
-        (λ old new. AreWritten (IsPlace node.now) (new shelf) now.now node.now)) }
+        (λ old new. AreWritten (IsPlace node.now) (new shelf) (stamps_of meta.now) node.now)) }
     ensures others { Both (S.holds shelves.old) (S.holds shelves.new) (OnlyImages shelf) }
     ensures cause { HasOuterCause (S.faults shelves.old) (S.faults shelves.new) result }
 {
     // That no name comes twice, a proof learns here.
     let _count = node.layer_count();
     clear(shelf, shelves)?;
-    put_layers(alloc, node, now, shelf, shelves)?;
-    put_part(alloc, node, None, now, shelf, shelves)?;
+    put_layers(alloc, node, meta, shelf, shelves)?;
+    put_part(alloc, node, None, meta, shelf, shelves)?;
     shelves.sync(shelf)
 }
 
 fn put_layers<S: Shelves>(
     alloc: Global,
     node: &ReplicaNode,
-    now: &TimeText,
+    meta: &SaveMeta,
     shelf: u8,
     shelves: &mut S,
 ) -> Outer<()>
     ensures ok { OnOk result (Both (S.holds shelves.old) (S.holds shelves.new)
         (λ old new. IsClear (old shelf)
-        → AreWritten (IsBelow (length node.now.layers)) (new shelf) now.now node.now)) }
+        → AreWritten (IsBelow (length node.now.layers)) (new shelf) (stamps_of meta.now) node.now)) }
     ensures others { Both (S.holds shelves.old) (S.holds shelves.new) (OnlyImages shelf) }
     ensures cause { HasOuterCause (S.faults shelves.old) (S.faults shelves.new) result }
 {
     for place in 0..node.layer_count() - 1 {
-        put_part(alloc, node, Some(place), now, shelf, shelves)?;
+        put_part(alloc, node, Some(place), meta, shelf, shelves)?;
     }
     Ok(())
 }
@@ -61,20 +61,20 @@ fn put_part<S: Shelves>(
     alloc: Global,
     node: &ReplicaNode,
     place: Option<usize>,
-    now: &TimeText,
+    meta: &SaveMeta,
     shelf: u8,
     shelves: &mut S,
 ) -> Outer<()>
     requires { IsPlace node.now place }
     ensures ok { OnOk result (Both (S.holds shelves.old) (S.holds shelves.new)
-        (λ old new. IsWrittenAt (new shelf) now.now node.now place)) }
+        (λ old new. IsWrittenAt (new shelf) (stamps_of meta.now) node.now place)) }
     ensures others { Both (S.holds shelves.old) (S.holds shelves.new)
         (PartChanges shelf (image_at node.now place)) }
     ensures cause { HasOuterCause (S.faults shelves.old) (S.faults shelves.new) result }
 {
     let image = image_name(alloc, node, place)?;
-    let meta = disk_meta(alloc, node, place, now)?;
-    put_files(alloc, node, place, &image, &meta, shelf, shelves)
+    let told = disk_meta(alloc, node, place, meta)?;
+    put_files(alloc, node, place, &image, &told, shelf, shelves)
 }
 
 /// The same, where its image and what is told of it are made.

@@ -19,10 +19,12 @@ returns c =
       chained = c.block_count-blocks-2.ensures.chained;
     } in
     record {
-      alike = λ folder now later failed failed_later is too. (one_folder folder now later failed failed_later c.args.one.now
+      alike = λ folder stamps later failed failed_later is too. (one_folder folder stamps later failed failed_later c.args.one.now
           c.args.other.now c.block_count-blocks.result c.block_count-blocks-2.result one other is too).0;
-      told = λ folder now later failed failed_later is too. (one_folder folder now later failed failed_later c.args.one.now
+      told = λ folder stamps later failed failed_later is too. (one_folder folder stamps later failed failed_later c.args.one.now
           c.args.other.now c.block_count-blocks.result c.block_count-blocks-2.result one other is too).1;
-      failed = λ folder now later failed failed_later is too. (one_folder folder now later failed failed_later c.args.one.now
+      head = λ folder stamps later failed failed_later is too. (one_folder folder stamps later failed failed_later c.args.one.now
           c.args.other.now c.block_count-blocks.result c.block_count-blocks-2.result one other is too).2;
+      failed = λ folder stamps later failed failed_later is too. (one_folder folder stamps later failed failed_later c.args.one.now
+          c.args.other.now c.block_count-blocks.result c.block_count-blocks-2.result one other is too).3;
     }

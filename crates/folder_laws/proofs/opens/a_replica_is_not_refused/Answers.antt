@@ -20,7 +20,7 @@ returns c =
       layers = c.head_parent-on.ensures.older;
     } in
     record {
-      unflagged = λ folder now v flag is. unflagged folder now node v flag is;
-      good = λ folder now file place is. undamaged folder now node count file place sound is;
-      fit = λ folder now file place is. fit folder now node count file place sound is;
+      unflagged = λ folder stamps v flag is. unflagged folder stamps node v flag is;
+      good = λ folder stamps file place is. undamaged folder stamps node count file place sound is;
+      fit = λ folder stamps file place is. fit folder stamps node count file place sound is;
     }

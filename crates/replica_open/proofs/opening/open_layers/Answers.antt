@@ -30,7 +30,7 @@ parent_name-on-requires-clause-fit g c =
 pub returns-in-Ok-clause-told : goal.returns-in-Ok-clause-told
 returns-in-Ok-clause-told g c =
     replica_is_told (g.S.Shelves.holds c.args.shelves.now) c.args.shelf c.args.size c.args.parts c.in_ok-node.field-0 c.in-Ok.node
-    c.in-Ok.is c.in_ok-node.ensures.told
+    c.head_of.result c.in-Ok.is c.head_of.ensures c.in_ok-node.ensures.told
 
 pub returns-in-Ok-clause-known : goal.returns-in-Ok-clause-known
 returns-in-Ok-clause-known g c =
@@ -51,7 +51,7 @@ returns-in-Ok-clause-known g c =
     built_is_known c.args.size parts layers on c.in-Ok.node can c.requires.fit
     (subst (IsBuiltOrNot c.args.size parts layers on) c.in-Ok.is c.in_ok-node.ensures.built)
 
-pub returns-clause-told : goal.returns-clause-told
-returns-clause-told g c =
+pub returns-in-Err-clause-told : goal.returns-in-Err-clause-told
+returns-in-Err-clause-told g c =
     none_is_short (g.S.Shelves.holds c.args.shelves.now) c.args.shelf c.args.size c.args.parts c.in_ok-node.field-0 c.in-Err.damage _
     c.in-Err.is c.in_ok-node.ensures.told

@@ -1,5 +1,5 @@
 use Rattle.std.proofs.Common.{rules, ◌≡◌, ◌<◌, length, arith, subst}
-use Rattle.replica_shelf.specs.Saving.{AreWritten, IsBelow}
+use Rattle.replica_shelf.specs.Saving.{stamps_of, AreWritten, IsBelow}
 use Rattle.replica_shelf.proofs.CallLemmas.{both_then, both_and, both_map}
 use Rattle.replica_shelf.proofs.ClearLemmas.{only_then}
 use Rattle.replica_shelf.proofs.PartLemmas.{layers_more}
@@ -18,7 +18,7 @@ loop-place-preserved g c =
     record {
       first = both_then old now new _ _ _ c.loop-place.invariant.first (both_and now new _ _ e.ok e.others)
           (λ x y z before (part, changes) clear.
-          layers_more shelf c.args.now.now c.args.node.now place y z count.once within (before clear) part changes);
+          layers_more shelf (stamps_of c.args.meta.now) c.args.node.now place y z count.once within (before clear) part changes);
       only = both_then old now new _ _ _ c.loop-place.invariant.only e.others
           (λ x y z before changes. only_then shelf x y z before changes.only);
       faults = search rules;
@@ -29,7 +29,7 @@ returns-clause-ok g c =
     let count = length c.args.node.now.layers in
     let all : c.loop-place.place ≡ count = omega (arith, c.layer_count-place-end.ensures.value) in
     both_map (g.S.Shelves.holds c.args.shelves.now) (g.S.Shelves.holds c.loop-place.shelves) _ _ c.loop-place.invariant.first
-    (λ x y first clear. subst (λ n. AreWritten (IsBelow n) (y c.args.shelf) c.args.now.now c.args.node.now) all (first clear))
+    (λ x y first clear. subst (λ n. AreWritten (IsBelow n) (y c.args.shelf) (stamps_of c.args.meta.now) c.args.node.now) all (first clear))
 
 pub returns-in_err-put_part-clause-others : goal.returns-in_err-put_part-clause-others
 returns-in_err-put_part-clause-others g c =

@@ -1,5 +1,6 @@
 use Rattle.std.proofs.Common.{false, ap}
 use Rattle.chain_meta.specs.declared.volume_meta.VolumeMeta.{VolumeMeta}
+use Rattle.replica_shelf.specs.Saving.{stamps_of}
 use Rattle.replica_shelf.proofs.CallLemmas.{both_then}
 use Rattle.replica_shelf.proofs.FolderLemmas.{saved_is, folder_is_ok, dirty_stays, foreign_then, foreign_volume, foreign_images}
 use Rattle.replica_shelf.proofs.saving.save.Goals as goal
@@ -12,7 +13,7 @@ returns-in_err-put_parts-clause-dirty g c fell elsewhere low =
 
 pub returns-clause-files : goal.returns-clause-files
 returns-clause-files g c =
-    saved_is c.put_volume-2.result c.args.shelf c.args.meta.now.time c.args.meta.now.failed c.args.node.now
+    saved_is c.put_volume-2.result c.args.shelf (stamps_of c.args.meta.now) c.args.meta.now.failed c.args.node.now
     (record c.in_ok-volume.volume { dirty = false }) (g.S.Shelves.holds c.args.shelves.now)
     (g.S.Shelves.holds c.put_volume.new.shelves) (g.S.Shelves.holds c.put_parts.new.shelves)
     (g.S.Shelves.holds c.put_volume-2.new.shelves) (ap {A = VolumeMeta} (λ m. record m { dirty = false }) c.in_ok-volume.ensures)
@@ -20,7 +21,7 @@ returns-clause-files g c =
 
 pub returns-clause-ok : goal.returns-clause-ok
 returns-clause-ok g c =
-    folder_is_ok c.put_volume-2.result c.args.shelf c.args.meta.now.time c.args.meta.now.failed c.args.node.now
+    folder_is_ok c.put_volume-2.result c.args.shelf (stamps_of c.args.meta.now) c.args.meta.now.failed c.args.node.now
     (g.S.Shelves.holds c.args.shelves.now) (g.S.Shelves.holds c.put_volume-2.new.shelves) (returns-clause-files g c)
 
 pub returns-clause-others : goal.returns-clause-others
