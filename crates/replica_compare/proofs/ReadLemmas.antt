@@ -19,7 +19,7 @@ use Rattle.volume_model.specs.Purge.{is_before}
 use Rattle.volume_model.proofs.PurgeLemmas.{before_trans}
 use Rattle.coalesce.proofs.ChildLemmas.{same_name, other_name}
 use Rattle.replica_node.specs.Node.{Node, Kept, IsKept, has_own, disk_named, disk_of_layer}
-use Rattle.replica_node.specs.Fold.{tree_of}
+use Rattle.replica_node.specs.Fold.{tree_of, own_named}
 use Rattle.replica_node.specs.Held.{block_of, own_block, read_below, AreChained, IsChained}
 use Rattle.replica_node.specs.Places.{kept_at}
 use Rattle.replica_compare.specs.declared.twins.Twin.{Twin}
@@ -28,6 +28,7 @@ use Rattle.replica_compare.specs.Comparing.{ReadsOtherwise, AreAlike, IsFirstRea
 use Rattle.replica_compare.specs.Least.{IsLesser, Stays, Falls, IsLeastOf}
 use Rattle.replica_compare.specs.Blocks.{IsPair, IsParentAt, IsTwin, DiffersAt, TellsFrom, told_of, AllAlikeAt}
 use Rattle.replica_compare.specs.Blocks.{IsFirstAt, IsFirstBelow, stands_before}
+use Rattle.replica_compare.specs.Holders.{NeitherHas}
 use Rattle.replica_compare.proofs.OrderLemmas.{snapshots, place_named}
 use Rattle.replica_compare.proofs.ShapeLemmas.{place_kept, kept_place, kept_other, from_more, known}
 
@@ -72,7 +73,7 @@ same_readings a b layer count p q same =
 
 -- ---- what a layer without the block itself reads as
 
-block_length : (disk : List ℕ) (count block : ℕ) → length disk ≡ count * 4096 → block < count → length (block_of disk block) ≡ 4096
+pub block_length : (disk : List ℕ) (count block : ℕ) → length disk ≡ count * 4096 → block < count → length (block_of disk block) ≡ 4096
 block_length disk count block size inside = grind (arith, whole_block disk block, length-take, length-drop)
 
 no_block : (block : ℕ) → length (block_of [] block) ≢ 4096
@@ -89,7 +90,7 @@ not_named (k ∷ ks) name e =
     ap (λ t. cond t k.disk (disk_named ks name)) o.0 ∙ not_named ks name o.1
 
 -- what reads as a whole block is there
-is_named : (ks : List Kept) (name : List ℕ) (block : ℕ) → length (block_of (disk_named ks name) block) ≡ 4096
+pub is_named : (ks : List Kept) (name : List ℕ) (block : ℕ) → length (block_of (disk_named ks name) block) ≡ 4096
     → has_name (snapshots ks) name ≡ true
 is_named ks name block whole = go (has_name (snapshots ks) name) refl
   where
@@ -132,7 +133,7 @@ through (k ∷ ks) count block (suc place) chained once inside less absent =
     is ∙ sym (under_one k ks (kept_at ks place).meta.parent block once.0
     (ap length (sym is) ∙ block_length (kept_at ks place).disk count block (size_at ks count place chained.1 within) inside))
 
-named_place : (ks : List Kept) (name : List ℕ) → has_name (snapshots ks) name ≡ true
+pub named_place : (ks : List Kept) (name : List ℕ) → has_name (snapshots ks) name ≡ true
     → (place : ℕ) × (place < length ks) × ((kept_at ks place).meta.name ≡ name)
 named_place [] name e = absurd (false≢true e)
 named_place (k ∷ ks) name e = go (bytes_eq name k.meta.name) refl e (named_place ks name)
@@ -169,6 +170,18 @@ disk_place (k ∷ ks) (suc place) once less =
     let other : k.meta.name ≢ name = λ same. false≢true (sym once.0 ∙ ap (has_name (snapshots ks)) same
     ∙ place_named ks place within) in
     ap (λ t. cond t k.disk (disk_named ks name)) (other_name name k.meta.name other) ∙ disk_place ks place once.1 within
+
+-- which blocks the layer of a name has are told where it stands
+own_place : (ks : List Kept) (place : ℕ) → NamesOnce (snapshots ks) → place < length ks
+    → own_named ks (kept_at ks place).meta.name ≡ (kept_at ks place).own
+own_place [] place once less = absurd (omega (arith, less))
+own_place (k ∷ ks) zero once less = ap (λ t. cond t k.own (own_named ks k.meta.name)) (same_name k.meta.name)
+own_place (k ∷ ks) (suc place) once less =
+    let name = (kept_at ks place).meta.name in
+    let within : place < length ks = omega (arith, less) in
+    let other : k.meta.name ≢ name = λ same. false≢true (sym once.0 ∙ ap (has_name (snapshots ks)) same
+    ∙ place_named ks place within) in
+    ap (λ t. cond t k.own (own_named ks name)) (other_name name k.meta.name other) ∙ own_place ks place once.1 within
 
 -- a layer reads as its parent at a block that it has not itself
 pub falls : (a : Node) (count block place : ℕ) → IsChained a count → NamesOnce (tree_of a) → block < count → place < length a.layers
@@ -247,47 +260,77 @@ both_own a b block place twin x y t at upper lower tells =
       (λ differs. tells.1 (λ same. differs.1 (one ∙ same ∙ sym two))),
     )
 
--- neither has it: both read as their parents
-pub none_own : (a b : Node) (block place : ℕ) (twin : Twin) (differs : List Bool) → AtPlace a b block place twin
+-- neither has it
+pub neither_own : (a b : Node) (block place : ℕ) (twin : Twin) → AtPlace a b block place twin
     → own_block (kept_at a.layers place).disk (kept_at a.layers place).own block ≡ None
     → own_block (kept_at b.layers twin.other).disk (kept_at b.layers twin.other).own block ≡ None
-    → TellsFrom a b block (place + 1) differs
+    → NeitherHas a b (kept_at a.layers place).meta.name block
+neither_own a b block place twin at upper lower = (
+  ap (λ o. has_own o block) (own_place a.layers place at.pair.once at.within)
+      ∙ absent_own (has_own (kept_at a.layers place).own block) (block_of (kept_at a.layers place).disk block) upper,
+  ap (λ n. has_own (own_named b.layers n) block) (sym at.stands.name)
+      ∙ ap (λ o. has_own o block) (own_place b.layers twin.other at.pair.once_other at.stands.within)
+      ∙ absent_own (has_own (kept_at b.layers twin.other).own block) (block_of (kept_at b.layers twin.other).disk block) lower,
+)
+
+-- then both read as their parents
+pub record FallsHere (a b : Node) (block place : ℕ) : Type 0 where
+  pub absent : has_own (kept_at a.layers place).own block ≡ false
+  pub one : block_of (disk_named a.layers (kept_at a.layers place).meta.name) block
+      ≡ read_below a.layers (kept_at a.layers place).meta.parent block
+  pub two : block_of (disk_named b.layers (kept_at a.layers place).meta.name) block
+      ≡ read_below b.layers (kept_at a.layers place).meta.parent block
+
+pub both_fall : (a b : Node) (block place : ℕ) (twin : Twin) → AtPlace a b block place twin
+    → NeitherHas a b (kept_at a.layers place).meta.name block → FallsHere a b block place
+both_fall a b block place twin at neither =
+    let absent : has_own (kept_at a.layers place).own block ≡ false =
+    ap (λ o. has_own o block) (sym (own_place a.layers place at.pair.once at.within)) ∙ neither.0 in
+    let absent_other : has_own (kept_at b.layers twin.other).own block ≡ false =
+    ap (λ o. has_own o block) (sym (own_place b.layers twin.other at.pair.once_other at.stands.within))
+    ∙ ap (λ n. has_own (own_named b.layers n) block) at.stands.name ∙ neither.1 in
+    record {
+      absent = absent;
+      one = falls a at.pair.count block place at.pair.chained at.pair.once at.inside at.within absent;
+      two = ap (λ n. block_of (disk_named b.layers n) block) (sym at.stands.name)
+          ∙ falls b at.pair.count block twin.other at.pair.chained_other at.pair.once_other at.inside at.stands.within absent_other
+          ∙ ap (λ on. read_below b.layers on block)
+          (one_parent a b place twin.other at.pair.once at.pair.once_other at.pair.shape.layers at.within at.stands.within at.stands.name);
+    }
+
+pub none_own : (a b : Node) (block place : ℕ) (twin : Twin) (differs : List Bool) → AtPlace a b block place twin
+    → NeitherHas a b (kept_at a.layers place).meta.name block → TellsFrom a b block (place + 1) differs
     → IsTrue (told_of differs twin.parent) ↔ DiffersAt a b block (kept_at a.layers place).meta.name
-none_own a b block place twin differs at upper lower told =
+none_own a b block place twin differs at neither told =
     by_parent twin.parent at.stands.parent (kept_at a.layers place).meta.parent refl
   where
-    absent : has_own (kept_at a.layers place).own block ≡ false
-    absent = absent_own (has_own (kept_at a.layers place).own block) (block_of (kept_at a.layers place).disk block) upper
-
-    one : block_of (disk_named a.layers (kept_at a.layers place).meta.name) block ≡ read_below a.layers
-        (kept_at a.layers place).meta.parent block
-    one = falls a at.pair.count block place at.pair.chained at.pair.once at.inside at.within absent
-
-    two : block_of (disk_named b.layers (kept_at a.layers place).meta.name) block ≡ read_below b.layers
-        (kept_at a.layers place).meta.parent block
-    two =
-        ap (λ n. block_of (disk_named b.layers n) block) (sym at.stands.name)
-        ∙ falls b at.pair.count block twin.other at.pair.chained_other at.pair.once_other at.inside at.stands.within
-        (absent_own (has_own (kept_at b.layers twin.other).own block) (block_of (kept_at b.layers twin.other).disk block) lower)
-        ∙ ap (λ on. read_below b.layers on block)
-        (one_parent a b place twin.other at.pair.once at.pair.once_other at.pair.shape.layers at.within at.stands.within at.stands.name)
+    fall : FallsHere a b block place
+    fall = both_fall a b block place twin at neither
 
     by_parent : (p : Option ℕ) → IsParentAt a.layers place p → (on : Option (List ℕ)) → (kept_at a.layers place).meta.parent ≡ on
         → IsTrue (told_of differs p) ↔ DiffersAt a b block (kept_at a.layers place).meta.name
     by_parent None free None is = (
       (λ yes. absurd (false≢true yes)),
-      (λ other. absurd (other.1 (one ∙ ap (λ on. read_below a.layers on block) is
-          ∙ ap (λ on. read_below b.layers on block) (sym is) ∙ sym two))),
+      (λ other. absurd (other.1 (fall.one ∙ ap (λ on. read_below a.layers on block) is
+          ∙ ap (λ on. read_below b.layers on block) (sym is) ∙ sym fall.two))),
     )
     by_parent None free (Some name) is =
-        let older = parent_older a.layers at.pair.count block place name at.pair.chained.layers at.inside at.within absent is in
+        let older = parent_older a.layers at.pair.count block place name at.pair.chained.layers at.inside at.within fall.absent is in
         absurd (free older.0 older.1 older.2 (is ∙ ap Some (sym older.3)))
     by_parent (Some older) stands on is =
         let tells = told.each older (omega (arith, stands.0)) stands.1 in
         let up = ap (λ on. read_below a.layers on block) stands.2 in
         let up_other = ap (λ on. read_below b.layers on block) stands.2 in (
-          (λ yes. (kept_here a b block place twin at, λ same. (tells.0 yes).1 (sym (one ∙ up) ∙ same ∙ two ∙ up_other))),
-          (λ other. tells.1 (place_kept a older stands.1, λ same. other.1 (one ∙ up ∙ same ∙ sym (two ∙ up_other)))),
+          (λ yes. (
+            kept_here a b block place twin at,
+            λ same. (tells.0 yes).1
+                (sym (fall.one ∙ up) ∙ same ∙ fall.two ∙ up_other),
+          )),
+          (λ other. tells.1 (
+            place_kept a older stands.1,
+            λ same. other.1
+                (fall.one ∙ up ∙ same ∙ sym (fall.two ∙ up_other)),
+          )),
         )
 
 -- ---- all layers at one block
@@ -314,7 +357,7 @@ lesser_is Differs true name best tells = go (comes_before name best) refl
     go true e = Falls e (tells.0 refl)
     go false e = Stays (λ differs. e)
 
-alike_at : (a b : Node) (layer : Option (List ℕ)) (block : ℕ) → ((ReadsAlikeAt a b layer block → ⊥) → ⊥)
+pub alike_at : (a b : Node) (layer : Option (List ℕ)) (block : ℕ) → ((ReadsAlikeAt a b layer block → ⊥) → ⊥)
     → ReadsAlikeAt a b layer block
 alike_at a b layer block not =
     let x = block_of (disk_of_layer a layer) block in

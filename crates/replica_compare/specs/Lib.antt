@@ -1,4 +1,5 @@
 pub mod Blocks
 pub mod Comparing
+pub mod Holders
 pub mod Least
 pub mod Order

@@ -1,7 +1,9 @@
 //! The first difference of two replicas, and when two that have none are one volume.
 #![tactic(auto)]
 
+mod alike;
 mod comparing;
+mod holders;
 pub mod laws;
 mod readings;
 mod shapes;

@@ -1,18 +1,22 @@
 ghost use Rattle.std.specs.Prelude.{◌≡◌, ◌↔◌, ℕ, ◌+◌, ◌*◌, ◌<◌, ◌≤◌, length, MatchOption, IsTrue, Option, Some, None, if◌then◌else◌};
-ghost use Rattle.vol_units.specs.declared.size.TheConstants.{BLOCK_BYTES};
-ghost use Rattle.replica_node.specs.Node.{IsKept};
+ghost use Rattle.vol_units.specs.declared.size.TheConstants.{BLOCK_BYTES, PAGE_BYTES};
+ghost use Rattle.sparse_image.specs.declared.block.TheConstants.{PAGE_BLOCKS};
 ghost use Rattle.replica_node.specs.Places.{kept_at};
-ghost use Rattle.replica_compare.specs.Comparing.{comes_before, ReadsAlikeAt, IsAlikeInShape, AreAlike, IsFirstReading};
+ghost use Rattle.replica_compare.specs.Comparing.{comes_before, IsAlikeInShape, AreAlike, IsFirstReading};
 ghost use Rattle.replica_compare.specs.Least.{IsLeastOf};
 ghost use Rattle.replica_compare.specs.Blocks.{IsPair, AreTwins, AllAlikeAt, DiffersAt, TellsFrom, IsFirstAt, IsFirstBelow, stands_before, told_of};
+ghost use Rattle.replica_compare.specs.Holders.{AreBare, AreHoldersAt};
 
+use crate::alike::{all_alike, own_differs};
+use crate::holders::{Holders, find_bare, find_holders};
 use crate::shapes::comes_before;
 use crate::twins::{Twin, find_twins};
-use replica_node::ReplicaNode;
+use replica_node::{PAGE_BLOCKS, ReplicaNode};
 use vol_units::{LayerName, MOST_LAYERS};
 
 /// The first layer that reads otherwise, where the shapes are alike, and the first block in it. It goes over the
-/// blocks once, and at each over the layers from the oldest on.
+/// blocks once, page by page, and at each over the holders of its page. Only where one of these reads otherwise it
+/// goes over all layers.
 pub(crate) fn first_other_reading(
     one: &ReplicaNode,
     other: &ReplicaNode,
@@ -28,9 +32,11 @@ pub(crate) fn first_other_reading(
     };
     let mut twins = [none; MOST_LAYERS];
     find_twins(one, other, &mut twins);
+    let mut bare = [false; MOST_LAYERS];
+    find_bare(one, other, &mut bare);
     let mut best = None;
-    for block in 0..one.block_count() {
-        best = lesser_reading(one, other, &twins, block, best);
+    for page in 0..one.page_count() {
+        best = lesser_in_page(one, other, &twins, &bare, page, best);
     }
     best
 }
@@ -47,20 +53,53 @@ fn learn_pair(one: &ReplicaNode, other: &ReplicaNode)
     let _blocks = other.block_count();
 }
 
-/// Of the first reading so far that differs and those of one block more, the one that comes first.
+/// Of the first reading so far that differs and those of one page more, the one that comes first.
+fn lesser_in_page(
+    one: &ReplicaNode,
+    other: &ReplicaNode,
+    twins: &[Twin],
+    bare: &[bool],
+    page: u32,
+    first: Option<(Option<LayerName>, u32)>,
+) -> Option<(Option<LayerName>, u32)>
+    requires pair { IsPair one.now other.now }
+    requires twins { AreTwins one.now other.now (length one.now.layers) twins.now }
+    requires bare { AreBare one.now other.now (length one.now.layers) bare.now }
+    requires inside { page * PAGE_BYTES < length one.now.disk }
+    requires first { IsFirstBelow one.now other.now (page * PAGE_BLOCKS) first }
+    ensures { IsFirstBelow one.now other.now ((page + 1) * PAGE_BLOCKS) result }
+{
+    // What the largest size is, and that it is whole pages, a proof learns here.
+    let _size = one.size();
+    let _pages = one.page_count();
+    let holders = find_holders(one, other, bare, page);
+    let start = page * PAGE_BLOCKS;
+    let mut best = first;
+    for block in start..start + PAGE_BLOCKS {
+        best = lesser_reading(one, other, twins, &holders, block, best);
+    }
+    best
+}
+
+/// The same of one block more.
 fn lesser_reading(
     one: &ReplicaNode,
     other: &ReplicaNode,
     twins: &[Twin],
+    holders: &Holders,
     block: u32,
     best: Option<(Option<LayerName>, u32)>,
 ) -> Option<(Option<LayerName>, u32)>
     requires pair { IsPair one.now other.now }
     requires twins { AreTwins one.now other.now (length one.now.layers) twins.now }
+    requires holders { AreHoldersAt one.now other.now block holders.now }
     requires inside { block * BLOCK_BYTES < length one.now.disk }
     requires first { IsFirstBelow one.now other.now block best }
     ensures { IsFirstBelow one.now other.now (block + 1) result }
 {
+    if all_alike(one, other, twins, holders, block) {
+        return best;
+    }
     let Some(layer) = first_at(one, other, twins, block) else {
         return best;
     };
@@ -136,8 +175,7 @@ fn lesser_of(counts: bool, name: LayerName, best: Option<LayerName>) -> Option<L
     }
 }
 
-/// Whether the layer at a place reads otherwise at a block, where that is known of all older ones. Where neither
-/// replica's layer has the block itself, both read as their parent, and no byte is looked at.
+/// Whether the layer at a place reads otherwise at a block, where that is known of all older ones.
 fn reads_otherwise(
     one: &ReplicaNode,
     other: &ReplicaNode,
@@ -155,12 +193,9 @@ fn reads_otherwise(
         ↔ DiffersAt one.now other.now block (kept_at one.now.layers place).meta.name }
 {
     let twin = twins[place];
-    let upper = one.own_block(Some(place), block);
-    let lower = other.own_block(Some(twin.other), block);
-    match (upper, lower) {
-        (None, None) => is_told(differs, twin.parent),
-        (Some(upper), Some(lower)) => upper != lower,
-        _ => block_differs(one, other, one.meta(place).name, block),
+    match own_differs(one, other, twin, place, block) {
+        Some(differs_here) => differs_here,
+        None => is_told(differs, twin.parent),
     }
 }
 
@@ -173,16 +208,4 @@ fn is_told(differs: &[bool], place: Option<usize>) -> bool
         Some(place) => differs[place],
         None => false,
     }
-}
-
-/// Whether the layers of a name read otherwise at a block.
-fn block_differs(one: &ReplicaNode, other: &ReplicaNode, name: LayerName, block: u32) -> bool
-    requires one { IsKept one.now (Some name) }
-    requires other { IsKept other.now (Some name) }
-    requires inside { block * BLOCK_BYTES < length one.now.disk }
-    requires under { block * BLOCK_BYTES < length other.now.disk }
-    ensures { IsTrue result ↔ (ReadsAlikeAt one.now other.now (Some name) block → ⊥) }
-{
-    let name = Some(name);
-    one.block(&name, block) != other.block(&name, block)
 }
