@@ -1,0 +1,6 @@
+pub mod AlikeLemmas
+pub mod CleanLemmas
+pub mod SavedLemmas
+pub mod SoundLemmas
+pub mod StepLemmas
+pub mod TwiceLemmas
