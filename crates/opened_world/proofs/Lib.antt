@@ -1,0 +1,4 @@
+pub mod NamesLemmas
+pub mod StepLemmas
+pub mod OpensLemmas
+pub mod TwiceLemmas
