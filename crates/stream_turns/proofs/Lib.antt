@@ -12,4 +12,5 @@ pub mod Asks
 pub mod Channels
 pub mod Parts
 pub mod ScriptLemmas
+pub mod Begun
 pub mod SoFar

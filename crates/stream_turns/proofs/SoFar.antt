@@ -1,27 +1,20 @@
 -- How far the serving of streams has come, and what it has made once none is left.
-use Rattle.std.proofs.Common.{◌≡◌, ◌≢◌, ℕ, zero, suc, false, ◌+◌, ◌<◌, ◌≤◌, inl, inr, List, [], ◌∷◌, ◌++◌, length}
-use Rattle.std.proofs.Common.{map, replicate, Option, Result, Ok, Err as Failed, IfOk, sym, refl, ap, subst, ◌∙◌}
+use Rattle.std.proofs.Common.{◌≡◌, ℕ, ◌+◌, ◌<◌, ◌≤◌, List, [], ◌∷◌, ◌++◌, length}
+use Rattle.std.proofs.Common.{map, Option, Result, Ok, Err as Failed, IfOk, sym, refl, ap, subst, ◌∙◌}
 use Rattle.std.proofs.Common.{arith, append_assoc, append-nil, All}
 use Rattle.std.specs.Prelude.{IfSome}
 use Rattle.std.proofs.lemmas.List.Elements.{All-head, All-tail}
-use Rattle.std.proofs.lemmas.Bool.{cases_lt}
-use Rattle.std.proofs.lemmas.List.{length-append, length-map, map-append, length-replicate, get_or-replicate, get_or_past}
+use Rattle.std.proofs.lemmas.List.{length-append, length-map, map-append}
 use Rattle.volume_model.specs.declared.call.Call.{Call}
-use Rattle.volume_model.specs.declared.mode.Mode.TheVariants.{Rw, Err}
-use Rattle.volume_model.specs.Disk.{zeros}
-use Rattle.volume_model.specs.PlainState.{state_of as plain_of}
 use Rattle.volume_model.specs.Replay.{replay}
 use Rattle.volume_model.specs.declared.entry.Entry.{Entry}
 use Rattle.volume_model.specs.Faults.{last_count}
 use Rattle.volume_model.specs.History.{Spot, IsLegal, calls_of}
 use Rattle.volume_model.specs.OneWorker.{served, stream_of}
-use Rattle.journal_book.specs.declared.opening.Opening.{Opening}
-use Rattle.replica_node.specs.Node.{Node, blank}
-use Rattle.replica_node.specs.Volume.{volume_of_node}
+use Rattle.volume_model.proofs.OneWorkerLemmas.{length-modes_after}
 use Rattle.volume_core.specs.declared.world.World.{World}
-use Rattle.volume_core.specs.Opened.{IsOpenedOn, blank_opening}
-use Rattle.volume_core.specs.State.{State, state_of, opening_of, gave_up_at}
-use Rattle.volume_core.specs.Sound.{IsSound, AreCaused, NoneGaveUp}
+use Rattle.volume_core.specs.State.{state_of, opening_of}
+use Rattle.volume_core.specs.Sound.{AreCaused}
 use Rattle.volume_core.specs.Streams.{Origin}
 use Rattle.volume_core.proofs.Caused.{caused_ends}
 use Rattle.frame_wire.specs.Spelling.{IsFrame}
@@ -32,9 +25,9 @@ use Rattle.world_holder.specs.View.{own_entries}
 use Rattle.stream_turns.specs.declared.serving.ServedStreams.{ServedStreams}
 use Rattle.stream_turns.specs.Turn.{IsTaken, IsBetween, HasNoEntry, KeepsOrigin, HasTurn, HaveTurns}
 use Rattle.stream_turns.specs.Run.{NamesLine}
-use Rattle.stream_turns.specs.Serving.{IsServed, IsServedInTurn}
+use Rattle.stream_turns.specs.Serving.{IsBegun, IsServed, IsServedInTurn}
 use Rattle.stream_turns.specs.Turns.{IsTurn, AreTurns, TellsOthers}
-use Rattle.stream_turns.specs.Volume.{opening_of as begins, stream_calls, heads_of}
+use Rattle.stream_turns.specs.Volume.{stream_calls, heads_of}
 use Rattle.stream_turns.proofs.Exchanged.{exchanged}
 use Rattle.stream_turns.proofs.RunLemmas.{lines_named}
 use Rattle.stream_turns.proofs.Turned.{same_opening, same_replicas}
@@ -65,7 +58,6 @@ no_streams all w counts told between begun = record {
       (no_turns (opening_of (state_of w)) (length w.nodes.items) counts told);
 }
 
--- the next stream has no entry yet
 -- what is so of all streams is so of the next
 in_next : (P : Stream → Type 0) (done rest : List Stream) (x : Stream) → All P (done ++ x ∷ rest) → P x
 in_next P [] rest x all = All-head P x rest all
@@ -80,6 +72,7 @@ next_taken number all rest x w0 w counts told far taken =
     (in_next (IsTaken (length w0.nodes.items)) far.done rest x
     (subst (All (IsTaken (length w0.nodes.items))) far.cut taken))
 
+-- the next stream has no entry yet
 pub is_first : (number : ℕ) (all rest : List Stream) (w0 w : World) (counts : ℕ → ℕ → ℕ) (told : ℕ → ℕ → Option (List (List ℕ)))
     → StreamsSoFar number all rest w0 w counts told → HasNoEntry number w
 is_first number all rest w0 w counts told far =
@@ -142,79 +135,27 @@ pub one_kept : {X Y : Type 0} (of : X → Y) (all rest : List X) (x : X) (y : Y)
 one_kept of all rest x y kept more pushed is so_far =
     ap (λ ys. ys ++ map of rest) pushed ∙ append_assoc kept (y ∷ []) (map of rest) ∙ ap (λ z. kept ++ z ∷ map of rest) is ∙ so_far
 
--- ---- a World that has just been opened, on blank replicas
-
-all_false : (n i : ℕ) → gave_up_at (replicate n false) i ≡ false
-all_false zero i = refl
-all_false (suc n) zero = refl
-all_false (suc n) (suc i) = all_false n i
-
-module _ (size replicas streams : ℕ) (s : State)
-    (begun : IsOpenedOn size (blank_opening replicas) (replicate replicas (blank size)) streams s) where
-  err_read : Err ≢ Rw
-  err_read e = cc
-
-  there : begun.source < replicas
-  there = elim (cases_lt begun.source replicas) [
-    | inl low ↦ low
-    | inr high ↦ absurd (err_read
-        (sym (get_or_past (replicate replicas Rw) begun.source Err (omega (arith, high, length-replicate replicas Rw)))
-        ∙ begun.first.read))
-  ]
-
-  pub begins_blank : opening_of s ≡ record { state = plain_of (zeros size); modes = replicate replicas Rw }
-  begins_blank =
-      ap opening_of begun.state
-      ∙ ap (λ (n : Node). record { state = record { volume = volume_of_node n; used = [] }; modes = replicate replicas Rw })
-      (get_or-replicate replicas begun.source (blank size) (blank 0) there)
-
-  pub begins_many : length s.nodes ≡ replicas
-  begins_many = ap (λ (x : State). length x.nodes) begun.state ∙ length-replicate replicas (blank size)
-
-  pub begins_none : NoneGaveUp s.gave_up
-  begins_none = λ stream. ap (λ (x : State). gave_up_at x.gave_up stream) begun.state ∙ all_false streams stream
-
--- so nothing is open of it
-pub begins_between : (script : Script) (w : World) (n : ℕ) → IsSound (state_of w)
-    → IsOpenedOn script.size (blank_opening script.replicas) (replicate script.replicas (blank script.size)) n (state_of w)
-    → script.replicas ≤ 8 → IsBetween w
-begins_between script w n sound begun few =
-    let many : length w.nodes.items ≡ script.replicas = begins_many script.size script.replicas n (state_of w) begun in
-    record {
-      sound = sound;
-      rest = ap (λ (x : State). x.tickets) begun.state;
-      turns = ap (λ (x : State). x.commands) begun.state;
-      gave_up = begins_none script.size script.replicas n (state_of w) begun;
-      few = omega (arith, many, few);
-    }
-
 -- ---- all of it
 
--- Of a World that began so: nothing is open of it any more, and each stream's own entries are what they should be.
-module _ (script : Script) (w : World) (s : ServedStreams) (streams : List Stream) (n : ℕ)
-    (begun : IsOpenedOn script.size (blank_opening script.replicas) (replicate script.replicas (blank script.size)) n
-    (state_of w))
+-- Of a World that had begun at a spot: nothing is open of it any more, and each stream's own entries are what they should be.
+module _ (script : Script) (spot : Spot) (w : World) (s : ServedStreams) (streams : List Stream) (begun : IsBegun script spot w)
     (between : IsBetween s.world) (origin : KeepsOrigin w s.world) (same : streams ≡ script.streams) where
-  opened : s.world.journal.opening ≡ blank_opening script.replicas
-  opened = ap (λ (o : Origin). o.opening) origin ∙ ap (λ (x : State). x.book.opening) begun.state
-
-  start : opening_of (state_of w) ≡ begins script
-  start = begins_blank script.size script.replicas n (state_of w) begun
-
-  many : length w.nodes.items ≡ script.replicas
-  many = begins_many script.size script.replicas n (state_of w) begun
-
-  legal : IsLegal (opening_of (state_of w)) s.world.journal.entries
-  legal = subst (λ o. IsLegal o s.world.journal.entries) (same_opening (state_of w) (state_of s.world) origin) between.sound.on.told.legal
-
   abbrev entries : List Entry
   entries = s.world.journal.entries
+
+  legal : IsLegal (opening_of (state_of w)) entries
+  legal = subst (λ o. IsLegal o entries) (same_opening (state_of w) (state_of s.world) origin) between.sound.on.told.legal
 
   caused : AreCaused s.world.maint.tickets s.world.commands.items entries
   caused = between.sound.caused between.gave_up
 
   as_many_modes : length (opening_of (state_of w)).modes ≡ script.replicas
-  as_many_modes = ap (λ (o : Spot). length o.modes) start ∙ length-replicate script.replicas Rw
+  as_many_modes = omega (
+    arith,
+    length-modes_after w.journal.opening.modes w.journal.entries,
+    as_many (state_of w) begun.between.sound,
+    begun.replicas,
+  )
 
   pub served_is : (counts : ℕ → ℕ → ℕ) (told : ℕ → ℕ → Option (List (List ℕ)))
       → ((v : ℕ) → length (map stream_calls streams) ≤ v → own_entries v (opening_of (state_of w)).modes entries ≡ [])
@@ -222,15 +163,13 @@ module _ (script : Script) (w : World) (s : ServedStreams) (streams : List Strea
       → ((v r : ℕ) → last_count v r entries ≤ counts v r)
       → ((v : ℕ) → AreCarried (length w.nodes.items) (told v) (own_entries v (opening_of (state_of w)).modes entries))
       → ((v r : ℕ) → v < length (map stream_calls streams) → r < length w.nodes.items → IfSome (told v r) (All IsFrame))
-      → s.heads.items ≡ map heads_of streams → IsServed script counts told s
+      → s.heads.items ≡ map heads_of streams → IsServed script spot counts told s
   served_is counts told none calls counted carried framed heads = record {
     heads = heads ∙ ap (map heads_of) same;
-    opening = ap (λ (o : Opening). o.modes) opened;
-    layers = ap (λ (o : Opening). o.layers) opened;
-    names = ap (λ (o : Opening). o.names) opened;
+    opening = ap (λ (o : Origin). o.opening.modes) origin ∙ ap (λ (o : Spot). o.modes) begun.opening;
     run = record {
       history = record {
-        legal = subst (λ (o : Spot). IsLegal o entries) start legal;
+        legal = subst (λ (o : Spot). IsLegal o entries) begun.opening legal;
         fell = caused.fell;
         within = caused_ends s.world.maint.tickets s.world.commands.items entries caused between.turns;
         order = between.sound.on.told.ordered.order;
@@ -241,46 +180,48 @@ module _ (script : Script) (w : World) (s : ServedStreams) (streams : List Strea
           (subst (λ m. All (NamesLine (length streams) m) entries) as_many_modes
           (lines_named (opening_of (state_of w)) (length streams) [] entries (opening_of (state_of w)).modes
           (λ v past. none v (omega (arith, past, length-map streams stream_calls))) legal));
-      carried = subst (λ ms. ExchangesShown script.replicas told ms entries) (ap (λ (o : Spot). o.modes) start)
-          (subst (λ m. ExchangesShown m told (opening_of (state_of w)).modes entries) many
+      carried = subst (λ ms. ExchangesShown script.replicas told ms entries) (ap (λ (o : Spot). o.modes) begun.opening)
+          (subst (λ m. ExchangesShown m told (opening_of (state_of w)).modes entries) begun.replicas
           (exchanged (length w.nodes.items) told (opening_of (state_of w)).modes entries carried));
       framed = λ v r low there. framed v r (omega (arith, low, length-map streams stream_calls, ap length same))
-          (omega (arith, there, many));
+          (omega (arith, there, begun.replicas));
     };
     many = as_many (state_of s.world) between.sound;
     replicas = λ r up. replicas_are (state_of s.world) between.sound between.rest r up
-        ∙ ap (λ (o : Spot). (replay o.state entries).volume) (same_opening (state_of w) (state_of s.world) origin ∙ start);
+        ∙ ap (λ (o : Spot). (replay o.state entries).volume) (same_opening (state_of w) (state_of s.world) origin ∙ begun.opening);
   }
 
   pub served_in_turn : (counts : ℕ → ℕ → ℕ) (told : ℕ → ℕ → Option (List (List ℕ)))
-      → HaveTurns (map stream_calls streams) w s.world counts told → IsServedInTurn script counts s
+      → HaveTurns (map stream_calls streams) w s.world counts told → IsServedInTurn script spot counts s
   served_in_turn counts told turns = record {
     order = turns.order;
     is = λ well.
         turns.turns (λ v low r here. well v r (omega (arith, low, length-map streams stream_calls, ap length same))
-        (omega (arith, here, many)))
-        ∙ (λ i. served (start i) (map stream_calls (same i)));
+        (omega (arith, here, begun.replicas)))
+        ∙ (λ i. served (begun.opening i) (map stream_calls (same i)));
   }
 
-pub each_served : {E : Type 0} (script : Script) (w : World) (res : Result ServedStreams E) (streams : List Stream)
-    (counts : ℕ → ℕ → ℕ) (told : ℕ → ℕ → Option (List (List ℕ))) (n : ℕ)
-    → IsOpenedOn script.size (blank_opening script.replicas) (replicate script.replicas (blank script.size)) n (state_of w)
-    → IfOk res (λ s. IsBetween s.world)
-    → IfOk res (λ s. KeepsOrigin w s.world) → IfOk res (λ s. HaveTurns (map stream_calls streams) w s.world counts told)
-    → streams ≡ script.streams
-    → IfOk res (λ s. s.heads.items ≡ map heads_of streams) → IfOk res (IsServed script counts told)
-each_served script w (Ok s) streams counts told n begun between origin turns same heads =
-    served_is script w s streams n begun between origin same counts told turns.none turns.calls turns.counted turns.carried
+pub each_served : {E : Type 0} (script : Script) (spot : Spot) (w : World) (res : Result ServedStreams E) (streams : List Stream)
+    (counts : ℕ → ℕ → ℕ) (told : ℕ → ℕ → Option (List (List ℕ))) → IsBegun script spot w
+    → IfOk res (λ s. IsBetween s.world) → IfOk res (λ s. KeepsOrigin w s.world)
+    → IfOk res (λ s. HaveTurns (map stream_calls streams) w s.world counts told) → streams ≡ script.streams
+    → IfOk res (λ s. s.heads.items ≡ map heads_of streams) → IfOk res (IsServed script spot counts told)
+each_served script spot w (Ok s) streams counts told begun between origin turns same heads =
+    served_is script spot w s streams begun between origin same counts told turns.none turns.calls turns.counted turns.carried
     turns.framed heads
-each_served script w (Failed e) streams counts told n begun between origin turns same heads = tt
+each_served script spot w (Failed e) streams counts told begun between origin turns same heads = tt
 
-pub each_in_turn : {E : Type 0} (script : Script) (w : World) (res : Result ServedStreams E) (streams : List Stream)
-    (counts : ℕ → ℕ → ℕ) (told : ℕ → ℕ → Option (List (List ℕ))) (n : ℕ)
-    → IsOpenedOn script.size (blank_opening script.replicas) (replicate script.replicas (blank script.size)) n (state_of w)
-    → IfOk res (λ s. IsBetween s.world)
-    → IfOk res (λ s. KeepsOrigin w s.world) → IfOk res (λ s. HaveTurns (map stream_calls streams) w s.world counts told)
-    → streams ≡ script.streams
-    → IfOk res (IsServedInTurn script counts)
-each_in_turn script w (Ok s) streams counts told n begun between origin turns same =
-    served_in_turn script w s streams n begun between origin same counts told turns
-each_in_turn script w (Failed e) streams counts told n begun between origin turns same = tt
+pub each_in_turn : {E : Type 0} (script : Script) (spot : Spot) (w : World) (res : Result ServedStreams E) (streams : List Stream)
+    (counts : ℕ → ℕ → ℕ) (told : ℕ → ℕ → Option (List (List ℕ))) → IsBegun script spot w
+    → IfOk res (λ s. IsBetween s.world) → IfOk res (λ s. KeepsOrigin w s.world)
+    → IfOk res (λ s. HaveTurns (map stream_calls streams) w s.world counts told) → streams ≡ script.streams
+    → IfOk res (IsServedInTurn script spot counts)
+each_in_turn script spot w (Ok s) streams counts told begun between origin turns same =
+    served_in_turn script spot w s streams begun between origin same counts told turns
+each_in_turn script spot w (Failed e) streams counts told begun between origin turns same = tt
+
+-- what a volume began with stays
+pub each_opening : {E : Type 0} (w : World) (res : Result ServedStreams E) → IfOk res (λ s. KeepsOrigin w s.world)
+    → IfOk res (λ s. s.world.journal.opening ≡ w.journal.opening)
+each_opening w (Ok s) origin = ap (λ (o : Origin). o.opening) origin
+each_opening w (Failed e) origin = tt

@@ -3,26 +3,26 @@ use Rattle.std.specs.Prelude.{◌≡◌, ℕ, ◌<◌, ◌≤◌, List, [], ◌�
 use Rattle.volume_model.specs.declared.entry.Entry.{Entry}
 use Rattle.volume_model.specs.declared.entry.Entry.TheVariants as entry
 use Rattle.volume_model.specs.declared.mark.Mark.TheVariants as mark
-use Rattle.volume_model.specs.History.{IsHistory}
+use Rattle.volume_model.specs.History.{Spot, IsHistory}
 use Rattle.volume_model.specs.OneWorker.{served, stream_of}
 use Rattle.client_worker.specs.Exchanges.{ExchangesShown}
 use Rattle.frame_wire.specs.Spelling.{IsFrame}
 use Rattle.script_text.specs.declared.script.Script.{Script}
-use Rattle.stream_turns.specs.Volume.{opening_of, calls_in}
+use Rattle.stream_turns.specs.Volume.{calls_in}
 
 -- a fault mark names a line from one of so many streams to one of so many replicas
 abbrev pub NamesLine : ℕ → ℕ → Entry → Type 0
 NamesLine streams replicas (entry.Mark (mark.Fault stream replica count)) = (stream < streams) × (replica < replicas)
 NamesLine streams replicas e = Unit {0}
 
--- The journal is one legal history of the script's calls, over lines that counted these faults and told that they carried
--- this, by stream and replica. The faults that it shows are of the run's own lines, what it tells as read and written was
--- carried, and nothing that is no whole frame was.
-pub record IsRun (counted : ℕ → ℕ → ℕ) (told : ℕ → ℕ → Option (List (List ℕ))) (script : Script) (journal : List Entry)
-    : Type 0 where
-  pub history : IsHistory (opening_of script) counted (stream_of (calls_in script)) journal
+-- The journal is one legal history of the script's calls from that spot on, over lines that counted these faults and told
+-- that they carried this, by stream and replica. The faults that it shows are of the run's own lines, what it tells as
+-- read and written was carried, and nothing that is no whole frame was.
+pub record IsRun (counted : ℕ → ℕ → ℕ) (told : ℕ → ℕ → Option (List (List ℕ))) (script : Script) (spot : Spot)
+    (journal : List Entry) : Type 0 where
+  pub history : IsHistory spot counted (stream_of (calls_in script)) journal
   pub faults : All (NamesLine (length script.streams) script.replicas) journal
-  pub carried : ExchangesShown script.replicas told (opening_of script).modes journal
+  pub carried : ExchangesShown script.replicas told spot.modes journal
   pub framed : (w r : ℕ) → w < length script.streams → r < script.replicas → IfSome (told w r) (All IsFrame)
 
 -- the answers stand stream by stream, from this one on, in the order of their numbers
@@ -35,8 +35,8 @@ StandInTurn least (entry.Mark m ∷ es) = StandInTurn least es
 abbrev pub HaveNotFailed : (ℕ → ℕ → ℕ) → Script → Type 0
 HaveNotFailed counted script = (w r : ℕ) → w < length script.streams → r < script.replicas → counted w r ≡ 0
 
--- One worker serves stream after stream. Where no line of the run has failed, its journal is a function of the script. Of
--- streams that are served side by side nothing of the kind is so.
-pub record IsOneWorkersRun (counted : ℕ → ℕ → ℕ) (script : Script) (journal : List Entry) : Type 0 where
+-- One worker serves stream after stream. Where no line of the run has failed, its journal is a function of the script and of
+-- the spot where it began. Of streams that are served side by side nothing of the kind is so.
+pub record IsOneWorkersRun (counted : ℕ → ℕ → ℕ) (script : Script) (spot : Spot) (journal : List Entry) : Type 0 where
   pub order : StandInTurn 0 journal
-  pub is : HaveNotFailed counted script → journal ≡ served (opening_of script) (calls_in script)
+  pub is : HaveNotFailed counted script → journal ≡ served spot (calls_in script)

@@ -15,9 +15,9 @@ use Rattle.script_text.specs.declared.script.Script.{Script}
 use Rattle.script_text.specs.declared.script.Stream.{Stream}
 use Rattle.script_text.specs.declared.script.Stream.TheVariants as stream
 
--- the volume at the start: zeros, on replicas that are all read and written
-abbrev pub opening_of : Script → Spot
-opening_of script = record { state = state_of (zeros script.size); modes = replicate script.replicas Rw }
+-- where a run begins that opens nothing: zeros, on replicas that are all read and written
+abbrev pub blank_spot : Script → Spot
+blank_spot script = record { state = state_of (zeros script.size); modes = replicate script.replicas Rw }
 
 -- what a stream calls
 abbrev pub stream_calls : Stream → List Call

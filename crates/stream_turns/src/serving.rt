@@ -1,8 +1,10 @@
 ghost use Rattle.std.specs.Prelude.{◌≡◌, ◌≤◌, [], length, map, All, IfOk, OnOk};
+ghost use Rattle.volume_model.specs.History.{Spot};
+ghost use Rattle.volume_core.specs.Opened.{blank_opening};
 ghost use Rattle.outer_traits.specs.Lines.{TellsMore};
 ghost use Rattle.stream_turns.specs.Turn.{IsTaken, IsBetween, KeepsOrigin, HaveTurns};
-ghost use Rattle.stream_turns.specs.Serving.{IsRead, IsServed, IsServedInTurn};
-ghost use Rattle.stream_turns.specs.Volume.{asks_from, asks_in, stream_calls, heads_of};
+ghost use Rattle.stream_turns.specs.Serving.{IsRead, IsBegun, IsServed, IsServedInTurn};
+ghost use Rattle.stream_turns.specs.Volume.{asks_from, asks_in, blank_spot, stream_calls, heads_of};
 
 use crate::stream::serve_stream;
 use frame_wire::Head;
@@ -21,27 +23,36 @@ pub struct ServedStreams {
     pub world: World,
 }
 
-/// Serves the streams of a script on its replicas, in the order of their numbers. The lines of each stream come from
-/// the wiring and go back to it.
+/// The World of a script that opens nothing.
+pub fn blank_world(alloc: Global, script: &Script) -> Result<World, AllocError>
+    requires { IsRead script.now }
+    ensures begun { IfOk result (IsBegun script.entry.now (blank_spot script.entry.now)) }
+    ensures opening { IfOk result (λ world. world.journal.opening ≡ blank_opening script.entry.now.replicas) }
+{
+    let streams = script.streams.len() as u8;
+    let world = World::blank(alloc, script.size, script.replicas, streams)?;
+    Ok(world)
+}
+
+/// Serves the streams of a script on a World that has begun for it, in the order of their numbers. The lines of each
+/// stream come from the wiring and go back to it.
 pub fn serve<R: Wait, W: Wiring>(
     rt: &R,
     alloc: Global,
     script: Script,
+    world: World,
     wiring: &mut W,
 ) -> Result<ServedStreams, AllocError>
-    requires { IsRead script }
-    ensures served { IfOk result (IsServed script (W.counts wiring.new) (W.carried wiring.new)) }
-    ensures turns { IfOk result (IsServedInTurn script (W.counts wiring.new)) }
+    requires read { IsRead script }
+    requires begun { (spot : Spot) × IsBegun script spot world }
+    ensures served { (spot : Spot) → IsBegun script spot world
+        → IfOk result (IsServed script spot (W.counts wiring.new) (W.carried wiring.new)) }
+    ensures turns { (spot : Spot) → IsBegun script spot world
+        → IfOk result (IsServedInTurn script spot (W.counts wiring.new)) }
+    ensures opening { IfOk result (λ served. served.world.journal.opening ≡ world.journal.opening) }
     ensures asked { OnOk result (TellsMore (W.asked wiring.old) (W.asked wiring.new) (asks_in script)) }
 {
-    let Script {
-        streams,
-        lines,
-        size,
-        replicas,
-        ..
-    } = script;
-    let world = World::blank(alloc, size, replicas, streams.len() as u8)?;
+    let Script { streams, lines, .. } = script;
     serve_streams(
         rt,
         alloc,
