@@ -1,5 +1,5 @@
 -- Streams that have ended so are served.
-use Rattle.std.proofs.Common.{◌≡◌, ℕ, ◌<◌, ◌≤◌, List, [], length, map, replicate, Option, Result, Ok, Err as Failed, IfOk}
+use Rattle.std.proofs.Common.{◌≡◌, ℕ, ◌<◌, ◌≤◌, List, [], length, map, Option, Result, Ok, Err as Failed, IfOk}
 use Rattle.std.proofs.Common.{inl, inr, sym, ap, subst, ◌∙◌, arith}
 use Rattle.std.specs.Prelude.{IfSome}
 use Rattle.std.specs.List.{All}
@@ -9,13 +9,11 @@ use Rattle.std.proofs.lemmas.List.Elements.{All-nil}
 use Rattle.volume_model.specs.declared.call.Call.{Call}
 use Rattle.volume_model.specs.declared.entry.Entry.{Entry}
 use Rattle.volume_model.specs.Faults.{last_count}
-use Rattle.volume_model.specs.History.{calls_of}
+use Rattle.volume_model.specs.History.{Spot, calls_of}
 use Rattle.volume_model.specs.OneWorker.{stream_of}
 use Rattle.volume_core.specs.declared.world.World.{World}
-use Rattle.volume_core.specs.Opened.{IsOpenedOn, blank_opening}
 use Rattle.volume_core.specs.State.{state_of, opening_of}
 use Rattle.volume_core.specs.Streams.{Origin}
-use Rattle.replica_node.specs.Node.{blank}
 use Rattle.stream_steps.specs.Mine.{Placed, entries_in}
 use Rattle.client_worker.specs.Exchanges.{IsCarried, AreCarried}
 use Rattle.frame_wire.specs.Spelling.{IsFrame}
@@ -23,7 +21,7 @@ use Rattle.script_text.specs.declared.script.Script.{Script}
 use Rattle.script_text.specs.declared.script.Stream.{Stream}
 use Rattle.world_holder.specs.View.{own_entries}
 use Rattle.stream_turns.specs.declared.serving.ServedStreams.{ServedStreams}
-use Rattle.stream_turns.specs.Serving.{IsServed}
+use Rattle.stream_turns.specs.Serving.{IsBegun, IsServed}
 use Rattle.stream_turns.specs.Turn.{IsBetween, KeepsOrigin}
 use Rattle.stream_turns.specs.Volume.{stream_calls, heads_of}
 use Rattle.stream_turns.proofs.SoFar.{served_is}
@@ -70,15 +68,14 @@ module _ (css : List (List Call)) (counts : ℕ → ℕ → ℕ) (told : ℕ →
   each_framed : (v r : ℕ) → v < length css → r < length w.nodes.items → IfSome (told v r) (All IsFrame)
   each_framed v r low there = (ended.each v low).framed r (omega (arith, there, ap (λ (o : Origin). o.replicas) origin))
 
-pub each_served : {E : Type 0} (script : Script) (w : World) (res : Result ServedStreams E) (streams : List Stream)
-    (counts : ℕ → ℕ → ℕ) (told : ℕ → ℕ → Option (List (List ℕ))) (n : ℕ)
-    → IsOpenedOn script.size (blank_opening script.replicas) (replicate script.replicas (blank script.size)) n (state_of w)
+pub each_served : {E : Type 0} (script : Script) (spot : Spot) (w : World) (res : Result ServedStreams E) (streams : List Stream)
+    (counts : ℕ → ℕ → ℕ) (told : ℕ → ℕ → Option (List (List ℕ))) → IsBegun script spot w
     → IfOk res (λ s. IsBetween s.world) → IfOk res (λ s. KeepsOrigin w s.world)
     → IfOk res (λ s. HaveEnded (map stream_calls streams) counts told (state_of s.world)) → streams ≡ script.streams
-    → IfOk res (λ s. s.heads.items ≡ map heads_of streams) → IfOk res (IsServed script counts told)
-each_served script w (Ok s) streams counts told n begun between origin ended same heads =
+    → IfOk res (λ s. s.heads.items ≡ map heads_of streams) → IfOk res (IsServed script spot counts told)
+each_served script spot w (Ok s) streams counts told begun between origin ended same heads =
     let css = map stream_calls streams in
-    served_is script w s streams n begun between origin same counts told (each_none css counts told w s.world origin ended)
+    served_is script spot w s streams begun between origin same counts told (each_none css counts told w s.world origin ended)
     (each_asked css counts told w s.world origin ended) (each_counted css counts told w s.world origin ended)
     (each_carried css counts told w s.world origin ended) (each_framed css counts told w s.world origin ended) heads
-each_served script w (Failed e) streams counts told n begun between origin ended same heads = tt
+each_served script spot w (Failed e) streams counts told begun between origin ended same heads = tt

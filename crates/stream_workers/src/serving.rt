@@ -1,8 +1,9 @@
 ghost use Rattle.std.specs.Prelude.{◌≡◌, ◌≤◌, [], length, map, All, IfOk, OnOk};
 ghost use Rattle.outer_traits.specs.Lines.{TellsMore};
+ghost use Rattle.volume_model.specs.History.{Spot};
 ghost use Rattle.volume_core.specs.State.{state_of};
 ghost use Rattle.stream_turns.specs.Turn.{IsTaken, IsBetween, KeepsOrigin};
-ghost use Rattle.stream_turns.specs.Serving.{IsRead, IsServed};
+ghost use Rattle.stream_turns.specs.Serving.{IsRead, IsBegun, IsServed};
 ghost use Rattle.stream_turns.specs.Volume.{asks_from, asks_in, stream_calls, heads_of};
 ghost use Rattle.stream_workers.specs.Ended.{HaveEnded};
 
@@ -16,28 +17,30 @@ use std::thread::Threads;
 use stream_turns::{ServedStreams, World};
 use world_holder::{lay_down, take_up};
 
-/// Serves the streams of a script on its replicas side by side, a worker in a thread for each. The lines come from the
-/// wiring before the first worker begins, and go back to it once all have ended. Each worker passes the gate before and
-/// behind each carry, where it waits, and when a call has ended.
+/// Serves the streams of a script on a World that has begun for it, side by side, a worker in a thread for each. The
+/// lines come from the wiring before the first worker begins, and go back to it once all have ended. Each worker passes
+/// the gate before and behind each carry, where it waits, and when a call has ended.
 pub fn serve<R: Threads + Wait + Sync, W: Wiring, G: Gate + Sync>(
     rt: &R,
     alloc: Global,
     script: Script,
+    world: World,
     wiring: &mut W,
     gate: &G,
 ) -> Result<ServedStreams, AllocError>
-    requires { IsRead script }
-    ensures served { IfOk result (IsServed script (W.counts wiring.new) (W.carried wiring.new)) }
+    requires read { IsRead script }
+    requires begun { (spot : Spot) × IsBegun script spot world }
+    ensures served { (spot : Spot) → IsBegun script spot world
+        → IfOk result (IsServed script spot (W.counts wiring.new) (W.carried wiring.new)) }
+    ensures opening { IfOk result (λ served. served.world.journal.opening ≡ world.journal.opening) }
     ensures asked { OnOk result (TellsMore (W.asked wiring.old) (W.asked wiring.new) (asks_in script)) }
 {
     let Script {
         streams,
         lines,
-        size,
         replicas,
         ..
     } = script;
-    let world = World::blank(alloc, size, replicas, streams.len() as u8)?;
     serve_streams(
         rt,
         alloc,

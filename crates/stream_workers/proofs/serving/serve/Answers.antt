@@ -1,35 +1,44 @@
-use Rattle.std.proofs.Common.{◌≤◌, length, refl, sym, subst, List, All, arith}
+use Rattle.std.proofs.Common.{◌≤◌, length, refl, sym, ap, subst, ◌∙◌, List, All}
 use Rattle.script_text.specs.declared.script.Stream.{Stream}
-use Rattle.script_text.proofs.GoodLemmas.{few_streams, few_replicas}
+use Rattle.script_text.proofs.GoodLemmas.{few_streams}
 use Rattle.stream_turns.specs.Turn.{IsTaken}
 use Rattle.stream_turns.proofs.Asks.{asked_in}
 use Rattle.stream_turns.proofs.ScriptLemmas.{all_taken}
-use Rattle.stream_turns.proofs.SoFar.{begins_between}
+use Rattle.stream_turns.proofs.SoFar.{each_opening}
 use Rattle.stream_workers.proofs.Outcome.{each_served}
 use Rattle.stream_workers.proofs.serving.serve.Goals as goal
-
-pub overflow_cast-len : goal.overflow_cast-len
-overflow_cast-len g c = let few = (few_streams c.requires.0 c.args.script c.requires.1).1 in omega (arith, few, c.len.ensures)
 
 pub serve_streams-requires-clause-some : goal.serve_streams-requires-clause-some
 serve_streams-requires-clause-some g c κs within =
     subst (λ (ss : List Stream). (1 ≤ length ss) × (length ss ≤ 16)) (sym c.into_vec.ensures)
-    (few_streams c.requires.0 c.args.script c.requires.1)
+    (few_streams c.requires.read.0 c.args.script c.requires.read.1)
+
+pub serve_streams-requires-clause-many : goal.serve_streams-requires-clause-many
+serve_streams-requires-clause-many g c κs within =
+    c.requires.begun.1.streams ∙ ap (λ (ss : List Stream). length ss) (sym c.into_vec.ensures)
+
+pub serve_streams-requires-clause-replicas : goal.serve_streams-requires-clause-replicas
+serve_streams-requires-clause-replicas g c κs within = sym c.requires.begun.1.replicas
 
 pub serve_streams-requires-clause-taken : goal.serve_streams-requires-clause-taken
 serve_streams-requires-clause-taken g c κs within =
-    subst (All (IsTaken c.args.script.replicas)) (sym c.into_vec.ensures) (all_taken c.requires.0 c.args.script c.requires.1)
+    subst (All (IsTaken c.args.script.replicas)) (sym c.into_vec.ensures)
+    (all_taken c.requires.read.0 c.args.script c.requires.read.1)
 
 pub serve_streams-requires-clause-between : goal.serve_streams-requires-clause-between
-serve_streams-requires-clause-between g c κs within =
-    begins_between c.args.script c.in_ok-world.world c.len.result c.in_ok-world.ensures.sound c.in_ok-world.ensures.begun
-    (few_replicas c.requires.0 c.args.script c.requires.1).1
+serve_streams-requires-clause-between g c κs within = c.requires.begun.1.between
+
+pub serve_streams-requires-clause-begun : goal.serve_streams-requires-clause-begun
+serve_streams-requires-clause-begun g c κs within = c.requires.begun.1.none
 
 pub returns-clause-served : goal.returns-clause-served
-returns-clause-served g c =
-    each_served c.args.script c.in_ok-world.world c.serve_streams.result c.into_vec.result.items _ _ c.len.result
-    c.in_ok-world.ensures.begun c.serve_streams.ensures.between
-    c.serve_streams.ensures.origin c.serve_streams.ensures.ended c.into_vec.ensures c.serve_streams.ensures.heads
+returns-clause-served g c spot begun =
+    each_served c.args.script spot c.args.world c.serve_streams.result c.into_vec.result.items _ _ begun
+    c.serve_streams.ensures.between c.serve_streams.ensures.origin c.serve_streams.ensures.ended c.into_vec.ensures
+    c.serve_streams.ensures.heads
+
+pub returns-clause-opening : goal.returns-clause-opening
+returns-clause-opening g c = each_opening c.args.world c.serve_streams.result c.serve_streams.ensures.origin
 
 pub returns-clause-asked : goal.returns-clause-asked
 returns-clause-asked g c =
