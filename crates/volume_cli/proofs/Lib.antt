@@ -1,2 +1,6 @@
-pub mod Run
-pub mod Refusals
+pub mod Asked
+pub mod Beginnings
+pub mod Statuses
+pub mod Input
+pub mod Folders
+pub mod Finishing

@@ -4,9 +4,12 @@ use Rattle.program_words.specs.declared.words.Workers.{Workers}
 use Rattle.program_words.specs.declared.words.Words.{Words}
 use Rattle.program_words.specs.declared.words.Words.TheVariants.{Run}
 use Rattle.program_words.specs.Asked.{asked_by}
+use Rattle.shelf_traits.specs.Files.{Files}
+use Rattle.volume_folders.specs.declared.reason.Reason.{Reason}
 use Rattle.volume_cli.specs.declared.status.Status.{Status}
-use Rattle.volume_cli.specs.declared.status.Status.TheVariants.{Done, Usage, Script, ReadFault, WriteFault, NoMemory}
-use Rattle.volume_cli.specs.Stops.{RunFact, HadNoScript, Prints, PrintsPrefix}
+use Rattle.volume_cli.specs.declared.status.Status.TheVariants as status
+use Rattle.volume_cli.specs.Begun.{HadNoScript}
+use Rattle.volume_cli.specs.Ends.{HadNoCleanShelf}
 
 -- what the words ask for, if they ask for anything that there is
 abbrev pub asked_for : {A : Type 0} → List (String A) → Option Words
@@ -22,26 +25,24 @@ IsUsageError words = asked_for words ≡ None
 
 -- it is the answer, unless memory ran out
 abbrev pub IsStatus : Status → Status → Type 0
-IsStatus answer status = (answer ≡ status) ⊎ (answer ≡ NoMemory)
+IsStatus answer other = (answer ≡ other) ⊎ (answer ≡ status.NoMemory)
 
 -- The status comes only where the fact holds, and wherever it holds, unless memory ran out.
 abbrev pub ExactlyWhere : Status → Status → Type 0 → Type 0
-ExactlyWhere answer status P = (answer ≡ status → P) × (P → IsStatus answer status)
+ExactlyWhere answer other P = (answer ≡ other → P) × (P → IsStatus answer other)
+
+-- the answer tells that no folder is clean, unless memory ran out
+abbrev pub TellsNoCleanShelf : Status → Type 0
+TellsNoCleanShelf answer = (reasons : List Reason) × IsStatus answer (status.NoCleanShelf reasons)
 
 -- A script is refused only where the words ask for a run, and the input is none, for this reason first, at this place.
-abbrev pub ScriptRefusal : {A : Type 0} → Status → List (String A) → Option (List ℕ) → Type 0
-ScriptRefusal Done words left = Unit {0}
-ScriptRefusal Usage words left = Unit {0}
-ScriptRefusal (Script place what) words left = AskRun words × HadNoScript left place what
-ScriptRefusal ReadFault words left = Unit {0}
-ScriptRefusal WriteFault words left = Unit {0}
-ScriptRefusal NoMemory words left = Unit {0}
-
--- what the sink holds then, of a run that is so, `same` being that it is as it was
-abbrev pub Leaves : RunFact → Status → Type 0 → Option (List ℕ) → Option (List ℕ) → Option (List ℕ) → Type 0
-Leaves Runs Done same left old new = Prints Runs left old new
-Leaves Runs Usage same left old new = same
-Leaves Runs (Script place what) same left old new = same
-Leaves Runs ReadFault same left old new = same
-Leaves Runs WriteFault same left old new = PrintsPrefix Runs left old new
-Leaves Runs NoMemory same left old new = same ⊎ PrintsPrefix Runs left old new
+-- That no folder is clean is told only where they ask for one, of a script that opens them, each for its reason.
+abbrev pub Refusal : {A : Type 0} → List (String A) → Option (List ℕ) → Option Files → Status → Type 0
+Refusal words left held status.Done = Unit {0}
+Refusal words left held status.Usage = Unit {0}
+Refusal words left held (status.Script place what) = AskRun words × HadNoScript left place what
+Refusal words left held status.ReadFault = Unit {0}
+Refusal words left held status.WriteFault = Unit {0}
+Refusal words left held status.ShelfFault = Unit {0}
+Refusal words left held status.NoMemory = Unit {0}
+Refusal words left held (status.NoCleanShelf reasons) = AskRun words × HadNoCleanShelf left held reasons

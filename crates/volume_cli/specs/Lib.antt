@@ -1,3 +1,6 @@
-pub mod Stops
+pub mod Begun
+pub mod Left
+pub mod Ends
+pub mod Steps
 pub mod Statuses
 pub mod Headline

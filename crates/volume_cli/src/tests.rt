@@ -2,6 +2,7 @@ mod calls;
 mod each;
 mod falls;
 mod faults;
+mod folders;
 mod purges;
 mod row;
 mod runs;

@@ -1,5 +1,6 @@
-ghost use Rattle.std.specs.Prelude.{◌≡◌, ◌<◌, ◌-◌, ◌^◌, ◌↔◌, ℕ, Some, IfOk, IfSome, OnOk};
+ghost use Rattle.std.specs.Prelude.{◌≡◌, ◌<◌, ◌-◌, ◌^◌, ◌↔◌, true, false, ℕ, Some, None, IfOk, IfSome, OnOk};
 ghost use Rattle.std.specs.Io.KnownBytes.{IsAtEnd};
+ghost use Rattle.outer_traits.specs.Causes.{Rose};
 ghost use Rattle.outer_traits.specs.Lines.{TellsMore};
 ghost use Rattle.outer_traits.specs.Passing.{GivesAtMost};
 ghost use Rattle.script_text.specs.Script.{IsScript, IsNoScript};
@@ -7,105 +8,180 @@ ghost use Rattle.script_text.specs.declared.script.Script.{Script};
 ghost use Rattle.script_text.specs.declared.what.What.{What};
 ghost use Rattle.program_words.specs.declared.words.Workers.{Workers};
 ghost use Rattle.program_words.specs.declared.words.Words.TheVariants.{Run};
-ghost use Rattle.volume_cli.specs.Headline.{asked_for, AskRun, IsUsageError, IsStatus};
-ghost use Rattle.volume_cli.specs.Headline.{ExactlyWhere, ScriptRefusal, Leaves};
-ghost use Rattle.stream_turns.specs.Serving.{IsRead, IsServed, IsServedInTurn};
+ghost use Rattle.volume_model.specs.History.{Spot};
+ghost use Rattle.stream_turns.specs.Serving.{IsRead, IsBegun, IsServed, IsServedInTurn};
 ghost use Rattle.stream_turns.specs.Volume.{asks_in};
-ghost use Rattle.volume_cli.specs.Stops.{Counts, IsRunOf, RunLeaves};
+ghost use Rattle.volume_cli.specs.Begun.{CanBegin, CannotBegin};
+ghost use Rattle.volume_cli.specs.Left.{IsRunOf};
+ghost use Rattle.volume_cli.specs.Ends.{ended, Counts, Found, Leaves};
+ghost use Rattle.volume_cli.specs.Headline.{asked_for, AskRun, IsUsageError, IsStatus};
+ghost use Rattle.volume_cli.specs.Headline.{ExactlyWhere, TellsNoCleanShelf, Refusal};
 
-use crate::edge::{read_input, write_output};
+use crate::begin::{Begun, begin};
+use crate::edge::read_input;
+use crate::finish::{ServedRun, finish};
 use crate::status::Status;
-use crate::stop::Stop;
 use outer_traits::{Gate, Sink, Source, Wiring};
 use program_words::{Words, WordsError, Workers, read_words};
 use script_text::{Script, read_script};
+use shelf_traits::Shelves;
 use std::alloc::{AllocError, Global};
 use std::sync::Wait;
 use std::thread::Threads;
-use stream_turns::ServedStreams;
+use stream_turns::{ServedStreams, World};
+use vol_units::TimeText;
 
-/// Does what the words of the command line ask: `run` reads a script from the source, serves its streams on replicas
-/// of zeros, over lines that the wiring makes, and writes the journal, the replies and the replicas' last lines to the
-/// sink. The streams are served side by side, a worker for each, which passes the gate on its way; or one after another,
-/// by one worker, which passes none.
-pub fn longhorn<R: Threads + Wait + Sync, S: Source, K: Sink, W: Wiring, G: Gate + Sync>(
+/// Does what the words of the command line ask: `run` reads a script from the source and serves its streams on a
+/// replicated volume, over lines that the wiring makes, and writes the opening, the journal, the replies and the
+/// replicas' last lines to the sink. The replicas are those of the shelves, where the script opens them, and else zeros;
+/// where it saves them, they are on the shelves at the end. The streams are served side by side, a worker for each, which
+/// passes the gate on its way; or one after another, by one worker, which passes none.
+pub fn longhorn<
+    R: Threads + Wait + Sync,
+    S: Source,
+    K: Sink,
+    W: Wiring,
+    H: Shelves,
+    G: Gate + Sync,
+>(
     rt: &R,
     alloc: Global,
     words: &[String],
     source: &mut S,
     sink: &mut K,
     wiring: &mut W,
+    shelves: &mut H,
     gate: &G,
 ) -> Status
     requires source_count { S.faults source.old < 2 ^ 64 - 1 }
     requires sink_count { K.faults sink.old < 2 ^ 64 - 1 }
+    requires shelf_count { H.faults shelves.old < 2 ^ 64 - 1 }
 
-    // When each status comes. Out of memory alone is free, but a fault of source or sink is told in any case.
+    // When each status comes. Out of memory alone is free: but a fault of the source or of the shelves is told in any
+    // case, unless a fault of the sink came before, and so is that, unless memory runs out behind it.
     ensures usage { ExactlyWhere result Status.Usage (IsUsageError words.now) }
     ensures read_fault { result ≡ Status.ReadFault ↔ S.faults source.old < S.faults source.new }
-    ensures write_fault { result ≡ Status.WriteFault ↔ K.faults sink.old < K.faults sink.new }
-    ensures script_only { ScriptRefusal result words.now (S.left source.old) }
+    ensures write_fault { ExactlyWhere result Status.WriteFault (K.faults sink.old < K.faults sink.new) }
+    ensures shelf_fault { result ≡ Status.ShelfFault
+        ↔ (H.faults shelves.old < H.faults shelves.new) × (K.faults sink.new ≡ K.faults sink.old) }
+    ensures refused_only { Refusal words.now (S.left source.old) (H.holds shelves.old) result }
     ensures script { AskRun words.now → S.faults source.new ≡ S.faults source.old
         → IfSome (S.left source.old) (λ input. (place : ℕ) (what : What)
         → IsNoScript input place what → IsStatus result (Status.Script place what)) }
+    ensures no_clean { AskRun words.now → S.faults source.new ≡ S.faults source.old
+        → H.faults shelves.new ≡ H.faults shelves.old
+        → IfSome (S.left source.old) (λ input. (script : Script)
+        → IsScript input script → CannotBegin (H.holds shelves.old) script → TellsNoCleanShelf result) }
     ensures done { result ≡ Status.Done → AskRun words.now × IsAtEnd (S.left source.new)
-        × (S.faults source.new ≡ S.faults source.old) × (K.faults sink.new ≡ K.faults sink.old) }
+        × (S.faults source.new ≡ S.faults source.old) × (K.faults sink.new ≡ K.faults sink.old)
+        × (H.faults shelves.new ≡ H.faults shelves.old) }
 
-    // Where a run is asked for, the input is a script and neither source nor sink fails, the run is done, whichever
-    // lines fail.
+    // Where a run is asked for, the input is a script, some folder is clean where folders are opened, and neither
+    // source nor sink nor shelves fail, the run is done, whichever lines fail.
     ensures complete { AskRun words.now → S.faults source.new ≡ S.faults source.old
-        → K.faults sink.new ≡ K.faults sink.old → IfSome (S.left source.old) (λ input. (script : Script)
-        → IsScript input script → IsStatus result Status.Done) }
+        → K.faults sink.new ≡ K.faults sink.old → H.faults shelves.new ≡ H.faults shelves.old
+        → IfSome (S.left source.old) (λ input. (script : Script)
+        → IsScript input script → CanBegin (H.holds shelves.old) script → IsStatus result Status.Done) }
 
     // A usage error leaves the source. Else at most one byte more is read than an input may have.
     ensures unread { result ≡ Status.Usage → source.new ≡ source.old }
     ensures most { GivesAtMost (S.left source.old) (S.left source.new) 268435457 }
 
-    // However the workers' steps interleave, at Done the sink has the report of one journal. It is one legal history of
+    // However the workers' steps interleave, at Done the sink has the report of one journal. It begins on the folders
+    // that the script opens, of which the lowest clean one is the disk, or blank. It is one legal history of
     // the script's calls, and its fault marks are faults that the run's own lines counted. What it holds fits its types,
     // so that no two such journals have one report. Where the wiring tells which lines it was asked for, these were one
     // of each stream to each replica, to fail as the script plans it, and no other. Where the lines tell what they
     // carried, it was whole frames alone; each write that was done was carried whole to each replica that is read and
     // written there, and the bytes of each read from one. One worker, where it was asked for, answers stream after
-    // stream, by their numbers, and while no line has failed the journal is a function of the script. After a write
-    // fault the sink has a prefix of the report, and after a refusal and a read fault it is as it was.
+    // stream, by their numbers, and while no line has failed the journal is a function of the script and of the folders.
+    // Of a script that saves, the folder of each replica that is read and written at the end is clean and reads as the
+    // journal's replay, and that of each in ERR says so; of another the folders stay. After a write fault the sink has a
+    // prefix of the report, and the folders are saved all the same; after a refusal and a read fault all is as it was.
     ensures printed { Leaves (IsRunOf (asked_for words.now) (W.asked wiring.old) (W.asked wiring.new)
-        (W.counts wiring.new) (W.carried wiring.new))
-        result (sink.new ≡ sink.old) (S.left source.old) (K.contents sink.old) (K.contents sink.new) }
+        (W.counts wiring.new) (W.carried wiring.new) (H.holds shelves.old) (H.holds shelves.new)
+        (Rose (H.faults shelves.old) (H.faults shelves.new) → ⊥))
+        (sink.new ≡ sink.old) (shelves.new ≡ shelves.old) (H.holds shelves.new ≡ H.holds shelves.old)
+        (S.left source.old) (K.contents sink.old) (K.contents sink.new) result }
 {
     match read_words(alloc, words) {
-        Ok(Words::Run { workers }) => match run(rt, alloc, workers, source, sink, wiring, gate) {
-            Ok(()) => Status::Done,
-            Err(Stop::BadScript { place, what }) => Status::Script { place, what },
-            Err(Stop::ReadFault) => Status::ReadFault,
-            Err(Stop::WriteFault) => Status::WriteFault,
-            Err(Stop::NoMemory) => Status::NoMemory,
-        },
+        Ok(Words::Run { workers }) => {
+            how_ended(run(rt, alloc, workers, source, sink, wiring, shelves, gate))
+        }
         Err(WordsError::Usage) => Status::Usage,
         Err(WordsError::NoMemory) => Status::NoMemory,
     }
 }
 
-fn run<R: Threads + Wait + Sync, S: Source, K: Sink, W: Wiring, G: Gate + Sync>(
+fn run<R: Threads + Wait + Sync, S: Source, K: Sink, W: Wiring, H: Shelves, G: Gate + Sync>(
     rt: &R,
     alloc: Global,
     workers: Workers,
     source: &mut S,
     sink: &mut K,
     wiring: &mut W,
+    shelves: &mut H,
     gate: &G,
-) -> Result<(), Stop>
-    ensures counts { Counts result (S.faults source.old) (S.faults source.new) (K.faults sink.old) (K.faults sink.new) }
-    ensures whole { OnOk result (IsAtEnd (S.left source.new)) }
+) -> Result<(), Status>
+    ensures counts { Counts (ended result) (S.faults source.old) (S.faults source.new)
+        (K.faults sink.old) (K.faults sink.new) (H.faults shelves.old) (H.faults shelves.new) }
+    ensures whole { ended result ≡ Status.Done → IsAtEnd (S.left source.new) }
     ensures most { GivesAtMost (S.left source.old) (S.left source.new) 268435457 }
-    ensures printed { RunLeaves (IsRunOf (Some (Run workers)) (W.asked wiring.old) (W.asked wiring.new)
-        (W.counts wiring.new) (W.carried wiring.new))
-        result (sink.new ≡ sink.old) (S.left source.old) (K.contents sink.old) (K.contents sink.new) }
+    ensures found { Found (S.left source.old) (H.holds shelves.old) (ended result) }
+    ensures printed { Leaves (IsRunOf (Some (Run workers)) (W.asked wiring.old) (W.asked wiring.new)
+        (W.counts wiring.new) (W.carried wiring.new) (H.holds shelves.old) (H.holds shelves.new)
+        (Rose (H.faults shelves.old) (H.faults shelves.new) → ⊥))
+        (sink.new ≡ sink.old) (shelves.new ≡ shelves.old) (H.holds shelves.new ≡ H.holds shelves.old)
+        (S.left source.old) (K.contents sink.old) (K.contents sink.new) (ended result) }
 {
     let input = read_input(alloc, source)?;
     let script = read_script(alloc, &input)?;
-    let served = serve_by(rt, alloc, workers, script, wiring, gate)?;
-    write_output(alloc, &served, sink)
+    let Begun {
+        world,
+        reasons,
+        heads,
+    } = begin(alloc, &script, shelves)?;
+    let saving = saving_time(alloc, &script)?;
+    let served = serve_by(rt, alloc, workers, script, world, wiring, gate)?;
+    let run = ServedRun {
+        served,
+        reasons,
+        heads,
+        saving,
+    };
+    finish(alloc, &run, sink, shelves)
+}
+
+/// The status of a run that ended so.
+fn how_ended(run: Result<(), Status>) -> Status
+    ensures { result ≡ ended run }
+{
+    match run {
+        Ok(()) => Status::Done,
+        Err(status) => status,
+    }
+}
+
+/// The time of a run that saves.
+fn saving_time(alloc: Global, script: &Script) -> Result<Option<TimeText>, AllocError>
+    ensures saves { IfOk result (λ time. script.entry.now.saves ≡ true → time ≡ Some script.entry.now.now) }
+    ensures none { IfOk result (λ time. script.entry.now.saves ≡ false → time ≡ None) }
+{
+    if script.saves {
+        Ok(Some(same_time(alloc, &script.now)?))
+    } else {
+        Ok(None)
+    }
+}
+
+/// The same text once more.
+fn same_time(alloc: Global, time: &TimeText) -> Result<TimeText, AllocError>
+    ensures { IfOk result (λ same. same ≡ time.now) }
+{
+    match TimeText::read(alloc, time.as_str())? {
+        Some(same) => Ok(same),
+        None => unreachable!(),
+    }
 }
 
 /// Serves the streams of a script by these workers.
@@ -114,16 +190,20 @@ fn serve_by<R: Threads + Wait + Sync, W: Wiring, G: Gate + Sync>(
     alloc: Global,
     workers: Workers,
     script: Script,
+    world: World,
     wiring: &mut W,
     gate: &G,
 ) -> Result<ServedStreams, AllocError>
-    requires { IsRead script }
-    ensures served { IfOk result (IsServed script (W.counts wiring.new) (W.carried wiring.new)) }
-    ensures turns { IfOk result (λ served. workers ≡ Workers.One → IsServedInTurn script (W.counts wiring.new) served) }
+    requires read { IsRead script }
+    requires begun { (spot : Spot) × IsBegun script spot world }
+    ensures served { (spot : Spot) → IsBegun script spot world
+        → IfOk result (IsServed script spot (W.counts wiring.new) (W.carried wiring.new)) }
+    ensures turns { (spot : Spot) → IsBegun script spot world → workers ≡ Workers.One
+        → IfOk result (IsServedInTurn script spot (W.counts wiring.new)) }
     ensures asked { OnOk result (TellsMore (W.asked wiring.old) (W.asked wiring.new) (asks_in script)) }
 {
     match workers {
-        Workers::One => stream_turns::serve(rt, alloc, script, wiring),
-        Workers::Each => stream_workers::serve(rt, alloc, script, wiring, gate),
+        Workers::One => stream_turns::serve(rt, alloc, script, world, wiring),
+        Workers::Each => stream_workers::serve(rt, alloc, script, world, wiring, gate),
     }
 }

@@ -2,7 +2,6 @@
 
 use super::runs::end_of;
 use super::script::{Asks, Frame, script};
-use crate::status::Status;
 use outer_real::OpenGate;
 use outer_traits::{Gate, Point};
 use std::sync::atomic::{AtomicU64, Ordering};
@@ -89,7 +88,7 @@ fn workers_run_side_by_side(rt: HostRuntime) -> Result<(), Fail> {
     let input = script(rt.alloc(), "1", APART)?;
     let (status, sink) = end_of(&rt, &["run", "--workers=each"], input, &gate)?;
     assert!(rt; !gate.ran_out.is_raised());
-    assert_eq!(rt; status, Status::Done);
+    assert_eq!(rt; status.code(), 0);
     let lines = "0 0 1 0 write 4096 1 62*1 ok\n1 0 0 0 write 0 1 61*1 ok\n\
         reply 0 0 1 2 0 1 -\nreply 1 0 1 2 4096 1 -\nmode r0 RW\nchain r0 head\n\
         head r0 aca20ad9fa430fa21e55519ddc3f184c8837dc87d4e8fcb4d804b1e3da731662\n";
@@ -124,7 +123,7 @@ fn the_later_of_two_writes_is_read(rt: HostRuntime) -> Result<(), Fail> {
     for _ in 0..10 {
         let input = script(rt.alloc(), "2", ON_ONE_BLOCK)?;
         let (status, sink) = end_of(&rt, &["run"], input, &OpenGate)?;
-        assert_eq!(rt; status, Status::Done);
+        assert_eq!(rt; status.code(), 0);
         let (first, last) = if sink.bytes().starts_with(b"0 0 0 ") {
             B_LATER
         } else {

@@ -6,6 +6,8 @@ use crate::top::longhorn;
 use fault_lines::PlanWiring;
 use outer_memory::{NoFaultSink, NoFaultSource};
 use outer_traits::{Gate, Sink, Source};
+use shelf_memory::NoFaultShelves;
+use shelf_traits::Shelves;
 use std::alloc::{AllocError, Global};
 use std::sync::Wait;
 use std::thread::Threads;
@@ -18,31 +20,57 @@ fn owned(alloc: Global, all: &[&str]) -> Result<Vec<String>, AllocError> {
     Ok(words)
 }
 
-/// How the words end over a source and a sink, with this gate.
-pub(crate) fn ends<S: Source, K: Sink, G: Gate + Sync>(
+/// How the words end over a source, a sink and shelves, with this gate.
+pub(crate) fn ends<S: Source, K: Sink, H: Shelves, G: Gate + Sync>(
     rt: &(impl AllocGlobal + Threads + Wait + Sync),
     words: &[&str],
     source: &mut S,
     sink: &mut K,
+    shelves: &mut H,
     gate: &G,
 ) -> Result<Status, AllocError>
     requires source_count { S.faults source.old < 2 ^ 64 - 1 }
     requires sink_count { K.faults sink.old < 2 ^ 64 - 1 }
+    requires shelf_count { H.faults shelves.old < 2 ^ 64 - 1 }
 {
     let words = owned(rt.alloc(), words)?;
     let mut wiring = PlanWiring::new(rt.alloc());
-    Ok(longhorn(rt, rt.alloc(), &words, source, sink, &mut wiring, gate))
+    Ok(longhorn(
+        rt,
+        rt.alloc(),
+        &words,
+        source,
+        sink,
+        &mut wiring,
+        shelves,
+        gate,
+    ))
 }
 
-/// How they end over an input, and the sink then. No outside call fails, and each has 70,000 bytes at most.
+/// How they end over an input and shelves, and the sink then. The source and the sink do not fail, and each of their
+/// calls has 70,000 bytes at most.
+pub(crate) fn end_on<H: Shelves, G: Gate + Sync>(
+    rt: &(impl AllocGlobal + Threads + Wait + Sync),
+    words: &[&str],
+    input: Vec<u8>,
+    shelves: &mut H,
+    gate: &G,
+) -> Result<(Status, NoFaultSink), AllocError>
+    requires { H.faults shelves.old < 2 ^ 64 - 1 }
+{
+    let mut source = NoFaultSource::new(input, 70_000);
+    let mut sink = NoFaultSink::new(rt.alloc(), 70_000);
+    let status = ends(rt, words, &mut source, &mut sink, shelves, gate)?;
+    Ok((status, sink))
+}
+
+/// The same over shelves that hold nothing.
 pub(crate) fn end_of<G: Gate + Sync>(
     rt: &(impl AllocGlobal + Threads + Wait + Sync),
     words: &[&str],
     input: Vec<u8>,
     gate: &G,
 ) -> Result<(Status, NoFaultSink), AllocError> {
-    let mut source = NoFaultSource::new(input, 70_000);
-    let mut sink = NoFaultSink::new(rt.alloc(), 70_000);
-    let status = ends(rt, words, &mut source, &mut sink, gate)?;
-    Ok((status, sink))
+    let mut shelves = NoFaultShelves::new(rt.alloc());
+    end_on(rt, words, input, &mut shelves, gate)
 }

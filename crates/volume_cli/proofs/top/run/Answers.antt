@@ -1,53 +1,113 @@
-use Rattle.std.proofs.Common.{Some, refl, subst}
+use Rattle.std.proofs.Common.{◌≢◌, Some, IfSome, refl, subst, inl, inr}
+use Rattle.std.specs.Io.KnownBytes.{Appends}
+use Rattle.outer_traits.specs.Causes.{Rose}
+use Rattle.outer_traits.specs.Passing.{WritesPrefix}
+use Rattle.folder_checks.specs.Told.{Told}
 use Rattle.program_words.specs.declared.words.Workers.TheVariants.{One}
 use Rattle.program_words.specs.declared.words.Words.TheVariants.{Run}
-use Rattle.script_text.specs.Script.{RefusesInput}
-use Rattle.volume_cli.specs.Stops.{IsRunOf}
-use Rattle.volume_cli.proofs.Run.{same_workers, had_no_script, had_script, few_modes, written_is, leaves, run_counts, on_ok}
-use Rattle.volume_cli.proofs.Refusals.{refused_leaves}
+use Rattle.volume_cli.specs.declared.finish.ServedRun.{ServedRun}
+use Rattle.volume_cli.specs.declared.status.Status.TheVariants.{NoMemory}
+use Rattle.volume_cli.specs.Ends.{ended, status_of}
+use Rattle.volume_cli.specs.Left.{IsRunOf}
+use Rattle.volume_cli.specs.Steps.{begin_of, AreSavedOf, FinishCounts, HasPrinted}
+use Rattle.volume_cli.proofs.Asked.{same_workers}
+use Rattle.volume_cli.proofs.Input.{ended_err, refused_found, had_script, begin_found}
+use Rattle.volume_cli.proofs.Finishing.{run_counts, run_found, run_leaves}
+use Rattle.volume_cli.proofs.Folders.{written_is, saved_of, kept_of, only_of}
 use Rattle.volume_cli.proofs.top.run.Goals as goal
 
-pub returns-in_err-script-clause-printed : goal.returns-in_err-script-clause-printed
-returns-in_err-script-clause-printed g c =
+pub returns-in_err-script-clause-found : goal.returns-in_err-script-clause-found
+returns-in_err-script-clause-found g c =
     let fault = c.in_err-script.field-0.0 in
-    refused_leaves (IsRunOf (Some (Run c.args.workers)) (g.W.Wiring.asked c.args.wiring.now) (g.W.Wiring.asked c.args.wiring.now)
-    (g.W.Wiring.counts c.args.wiring.now) (g.W.Wiring.carried c.args.wiring.now))
-    c.from_residual-in_err-script.result fault _ _ _ _ c.from_residual-in_err-script.ensures.1 refl
-    (λ place why is. had_no_script _ _ c.in_ok-input.input place why c.in_ok-input.ensures.bytes c.in_ok-input.ensures.whole
-    (subst (RefusesInput c.in_ok-input.input) is c.in_err-script.ensures.refused))
+    rw (ended_err c.from_residual-in_err-script.result (status_of fault) c.from_residual-in_err-script.ensures.1)
+    (refused_found _ _ (g.H.Shelves.holds c.args.shelves.now) c.in_ok-input.input fault c.in_ok-input.ensures.bytes
+    c.in_ok-input.ensures.whole c.in_err-script.ensures.refused)
+
+pub returns-in_err-world-clause-found : goal.returns-in_err-world-clause-found
+returns-in_err-world-clause-found g c =
+    rw (ended_err c.from_residual-in_err-world.result c.in_err-world.field-0.0 c.from_residual-in_err-world.ensures.1)
+    (begin_found _ (g.H.Shelves.holds c.args.shelves.now) c.in_ok-script.script c.in_err-world.field-0.0
+    (g.H.Shelves.faults c.args.shelves.now) (g.H.Shelves.faults c.begin.new.shelves)
+    (had_script _ _ c.in_ok-input.input c.in_ok-script.script c.in_ok-input.ensures.bytes c.in_ok-input.ensures.whole
+    c.in_ok-script.ensures.found) c.in_err-world.ensures.end)
+
+pub returns-in_err-saving-clause-counts : goal.returns-in_err-saving-clause-counts
+returns-in_err-saving-clause-counts g c =
+    rw (ended_err c.from_residual-in_err-saving.result NoMemory c.from_residual-in_err-saving.ensures.1)
+    (c.in_ok-input.ensures.counts, inr refl, c.in_ok-world.ensures.end)
+
+pub returns-in_err-saving-clause-found : goal.returns-in_err-saving-clause-found
+returns-in_err-saving-clause-found g c =
+    rw (ended_err c.from_residual-in_err-saving.result NoMemory c.from_residual-in_err-saving.ensures.1) tt
+
+pub returns-in_err-saving-clause-printed : goal.returns-in_err-saving-clause-printed
+returns-in_err-saving-clause-printed g c =
+    rw (ended_err c.from_residual-in_err-saving.result NoMemory c.from_residual-in_err-saving.ensures.1)
+    (inl (refl, c.in_ok-world.ensures.still))
+
+pub finish-requires-clause-each : goal.finish-requires-clause-each
+finish-requires-clause-each g c =
+    let begin = begin_of c.in_ok-world.field-0 in
+    (c.in_ok-served.ensures.served begin.spot c.in_ok-world.ensures.world).many
+
+pub returns-clause-counts : goal.returns-clause-counts
+returns-clause-counts g c =
+    run_counts (ended c.finish.result) (g.S.Source.faults c.args.source.now) (g.S.Source.faults c.read_input.new.source)
+    (g.K.Sink.faults c.args.sink.now) (g.K.Sink.faults c.finish.new.sink)
+    (g.H.Shelves.faults c.args.shelves.now) (g.H.Shelves.faults c.finish.new.shelves) c.in_ok-input.ensures.counts
+    (subst (λ h. FinishCounts (ended c.finish.result) (g.K.Sink.faults c.args.sink.now) (g.K.Sink.faults c.finish.new.sink)
+    h (g.H.Shelves.faults c.finish.new.shelves)) c.in_ok-world.ensures.end c.finish.ensures.counts)
+
+pub returns-clause-found : goal.returns-clause-found
+returns-clause-found g c =
+    run_found _ _ c.in_ok-script.script (begin_of c.in_ok-world.field-0) (ended c.finish.result)
+    (g.K.Sink.faults c.args.sink.now) (g.K.Sink.faults c.finish.new.sink)
+    (g.H.Shelves.faults c.begin.new.shelves) (g.H.Shelves.faults c.finish.new.shelves)
+    (had_script _ _ c.in_ok-input.input c.in_ok-script.script c.in_ok-input.ensures.bytes c.in_ok-input.ensures.whole
+    c.in_ok-script.ensures.found) c.in_ok-world.ensures.begun c.finish.ensures.counts
 
 pub returns-clause-printed : goal.returns-clause-printed
 returns-clause-printed g c =
     let script = c.in_ok-script.script in
-    let served = c.in_ok-served.served in
+    let begin = begin_of c.in_ok-world.field-0 in
     let counts = g.W.Wiring.counts c.serve_by.new.wiring in
     let carried = g.W.Wiring.carried c.serve_by.new.wiring in
-    leaves (IsRunOf (Some (Run c.args.workers)) (g.W.Wiring.asked c.args.wiring.now) (g.W.Wiring.asked c.serve_by.new.wiring)
-    counts carried) c.write_output.result _ _ _ _ script served.world.journal.entries _
-    (g.K.Sink.faults c.args.sink.now) (g.K.Sink.faults c.write_output.new.sink)
+    let begun = c.in_ok-world.ensures.world in
+    let served = c.in_ok-served.ensures.served begin.spot begun in
+    let run : ServedRun = record {
+      served = c.in_ok-served.served;
+      reasons = c.in_ok-world.field-0.reasons;
+      heads = c.in_ok-world.field-0.heads;
+      saving = c.in_ok-saving.saving;
+    } in
+    let journal = c.in_ok-served.served.world.journal.entries in
+    let sized = c.in_ok-world.ensures.many in
+    let ends = ended c.finish.result in
+    let same = written_is script begin counts carried run sized served refl in
+    run_leaves (IsRunOf (Some (Run c.args.workers)) (g.W.Wiring.asked c.args.wiring.now) (g.W.Wiring.asked c.serve_by.new.wiring)
+    counts carried (g.H.Shelves.holds c.args.shelves.now) (g.H.Shelves.holds c.finish.new.shelves)
+    (Rose (g.H.Shelves.faults c.args.shelves.now) (g.H.Shelves.faults c.finish.new.shelves) → ⊥)) _ _ _ _ _ _
+    script begin journal
     (had_script _ _ c.in_ok-input.input script c.in_ok-input.ensures.bytes c.in_ok-input.ensures.whole c.in_ok-script.ensures.found)
+    ends (g.K.Sink.faults c.args.sink.now) (g.K.Sink.faults c.finish.new.sink)
+    (g.H.Shelves.faults c.begin.new.shelves) (g.H.Shelves.faults c.finish.new.shelves)
     (record {
-      run = c.in_ok-served.ensures.served.run;
-      fits = c.write_output.ensures.fits;
+      begun = c.in_ok-world.ensures.begun;
+      run = served.run;
+      fits = c.finish.ensures.fits;
       lines = c.in_ok-served.ensures.asked;
-      turns = λ asked. c.in_ok-served.ensures.turns (same_workers c.args.workers One asked);
+      turns = λ asked. c.in_ok-served.ensures.turns begin.spot begun (same_workers c.args.workers One asked);
+      saved = saved_of script begin counts carried run sized served (g.H.Shelves.holds c.finish.new.shelves)
+          (g.H.Shelves.faults c.args.shelves.now) (g.H.Shelves.faults c.finish.new.shelves) ends refl
+          (subst (λ h. IfSome run.saving (λ time. (Rose h (g.H.Shelves.faults c.finish.new.shelves) → ⊥) → ends ≢ NoMemory
+          → Told (g.H.Shelves.holds c.finish.new.shelves) (λ files. AreSavedOf files time run)))
+          c.in_ok-world.ensures.end c.finish.ensures.saved) c.in_ok-saving.ensures.saves;
+      kept = kept_of script begin counts carried run sized served _ (g.H.Shelves.holds c.begin.new.shelves) _
+          c.finish.ensures.kept c.in_ok-saving.ensures.none c.in_ok-world.ensures.still;
+      only = only_of script begin counts carried run sized served _ (g.H.Shelves.holds c.begin.new.shelves) _
+          c.finish.ensures.only c.in_ok-world.ensures.still;
     })
-    (written_is script counts carried served c.in_ok-served.ensures.served)
-    c.write_output.ensures.whole c.write_output.ensures.prefix c.write_output.ensures.counts
-
-pub returns-clause-counts : goal.returns-clause-counts
-returns-clause-counts g c = run_counts c.write_output.result (g.S.Source.faults c.args.source.now)
-    (g.S.Source.faults c.read_input.new.source)
-    (g.K.Sink.faults c.args.sink.now) (g.K.Sink.faults c.write_output.new.sink) c.in_ok-input.ensures.counts c.write_output.ensures.counts
-
-pub write_output-requires-clause-few : goal.write_output-requires-clause-few
-write_output-requires-clause-few g c =
-    few_modes c.in_ok-input.input c.in_ok-script.script (g.W.Wiring.counts c.serve_by.new.wiring)
-    (g.W.Wiring.carried c.serve_by.new.wiring)
-    c.in_ok-served.served c.in_ok-script.ensures.found c.in_ok-served.ensures.served
-
-pub write_output-requires-clause-each : goal.write_output-requires-clause-each
-write_output-requires-clause-each g c = c.in_ok-served.ensures.served.many
-
-pub returns-clause-whole : goal.returns-clause-whole
-returns-clause-whole g c = on_ok c.write_output.result (c.in_ok-input.ensures.whole c.in_ok-script.ensures.found.headed.cut.most)
+    (subst (λ text. HasPrinted ends (Appends (g.K.Sink.contents c.args.sink.now) (g.K.Sink.contents c.finish.new.sink) text)) same
+    c.finish.ensures.whole)
+    (subst (WritesPrefix (g.K.Sink.contents c.args.sink.now) (g.K.Sink.contents c.finish.new.sink)) same c.finish.ensures.prefix)
+    c.finish.ensures.counts

@@ -1,0 +1,65 @@
+-- What each status says: of the counts of faults, of the input and the folders, and of what is left.
+use Rattle.std.specs.Prelude.{◌≡◌, ◌⊎◌, ℕ, List, Option, Result, Ok, Err}
+use Rattle.outer_traits.specs.Causes.{Rose}
+use Rattle.shelf_traits.specs.Files.{Files}
+use Rattle.script_text.specs.declared.error.ScriptError.{ScriptError}
+use Rattle.script_text.specs.declared.error.ScriptError.TheVariants as script_error
+use Rattle.script_text.specs.declared.script.Script.{Script}
+use Rattle.volume_folders.specs.declared.reason.Reason.{Reason}
+use Rattle.volume_cli.specs.declared.status.Status.{Status}
+use Rattle.volume_cli.specs.declared.status.Status.TheVariants as status
+use Rattle.volume_cli.specs.Begun.{Begin, HasBegun, HadScript, HadNoScript, HasNoCleanShelf}
+use Rattle.volume_cli.specs.Left.{RunFact, Prints, PrintsPrefix}
+
+-- the status that a refusal of a script is
+abbrev pub status_of : ScriptError → Status
+status_of (script_error.Bad place what) = status.Script place what
+status_of script_error.NoMemory = status.NoMemory
+
+-- the status of a run that ended so
+abbrev pub ended : {T : Type 0} → Result T Status → Status
+ended (Ok x) = status.Done
+ended (Err e) = e
+
+-- What the counts of the source (s, then t), of the sink (k, then l) and of the shelves (h, then i) say of each status.
+-- The first fault in time is told, unless memory runs out behind it.
+abbrev pub Counts : Status → ℕ → ℕ → ℕ → ℕ → ℕ → ℕ → Type 0
+Counts status.Done s t k l h i = (t ≡ s) × (l ≡ k) × (i ≡ h)
+Counts status.Usage s t k l h i = (t ≡ s) × (l ≡ k) × (i ≡ h)
+Counts (status.Script place what) s t k l h i = (t ≡ s) × (l ≡ k) × (i ≡ h)
+Counts status.ReadFault s t k l h i = Rose s t × (l ≡ k) × (i ≡ h)
+Counts status.WriteFault s t k l h i = (t ≡ s) × Rose k l × (Rose h i ⊎ (i ≡ h))
+Counts status.ShelfFault s t k l h i = (t ≡ s) × (l ≡ k) × Rose h i
+Counts status.NoMemory s t k l h i = (t ≡ s) × (Rose k l ⊎ (l ≡ k)) × (i ≡ h)
+Counts (status.NoCleanShelf reasons) s t k l h i = (t ≡ s) × (l ≡ k) × (i ≡ h)
+
+-- The source had a script that opens folders of which none is clean, each for its reason.
+abbrev pub HadNoCleanShelf : Option (List ℕ) → Option Files → List Reason → Type 0
+HadNoCleanShelf left held reasons = (script : Script) × HadScript left script × HasNoCleanShelf held script reasons
+
+-- The source had a script, and a run of it began.
+abbrev pub HadBegun : Option (List ℕ) → Option Files → Type 0
+HadBegun left held = (script : Script) × HadScript left script × ((begin : Begin) × HasBegun held script begin)
+
+-- what the status of a run tells of what the source had and the shelves held
+abbrev pub Found : Option (List ℕ) → Option Files → Status → Type 0
+Found left held status.Done = HadBegun left held
+Found left held status.Usage = ⊥
+Found left held (status.Script place what) = HadNoScript left place what
+Found left held status.ReadFault = Unit {0}
+Found left held status.WriteFault = HadBegun left held
+Found left held status.ShelfFault = (script : Script) × HadScript left script
+Found left held status.NoMemory = Unit {0}
+Found left held (status.NoCleanShelf reasons) = HadNoCleanShelf left held reasons
+
+-- What is left then: `same` says that the sink is as it was, `untouched` that the shelves are, and `still` that they hold
+-- what they held.
+abbrev pub Leaves : RunFact → (same untouched still : Type 0) → (left old new : Option (List ℕ)) → Status → Type 0
+Leaves Runs same untouched still left old new status.Done = Prints Runs status.Done left old new
+Leaves Runs same untouched still left old new status.Usage = same × untouched
+Leaves Runs same untouched still left old new (status.Script place what) = same × untouched
+Leaves Runs same untouched still left old new status.ReadFault = same × untouched
+Leaves Runs same untouched still left old new status.WriteFault = PrintsPrefix Runs status.WriteFault left old new
+Leaves Runs same untouched still left old new status.ShelfFault = (same × still) ⊎ Prints Runs status.ShelfFault left old new
+Leaves Runs same untouched still left old new status.NoMemory = (same × still) ⊎ PrintsPrefix Runs status.NoMemory left old new
+Leaves Runs same untouched still left old new (status.NoCleanShelf reasons) = same × still
