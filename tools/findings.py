@@ -31,12 +31,12 @@ REFUSALS = {
 NEEDS_REPLICA = ('write', 'unmap', 'snapshot', 'remove', 'revert', 'purge', 'expand')
 
 
-def find_odd(report, script=None):
+def find_odd(report, script=None, opening=None):
     """The findings, each as the number of its line, or None for the report as a whole, and a sentence.
 
-    With a script it is judged too whether the report is one of it.
+    With a script it is judged too whether the report is one of it, and with an opening whether the run began so.
     """
-    checker = Checker(report, script)
+    checker = Checker(report, script, opening)
     checker.check()
     return sorted(checker.findings, key=lambda finding: (finding[0] is None, finding[0] or 0))
 
@@ -44,12 +44,13 @@ def find_odd(report, script=None):
 class Checker:
     """Goes over a report once, and keeps what it finds."""
 
-    def __init__(self, report, script):
+    def __init__(self, report, script, opening):
         self.report = report
         self.script = script
+        self.opening = opening
         self.findings = []
-        self.replay = Replay(report)
-        self.disk = PlainDisk()
+        self.replay = Replay(report, opening)
+        self.disk = PlainDisk(opening)
         # The volume's size, where it is known.
         self.size = script and script.head.size
         self.entries = {entry.place: entry for entry in report.entries}
@@ -79,6 +80,7 @@ class Checker:
         for number, line in self.report.unread:
             self.findings.append((number, 'is no line of a report: `%s`' % shorten(line, 60)))
         self.check_groups()
+        self.check_opening()
         for line in self.journal:
             self.check_place(line)
             if isinstance(line, Entry):
@@ -100,6 +102,23 @@ class Checker:
             if rank < highest:
                 self.say(line, 'stands behind a line of the group `%s`, and belongs before it', GROUPS[highest])
             highest = max(highest, rank)
+
+    def check_opening(self):
+        """The opening lines are all there where the run opens, and say what the opening tells."""
+        lines = [line for line in self.report.lines if isinstance(line, OfReplica) and line.group == 'open']
+        if self.script and not self.script.head.open:
+            wanted = []
+        else:
+            wanted = list(range(self.script.head.replicas if self.script else len(lines)))
+        seen = [line.replica for line in lines]
+        if seen != wanted and not (self.is_front and seen == wanted[:len(seen)]):
+            self.say(lines[0] if lines else None, 'tells the opening of %s, and %s were opened', replicas_text(seen),
+                     replicas_text(wanted))
+        if lines and all(line.value != RW for line in lines) and not self.is_front:
+            self.say(lines[0], 'begins an opening in which no replica is RW')
+        for line, told in zip(lines, self.opening.lines if self.opening else ()):
+            if line.value != told:
+                self.say(line, 'opens r%d as `%s`, and its folder is `%s`', line.replica, line.value, told)
 
     def check_place(self, line):
         """Places count from 0."""

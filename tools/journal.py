@@ -6,6 +6,7 @@ import sys
 
 import asked
 import findings
+import opening
 import picture
 from report import Entry, read_report, shorten, shorten_runs, spell_call
 
@@ -17,11 +18,14 @@ does not give what one plain disk has at its place, a call without its reply lin
 contents, answers that do not fit the names, layers and modes that the journal has made, marks that may not stand where they
 do, rebuilds that begin, end or are answered as they may not be, and modes, chains and heads at the end that are missing or do
 not agree. Where a line of the journal is missing, nothing is said of what would follow from all lines; and nothing of bytes
-where the run began with saved replicas.
+where the run began with saved replicas, unless --opened tells them.
 
 With --script SCRIPT, what was run, odd are also: calls that are not those of their stream, each once and in order, ranges
 that the volume does not have, replies to other frames, more faults of a line than are planned, replicas and streams that there
 are not, and heads whose digest is not that of the plain disk.
+
+With --opened FOLDER besides, the folder `replicas` as it stood before the run, odd are also: opening lines that do not say what
+each replica's folder is; and layers, names and bytes are judged from those on that the lowest clean folder has.
 '''
 
 TABLE_HELP = '''
@@ -42,10 +46,10 @@ out in the middle, and the picture says how much that is. Its title and its desc
 '''
 
 
-def check(report, script=None):
-    """The findings, as lines; with a script also those of a report that is none of it."""
+def check(report, script=None, opening=None):
+    """The findings, as lines; with a script also those of a report that is none of it, and with an opening of one that began else."""
     return ''.join('%s %s\n' % ('the report' if number is None else 'line %d:' % number, text)
-                   for number, text in findings.find_odd(report, script))
+                   for number, text in findings.find_odd(report, script, opening))
 
 
 def table(report):
@@ -77,6 +81,7 @@ def read_words():
         added[verb].add_argument('report', nargs='?', default='-',
                                  help='a file with what `run` printed; standard input where it is left out or `-`')
     added['check'].add_argument('--script', metavar='SCRIPT', help='a file with the script that was run')
+    added['check'].add_argument('--opened', metavar='FOLDER', help='the folder `replicas` as it stood before the run; with --script')
     added['picture'].add_argument('--most', type=whole_number, metavar='COUNT', help='draw at most so many entries and marks')
     added['picture'].add_argument('--height', type=whole_number, metavar='PIXELS', default=4000,
                                   help='draw no more bands than have room in that height; 4000 where it is left out')
@@ -99,6 +104,14 @@ def read_asked(path):
     return script
 
 
+def read_begin(words):
+    """The script that was run, and how the run began, as far as the words tell them."""
+    if words.opened and not words.script:
+        sys.exit('--opened wants --script beside it')
+    script = words.script and read_asked(words.script)
+    return script, words.opened and opening.of_folders(words.opened, script.head.size, script.head.replicas)
+
+
 def read_input(path):
     """The report in a file or on standard input."""
     if path == '-':
@@ -114,7 +127,7 @@ def main():
     try:
         report = read_input(words.report)
         if words.verb == 'check':
-            written = check(report, words.script and read_asked(words.script))
+            written = check(report, *read_begin(words))
         elif words.verb == 'table':
             written = table(report)
         else:

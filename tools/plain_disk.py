@@ -10,11 +10,11 @@ STRETCH = 512
 
 
 class PlainDisk:
-    """A disk of zeros at first. Blocks of zeros alone are not kept, so its size says nothing of its room."""
+    """A disk of zeros at first, or that of an opening. Blocks of zeros alone are not kept, so its size says nothing of its room."""
 
-    def __init__(self):
-        self.blocks = {}
-        self.copies = {}
+    def __init__(self, opening=None):
+        self.blocks = dict(opening.blocks) if opening else {}
+        self.copies = dict(opening.copies) if opening else {}
 
     def read(self, offset, length):
         """The bytes of a range."""

@@ -11,18 +11,18 @@ LAYER_CHANGES = ('snapshot', 'remove', 'revert')
 class Replay:
     """Modes and layers, as the journal's lines so far leave them.
 
-    Where the run began with saved replicas, their layers are not told, and `layers_known` is false.
+    Where the run began with saved replicas, their layers are told by its opening. Where that is not given, `layers_known` is false.
     """
 
-    def __init__(self, report):
+    def __init__(self, report, opening=None):
         opened = report.of_replicas('open')
         self.modes = [opened.get(replica, RW).split(' ')[0] for replica in range(report.replica_count)]
-        self.layers_known = not opened
-        self.parents = {}
-        self.marked = set()
-        self.used = set()
-        self.below_head = None
-        self.head_number = 0
+        self.layers_known = opening is not None or not opened
+        self.parents = dict(opening.parents) if opening else {}
+        self.marked = set(opening.marked) if opening else set()
+        self.used = set(opening.used) if opening else set()
+        self.below_head = opening.below_head if opening else None
+        self.head_number = opening.head_number if opening else 0
         # Target and source of the rebuild that has not ended.
         self.rebuild = None
         # Of each rebuild whose `add` has no entry yet, by its target: the mark that ended it, or None.

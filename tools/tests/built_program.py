@@ -6,7 +6,10 @@ import unittest
 import script
 
 TOP = os.path.dirname(os.path.dirname(os.path.abspath(script.__file__)))
-LAUNCHER = os.path.join(TOP, 'longhorn')
+# Another program of the same words may be named by this variable, and is tested in its place.
+LAUNCHER = os.environ.get('LONGHORN_TESTED') or os.path.join(TOP, 'longhorn')
+# The program that is built, by its own path, without the launcher before it.
+PROGRAM = os.environ.get('LONGHORN_TESTED') or os.path.join(TOP, 'crates', 'volume_cli', 'out', 'volume_cli')
 
 
 class ProgramTest(unittest.TestCase):

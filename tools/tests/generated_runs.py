@@ -25,26 +25,36 @@ def run_text(random, streams=None, most_calls=12):
     return '\n'.join(lines) + '\n'
 
 
-def rebuild_text(random):
-    """One text of four streams in which replicas fall and are rebuilt again and again, while others write all pages."""
-    replicas, pages = random.choice([2, 2, 3, 4]), random.choice([2, 3, 4])
-    lines = ['volume v %dM' % (2 * pages), 'replicas %d' % replicas]
+def saved_text(random, number, modes, pages):
+    """One text of a run that saves and, from the second on, opens what one has saved that ended with these modes."""
+    kept = random.choice([replica for replica, mode in enumerate(modes) if mode == 'RW'])
+    begin = ['open'] * (number > 0) + ['save', 'now "run %d"' % number]
+    return rebuild_text(random, len(modes), pages, begin, kept, 0 if random.randrange(8) else 1)
+
+
+def rebuild_text(random, replicas=None, pages=None, begin=(), kept=0, falls=0.2):
+    """One text of four streams in which replicas fall and are rebuilt again and again, while others write all pages.
+
+    Mostly no line to one replica fails, so that the others can be rebuilt from it; of each worker the one to it does so often.
+    """
+    replicas, pages = replicas or random.choice([2, 2, 3, 4]), pages or random.choice([2, 3, 4])
+    others = [replica for replica in range(replicas) if replica != kept]
+    lines = ['volume v %dM' % (2 * pages), 'replicas %d' % replicas, *begin]
     for worker in range(4):
-        # Mostly no line to the first replica fails, so that the others can be rebuilt from it.
-        for replica in range(random.randrange(5) > 0, replicas):
+        for replica in range(replicas) if random.random() < falls else others:
             carries = sorted(random.sample(range(1, 80), random.randint(1, 5)))
             lines.append(' '.join(['fault worker %d replica %d carries' % (worker, replica), *map(str, carries)]))
     for stream in 0, 2:
         lines += ['stream %d frames' % stream, *('  ' + text for text in frames(random, stream, pages, 60))]
-        lines += ['stream %d commands' % (stream + 1), *('  ' + text for text in additions(random, replicas))]
+        lines += ['stream %d commands' % (stream + 1), *('  ' + text for text in additions(random, replicas, others))]
     return '\n'.join(lines) + '\n'
 
 
-def additions(random, replicas):
-    """The lines of a stream of commands that rebuilds replicas, and has them fail and layers made and taken away between."""
+def additions(random, replicas, others):
+    """The lines of a stream of commands that rebuilds replicas, and has others fail and layers made and taken away between."""
     for name in random.sample(NAMES, len(NAMES)):
         make, revert = 'snapshot ' + name, 'revert ' + name
-        yield from random.choice([['fail r%d' % random.randrange(1, replicas)], [make], [revert], [make, revert],
+        yield from random.choice([['fail r%d' % random.choice(others)], [make], [revert], [make, revert],
                                   [make, 'remove ' + name, 'purge'], ['status']])
         yield from ('add r%d' % replica for replica in random.sample(range(replicas), random.randint(1, replicas)))
 

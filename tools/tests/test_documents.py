@@ -252,7 +252,7 @@ class Texts(unittest.TestCase):
         self.assertEqual(long, [])
 
     def test_examples_are_shown_as_they_print(self):
-        for path, example in (('README.md', 'a_rebuild.output'),
+        for path, example in (('README.md', 'saved_2.output'),
                               ('docs/FORMATS.md', 'remove_and_purge.output')):
             self.assertTrue(shown(path, example), (path, example))
 

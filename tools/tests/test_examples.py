@@ -7,11 +7,14 @@ import unittest
 
 import asked
 import journal
+import opening
 import script
 from report import read_report
 
 EXAMPLES = os.path.join(os.path.dirname(os.path.dirname(os.path.abspath(script.__file__))), 'examples')
 TEXT = '.script.txt'
+# The examples that are stored as scripts under their own names, since documents run them.
+STORED = ('a_rebuild', 'saved', 'saved_2', 'side_by_side')
 NAMES = sorted(name[:-len(TEXT)] for name in os.listdir(EXAMPLES) if name.endswith(TEXT))
 # Prints what stands beside the example whose script it gets, with `ok` changed where it is told to.
 STAND_IN = '''#!%s
@@ -34,6 +37,13 @@ def read(name):
         return file.read()
 
 
+def begun(name, replicas):
+    """How the run of an example begins: behind another one where its name ends with `_2`."""
+    first = name.removesuffix('_2')
+    blank = opening.blank(replicas)
+    return blank if first == name else opening.behind(read_report(read(first + '.output')), blank)
+
+
 class Examples(unittest.TestCase):
     def test_show_of_make_is_the_text_but_for_its_comments(self):
         self.assertTrue(NAMES)
@@ -43,7 +53,7 @@ class Examples(unittest.TestCase):
             self.assertEqual(script.show(script.make(''.join(lines))), ''.join(line for line in lines if line[0] != '#'), name)
 
     def test_stored_scripts_are_what_is_made(self):
-        for name, stored in (('first_steps', 'first.script'), ('a_rebuild', 'a_rebuild.script'), ('side_by_side', 'side_by_side.script')):
+        for name, stored in (('first_steps', 'first.script'), *((name, name + '.script') for name in STORED)):
             with open(os.path.join(EXAMPLES, stored), 'rb') as file:
                 self.assertEqual(script.make(read(name + TEXT)), file.read())
 
@@ -54,7 +64,7 @@ class Examples(unittest.TestCase):
     def test_no_expected_output_has_anything_odd(self):
         for name in NAMES:
             its = asked.read_script(script.make(read(name + TEXT)))
-            self.assertEqual(journal.check(read_report(read(name + '.output')), its), '', name)
+            self.assertEqual(journal.check(read_report(read(name + '.output')), its, begun(name, its.head.replicas)), '', name)
 
     def run_all(self, change):
         """The status and the output of run_all with a program that changes what it prints."""

@@ -16,7 +16,7 @@ PRINTED = b'0 0 0 0 status ok layers 1 modes RW\n' + HEAD
 # What stands behind the good members of a line, of which the last of a name counts, and the member that is refused.
 BAD_MEMBERS = [
     (b',"volume":"-v"', b'volume'), (b',"size":2097152.0', b'size'), (b',"size":"2097152"', b'size'), (b',"replicas":0', b'replicas'),
-    (b',"replicas":9', b'replicas'), (b',"open":null', b'open'), (b',"now":"\\u00e9"', b'now'), (b',"streams":{}', b'streams'),
+    (b',"replicas":9', b'replicas'), (b',"open":null', b'open'), (b',"save":1', b'save'), (b',"now":"\\u00e9"', b'now'), (b',"streams":{}', b'streams'),
     (b',"streams":[{"frames":-0}]', b'streams'), (b',"streams":[{"frames":0,"control":null}]', b'streams'), (b',"lines":null', b'lines'),
     (b',"lines":{}', b'lines'), (b',"lines":[0]', b'lines'), (b',"lines":[[]]', b'lines'), (b',"streams":[],"volume":"-v"', b'volume'),
 ]
@@ -59,8 +59,8 @@ class Program(ProgramTest):
         rows = [
             (b'', b'script 0 line\n'),
             (b'{}\n', b'script 0 member volume\n'),
-            (LINE % b',"open":true', b'script 0 member open\n'),
-            (LINE % b',"save":true', b'script 0 member save\n'),
+            (LINE % b',"open":"true"', b'script 0 member open\n'),
+            (LINE % b',"save":0', b'script 0 member save\n'),
             (LINE % b'}', b'script 0 json\n'),
             (STATUS.replace(b'status', b'fail r1'), b'script 0 member streams\n'),
             (STATUS + b'x', b'script %d rest\n' % len(STATUS)),
@@ -94,14 +94,21 @@ class Program(ProgramTest):
             given.seek(0)
             self.assertEqual(self.run_with(['run'], stdin=given, stdout=full), (5, None, b'write fault\n'))
 
-    def test_the_readme_shows_what_its_command_prints(self):
+    def test_the_readme_shows_what_its_second_command_prints(self):
         with open(os.path.join(TOP, 'README.md'), encoding='utf-8') as file:
-            command, shown = re.search(r'`(\./longhorn [^`\n]+)` prints\n\n((?:    .+\n)+)', file.read()).groups()
-        ended = subprocess.run(command, shell=True, cwd=TOP, capture_output=True, text=True)
-        self.assertEqual((ended.returncode, ended.stdout, ended.stderr), (0, re.sub('^    ', '', shown, flags=re.MULTILINE), ''))
+            text = file.read()
+        commands = re.findall(r'^    \./longhorn (run --workers one) < (\S+)', text, re.MULTILINE)
+        self.assertEqual(len(commands), 2)
+        with tempfile.TemporaryDirectory() as room:
+            for words, path in commands:
+                with open(os.path.join(TOP, path), 'rb') as given:
+                    ended = subprocess.run([LAUNCHER, *words.split(' ')], stdin=given, cwd=room, capture_output=True, text=True)
+                self.assertEqual((ended.returncode, ended.stderr), (0, ''), path)
+        shown = re.search(r'the second prints\n\n((?:    .+\n)+)', text)[1]
+        self.assertEqual(ended.stdout, re.sub('^    ', '', shown, flags=re.MULTILINE))
 
     def test_the_examples_print_what_stands_beside_them(self):
-        ended = subprocess.run([sys.executable, os.path.join(TOP, 'examples', 'run_all')], capture_output=True, text=True)
+        ended = subprocess.run([sys.executable, os.path.join(TOP, 'examples', 'run_all'), LAUNCHER], capture_output=True, text=True)
         self.assertEqual(ended.returncode, 0, ended.stdout)
         self.assertTrue(ended.stdout.splitlines()[-1].endswith(', 0 failed'), ended.stdout)
 

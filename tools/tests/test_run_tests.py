@@ -19,7 +19,8 @@ class RunTests(unittest.TestCase):
             shutil.copytree(os.path.join(TOP, 'tools'), os.path.join(folder, 'tools'))
             for name in ('longhorn', 'crates.txt'):
                 shutil.copy(os.path.join(TOP, name), folder)
-            ended = subprocess.run([sys.executable, os.path.join(folder, 'tools', 'run_tests'), *words], capture_output=True, text=True)
+            command = [sys.executable, os.path.join(folder, 'tools', 'run_tests'), *words]
+            ended = subprocess.run(command, env={**os.environ, 'LONGHORN_TESTED': ''}, capture_output=True, text=True)
             return ended.returncode, ended.stdout.splitlines()
 
     def test_tests_of_the_program_are_left_out_and_a_line_says_so(self):
