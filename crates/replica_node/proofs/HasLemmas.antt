@@ -19,7 +19,7 @@ pub none_past : (image : Tables) (block : ℕ) → length image ≤ block / 512 
 none_past image block past = ap is_some (ChangesBlock-past image block (λ b. b) past).0
 
 -- each block is told as the image has it
-own_is : (image : Tables) (count block : ℕ) → length image * 512 ≡ count
+pub own_is : (image : Tables) (count block : ℕ) → length image * 512 ≡ count
     → has_own (own_in image count) block ≡ is_some (block_at image block)
 own_is image count block pages = ⊎_elim
     (λ inside. own_at image count block inside)

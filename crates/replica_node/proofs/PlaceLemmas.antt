@@ -1,6 +1,7 @@
 -- The layers of a replica by their places are those of its tree, and a tree whose images have a place for each page is
 -- a replica.
-use Rattle.std.proofs.Common.{◌≡◌, ℕ, ◌*◌, ◌/◌, ◌%◌, ◌<◌, List, length, Option, Some, None, refl, sym, ap, ◌∙◌, arith}
+use Rattle.std.proofs.Common.{◌≡◌, ℕ, ◌*◌, ◌/◌, ◌%◌, ◌<◌, ◌≤◌, ◌^◌, List, length, Option, Some, None, is_some}
+use Rattle.std.proofs.Common.{refl, sym, ap, ◌∙◌, arith}
 use Rattle.std.specs.Prelude.{All}
 use Rattle.std.proofs.lemmas.List.{get_or-map, length-map}
 use Rattle.sparse_image.specs.Disk.{bytes_of}
@@ -9,9 +10,11 @@ use Rattle.sparse_image.specs.Whole.{IsImage}
 use Rattle.sparse_image.proofs.ImageLemmas.{unmade_none}
 use Rattle.layer_chain.specs.Tree.{Tree, layer_at, reads, IsLayers, IsThere, IsWholeTree}
 use Rattle.layer_chain.specs.declared.layer.Layer.{Layer}
-use Rattle.replica_node.specs.Node.{Node, Kept, node_of, kept_in, IsInPages, IsNode, IsKept, IsOfSize}
+use Rattle.replica_node.specs.Fold.{HasBlockIn, HasNoBlockIn, HasOwnOf, HasNoOwnOf}
+use Rattle.replica_node.specs.Node.{Node, Kept, has_own, node_of, kept_in, IsInPages, IsNode, IsKept, IsOfSize}
 use Rattle.replica_node.specs.Held.{own_block}
-use Rattle.replica_node.specs.Places.{kept_at, IsPlace, block_of_place, image_of_place, IsBuiltOf}
+use Rattle.replica_node.specs.Places.{kept_at, own_at, IsPlace, block_of_place, image_of_place, IsBuiltOf}
+use Rattle.replica_node.proofs.HasLemmas.{few_blocks, image_is, own_is}
 use Rattle.replica_node.proofs.HeldLemmas.{own_head, own_layer, kept_metas, length-some, reads_whole, whole_or}
 use Rattle.replica_node.proofs.NodeLemmas.{is_kept}
 use Rattle.replica_node.proofs.ReadLemmas.{length-node}
@@ -34,6 +37,34 @@ own_of_place t count node None block view n tree there =
 own_of_place t count node (Some i) block view n tree there =
     let within : i < length t.layers = omega (arith, there, count_is t count node view) in
     ap (λ (k : Kept). own_block k.disk k.own block) (kept_of_place t count node i view within) ∙ own_layer t count n tree i within block
+
+-- of each block whether it itself has it is what its image has
+held_of_place : (t : Tree) (count : ℕ) (node : Node) (place : Option ℕ) (block : ℕ) → node_of t count ≡ node → IsNode t count
+    → IsPlace node place → has_own (own_at node place) block ≡ is_some (block_at (image_of_place t place) block)
+held_of_place t count node None block view n there =
+    ap (λ m. has_own m.own block) (sym view) ∙ own_is t.head count block n.pages
+held_of_place t count node (Some i) block view n there =
+    let within : i < length t.layers = omega (arith, there, count_is t count node view) in
+    ap (λ (k : Kept). has_own k.own block) (kept_of_place t count node i view within)
+    ∙ own_is (layer_at t.layers i).image count block (image_is t count i n within).pages
+
+-- and so is whether it has one of a page
+pub has_of_place : (t : Tree) (count : ℕ) (node : Node) (place : Option ℕ) (page : ℕ) → node_of t count ≡ node → IsNode t count
+    → IsPlace node place → HasBlockIn (image_of_place t place) page → HasOwnOf (own_at node place) page
+has_of_place t count node place page view n there (block, inside, has) =
+    (block, inside, held_of_place t count node place block view n there ∙ has)
+
+pub has_none_of_place : (t : Tree) (count : ℕ) (node : Node) (place : Option ℕ) (page : ℕ) → node_of t count ≡ node → IsNode t count
+    → IsPlace node place → HasNoBlockIn (image_of_place t place) page → HasNoOwnOf (own_at node place) page
+has_none_of_place t count node place page view n there none = λ block inside.
+    held_of_place t count node place block view n there ∙ none block inside
+
+-- whose blocks have numbers of 32 bits
+pub few_of_place : (t : Tree) (count : ℕ) (node : Node) (place : Option ℕ) → node_of t count ≡ node → IsNode t count
+    → IsPlace node place → length node.disk ≤ 1073741824 → length (image_of_place t place) * 512 < 2 ^ 32
+few_of_place t count node None view n there most = omega (arith, n.pages, length-node t count node view n)
+few_of_place t count node (Some i) view n there most =
+    few_blocks t count node i view n (omega (arith, there, count_is t count node view)) most
 
 pub on_is_kept : (t : Tree) (count : ℕ) (node : Node) (on : Option (List ℕ)) → node_of t count ≡ node → IsThere on t.layers
     → IsKept node on

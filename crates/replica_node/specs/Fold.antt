@@ -34,15 +34,21 @@ is_in page block = block / PAGE_BLOCKS == page
 
 -- ---- what a layer itself has
 
+-- a block of the page is one of its own
+abbrev pub HasOwnOf : List Bool → ℕ → Type 0
+HasOwnOf own page = (block : ℕ) × (is_in page block ≡ true) × (has_own own block ≡ true)
+
+-- none of the page is
+abbrev pub HasNoOwnOf : List Bool → ℕ → Type 0
+HasNoOwnOf own page = (block : ℕ) → is_in page block ≡ true → has_own own block ≡ false
+
 -- the layer of the name itself has a block of the page
 abbrev pub HasBlockOf : Node → List ℕ → ℕ → Type 0
-HasBlockOf node name page =
-    (block : ℕ) × (is_in page block ≡ true) × (has_own (own_named node.layers name) block ≡ true)
+HasBlockOf node name page = HasOwnOf (own_named node.layers name) page
 
 -- it has none of the page
 abbrev pub HasNoBlockOf : Node → List ℕ → ℕ → Type 0
-HasNoBlockOf node name page =
-    (block : ℕ) → is_in page block ≡ true → has_own (own_named node.layers name) block ≡ false
+HasNoBlockOf node name page = HasNoOwnOf (own_named node.layers name) page
 
 -- it has none at all
 abbrev pub IsBare : List Kept → List ℕ → Type 0

@@ -8,6 +8,7 @@ mod names;
 mod node;
 mod own;
 mod purge;
+mod reading;
 mod swap;
 
 pub use layer_chain::{LayerMeta, LayerTree};

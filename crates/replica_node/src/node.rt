@@ -2,7 +2,6 @@ ghost use Rattle.std.specs.Prelude.{◌≡◌, ◌↔◌, ℕ, ◌+◌, ◌*◌,
 ghost use Rattle.std.specs.Option.{option_copied};
 ghost use Rattle.vol_units.specs.Bytes.{zeros, bytes_at, with_bytes_at};
 ghost use Rattle.vol_units.specs.declared.size.TheConstants.{LARGEST_SIZE, PAGE_BYTES};
-ghost use Rattle.sparse_image.specs.Disk.{bytes_of};
 ghost use Rattle.sparse_image.specs.Image.{IsLent};
 ghost use Rattle.layer_chain.specs.Tree.{IsAt, IsThere, IsWholeTree};
 ghost use Rattle.sparse_image.specs.Listed.{bytes_in};
@@ -12,15 +11,16 @@ ghost use Rattle.volume_model.specs.Names.{NamesOnce};
 ghost use Rattle.volume_model.specs.Purge.{CanFold, CanDrop, next_in};
 ghost use Rattle.volume_model.specs.Snapshots.{is_live, chain_of};
 ghost use Rattle.coalesce.specs.Way.{IsWayOf, HasNoWay};
-ghost use Rattle.replica_node.specs.Node.{Kept, blank, snapped_node, reverted_node, marked, disk_of_layer, layer_names, block_in, has_own, node_of, IsOfSize, IsKept, IsFree, IsSpareOf};
-ghost use Rattle.replica_node.specs.Fold.{tree_of, snapshots_of, own_named, HasBlockOf, HasNoBlockOf, IsBare, page_folded, replaced_node, folded_away, dropped_node};
+ghost use Rattle.replica_node.specs.Node.{Kept, blank, snapped_node, reverted_node, marked, disk_of_layer, layer_names, has_own, node_of, IsOfSize, IsKept, IsFree, IsSpareOf};
+ghost use Rattle.replica_node.specs.Fold.{tree_of, snapshots_of, HasOwnOf, HasNoOwnOf, HasBlockOf, HasNoBlockOf, IsBare, page_folded, replaced_node, folded_away, dropped_node};
 ghost use Rattle.replica_node.specs.Held.{IsChained, IsPageOf, PutsPage, emptied};
-ghost use Rattle.replica_node.specs.Places.{kept_at, IsPlace, block_of_place, IsBuiltOf};
+ghost use Rattle.replica_node.specs.Places.{kept_at, IsPlace, own_at, block_of_place, IsBuiltOf};
 
 use crate::fold::fold_pages;
 use crate::images::learn_images;
 use crate::names::names_in;
 use crate::own::{has_block, has_block_of};
+use crate::reading::{block_of, reads_same};
 use crate::swap::swap_into;
 use layer_chain::{LayerMeta, LayerTree};
 use snapshot_ops::Spare;
@@ -354,6 +354,20 @@ impl ReplicaNode {
         }
     }
 
+    /// Whether the layer at a place, or the head where none is given, itself has a block of the page.
+    pub fn has_blocks_at(&self, place: Option<usize>, page: u32) -> bool
+        requires { IsPlace self.now place }
+        ensures some { result ≡ true → HasOwnOf (own_at self.now place) page }
+        ensures none { result ≡ false → HasNoOwnOf (own_at self.now place) page }
+    {
+        // What the largest size is, a proof learns here.
+        let _size = self.size();
+        match place {
+            Some(place) => has_block_of(self.tree.image(place), page),
+            None => has_block_of(self.tree.head_image(), page),
+        }
+    }
+
     /// Whether the layer of the name itself has no block at all; one that is not there has none.
     pub fn is_bare(&self, layer: &LayerName) -> bool
         ensures bare { result ≡ true → IsBare self.now.layers layer.now }
@@ -458,45 +472,4 @@ fn place_of(tree: &LayerTree, name: &LayerName) -> usize
         Some(place) => place,
         None => unreachable!(),
     }
-}
-
-/// What a block that is not there reads as.
-static ZEROS: Block = [0; BLOCK_BYTES];
-
-/// What a layer of the tree, or its head, reads as at a block.
-fn block_of<'a>(tree: &'a LayerTree, layer: &Option<LayerName>, block: u32) -> &'a [u8]
-    ensures value { result.now ≡ bytes_of (block_in tree.now layer.now block) }
-{
-    let found = match layer {
-        Some(name) => tree.read_at(name, block),
-        None => tree.read_head(block),
-    };
-    bytes_or_zeros(found)
-}
-
-/// Whether two blocks read the same.
-fn reads_same(one: Option<&Block>, other: Option<&Block>) -> bool
-    ensures { IsTrue result ↔ (bytes_of (option_copied one.entry) ≡ bytes_of (option_copied other.entry)) }
-{
-    match (one, other) {
-        (None, None) => true,
-        _ => bytes_or_zeros(one) == bytes_or_zeros(other),
-    }
-}
-
-/// What a block reads as, where it may not be there.
-fn bytes_or_zeros(found: Option<&Block>) -> &[u8]
-    ensures { result.now ≡ bytes_of (option_copied found.entry) }
-{
-    match found {
-        Some(bytes) => bytes,
-        None => zero_block(),
-    }
-}
-
-#[tactic(auto, unfolding(vol_units::specs::Bytes::zeros))]
-fn zero_block() -> &'static [u8]
-    ensures { result.now ≡ zeros BLOCK_BYTES }
-{
-    &ZEROS
 }
