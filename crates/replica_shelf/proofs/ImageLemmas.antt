@@ -11,7 +11,7 @@ use Rattle.replica_node.specs.Node.{has_own}
 use Rattle.replica_node.specs.Held.{block_of}
 use Rattle.replica_node.proofs.ReadLemmas.{part_at}
 use Rattle.folder_names.specs.Files.{Folder}
-use Rattle.replica_shelf.specs.Saving.{IsImageOf, HoldsBelow, PutsBlock}
+use Rattle.replica_shelf.specs.Saving.{IsImageOf, HoldsBelow, IsNextOwn, PutsBlock}
 use Rattle.replica_shelf.proofs.CallLemmas.{both_then}
 
 -- within a file, writing is writing over
@@ -154,6 +154,26 @@ holds_more shelf image disk own block y z inside h put = by_own (has_own own blo
             by_side (inl later) = inl later
             by_side (inr (inl same)) = absurd (true_false (sym e ∙ ap (λ i. has_own own i) (sym same) ∙ none))
             by_side (inr (inr older)) = inr (older, none)
+
+-- there is none up to the next
+pub holds_on : (folder : Folder) (image disk : List ℕ) (own : List Bool) (from next : ℕ) → IsNextOwn own from next
+    → HoldsBelow folder image disk own from → HoldsBelow folder image disk own next
+holds_on folder image disk own from next n h = record {
+  bytes = h.bytes;
+  there = h.there;
+  whole = h.whole;
+  blocks = λ k less has. ⊎_elim
+      (λ (older : k < from). h.blocks k older has)
+      (λ (later : from ≤ k). absurd (true_false (sym has ∙ n.none k later less))) (by_order k);
+  bare = λ k less why. h.bare k less (⊎_elim
+      (λ (later : next ≤ k). inl (omega (arith, later, n.least))) (λ (none : has_own own k ≡ false). inr none) why);
+}
+  where
+    by_order : (k : ℕ) → (k < from) ⊎ (from ≤ k)
+    by_order k = grind arith
+
+    true_false : true ≡ false → ⊥
+    true_false e = cc
 
 -- all blocks
 pub image_is : (folder : Folder) (image disk : List ℕ) (own : List Bool) (block : ℕ) → length own ≤ block

@@ -112,6 +112,17 @@ pub record ListsBelow (spans : List BlockSpan) (own : List Bool) (block : ℕ) :
   pub end : end_of 0 spans ≤ block
   pub told : (k : ℕ) → has_block spans k ≡ (nat_lt k block && has_own own k)
 
+-- the runs list just the own blocks
+pub record ListsAll (spans : List BlockSpan) (own : List Bool) : Type 0 where
+  pub fit : AreSpans 0 (length own) spans
+  pub told : (k : ℕ) → has_block spans k ≡ has_own own k
+
+-- the first own block from that one on, or where there is none, one past the last
+pub record IsNextOwn (own : List Bool) (from next : ℕ) : Type 0 where
+  pub least : from ≤ next
+  pub none : (k : ℕ) → from ≤ k → k < next → has_own own k ≡ false
+  pub there : next < length own → has_own own next ≡ true
+
 -- each block from the first up to the end is an own one, and the one at the end is not
 pub record IsRun (own : List Bool) (first end : ℕ) : Type 0 where
   pub some : first < end

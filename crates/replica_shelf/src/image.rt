@@ -4,7 +4,7 @@ ghost use Rattle.shelf_traits.specs.Files.{Both, OthersStay};
 ghost use Rattle.replica_node.specs.Places.{IsPlace, disk_at, own_at};
 ghost use Rattle.replica_shelf.specs.Saving.{IsImageOf, HoldsBelow, PutsBlock};
 
-use crate::map::block_count;
+use crate::blocks::{block_count, next_own};
 use replica_node::{BLOCK_BYTES, ReplicaNode};
 use shelf_traits::{Outer, Shelves};
 
@@ -24,8 +24,11 @@ pub(crate) fn put_image<S: Shelves>(
     ensures cause { HasOuterCause (S.faults shelves.old) (S.faults shelves.new) result }
 {
     put_empty(node, place, image, shelf, shelves)?;
-    for block in 0..block_count(node, place) {
+    let count = block_count(node, place);
+    let mut block = next_own(node, place, 0);
+    while block < count {
         put_block(node, place, block, image, shelf, shelves)?;
+        block = next_own(node, place, block + 1);
     }
     Ok(())
 }

@@ -1,6 +1,7 @@
 //! A replica's folder: a replica is saved to one.
 #![tactic(auto)]
 
+mod blocks;
 mod clearing;
 mod file;
 mod head;

@@ -1,13 +1,13 @@
-ghost use Rattle.std.specs.Prelude.{◌≡◌, ◌≤◌, ◌+◌, ◌*◌, IfOk, OnOk, length, true};
-ghost use Rattle.vol_units.specs.declared.size.TheConstants.{BLOCK_BYTES, LARGEST_SIZE};
+ghost use Rattle.std.specs.Prelude.{◌≡◌, IfOk, OnOk, true};
 ghost use Rattle.outer_traits.specs.Causes.{HasOuterCause};
 ghost use Rattle.shelf_traits.specs.Files.{Both, OthersStay};
 ghost use Rattle.replica_node.specs.Node.{has_own};
 ghost use Rattle.replica_node.specs.Places.{IsPlace, disk_at, own_at};
 ghost use Rattle.folder_names.specs.Files.{map_of};
 ghost use Rattle.replica_shelf.specs.Folder.{IsMapOf};
-ghost use Rattle.replica_shelf.specs.Saving.{ListsBelow, IsRun};
+ghost use Rattle.replica_shelf.specs.Saving.{ListsAll, IsRun};
 
+use crate::blocks::{block_count, has_own, next_own};
 use crate::file::put_file;
 use chain_meta::ImageName;
 use folder_names::map_file;
@@ -44,23 +44,19 @@ fn spans_of(
     place: Option<usize>,
 ) -> Result<Vec<BlockSpan>, AllocError>
     requires { IsPlace node.now place }
-    ensures { IfOk result (λ spans. ListsBelow spans.items (own_at node.now place) (length (own_at node.now place) + 1)) }
+    ensures { IfOk result (λ spans. ListsAll spans.items (own_at node.now place)) }
 {
     let count = block_count(node, place);
     let mut spans = Vec::new(alloc);
-    let mut block = 0;
-    while block < count {
-        if has_own(node, place, block) {
-            let end = end_of_run(node, place, block);
-            spans.push(BlockSpan {
-                first: block,
-                count: end - block,
-            })?;
-            // The block at the end of a run is not there.
-            block = end + 1;
-        } else {
-            block += 1;
-        }
+    let mut first = next_own(node, place, 0);
+    while first < count {
+        let end = end_of_run(node, place, first);
+        spans.push(BlockSpan {
+            first,
+            count: end - first,
+        })?;
+        // The block at the end of a run is not there.
+        first = next_own(node, place, end + 1);
     }
     Ok(spans)
 }
@@ -78,25 +74,4 @@ fn end_of_run(node: &ReplicaNode, place: Option<usize>, first: u32) -> u32
         }
     }
     count
-}
-
-/// Whether the layer itself has the block.
-fn has_own(node: &ReplicaNode, place: Option<usize>, block: u32) -> bool
-    requires { IsPlace node.now place }
-    ensures { result ≡ has_own (own_at node.now place) block }
-{
-    node.own_block(place, block).is_some()
-}
-
-/// The blocks of the volume, which are those of each layer.
-pub(crate) fn block_count(node: &ReplicaNode, place: Option<usize>) -> u32
-    requires { IsPlace node.now place }
-    ensures own { result ≡ length (own_at node.now place) }
-    ensures disk { result * BLOCK_BYTES ≡ length (disk_at node.now place) }
-    ensures volume { result * BLOCK_BYTES ≡ length node.now.disk }
-    ensures few { result * BLOCK_BYTES ≤ LARGEST_SIZE }
-{
-    // What the largest size is, a proof learns here.
-    let _size = node.size();
-    node.block_count()
 }

@@ -1,4 +1,4 @@
-use Rattle.std.proofs.Common.{◌≡◌}
+use Rattle.std.proofs.Common.{◌≡◌, ◌-◌}
 use Rattle.shelf_traits.specs.Files.{Both, OthersStay}
 use Rattle.replica_node.specs.Places.{disk_at, own_at}
 use Rattle.replica_shelf.specs.Saving.{HoldsBelow}
@@ -11,3 +11,6 @@ invariant-loop-block g l = record {
   others : Both (g.S.Shelves.holds l.fn.shelves) (g.S.Shelves.holds l.shelves) (OthersStay l.shelf l.image);
   faults : g.S.Shelves.faults l.shelves ≡ g.S.Shelves.faults l.fn.shelves;
 }
+
+abbrev pub decreases-loop-block : goal.decreases-loop-block
+decreases-loop-block g l = l.count - l.block
