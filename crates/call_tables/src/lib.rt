@@ -4,7 +4,7 @@
 #[cfg(test)]
 mod commands;
 #[cfg(test)]
-mod digest;
+mod digests;
 #[cfg(test)]
 mod journal;
 #[cfg(test)]

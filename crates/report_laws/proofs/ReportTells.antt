@@ -13,7 +13,7 @@ use Rattle.volume_model.specs.Modes.{modes_after}
 use Rattle.volume_model.specs.PlainState.{Volume}
 use Rattle.volume_model.specs.Replay.{replay}
 use Rattle.volume_model.specs.Snapshots.{chain_of}
-use Rattle.run_report.specs.Digest.{digest_text}
+use Rattle.digest.specs.Digest.{digest_text}
 use Rattle.run_report.specs.Lines.{chain_line, head_line}
 use Rattle.run_report.specs.Report.{opening_lines, journal_lines, reply_lines, replies_from, mode_lines, source_lines, end_lines, report_of}
 use Rattle.report_laws.specs.Fits.{AllFit}

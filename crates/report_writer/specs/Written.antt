@@ -6,7 +6,7 @@ use Rattle.volume_model.specs.declared.mode.Mode.{Mode}
 use Rattle.volume_model.specs.declared.mode.Mode.TheVariants as mode
 use Rattle.volume_model.specs.PlainState.{Volume}
 use Rattle.volume_model.specs.Snapshots.{chain_of}
-use Rattle.run_report.specs.Digest.{digest_text}
+use Rattle.digest.specs.Digest.{digest_text}
 use Rattle.run_report.specs.Lines.{chain_line, head_line}
 use Rattle.run_report.specs.Report.{call_lines, mode_lines}
 use Rattle.report_writer.specs.declared.end.EndLine.{EndLine}

@@ -1,8 +1,8 @@
 ghost use Rattle.std.specs.Prelude.{◌≡◌, ◌↔◌, ◌≤◌, IsTrue, IfOk, vec_capacity};
-ghost use Rattle.run_report.specs.Digest.{digest_text};
+ghost use Rattle.digest.specs.Digest.{digest_text};
 
+use digest::Digest;
 use replica_node::ReplicaNode;
-use run_report::Digest;
 use std::alloc::{AllocError, Global};
 
 /// The digests of heads. Of heads that are equal one is digested, since that costs far more than to compare them.

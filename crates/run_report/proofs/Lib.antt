@@ -1,4 +1,3 @@
 pub mod Appends
 pub mod ReportLemmas
-mod HalfDigits
 mod ModeWords

@@ -12,7 +12,7 @@ use Rattle.volume_model.specs.Snapshots.{chain_of}
 use Rattle.volume_model.specs.Replay.{replay}
 use Rattle.volume_model.specs.Modes.{modes_after}
 use Rattle.volume_model.specs.History.{Spot, answers_of}
-use Rattle.run_report.specs.Digest.{digest_text}
+use Rattle.digest.specs.Digest.{digest_text}
 use Rattle.run_report.specs.Lines.{opening_line, entry_line, reply_line, mode_line, chain_line, head_line}
 
 -- how the replicas were opened, each with the text of the reason where it is not read; the first of them is r

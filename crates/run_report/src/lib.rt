@@ -1,7 +1,6 @@
 //! The lines that a run prints, each appended whole to a buffer of the caller's.
 #![tactic(auto)]
 
-mod digest;
 mod end_lines;
 mod entry_line;
 mod mark_line;
@@ -9,10 +8,8 @@ mod opening_line;
 mod reason;
 mod reply_line;
 pub mod rows;
-mod told;
 mod words;
 
-pub use digest::Digest;
 pub use end_lines::{print_chain, print_head, print_mode};
 pub use entry_line::print_entry;
 pub use opening_line::print_opening;

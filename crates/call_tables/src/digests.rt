@@ -1,4 +1,4 @@
-use run_report::Digest;
+use digest::Digest;
 
 /// The first half of SHA-512 of `abc`, as the examples to FIPS 180-4 give it.
 const OF_ABC: &[u8; 64] = b"ddaf35a193617abacc417349ae20413112e6fa4e89a97ea20a9eeee64b55d39a";
