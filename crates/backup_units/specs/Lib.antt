@@ -1,0 +1,4 @@
+pub mod Names
+pub mod Blocks
+pub mod Backups
+pub mod Faults
