@@ -1,0 +1,9 @@
+mod BackupLemmas
+mod Found
+mod ListLemmas
+mod MemberLemmas
+mod OneAnswer
+mod ShortLemmas
+mod SizeLemmas
+mod VolumeLemmas
+mod WrittenLemmas

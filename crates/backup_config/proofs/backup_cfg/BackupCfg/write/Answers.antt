@@ -1,0 +1,17 @@
+use Rattle.backup_config.specs.BackupCfgs.{backup_data}
+use Rattle.backup_config.proofs.BackupLemmas.{text_of, says_backup}
+use Rattle.backup_config.proofs.ShortLemmas.{short_backup, short_where}
+use Rattle.backup_config.proofs.backup_cfg.BackupCfg.write.Goals as goal
+
+pub returns-clause-text : goal.returns-clause-text
+returns-clause-text c = text_of c.args.self.now _ c.to_vec.result c.in_ok-value.ensures.value c.to_vec.ensures.text
+
+pub returns-clause-short : goal.returns-clause-short
+returns-clause-short c =
+    let few = short_backup c.args.self.now c.in_ok-value.ensures.good in
+    short_where (backup_data c.args.self.now) c.to_vec.result (returns-clause-text c) few
+
+pub returns-clause-reads_back : goal.returns-clause-reads_back
+returns-clause-reads_back c =
+    let value = c.in_ok-value.ensures in
+    says_backup c.args.self.now _ c.to_vec.result value.value value.good c.to_vec.ensures.utf8 c.to_vec.ensures.reads_back

@@ -1,0 +1,5 @@
+pub mod Answers
+pub mod BackupCfgs
+pub mod Kinds
+pub mod Lists
+pub mod VolumeCfgs
