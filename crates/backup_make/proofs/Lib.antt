@@ -1,0 +1,5 @@
+mod KeptLemmas
+mod StartLemmas
+mod GatherLemmas
+mod DiskLemmas
+mod MadeLemmas

@@ -1,0 +1,99 @@
+-- What making a backup asks and answers.
+use Rattle.std.specs.Prelude.{◌≡◌, ⊤, ◌<◌, ℕ, Bool, true, false, List, length, Option, None, Some}
+use Rattle.outer_traits.specs.declared.error.OuterError.{OuterError}
+use Rattle.outer_traits.specs.declared.error.OuterError.TheVariants as outer
+use Rattle.target_traits.specs.Objects.{Objects}
+use Rattle.block_store.specs.declared.error.StoreError.{StoreError}
+use Rattle.block_store.specs.declared.error.StoreError.TheVariants as store_error
+use Rattle.backup_units.specs.Backups.{IsBackup, IsKept, listed_at}
+use Rattle.backup_units.specs.Blocks.{KeepsBlocks}
+use Rattle.backup_units.specs.Names.{cfg_name}
+use Rattle.backup_make.specs.Giving.{Copies, IsNotFrom}
+use Rattle.backup_make.specs.declared.giver.Pages.{Pages}
+use Rattle.backup_make.specs.declared.giver.Pages.TheVariants as found
+use Rattle.backup_make.specs.declared.giver.GiveError.{GiveError}
+use Rattle.backup_make.specs.declared.giver.GiveError.TheVariants as give_error
+use Rattle.backup_make.specs.declared.error.MakeError.{MakeError}
+use Rattle.backup_make.specs.declared.error.MakeError.TheVariants as make_error
+
+-- ---- errors
+
+-- what errors of others become
+abbrev pub error_of_store : StoreError → MakeError
+error_of_store (store_error.BlockDiffers c) = make_error.BlockDiffers c
+error_of_store store_error.TargetFault = make_error.TargetFault
+error_of_store store_error.NoMemory = make_error.NoMemory
+
+abbrev pub error_of_outer : OuterError → MakeError
+error_of_outer outer.Failed = make_error.TargetFault
+error_of_outer outer.NoMemory = make_error.NoMemory
+
+abbrev pub error_of_give : GiveError → MakeError
+error_of_give give_error.NoReplica = make_error.NoReplica
+error_of_give give_error.NoMemory = make_error.NoMemory
+
+-- the error tells that the target failed
+abbrev pub is_make_fault : MakeError → Bool
+is_make_fault make_error.Exists = false
+is_make_fault make_error.NoReplica = false
+is_make_fault (make_error.BlockDiffers c) = false
+is_make_fault make_error.TargetFault = true
+is_make_fault make_error.NoMemory = false
+
+-- the error tells that no replica is left
+abbrev pub lacks_replica : MakeError → Bool
+lacks_replica make_error.Exists = false
+lacks_replica make_error.NoReplica = true
+lacks_replica (make_error.BlockDiffers c) = false
+lacks_replica make_error.TargetFault = false
+lacks_replica make_error.NoMemory = false
+
+-- the error tells that there is such a backup
+abbrev pub tells_exists : MakeError → Bool
+tells_exists make_error.Exists = true
+tells_exists make_error.NoReplica = false
+tells_exists (make_error.BlockDiffers c) = false
+tells_exists make_error.TargetFault = false
+tells_exists make_error.NoMemory = false
+
+-- ---- blocks
+
+-- blocks come, and every block that is held and every cfg stays
+pub record AddsBlocks (volume : List ℕ) (old new : Objects) : Type 0 where
+  pub blocks : KeepsBlocks volume old new
+  pub cfgs : (backup : List ℕ) → new (cfg_name volume backup) ≡ old (cfg_name volume backup)
+
+-- every page that does not stand in the list, from that place on, is kept
+abbrev pub KeptElse : Bool → Objects → List ℕ → List ℕ → List (Option (List ℕ)) → ℕ → List ℕ → Type 0
+KeptElse tells objects volume disk listed place pages =
+    (page : ℕ) → page < length listed → IsNotFrom place pages page → IsKept tells objects volume disk listed page
+
+-- ---- the base
+
+-- the base is a backup of its snapshot's copy, where that is live
+abbrev pub IsBase : Bool → Objects → List ℕ → Copies → List ℕ → List (Option (List ℕ)) → Type 0
+IsBase tells objects volume copies snapshot listed =
+    (disk : List ℕ) → copies snapshot ≡ Some disk → IsBackup tells objects volume disk listed
+
+-- a base is given whole, its name and its list, or not at all
+abbrev pub IsBaseIf : Bool → Objects → List ℕ → Copies → Option (List ℕ) → Option (List (Option (List ℕ))) → Type 0
+IsBaseIf tells objects volume copies None listed = ⊤
+IsBaseIf tells objects volume copies (Some name) None = ⊥
+IsBaseIf tells objects volume copies (Some name) (Some listed) = IsBase tells objects volume copies name listed
+
+-- what is listed of a page at the start: as in the base, or nothing
+abbrev pub start_at : Pages → Option (List (Option (List ℕ))) → ℕ → Option (List ℕ)
+start_at (found.All pages) base page = None
+start_at (found.Above pages) None page = None
+start_at (found.Above pages) (Some listed) page = listed_at listed page
+
+-- the list from which a backup of so many pages starts
+pub record IsStart (pages : Pages) (base : Option (List (Option (List ℕ)))) (count : ℕ) (blocks : List (Option (List ℕ)))
+    : Type 0 where
+  pub size : length blocks ≡ count
+  pub entries : (page : ℕ) → page < count → listed_at blocks page ≡ start_at pages base page
+
+-- the pages that have to be read
+abbrev pub listed_in : Pages → List ℕ
+listed_in (found.All pages) = pages.items
+listed_in (found.Above pages) = pages.items
