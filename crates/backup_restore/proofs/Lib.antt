@@ -1,0 +1,3 @@
+mod CfgLemmas
+mod RestoreLemmas
+mod WholeLemmas

@@ -1,0 +1,4 @@
+pub mod Errors
+pub mod ReadCfg
+pub mod Restored
+pub mod Restoring
