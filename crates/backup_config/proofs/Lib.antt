@@ -1,7 +1,7 @@
 mod BackupLemmas
 mod Found
 mod ListLemmas
-mod MemberLemmas
+pub mod MemberLemmas
 mod OneAnswer
 mod ShortLemmas
 mod SizeLemmas
