@@ -10,18 +10,14 @@ use Rattle.target_traits.specs.Objects.{Objects}
 use Rattle.backup_units.specs.Names.{volume_name, cfg_name}
 use Rattle.backup_config.specs.Answers.{AreMembers, Says}
 use Rattle.backup_config.specs.BackupCfgs.{HasMembers, answer_of, SaysBackup, IsOnlyBackup}
-use Rattle.backup_config.specs.VolumeCfgs.{HasVolumeMembers, volume_answer_of, SaysVolume}
 use Rattle.backup_config.specs.declared.backup_cfg.BackupCfg.{BackupCfg}
-use Rattle.backup_config.specs.declared.volume_cfg.VolumeCfg.{VolumeCfg}
 use Rattle.backup_config.specs.declared.error.CfgError.{CfgError}
 use Rattle.backup_config.specs.declared.error.CfgError.TheVariants.{Syntax, Missing, Compressed, Backing, NoMemory}
 use Rattle.backup_config.specs.declared.error.CfgMember.TheVariants.{DiskSize}
-use Rattle.backup_restore.specs.ReadCfg.{IsAlike, IsGot, IsNotThere, IsTold, LacksSize, AnswersCfg, AnswersSize}
+use Rattle.backup_restore.specs.ReadCfg.{IsAlike, IsGot, IsTold, LacksSize, AnswersCfg, AnswersSize}
 use Rattle.backup_restore.specs.ReadCfg.{IsRefused, RefusesCfg, kind_of, error_of_cfg}
 use Rattle.backup_restore.specs.declared.error.Refusal.{Refusal}
 use Rattle.backup_restore.specs.declared.error.Refusal.TheVariants as refusal
-use Rattle.backup_restore.specs.declared.error.RestoreError.{RestoreError}
-use Rattle.backup_restore.specs.declared.error.RestoreError.TheVariants.{Refused, TargetFault, WriteFault, NoMemory as OutOfMemory}
 use Rattle.backup_restore.specs.declared.error.StoredObject.TheVariants as stored
 
 -- ---- as much as is read
@@ -52,10 +48,10 @@ alike_cut bytes = by_test (nat_le (length bytes) 1048576) refl
         let most = leb-false (length bytes) 1048576 long in
         inr (omega (arith, most, length-take 1048577 bytes), omega (arith, most))
 
-no_value : {A : Type 0} {x : A} → None ≡ Some x → ⊥
+pub no_value : {A : Type 0} {x : A} → None ≡ Some x → ⊥
 no_value e = cc
 
-one_value : {A : Type 0} {x y : A} → Some x ≡ Some y → x ≡ y
+pub one_value : {A : Type 0} {x y : A} → Some x ≡ Some y → x ≡ y
 one_value e = cc
 
 got_some : (held : Option (List ℕ)) (got : List ℕ) → Some got ≡ option_map (take 1048577) held → IsGot held got

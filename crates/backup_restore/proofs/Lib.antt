@@ -1,3 +1,5 @@
 mod CfgLemmas
+pub mod OneAnswer
+mod OrderLemmas
 mod RestoreLemmas
 mod WholeLemmas

@@ -77,7 +77,7 @@ whole_block objects volume checksum bytes Syntax held bad = bad
 whole_block objects volume checksum bytes Compressed held bad = bad
 whole_block objects volume checksum bytes Backing held bad = bad
 
-whole_page : (objects : Objects) (volume : List ℕ) (page : Option (List ℕ)) (kind : Refusal) (object : StoredObject)
+pub whole_page : (objects : Objects) (volume : List ℕ) (page : Option (List ℕ)) (kind : Refusal) (object : StoredObject)
     → IsWhole objects volume page → IsBadPage objects volume page kind object → ⊥
 whole_page objects volume None kind object whole bad = bad
 whole_page objects volume (Some checksum) kind (BackupCfg backup) whole bad = bad

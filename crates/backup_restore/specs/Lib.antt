@@ -1,4 +1,5 @@
 pub mod Errors
+pub mod Listed
 pub mod ReadCfg
 pub mod Restored
 pub mod Restoring
