@@ -1,4 +1,6 @@
 mod CfgLemmas
+mod LineLemmas
+mod NamesLemmas
 pub mod OneAnswer
 mod OrderLemmas
 mod RestoreLemmas

@@ -1,6 +1,6 @@
 -- Laws: what a target holds has one answer, to the call for a backup and to that for the list of a volume's backups.
-use Rattle.std.proofs.Common.{◌≡◌, ◌≢◌, ◌⊎◌, ℕ, zero, suc, ◌<◌, List, [], ◌∷◌, ◌++◌, length, Option, None, Some, Result, Ok, Err}
-use Rattle.std.proofs.Common.{inl, inr, refl, sym, ap, subst, ◌∙◌, arith}
+use Rattle.std.proofs.Common.{◌≡◌, ◌≢◌, ◌⊎◌, ℕ, List, [], ◌∷◌, ◌++◌, Option, None, Some, Result, Ok, Err}
+use Rattle.std.proofs.Common.{inl, inr, refl, sym, ap, subst, ◌∙◌}
 use Rattle.std.proofs.lemmas.Cmp.{nat_list_cmp_total}
 use Rattle.target_traits.specs.Objects.{Objects}
 use Rattle.backup_units.specs.Backups.{IsWhole, disk_of, listed_at}
@@ -21,6 +21,7 @@ use Rattle.backup_restore.specs.declared.error.Refusal.TheVariants as refusal
 use Rattle.backup_restore.specs.declared.error.StoredObject.{StoredObject}
 use Rattle.backup_restore.specs.declared.error.StoredObject.TheVariants.{BackupCfg as CfgOf, VolumeCfg as CfgOfVolume, Block}
 use Rattle.backup_restore.proofs.CfgLemmas.{no_value, one_value}
+use Rattle.backup_restore.proofs.LineLemmas.{has_cfgs}
 use Rattle.backup_restore.proofs.OrderLemmas.{one_order, one_place}
 use Rattle.backup_restore.proofs.RestoreLemmas.{whole_page}
 
@@ -209,13 +210,6 @@ module _ (objects : Objects) (volume : List ℕ) where
   one_list a b (names, are, lines) (others, too, also) =
       one_lines names a b lines (subst (λ n. AreLines objects volume n b) (one_names others names too are) also)
 
-  has_cfgs : (names : List (List ℕ)) (text : List ℕ) → AreLines objects volume names text
-      → (place : ℕ) → place < length names → HasCfg objects volume (name_at names place)
-  unfolding AreLines
-  has_cfgs [] text lines place within = absurd (omega (arith, within))
-  has_cfgs (name ∷ names) text (cfg, is, rest, more, same) zero within = (cfg, is)
-  has_cfgs (name ∷ names) text (cfg, is, rest, more, same) (suc place) within = has_cfgs names rest more place (omega (arith, within))
-
   refused_there : (name : List ℕ) (kind : Refusal) (object : StoredObject) → RefusesCfg objects volume name kind object
       → HasCfg objects volume name → ⊥
   refused_there name kind object refused (cfg, is) = not_both_cfgs objects volume name cfg kind object is refused
@@ -235,4 +229,4 @@ module _ (objects : Objects) (volume : List ℕ) where
   pub not_both_lists : (kind : Refusal) (object : StoredObject) → IsListed objects volume → RefusesList objects volume kind object → ⊥
   not_both_lists kind object (text, (names, are, lines)) (others, too, place, bad) =
       let first = subst (λ n. IsFirstRefused objects volume n place kind object) (one_names others names too are) bad in
-      refused_there (name_at names place) kind object first.refused (has_cfgs names text lines place first.within)
+      refused_there (name_at names place) kind object first.refused (has_cfgs objects volume names text lines place first.within)

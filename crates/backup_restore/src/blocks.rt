@@ -175,7 +175,7 @@ fn bytes_or<'a>(got: &'a Option<Vec<u8>>, blank: &'a [u8]) -> &'a [u8]
     }
 }
 
-fn write<K: Sink>(sink: &mut K, bytes: &[u8]) -> Result<(), RestoreError>
+pub(crate) fn write<K: Sink>(sink: &mut K, bytes: &[u8]) -> Result<(), RestoreError>
     ensures written { OnOk result (Appends (K.contents sink.old) (K.contents sink.new) bytes.now) }
     ensures prefix { WritesPrefix (K.contents sink.old) (K.contents sink.new) bytes.now }
     ensures cause { HasFault is_write_fault (K.faults sink.old) (K.faults sink.new) result }

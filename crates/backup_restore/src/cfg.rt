@@ -79,7 +79,7 @@ fn get_cfg<T: Target>(
     }
 }
 
-fn error_of_target(fault: OuterError) -> RestoreError
+pub(crate) fn error_of_target(fault: OuterError) -> RestoreError
     ensures { result ≡ error_of_target fault }
 {
     match fault {

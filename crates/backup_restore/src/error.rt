@@ -33,7 +33,7 @@ pub enum StoredObject {
     Block(Checksum),
 }
 
-/// Why a backup was not restored.
+/// Why a backup was not restored, or a volume's backups were not listed.
 #[derive(Clone, Copy, Debug, Error)]
 pub enum RestoreError {
     /// An object of the backup is not as it has to be.
