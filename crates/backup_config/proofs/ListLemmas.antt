@@ -1,11 +1,11 @@
 -- Lemmas on what a backup lists: none twice, what is listed of a page, the blocks of an array, and what is written of a list.
-use Rattle.std.proofs.Common.{◌≡◌, ◌≢◌, ◌⊎◌, ℕ, zero, suc, ◌+◌, ◌-◌, ◌<◌, ◌≤◌, true, false, true≢false}
-use Rattle.std.proofs.Common.{List, [], ◌∷◌, ◌++◌, map, length, drop, set, get_or, replicate, Option, None, Some, option_map}
-use Rattle.std.proofs.Common.{inl, inr, refl, sym, ap, subst, ◌∙◌, arith, append_assoc, length-drop}
+use Rattle.std.proofs.Common.{◌≡◌, ◌≢◌, ◌⊎◌, ℕ, zero, suc, ◌+◌, ◌-◌, ◌<◌, ◌≤◌, Bool, true, false, true≢false}
+use Rattle.std.proofs.Common.{List, [], ◌∷◌, ◌++◌, map, length, take, drop, set, get_or, replicate, Option, None, Some, option_map}
+use Rattle.std.proofs.Common.{inl, inr, refl, sym, ap, subst, ◌∙◌, arith, append_assoc, length-take}
 use Rattle.std.proofs.Math.Seq.{drop-length}
 use Rattle.std.proofs.lemmas.Bool.{eqb-true, eq-eqb}
 use Rattle.std.proofs.lemmas.Bool.Decides.{eqb_tells}
-use Rattle.std.proofs.lemmas.List.{append-nil, at_drop_more, at_drop_all, ext_get_or, get_or_read, get_or-drop, length-map}
+use Rattle.std.proofs.lemmas.List.{append-nil, at_drop_more, at_drop_all, ext_get_or, get_or_read, get_or-take, length-map}
 use Rattle.std.proofs.lemmas.List.{length-set, get_or-set_same, get_or-set_other}
 use Rattle.std.proofs.lemmas.List.Folds.{Any-from_list_any, list_any_at}
 use Rattle.std.proofs.lemmas.List.FromFn.{length-map-range_with_len, get_or-map-range_with_len}
@@ -21,33 +21,32 @@ use Rattle.backup_config.specs.declared.list.ListedBlock.{ListedBlock}
 
 -- ---- none twice
 
--- a block's page is that of none behind
-abbrev pub IsAlone : List ListedBlock → ℕ → Type 0
-IsAlone listed i = (j : ℕ) (d : ListedBlock) → i < j → j < length listed → (get_or listed i d).page ≢ (get_or listed j d).page
+-- that page is one of a block before that place
+abbrev pub is_before : List ListedBlock → ℕ → ℕ → Bool
+is_before listed j page = list_any (λ (b : ListedBlock). b.page == page) (take j listed)
 
-pub is_alone : (listed : List ListedBlock) (i : ℕ) (b : ListedBlock) → i < length listed → b ≡ get_or listed i b
-    → false ≡ list_any (λ (o : ListedBlock). o.page == b.page) (drop (i + 1) listed) → IsAlone listed i
-is_alone listed i b within is none j d later low same =
-    let here : b.page ≡ (get_or listed i d).page = ap (λ (o : ListedBlock). o.page) (get_or_read listed i b within is d) in
-    let there : get_or (drop (i + 1) listed) (j - (i + 1)) d ≡ get_or listed j d =
-    get_or-drop (i + 1) listed (j - (i + 1)) d ∙ ap (λ k. get_or listed k d) (omega (arith, later)) in
-    let page : (get_or (drop (i + 1) listed) (j - (i + 1)) d).page ≡ b.page =
-    ap (λ (o : ListedBlock). o.page) there ∙ sym same ∙ sym here in
-    let room : j - (i + 1) < length (drop (i + 1) listed) = omega (arith, low, later, length-drop (i + 1) listed) in
-    true≢false (sym (list_any_at _ (drop (i + 1) listed) (j - (i + 1)) d room (eq-eqb _ _ page)) ∙ sym none)
+-- a block's page is that of none before
+abbrev pub IsFresh : List ListedBlock → ℕ → Type 0
+IsFresh listed j = (i : ℕ) (d : ListedBlock) → i < j → j < length listed → (get_or listed i d).page ≢ (get_or listed j d).page
 
-pub not_alone : (listed : List ListedBlock) (i : ℕ) (b : ListedBlock) → i < length listed → b ≡ get_or listed i b
-    → true ≡ list_any (λ (o : ListedBlock). o.page == b.page) (drop (i + 1) listed) → AreOnce listed → ⊥
-not_alone listed i b within is some once =
-    let (k, o, low, at, same) = Any-from_list_any _ (drop (i + 1) listed) (sym some) in
-    let here : get_or listed i o ≡ b = sym (get_or_read listed i b within is o) in
-    let there : get_or listed (i + 1 + k) o ≡ o = sym (get_or-drop (i + 1) listed k o) ∙ at in
-    once i (i + 1 + k) o (omega arith) (omega (arith, low, length-drop (i + 1) listed))
-    (ap (λ (x : ListedBlock). x.page) here ∙ sym (eqb-true _ _ same) ∙ sym (ap (λ (x : ListedBlock). x.page) there))
+pub is_fresh : (listed : List ListedBlock) (j : ℕ) (b : ListedBlock) → j < length listed → b ≡ get_or listed j b
+    → is_before listed j b.page ≡ false → IsFresh listed j
+is_fresh listed j b within is none i d before low same =
+    let here : b.page ≡ (get_or listed j d).page = ap (λ (o : ListedBlock). o.page) (get_or_read listed j b within is d) in
+    let there : get_or (take j listed) i d ≡ get_or listed i d = get_or-take j listed i d before in
+    let page : (get_or (take j listed) i d).page ≡ b.page = ap (λ (o : ListedBlock). o.page) there ∙ same ∙ sym here in
+    let room : i < length (take j listed) = omega (arith, before, within, length-take j listed) in
+    true≢false (sym (list_any_at _ (take j listed) i d room (eq-eqb _ _ page)) ∙ none)
 
--- where each is alone, no page is listed twice
-pub all_alone : (listed : List ListedBlock) (end : ℕ) → length listed ≤ end → ((i : ℕ) → i < end → IsAlone listed i) → AreOnce listed
-all_alone listed end past alone i j d before within = alone i (omega (arith, before, within, past)) j d before within
+pub not_fresh : (listed : List ListedBlock) (j : ℕ) (b : ListedBlock) → j < length listed → b ≡ get_or listed j b
+    → is_before listed j b.page ≡ true → AreOnce listed → ⊥
+not_fresh listed j b within is some once =
+    let (k, o, low, at, same) = Any-from_list_any _ (take j listed) some in
+    let before : k < j = omega (arith, low, length-take j listed) in
+    let here : get_or listed j o ≡ b = sym (get_or_read listed j b within is o) in
+    let there : get_or listed k o ≡ o = sym (get_or-take j listed k o before) ∙ at in
+    once k j o before within
+    (ap (λ (x : ListedBlock). x.page) there ∙ eqb-true _ _ same ∙ sym (ap (λ (x : ListedBlock). x.page) here))
 
 -- ---- what is listed of a page
 

@@ -175,7 +175,7 @@ fn members_in(
     let snapshot = members::text_in(alloc, cfg, "SnapshotName")?;
     let created = members::created_in(alloc, cfg)?;
     let blocks = members::blocks_in(alloc, cfg)?;
-    if !are_once(&blocks) {
+    if !are_once(alloc, &blocks)? {
         return Err(CfgError::Syntax);
     }
     let size = members::disk_size_in(cfg, disk)?;

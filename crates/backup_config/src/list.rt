@@ -1,11 +1,11 @@
-ghost use Rattle.std.specs.Prelude.{◌≡◌, ◌↔◌, ◌==◌, ◌+◌, ◌*◌, ◌<◌, ℕ, drop, length, string_bytes, IfOk, IsTrue, All};
-ghost use Rattle.std.specs.List.{list_any};
+ghost use Rattle.std.specs.Prelude.{◌≡◌, ◌↔◌, ◌*◌, ◌<◌, length, string_bytes, IfOk, IsTrue, All};
 ghost use Rattle.vol_units.specs.Size.{IsVolumeSize};
 ghost use Rattle.backup_units.specs.Blocks.{page_bytes};
 ghost use Rattle.backup_config.specs.Lists.{size_of, AreOnce, pages_of};
 
 use backup_units::Checksum;
 use std::alloc::{AllocError, Global};
+use std::collections::BTreeSet;
 use std::marker::Model;
 
 /// A page whose block is listed.
@@ -81,29 +81,17 @@ pub(crate) fn pages_of(
     Ok(blocks)
 }
 
-/// Whether no page is listed twice.
-pub(crate) fn are_once(listed: &[ListedBlock]) -> bool
-    ensures { IsTrue result ↔ AreOnce listed.now }
+/// Whether no page is listed twice. A list that someone made to be slow has thousands of blocks, and none need lie within
+/// the disk: so the pages before are looked up in a set, and not one by one.
+pub(crate) fn are_once(alloc: Global, listed: &[ListedBlock]) -> Result<bool, AllocError>
+    ensures { IfOk result (λ once. IsTrue once ↔ AreOnce listed.now) }
 {
-    for i in 0..listed.len() {
-        let block = listed[i];
-        if is_listed_behind(listed, i, block.page) {
-            return false;
+    let mut seen = BTreeSet::new(alloc);
+    for block in listed {
+        let is_new = seen.insert(block.page)?;
+        if !is_new {
+            return Ok(false);
         }
     }
-    true
-}
-
-/// Whether that page is one of those behind that place.
-fn is_listed_behind(listed: &[ListedBlock], i: usize, page: u64) -> bool
-    requires { i < length listed.now }
-    ensures { result ≡ list_any (λ other. other.page == page) (drop (i + 1) listed.now) }
-{
-    is_listed(page, &listed[i + 1..])
-}
-
-fn is_listed(page: u64, listed: &[ListedBlock]) -> bool
-    ensures { result ≡ list_any (λ other. other.page == page) listed.now }
-{
-    listed.iter().any(|other| other.page == page)
+    Ok(true)
 }
