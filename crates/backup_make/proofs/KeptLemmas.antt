@@ -1,5 +1,5 @@
 -- Pages that are kept, step by step.
-use Rattle.std.proofs.Common.{◌≡◌, ◌≢◌, ℕ, ◌+◌, ◌*◌, ◌<◌, ◌≤◌, Bool, true, false, List, length, set, get_or, Option, None, Some, option_map}
+use Rattle.std.proofs.Common.{◌≡◌, ◌≢◌, ℕ, ◌+◌, ◌<◌, Bool, true, false, List, length, set, get_or, Option, None, Some, option_map}
 use Rattle.std.proofs.Common.{⊎_elim, refl, sym, ap, subst, ◌∙◌, arith, get_or-set_other, get_or-set_same, length-set, take, drop, ◌++◌}
 use Rattle.std.proofs.Math.Seq.{take-append_seam}
 use Rattle.std.proofs.lemmas.Bool.{cases_eq}
@@ -8,7 +8,7 @@ use Rattle.digest.specs.Digest.{digest_text}
 use Rattle.backup_units.specs.Names.{block_name, cfg_name}
 use Rattle.backup_units.proofs.NameLemmas.{block_no_cfg}
 use Rattle.backup_units.specs.Backups.{page_at, listed_of, HoldsPage, IsKept, IsBackup}
-use Rattle.backup_units.specs.Blocks.{page_bytes, is_zeros, KeepsBlocks}
+use Rattle.backup_units.specs.Blocks.{is_zeros, KeepsBlocks}
 use Rattle.backup_make.specs.Giving.{Copies, IsNotFrom, Stays}
 use Rattle.backup_make.specs.Making.{AddsBlocks, KeptElse}
 

@@ -1,4 +1,5 @@
 mod KeptLemmas
+mod DiffersLemmas
 mod StartLemmas
 mod GatherLemmas
 mod DiskLemmas

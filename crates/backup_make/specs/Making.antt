@@ -1,12 +1,12 @@
 -- What making a backup asks and answers.
-use Rattle.std.specs.Prelude.{◌≡◌, ⊤, ◌<◌, ℕ, Bool, true, false, List, length, Option, None, Some}
+use Rattle.std.specs.Prelude.{◌≡◌, ◌≢◌, ⊤, ◌*◌, ◌<◌, ℕ, Bool, true, false, List, length, Option, None, Some}
 use Rattle.outer_traits.specs.declared.error.OuterError.{OuterError}
 use Rattle.outer_traits.specs.declared.error.OuterError.TheVariants as outer
 use Rattle.target_traits.specs.Objects.{Objects}
 use Rattle.block_store.specs.declared.error.StoreError.{StoreError}
 use Rattle.block_store.specs.declared.error.StoreError.TheVariants as store_error
-use Rattle.backup_units.specs.Backups.{IsBackup, IsKept, listed_at}
-use Rattle.backup_units.specs.Blocks.{KeepsBlocks}
+use Rattle.backup_units.specs.Backups.{IsBackup, IsKept, listed_at, listed_of, page_at}
+use Rattle.backup_units.specs.Blocks.{HoldsBlock, KeepsBlocks, page_bytes}
 use Rattle.backup_units.specs.Names.{cfg_name}
 use Rattle.backup_make.specs.Giving.{Copies, IsNotFrom}
 use Rattle.backup_make.specs.declared.giver.Pages.{Pages}
@@ -67,6 +67,27 @@ pub record AddsBlocks (volume : List ℕ) (old new : Objects) : Type 0 where
 abbrev pub KeptElse : Bool → Objects → List ℕ → List ℕ → List (Option (List ℕ)) → ℕ → List ℕ → Type 0
 KeptElse tells objects volume disk listed place pages =
     (page : ℕ) → page < length listed → IsNotFrom place pages page → IsKept tells objects volume disk listed page
+
+-- ---- another block
+
+-- the bytes of a page are listed by that checksum, and the target holds another block of it
+pub record HoldsAnother (objects : Objects) (volume bytes checksum : List ℕ) : Type 0 where
+  pub listed : listed_of bytes ≡ Some checksum
+  pub other : (other : List ℕ) × HoldsBlock objects volume checksum other × (other ≢ bytes)
+
+-- the same of some page of a copy
+abbrev pub HoldsAnotherPage : Objects → List ℕ → Option (List ℕ) → List ℕ → Type 0
+HoldsAnotherPage objects volume copy checksum =
+    (disk : List ℕ) → copy ≡ Some disk
+    → (page : ℕ) × (page * page_bytes < length disk) × HoldsAnother objects volume (page_at disk page) checksum
+
+-- this is true of the checksum of which an error tells that another block has it
+abbrev pub IfDiffers : (List ℕ → Type 0) → MakeError → Type 0
+IfDiffers Is make_error.Exists = ⊤
+IfDiffers Is make_error.NoReplica = ⊤
+IfDiffers Is (make_error.BlockDiffers c) = Is c
+IfDiffers Is make_error.TargetFault = ⊤
+IfDiffers Is make_error.NoMemory = ⊤
 
 -- ---- the base
 

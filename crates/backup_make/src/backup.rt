@@ -6,7 +6,7 @@ ghost use Rattle.backup_units.specs.Faults.{HasFault};
 ghost use Rattle.backup_units.specs.Names.{cfg_name};
 ghost use Rattle.backup_make.specs.Giving.{Stays, HasCopy};
 ghost use Rattle.backup_make.specs.Made.{IsMade, IsMadeDisk, HasCfgs, AnswersMake, LeavesCfg, cfg_of, is_refusal};
-ghost use Rattle.backup_make.specs.Making.{AddsBlocks, IsBase, is_make_fault, lacks_replica, tells_exists};
+ghost use Rattle.backup_make.specs.Making.{AddsBlocks, IsBase, HoldsAnotherPage, IfDiffers, is_make_fault, lacks_replica, tells_exists};
 
 use crate::cfgs::{has_cfg, put_cfgs, same_time, text_of};
 use crate::error::MakeError;
@@ -52,6 +52,10 @@ pub fn make<R: Wait, T: Target, P: PageGiver>(
     ensures unmade { T.tells ≡ true → IfErr result (λ e. is_refusal e ≡ true
         → LeavesCfg volume.now backup.now (T.holds target.old) (T.holds target.new)) }
     ensures none { IfErr result (λ e. lacks_replica e ≡ true → P.has_none pages.new) }
+
+    // For a page that is not all zeros the target holds another block of its checksum.
+    ensures differs { T.tells ≡ true → IfErr result (IfDiffers
+        (HoldsAnotherPage (T.holds target.new) volume.now (P.copies pages.old (P.asked pages.old)))) }
     ensures stays { Stays (P.copies pages.old) (P.copies pages.new) (P.asked pages.old) (P.asked pages.new) }
     ensures cause { HasFault is_make_fault (T.faults target.old) (T.faults target.new) result }
 {
@@ -93,6 +97,8 @@ fn gather_over<R: Wait, T: Target, P: PageGiver>(
     ensures cause { HasFault is_make_fault (T.faults target.old) (T.faults target.new) result }
     ensures none { IfErr result (λ e. lacks_replica e ≡ true → P.has_none pages.new) }
     ensures fresh { IfErr result (λ e. tells_exists e ≡ false) }
+    ensures differs { T.tells ≡ true → IfErr result (IfDiffers
+        (HoldsAnotherPage (T.holds target.new) volume.now (P.copies pages.old (P.asked pages.old)))) }
 {
     let count = size.bytes() as usize / PAGE_LENGTH;
     if let Some(list) = base {

@@ -4,7 +4,7 @@ ghost use Rattle.backup_units.specs.Blocks.{page_bytes};
 ghost use Rattle.backup_units.specs.Faults.{HasFault};
 ghost use Rattle.backup_make.specs.Giving.{Stays, HasCopy};
 ghost use Rattle.backup_make.specs.Making.{AddsBlocks, IsBaseIf, KeptElse, IsStart, listed_in};
-ghost use Rattle.backup_make.specs.Making.{is_make_fault, lacks_replica, tells_exists};
+ghost use Rattle.backup_make.specs.Making.{HoldsAnotherPage, IfDiffers, is_make_fault, lacks_replica, tells_exists};
 
 use crate::error::MakeError;
 use crate::giver::{PageGiver, Pages};
@@ -39,6 +39,8 @@ pub(crate) fn gather_blocks<R: Wait, T: Target, P: PageGiver>(
     ensures cause { HasFault is_make_fault (T.faults target.old) (T.faults target.new) result }
     ensures none { IfErr result (λ e. lacks_replica e ≡ true → P.has_none pages.new) }
     ensures fresh { IfErr result (λ e. tells_exists e ≡ false) }
+    ensures differs { T.tells ≡ true → IfErr result (IfDiffers
+        (HoldsAnotherPage (T.holds target.new) volume.now (P.copies pages.old (P.asked pages.old)))) }
 {
     let found = pages.pages(rt, alloc, base_name)?;
     let blocks = start(alloc, &found, base, count)?;
@@ -66,6 +68,8 @@ fn keep_found<R: Wait, T: Target, P: PageGiver>(
     ensures cause { HasFault is_make_fault (T.faults target.old) (T.faults target.new) result }
     ensures none { IfErr result (λ e. lacks_replica e ≡ true → P.has_none pages.new) }
     ensures fresh { IfErr result (λ e. tells_exists e ≡ false) }
+    ensures differs { T.tells ≡ true → IfErr result (IfDiffers
+        (HoldsAnotherPage (T.holds target.new) volume.now (P.copies pages.old (P.asked pages.old)))) }
 {
     let mut blocks = blocks;
     let mut room = room_of(alloc, PAGE_LENGTH)?;

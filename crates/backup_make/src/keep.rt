@@ -3,7 +3,8 @@ ghost use Rattle.backup_units.specs.Backups.{listed_of, HoldsPage, IsBackup};
 ghost use Rattle.backup_units.specs.Blocks.{page_bytes};
 ghost use Rattle.backup_units.specs.Faults.{HasFault};
 ghost use Rattle.backup_make.specs.Giving.{Stays};
-ghost use Rattle.backup_make.specs.Making.{AddsBlocks, KeptElse, is_make_fault, lacks_replica, tells_exists};
+ghost use Rattle.backup_make.specs.Making.{AddsBlocks, KeptElse, HoldsAnother, HoldsAnotherPage, IfDiffers};
+ghost use Rattle.backup_make.specs.Making.{is_make_fault, lacks_replica, tells_exists};
 
 use crate::error::MakeError;
 use crate::giver::PageGiver;
@@ -37,6 +38,8 @@ pub(crate) fn keep_pages<R: Wait, T: Target, P: PageGiver>(
     ensures cause { HasFault is_make_fault (T.faults target.old) (T.faults target.new) result }
     ensures none { IfErr result (λ e. lacks_replica e ≡ true → P.has_none pages.new) }
     ensures fresh { IfErr result (λ e. tells_exists e ≡ false) }
+    ensures differs { T.tells ≡ true → IfErr result (IfDiffers
+        (HoldsAnotherPage (T.holds target.new) volume.now (P.copies pages.old (P.asked pages.old)))) }
 {
     for page in wanted {
         pages.page(rt, alloc, *page, room)?;
@@ -60,6 +63,7 @@ fn keep_page<T: Target>(
     ensures cause { HasFault is_make_fault (T.faults target.old) (T.faults target.new) result }
     ensures none { IfErr result (λ e. lacks_replica e ≡ false) }
     ensures fresh { IfErr result (λ e. tells_exists e ≡ false) }
+    ensures differs { T.tells ≡ true → IfErr result (IfDiffers (HoldsAnother (T.holds target.new) volume.now page.now)) }
 {
     if is_zeros(page) {
         return Ok(None);
