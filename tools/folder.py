@@ -1,9 +1,9 @@
 """A replica's folder, read from its files: clean, unclean or damaged, and how two that are clean differ first."""
-import json
 import os
 import re
 from typing import NamedTuple
 
+from json_text import is_whole, read_object
 from plain_disk import BLOCK, ZEROS
 from report import NUMBER
 
@@ -104,13 +104,8 @@ class Files:
 
 def members(content):
     """The members of metadata, or None where it is none."""
-    def refuse(text):
-        raise ValueError(text)
-    try:
-        read = json.loads(content.decode(), parse_constant=refuse)
-    except (ValueError, RecursionError):
-        return None
-    return read if isinstance(read, dict) and not any(isinstance(read.get(name), str) and read[name] for name in BACKING) else None
+    read = read_object(content, MOST_METADATA)
+    return None if read is None or any(is_text(read.get(name)) and read[name] for name in BACKING) else read
 
 
 def read_metadata(files, file, kinds):
@@ -158,7 +153,7 @@ def is_size(value):
     """A whole number, or the decimal text of one."""
     if is_text(value):
         return bool(re.fullmatch(NUMBER, value)) and int(value) < 1 << 64
-    return type(value) is int and 0 <= value < 1 << 64
+    return is_whole(value)
 
 
 def is_time(value):
