@@ -1,5 +1,6 @@
 """Tests of the examples, and of run_all with programs that stand for longhorn."""
 import os
+import shutil
 import subprocess
 import sys
 import tempfile
@@ -9,6 +10,7 @@ import asked
 import journal
 import opening
 import script
+import store
 from report import read_report
 
 EXAMPLES = os.path.join(os.path.dirname(os.path.dirname(os.path.abspath(script.__file__))), 'examples')
@@ -37,6 +39,16 @@ def read(name):
         return file.read()
 
 
+def files(top):
+    """All files below a folder, with their bytes."""
+    found = {}
+    for folder, _, names in os.walk(top):
+        for name in names:
+            with open(os.path.join(folder, name), 'rb') as file:
+                found[os.path.relpath(file.name, top)] = file.read()
+    return found
+
+
 def begun(name, replicas):
     """How the run of an example begins: behind another one where its name ends with `_2`."""
     first = name.removesuffix('_2')
@@ -60,6 +72,16 @@ class Examples(unittest.TestCase):
     def test_the_first_script_is_written_byte_by_byte_too(self):
         with open(os.path.join(EXAMPLES, 'first.script'), 'rb') as file:
             self.assertEqual(subprocess.run([os.path.join(EXAMPLES, 'make_first')], capture_output=True).stdout, file.read())
+
+    @unittest.skipUnless(shutil.which('sha512sum'), 'there is no sha512sum here')
+    def test_the_store_that_is_made_is_that_of_its_backups(self):
+        with tempfile.TemporaryDirectory() as made, tempfile.TemporaryDirectory() as wanted:
+            subprocess.run([os.path.join(EXAMPLES, 'make_store')], cwd=made, check=True)
+            for number, page in enumerate((b'', b'a' * 4096)):
+                disk = bytes(store.PAGE) + page.ljust(store.PAGE, b'\0')
+                store.Store(wanted).back_up('abc', 'b%d' % number, 's%d' % number, disk)
+            # Blocks are too long to be shown.
+            self.assertEqual(*({name: store.checksum(held) for name, held in files(top).items()} for top in (made, wanted)))
 
     def test_no_expected_output_has_anything_odd(self):
         for name in NAMES:
