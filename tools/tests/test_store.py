@@ -88,6 +88,14 @@ class Cfgs(unittest.TestCase):
         self.assertEqual(store.spell_volume(CFG), VOLUME_TEXT)
         self.assertEqual(store.read_size(VOLUME_TEXT), CFG.size)
 
+    def test_the_document_shows_a_store(self):
+        digits = store.checksum((b'a' * 4096).ljust(PAGE, b'\0'))
+        cfg = BackupCfg('abc', 'b1', 's1', 2 * PAGE, {1: digits})
+        with open(os.path.join(os.path.dirname(store.__file__), '..', 'docs', 'FORMATS.md'), encoding='utf-8') as file:
+            lines = file.read().splitlines()
+        for text in (store.spell_backup(cfg), store.spell_volume(cfg), b'refused damaged ' + store.block_name('abc', digits).encode()):
+            self.assertIn('    ' + text.decode(), lines)
+
     def test_other_texts_are_read_too(self):
         for members, other in LENIENT:
             cfg = store.read_backup(changed(TEXT, members), 'abc', 'b', 4 * PAGE)
