@@ -3,6 +3,7 @@ reading of the same files does."""
 import json
 import os
 import random
+import re
 import shutil
 import subprocess
 import tempfile
@@ -10,7 +11,7 @@ import unittest
 from collections import Counter
 
 import store
-from built_program import LAUNCHER, ProgramTest
+from built_program import LAUNCHER, TOP, ProgramTest
 from saved_runs import MEMORY
 from store import PAGE, Refused
 from test_store import AWAY, LENIENT, REFUSED, SUM, changed
@@ -224,6 +225,17 @@ class Backups(ProgramTest):
                 zeros += PAGE
             self.assertTrue((zeros, run.stdout.read()) == ((1 << 30) - PAGE, B))
         self.assertEqual(run.returncode, 0)
+
+    @unittest.skipUnless(shutil.which('sha512sum'), 'there is no sha512sum here')
+    def test_the_readme_shows_what_its_commands_print(self):
+        with open(os.path.join(TOP, 'README.md'), encoding='utf-8') as file:
+            text = file.read()
+        commands = r'^    (examples/make_store|\./longhorn (?:backups|restore) .*?) +# (.*)$'
+        made, listed, restored = re.findall(commands, text, re.MULTILINE)
+        subprocess.run([os.path.join(TOP, made[0])], cwd=self.room, check=True)
+        self.assertEqual(re.findall('`(backup .*?)`', listed[1]), self.compare(*listed[0].split(' ')[1:]).decode().splitlines())
+        disk = self.compare(*restored[0].partition(' >')[0].split(' ')[1:])
+        self.assertIn('%d MiB' % (len(disk) >> 20), restored[1])
 
     def test_words_that_ask_for_nothing(self):
         self.anew()
