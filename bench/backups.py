@@ -1,0 +1,136 @@
+#!/usr/bin/env python3
+"""backups.py PROGRAM PEER [REPEATS]
+
+Times restores of a built longhorn against the peer, a fast plain Rust program of the same work, by the clock, from a store in
+memory where there is /dev/shm. The peer makes the stores, since the program has no command that does: F is 64 MiB, all written, of
+which an eighth was written anew between two backups, and the second one is restored; S is 1 GiB with one block. What both write has
+to be the same, and it is thrown away while they are timed. By turns: medians with the least and the greatest, the ratio of the
+medians, and that of neighbours. Time and memory of a run are taken by PEER-meter, a small program that stands beside the peer: what
+this script itself has would else be counted.
+
+Each block is digested twice, in the look before and when it is written. So F is also set against twice the time of the digest alone,
+which is what a run on the same 64 MiB takes longer where its replica does not fail at the end: its head is then digested once.
+"""
+import hashlib
+import os
+import shutil
+import statistics
+import subprocess
+import sys
+import tempfile
+
+from folders import GIB, MEMORY, MIB, RUN, filled, keep, spread, write
+
+# The names by which each is known.
+WHOSE = ('the program', 'the peer')
+
+
+def megabyte(place, turn):
+    """A MiB of blocks, each of one byte, which is another at each turn."""
+    return b''.join(filled(number + turn) for number in range(place * 256, place * 256 + 256))
+
+
+def all_of_it():
+    """The frames that write 64 MiB."""
+    return (write(place, place * MIB, megabyte(place, 0)) for place in range(64))
+
+
+def an_eighth():
+    """The frames that write each eighth MiB anew."""
+    return (write(place, place * MIB, megabyte(place, 1)) for place in range(0, 64, 8))
+
+
+def a_block():
+    """The frame that writes a block late in 1 GiB."""
+    yield write(1, GIB - 4096, filled(1))
+
+
+class Race:
+    """Runs of programs in rooms of their own below one folder."""
+
+    def __init__(self, top, meter):
+        self.top = top
+        self.meter = meter
+
+    def ran(self, program, words, room, given=None, kept=None):
+        """The seconds that a run takes, and the most MiB that it has."""
+        figures = os.path.join(self.top, 'figures')
+        with open(given or os.devnull, 'rb') as source, open(kept or os.devnull, 'wb') as sink:
+            subprocess.run([self.meter, figures, program, *words], stdin=source, stdout=sink, cwd=room, check=True)
+        with open(figures, encoding='ascii') as file:
+            status, nanoseconds, kibibytes = map(int, file.read().split()[:3])
+        if status != 0:
+            sys.exit('%s %s ended with %d' % (program, ' '.join(words), status))
+        return nanoseconds / 1e9, kibibytes / 1024
+
+    def written(self, program, words, room):
+        """A digest of what a run writes."""
+        kept = os.path.join(self.top, 'kept')
+        self.ran(program, words, room, kept=kept)
+        with open(kept, 'rb') as file:
+            digest = hashlib.file_digest(file, 'sha256').hexdigest()
+        os.remove(kept)
+        return digest
+
+    def store(self, peer, name, size, streams):
+        """A room with the store that the peer leaves behind these streams."""
+        room = os.path.join(self.top, name)
+        os.mkdir(room)
+        given = keep(os.path.join(self.top, name + '-script'), size, 1, {}, [*streams, ['fail r0']])
+        self.ran(peer, RUN, room, given)
+        os.remove(given)
+        return room
+
+    def turns(self, programs, words, room, repeats):
+        """What each program takes, turn by turn. They take turns in going first."""
+        for number in range(repeats):
+            turn = [None] * len(programs)
+            for which in range(len(programs))[::1 if number % 2 else -1]:
+                turn[which] = self.ran(programs[which], words, room)
+            yield turn
+
+
+def tell(name, turns):
+    """Prints what each takes, and how they compare. The median time of the first is given back."""
+    seconds = [[turn[which][0] for turn in turns] for which in (0, 1)]
+    most = [statistics.median(turn[which][1] for turn in turns) for which in (0, 1)]
+    for which in (0, 1):
+        print('%s, %s: %s s; most memory %.1f MiB' % (name, WHOSE[which], spread(seconds[which], '%.4f'), most[which]))
+    medians = [statistics.median(each) for each in seconds]
+    print('%s: %.2f of the peer\'s time by the medians, by neighbours %s; %.2f of its memory'
+          % (name, medians[0] / medians[1], spread([own / other for own, other in zip(*seconds)], '%.2f'), most[0] / most[1]))
+    return medians[0]
+
+
+def digest_alone(runs, program, streams, repeats):
+    """The seconds that the digest of 64 MiB takes: by turns, a run whose head is digested and one whose replica fails."""
+    paths = [keep(os.path.join(runs.top, 'digest-%d' % len(end)), 64 * MIB, 1, {}, [*streams, *end]) for end in ([], [['fail r0']])]
+    differences = []
+    for _ in range(repeats):
+        with_digest, without = (runs.ran(program, RUN, runs.top, path)[0] for path in paths)
+        differences.append(with_digest - without)
+    return differences
+
+
+def main():
+    program, peer = map(os.path.abspath, sys.argv[1:3])
+    repeats = int(sys.argv[3]) if len(sys.argv) > 3 else 7
+    whole = [all_of_it, ['snapshot a'], an_eighth]
+    with tempfile.TemporaryDirectory(dir=MEMORY if os.access(MEMORY, os.W_OK) else None) as top:
+        runs = Race(top, peer + '-meter')
+        stores = [('F', runs.store(peer, 'F', 64 * MIB, [*whole, ['snapshot b', 'backup b1 a', 'backup b2 b']])),
+                  ('S', runs.store(peer, 'S', GIB, [a_block, ['snapshot b', 'backup b2 b']]))]
+        for name, room in stores:
+            for words in (['backups', 'v'], ['restore', 'b2', 'v']):
+                if runs.written(program, words, room) != runs.written(peer, words, room):
+                    sys.exit('%s: the two do not write the same for `%s`' % (name, ' '.join(words)))
+            seconds = tell(name, list(runs.turns((program, peer), ['restore', 'b2', 'v'], room, repeats)))
+            if name == 'F':
+                digests = digest_alone(runs, program, whole, repeats)
+                print('F: the digest alone takes %s s; the restore takes %.2f of twice that'
+                      % (spread(digests, '%.4f'), seconds / 2 / statistics.median(digests)))
+            shutil.rmtree(room)
+
+
+if __name__ == '__main__':
+    main()
