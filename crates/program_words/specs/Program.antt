@@ -1,14 +1,28 @@
 -- The program as `clap` (clap 4) is told of it. A word more is a subcommand more.
 use Rattle.std.specs.Prelude.{true, Some, codes}
-use Rattle.clap.specs.Words.{App, new_app, new_rule, with_rule, with_subcommand}
+use Rattle.clap.specs.Words.{App, Rule, Text, new_app, new_rule, with_rule, with_subcommand}
 use Rattle.clap.specs.Simple.{on_top}
+
+-- a positional argument that has to be there, a text
+abbrev pub positional : Text → Rule
+positional id = record (new_rule id) { required = true }
 
 -- `run`, with an option `--workers` that takes a text
 abbrev pub run_app : App
 run_app = with_rule (new_app (codes "run")) (record (new_rule (codes "workers")) { long = Some (codes "workers") })
 
--- the program: its words do not begin with its name, and one of its subcommands is named
+-- `restore BACKUP VOLUME`
+abbrev pub restore_app : App
+restore_app = with_rule (with_rule (new_app (codes "restore")) (positional (codes "backup"))) (positional (codes "volume"))
+
+-- `backups VOLUME`
+abbrev pub backups_app : App
+backups_app = with_rule (new_app (codes "backups")) (positional (codes "volume"))
+
+-- no subcommand yet: the words do not begin with the program's name, and one of its subcommands is named
+abbrev pub bare_program : App
+bare_program = on_top (λ s. record s { no_binary_name = true; subcommand_required = true }) (new_app (codes "longhorn"))
+
+-- the program, with its three subcommands
 abbrev pub program : App
-program = with_subcommand
-    (on_top (λ s. record s { no_binary_name = true; subcommand_required = true }) (new_app (codes "longhorn")))
-    run_app.top
+program = with_subcommand (with_subcommand (with_subcommand bare_program run_app.top) restore_app.top) backups_app.top

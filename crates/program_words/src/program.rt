@@ -1,7 +1,7 @@
 ghost use Rattle.std.specs.Prelude.{◌≡◌, IfOk, false};
-ghost use Rattle.clap.specs.Words.{app_of};
+ghost use Rattle.clap.specs.Words.{app_of, rule_of};
 ghost use Rattle.clap.specs.declared.builder.Command.TheViews.{out-Command as fields_of};
-ghost use Rattle.program_words.specs.Program.{program, run_app};
+ghost use Rattle.program_words.specs.Program.{backups_app, positional, program, restore_app, run_app};
 
 use clap::{Arg, Command};
 use std::alloc::{AllocError, Global};
@@ -13,7 +13,9 @@ pub fn command<'a>(alloc: Global) -> Result<Command<'a>, AllocError>
     Command::new(alloc, "longhorn")
         .no_binary_name(true)
         .subcommand_required(true)
-        .subcommand(run_command(alloc)?)
+        .subcommand(run_command(alloc)?)?
+        .subcommand(restore_command(alloc)?)?
+        .subcommand(backups_command(alloc)?)
 }
 
 fn run_command<'a>(alloc: Global) -> Result<Command<'a>, AllocError>
@@ -22,4 +24,21 @@ fn run_command<'a>(alloc: Global) -> Result<Command<'a>, AllocError>
 {
     let workers = Arg::new(alloc, "workers").long("workers");
     Command::new(alloc, "run").arg(workers)
+}
+
+fn restore_command<'a>(alloc: Global) -> Result<Command<'a>, AllocError>
+    ensures shape { IfOk result (λ c. app_of c ≡ restore_app) }
+    ensures local { IfOk result (λ c. (fields_of c).has_globals ≡ false) }
+{
+    let backup = Arg::new(alloc, "backup").required(true);
+    let volume = Arg::new(alloc, "volume").required(true);
+    Command::new(alloc, "restore").arg(backup)?.arg(volume)
+}
+
+fn backups_command<'a>(alloc: Global) -> Result<Command<'a>, AllocError>
+    ensures shape { IfOk result (λ c. app_of c ≡ backups_app) }
+    ensures local { IfOk result (λ c. (fields_of c).has_globals ≡ false) }
+{
+    let volume = Arg::new(alloc, "volume").required(true);
+    Command::new(alloc, "backups").arg(volume)
 }

@@ -1,12 +1,14 @@
 ghost use Rattle.std.specs.Prelude.{◌≡◌, None, Some, map, IfOk, IsErrOf, codes, string_bytes};
 ghost use Rattle.clap.specs.Words.{first_of, found_of, kind_of, rows_of, subcommand_rows_of};
-ghost use Rattle.program_words.specs.Asked.{asked_at, asked_by, asked_named, workers_named, workers_of, IsErrorOf};
+ghost use Rattle.program_words.specs.Asked.{asked_at, asked_by, asked_named, backups_of, name_at, plain_name, restore_of};
+ghost use Rattle.program_words.specs.Asked.{run_of, workers_named, workers_of, IsErrorOf};
 ghost use Rattle.program_words.specs.declared.words.WordsError.TheVariants.{NoMemory};
 
 use crate::program::command;
 use clap::ArgMatches;
 use clap::error::ErrorKind;
 use std::alloc::{AllocError, Global};
+use vol_units::PlainName;
 
 /// Who serves the streams of a script.
 #[derive(Clone, Copy, Debug, PartialEq, Eq)]
@@ -21,7 +23,18 @@ pub enum Workers {
 #[derive(Clone, Copy, Debug, PartialEq, Eq)]
 pub enum Words {
     /// To run a script.
-    Run { workers: Workers },
+    Run {
+        workers: Workers,
+    },
+    /// To write the disk that a volume's backup has.
+    Restore {
+        backup: PlainName,
+        volume: PlainName,
+    },
+    /// To list a volume's backups.
+    Backups {
+        volume: PlainName,
+    },
 }
 
 /// Why nothing is asked.
@@ -68,27 +81,65 @@ pub fn read_words(alloc: Global, words: &[String]) -> Result<Words, WordsError>
 fn words_in(matches: &ArgMatches<'_>) -> Option<Words>
     ensures { result ≡ asked_named (subcommand_rows_of matches.now) }
 {
-    let (name, options) = matches.subcommand()?;
-    asked_at(name, options)
+    let (name, arguments) = matches.subcommand()?;
+    asked_at(name, arguments)
 }
 
-/// What the subcommand of this name asks for, with these options.
-fn asked_at(name: &str, options: &ArgMatches<'_>) -> Option<Words>
-    ensures { result ≡ asked_at name.now (rows_of (found_of options.now)) }
+/// What the subcommand of this name asks for, with these arguments.
+fn asked_at(name: &str, arguments: &ArgMatches<'_>) -> Option<Words>
+    ensures { result ≡ asked_at name.now (rows_of (found_of arguments.now)) }
 {
-    if name != "run" {
-        return None;
+    match name {
+        "run" => run_in(arguments),
+        "restore" => restore_in(arguments),
+        "backups" => backups_in(arguments),
+        _ => None,
     }
-    let workers = workers_in(options)?;
+}
+
+fn run_in(arguments: &ArgMatches<'_>) -> Option<Words>
+    ensures { result ≡ run_of (rows_of (found_of arguments.now)) }
+{
+    let workers = workers_in(arguments)?;
     Some(Words::Run { workers })
+}
+
+fn restore_in(arguments: &ArgMatches<'_>) -> Option<Words>
+    ensures { result ≡ restore_of (rows_of (found_of arguments.now)) }
+{
+    let backup = name_in(arguments, "backup")?;
+    let volume = name_in(arguments, "volume")?;
+    Some(Words::Restore { backup, volume })
+}
+
+fn backups_in(arguments: &ArgMatches<'_>) -> Option<Words>
+    ensures { result ≡ backups_of (rows_of (found_of arguments.now)) }
+{
+    let volume = name_in(arguments, "volume")?;
+    Some(Words::Backups { volume })
+}
+
+/// The name that is given for an argument, if one is given.
+#[tactic(auto, using(crate::proofs::AskedLemmas::first_values))]
+fn name_in(arguments: &ArgMatches<'_>, id: &str) -> Option<PlainName>
+    ensures { result ≡ name_at id.now (rows_of (found_of arguments.now)) }
+{
+    let text = arguments.get_str(id)?;
+    name_of(text)
+}
+
+fn name_of(text: &str) -> Option<PlainName>
+    ensures { result ≡ plain_name text.now }
+{
+    PlainName::read(text.as_bytes()).ok()
 }
 
 /// Who is to serve, by the options of `run`.
 #[tactic(auto, using(crate::proofs::AskedLemmas::first_values))]
-fn workers_in(options: &ArgMatches<'_>) -> Option<Workers>
-    ensures { result ≡ workers_of (first_of (codes "workers") (rows_of (found_of options.now))) }
+fn workers_in(arguments: &ArgMatches<'_>) -> Option<Workers>
+    ensures { result ≡ workers_of (first_of (codes "workers") (rows_of (found_of arguments.now))) }
 {
-    match options.get_str("workers") {
+    match arguments.get_str("workers") {
         None => Some(Workers::Each),
         Some(value) => workers_named(value),
     }
