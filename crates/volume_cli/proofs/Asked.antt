@@ -5,14 +5,15 @@ use Rattle.program_words.specs.declared.words.Words.{Words}
 use Rattle.program_words.specs.declared.words.WordsError.{WordsError}
 use Rattle.program_words.specs.declared.words.Words.TheVariants.{Run}
 
--- what is asked is a run: there is nothing else yet
-a_run : (asked : Option Words) (words : Words) → asked ≡ Some words → (workers : Workers) × (asked ≡ Some (Run workers))
-a_run asked (Run workers) is = (workers, is)
+-- what was read is what is asked for
+pub asks_that : (asked : Option Words) (result : Result Words WordsError) (read words : Words) → result ≡ Ok read → read ≡ words
+    → IfOk result (λ w. asked ≡ Some w) → asked ≡ Some words
+asks_that asked result read words at is found =
+    subst (λ w. asked ≡ Some w) is (subst (λ r. IfOk r (λ w. asked ≡ Some w)) at found)
 
-pub asks_run : (asked : Option Words) (result : Result Words WordsError) (words : Words) → result ≡ Ok words
-    → IfOk result (λ w. asked ≡ Some w)
-    → (workers : Workers) × (asked ≡ Some (Run workers))
-asks_run asked result words at found = a_run asked words (subst (λ r. IfOk r (λ w. asked ≡ Some w)) at found)
+-- and nothing else is
+pub one_words : (asked : Option Words) (a b : Words) → asked ≡ Some a → asked ≡ Some b → a ≡ b
+one_words asked a b is too = cc
 
 pub same_workers : (asked given : Workers) → Some (Run asked) ≡ Some (Run given) → asked ≡ given
 same_workers asked given is = cc

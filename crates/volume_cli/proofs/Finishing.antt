@@ -79,8 +79,10 @@ run_counts (status.Script place what) s t k l h i read c = absurd c
 run_counts status.ReadFault s t k l h i read c = absurd c
 run_counts status.WriteFault s t k l h i read c = (read, c.0, c.1)
 run_counts status.ShelfFault s t k l h i read c = (read, c.0, c.1)
+run_counts status.TargetFault s t k l h i read c = absurd c
 run_counts status.NoMemory s t k l h i read c = (read, c.0, c.1)
 run_counts (status.NoCleanShelf reasons) s t k l h i read c = absurd c
+run_counts (status.Refused kind name) s t k l h i read c = absurd c
 
 pub run_found : (left : Option (List ℕ)) (held : Option Files) (script : Script) (begin : Begin) (st : Status) (k l h i : ℕ)
     → HadScript left script → HasBegun held script begin → FinishCounts st k l h i → Found left held st
@@ -90,8 +92,10 @@ run_found left held script begin (status.Script place what) k l h i had begun c 
 run_found left held script begin status.ReadFault k l h i had begun c = absurd c
 run_found left held script begin status.WriteFault k l h i had begun c = (script, had, (begin, begun))
 run_found left held script begin status.ShelfFault k l h i had begun c = (script, had)
+run_found left held script begin status.TargetFault k l h i had begun c = absurd c
 run_found left held script begin status.NoMemory k l h i had begun c = tt
 run_found left held script begin (status.NoCleanShelf reasons) k l h i had begun c = absurd c
+run_found left held script begin (status.Refused kind name) k l h i had begun c = absurd c
 
 -- what is left of a run that was served
 module _ (Runs : RunFact) (same untouched still : Type 0) (left old new : Option (List ℕ)) (script : Script) (begin : Begin)
@@ -118,5 +122,7 @@ module _ (Runs : RunFact) (same untouched still : Type 0) (left old new : Option
   run_leaves status.ReadFault k l h i runs whole prefix c = absurd c
   run_leaves status.WriteFault k l h i runs whole prefix c = prefix_of status.WriteFault runs prefix
   run_leaves status.ShelfFault k l h i runs whole prefix c = inr (whole_of status.ShelfFault runs whole)
+  run_leaves status.TargetFault k l h i runs whole prefix c = absurd c
   run_leaves status.NoMemory k l h i runs whole prefix c = inr (prefix_of status.NoMemory runs prefix)
   run_leaves (status.NoCleanShelf reasons) k l h i runs whole prefix c = absurd c
+  run_leaves (status.Refused kind name) k l h i runs whole prefix c = absurd c

@@ -67,8 +67,10 @@ read_counts (status.Script place what) s t k h end = absurd end
 read_counts status.ReadFault s t k h end = (end, refl, refl)
 read_counts status.WriteFault s t k h end = absurd end
 read_counts status.ShelfFault s t k h end = absurd end
+read_counts status.TargetFault s t k h end = absurd end
 read_counts status.NoMemory s t k h end = (end, inr refl, refl)
 read_counts (status.NoCleanShelf reasons) s t k h end = absurd end
+read_counts (status.Refused kind name) s t k h end = absurd end
 
 pub read_found : (left : Option (List ℕ)) (held : Option Files) (st : Status) (s t : ℕ) → ReadEnd s t st → Found left held st
 read_found left held status.Done s t end = absurd end
@@ -77,8 +79,10 @@ read_found left held (status.Script place what) s t end = absurd end
 read_found left held status.ReadFault s t end = tt
 read_found left held status.WriteFault s t end = absurd end
 read_found left held status.ShelfFault s t end = absurd end
+read_found left held status.TargetFault s t end = absurd end
 read_found left held status.NoMemory s t end = tt
 read_found left held (status.NoCleanShelf reasons) s t end = absurd end
+read_found left held (status.Refused kind name) s t end = absurd end
 
 pub read_not_done : (st : Status) (s t : ℕ) → ReadEnd s t st → st ≡ status.Done → ⊥
 read_not_done st s t end is = subst (ReadEnd s t) is end
@@ -92,8 +96,10 @@ module _ (Runs : RunFact) (same untouched still : Type 0) (left old new : Option
   read_leaves status.ReadFault s t kept whole held end = (kept, whole)
   read_leaves status.WriteFault s t kept whole held end = absurd end
   read_leaves status.ShelfFault s t kept whole held end = absurd end
+  read_leaves status.TargetFault s t kept whole held end = absurd end
   read_leaves status.NoMemory s t kept whole held end = inl (kept, held)
   read_leaves (status.NoCleanShelf reasons) s t kept whole held end = absurd end
+  read_leaves (status.Refused kind name) s t kept whole held end = absurd end
 
   -- a script was refused so
   pub refused_leaves : (fault : ScriptError) → same → untouched → still → Leaves Runs same untouched still left old new (status_of fault)
@@ -109,8 +115,10 @@ module _ (Runs : RunFact) (same untouched still : Type 0) (left old new : Option
   begin_leaves held script status.ReadFault h i kept stays end = absurd end
   begin_leaves held script status.WriteFault h i kept stays end = absurd end
   begin_leaves held script status.ShelfFault h i kept stays end = inl (kept, stays)
+  begin_leaves held script status.TargetFault h i kept stays end = absurd end
   begin_leaves held script status.NoMemory h i kept stays end = inl (kept, stays)
   begin_leaves held script (status.NoCleanShelf reasons) h i kept stays end = (kept, stays)
+  begin_leaves held script (status.Refused kind name) h i kept stays end = absurd end
 
 -- ---- a script was refused so
 
@@ -138,8 +146,10 @@ begin_counts held script (status.Script place what) s t k h i read end = absurd 
 begin_counts held script status.ReadFault s t k h i read end = absurd end
 begin_counts held script status.WriteFault s t k h i read end = absurd end
 begin_counts held script status.ShelfFault s t k h i read end = (read, refl, end)
+begin_counts held script status.TargetFault s t k h i read end = absurd end
 begin_counts held script status.NoMemory s t k h i read end = (read, inr refl, end)
 begin_counts held script (status.NoCleanShelf reasons) s t k h i read end = (read, refl, end.0)
+begin_counts held script (status.Refused kind name) s t k h i read end = absurd end
 
 pub begin_found : (left : Option (List ℕ)) (held : Option Files) (script : Script) (st : Status) (h i : ℕ) → HadScript left script
     → BeginEnd held script h i st → Found left held st
@@ -149,8 +159,10 @@ begin_found left held script (status.Script place what) h i had end = absurd end
 begin_found left held script status.ReadFault h i had end = absurd end
 begin_found left held script status.WriteFault h i had end = absurd end
 begin_found left held script status.ShelfFault h i had end = (script, had)
+begin_found left held script status.TargetFault h i had end = absurd end
 begin_found left held script status.NoMemory h i had end = tt
 begin_found left held script (status.NoCleanShelf reasons) h i had end = (script, had, end.1)
+begin_found left held script (status.Refused kind name) h i had end = absurd end
 
 pub begin_not_done : (held : Option Files) (script : Script) (st : Status) (h i : ℕ) → BeginEnd held script h i st → st ≡ status.Done → ⊥
 begin_not_done held script st h i end is = subst (BeginEnd held script h i) is end

@@ -4,3 +4,4 @@ pub mod Statuses
 pub mod Input
 pub mod Folders
 pub mod Finishing
+pub mod StoreLemmas

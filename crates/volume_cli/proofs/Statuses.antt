@@ -1,8 +1,9 @@
 -- What the status of a run says at the top, of the counts of faults and of what was found.
-use Rattle.std.proofs.Common.{◌≡◌, ◌↔◌, ℕ, ◌<◌, ◌-◌, ◌^◌, Option, Some, None, IfSome}
+use Rattle.std.proofs.Common.{◌≡◌, ◌↔◌, ℕ, ◌<◌, ◌-◌, ◌^◌, Bool, Option, Some, None, IfSome}
 use Rattle.std.proofs.Common.{List, [], String, refl, ap, subst, ◌∙◌, inl, inr, arith}
 use Rattle.outer_traits.specs.Causes.{Rose}
 use Rattle.shelf_traits.specs.Files.{Files}
+use Rattle.target_traits.specs.Objects.{Objects}
 use Rattle.script_text.specs.declared.script.Script.{Script}
 use Rattle.script_text.specs.declared.what.What.{What}
 use Rattle.script_text.specs.Script.{IsScript, IsNoScript}
@@ -11,7 +12,7 @@ use Rattle.volume_cli.specs.declared.status.Status.{Status}
 use Rattle.volume_cli.specs.declared.status.Status.TheVariants as status
 use Rattle.volume_cli.specs.Begun.{CanBegin, CannotBegin}
 use Rattle.volume_cli.specs.Ends.{Counts, Found}
-use Rattle.volume_cli.specs.Headline.{AskRun, IsStatus, ExactlyWhere, TellsNoCleanShelf, Refusal}
+use Rattle.volume_cli.specs.Headline.{AskRun, IsStatus, ExactlyWhere, TellsNoCleanShelf, RefusedOnly}
 use Rattle.volume_cli.proofs.Beginnings.{had_no_refusal, had_begun, had_not_begun}
 
 -- a count below its type's end that rose is greater
@@ -21,7 +22,7 @@ rose_more h i low rose = omega (arith, low, rose)
 more_rose : (h i : ℕ) → h < i → Rose h i
 more_rose h i more = omega (arith, more)
 
-rose_not_same : (h i : ℕ) → h < 2 ^ 64 - 1 → Rose h i → i ≡ h → ⊥
+pub rose_not_same : (h i : ℕ) → h < 2 ^ 64 - 1 → Rose h i → i ≡ h → ⊥
 rose_not_same h i low rose same = omega (arith, low, rose, same)
 
 same_not_more : (h i : ℕ) → i ≡ h → h < i → ⊥
@@ -50,8 +51,10 @@ module _ (s t k l h i : ℕ) (low_s : s < 2 ^ 64 - 1) (low_k : k < 2 ^ 64 - 1) (
   read_by status.ReadFault c more = refl
   read_by status.WriteFault c more = absurd (same_not_more s t c.0 more)
   read_by status.ShelfFault c more = absurd (same_not_more s t c.0 more)
+  read_by status.TargetFault c more = absurd (same_not_more s t c.0 more)
   read_by status.NoMemory c more = absurd (same_not_more s t c.0 more)
   read_by (status.NoCleanShelf reasons) c more = absurd (same_not_more s t c.0 more)
+  read_by (status.Refused kind name) c more = absurd (same_not_more s t c.0 more)
 
   write_by : (st : Status) → Counts st s t k l h i → k < l → IsStatus st status.WriteFault
   write_by status.Done c more = absurd (same_not_more k l c.1 more)
@@ -60,8 +63,10 @@ module _ (s t k l h i : ℕ) (low_s : s < 2 ^ 64 - 1) (low_k : k < 2 ^ 64 - 1) (
   write_by status.ReadFault c more = absurd (same_not_more k l c.1 more)
   write_by status.WriteFault c more = inl refl
   write_by status.ShelfFault c more = absurd (same_not_more k l c.1 more)
+  write_by status.TargetFault c more = absurd (same_not_more k l c.1 more)
   write_by status.NoMemory c more = inr refl
   write_by (status.NoCleanShelf reasons) c more = absurd (same_not_more k l c.1 more)
+  write_by (status.Refused kind name) c more = absurd (same_not_more k l c.1 more)
 
   shelf_by : (st : Status) → Counts st s t k l h i → (h < i) × (l ≡ k) → st ≡ status.ShelfFault
   shelf_by status.Done c more = absurd (same_not_more h i c.2 more.0)
@@ -70,8 +75,10 @@ module _ (s t k l h i : ℕ) (low_s : s < 2 ^ 64 - 1) (low_k : k < 2 ^ 64 - 1) (
   shelf_by status.ReadFault c more = absurd (same_not_more h i c.2 more.0)
   shelf_by status.WriteFault c more = absurd (rose_not_same k l low_k c.1 more.1)
   shelf_by status.ShelfFault c more = refl
+  shelf_by status.TargetFault c more = absurd (same_not_more h i c.2 more.0)
   shelf_by status.NoMemory c more = absurd (same_not_more h i c.2 more.0)
   shelf_by (status.NoCleanShelf reasons) c more = absurd (same_not_more h i c.2 more.0)
+  shelf_by (status.Refused kind name) c more = absurd (same_not_more h i c.2 more.0)
 
   -- the clauses of the top call
 
@@ -101,9 +108,11 @@ module _ (s t k l h i : ℕ) (low_s : s < 2 ^ 64 - 1) (low_k : k < 2 ^ 64 - 1) (
     refuses status.ReadFault c found same place what bad = absurd (rose_not_same s t low_s c.0 same)
     refuses status.WriteFault c (script, had, (begin, begun)) same place what bad = absurd (had_no_refusal told script place what had bad)
     refuses status.ShelfFault c (script, had) same place what bad = absurd (had_no_refusal told script place what had bad)
+    refuses status.TargetFault c found same place what bad = absurd found
     refuses status.NoMemory c found same place what bad = inr refl
     refuses (status.NoCleanShelf reasons) c (script, had, none) same place what bad =
         absurd (had_no_refusal told script place what had bad)
+    refuses (status.Refused kind name) c found same place what bad = absurd found
 
     -- of folders of which none is clean, that is told
     pub tells_none : (st : Status) → Counts st s t k l h i → Found (Some told) held st → t ≡ s → i ≡ h
@@ -116,8 +125,10 @@ module _ (s t k l h i : ℕ) (low_s : s < 2 ^ 64 - 1) (low_k : k < 2 ^ 64 - 1) (
     tells_none status.WriteFault c (other, had, (begin, begun)) same still script is cannot =
         absurd (had_begun told held other script begin had begun is cannot)
     tells_none status.ShelfFault c found same still script is cannot = absurd (rose_not_same h i low_h c.2 still)
+    tells_none status.TargetFault c found same still script is cannot = absurd found
     tells_none status.NoMemory c found same still script is cannot = ([], inr refl)
     tells_none (status.NoCleanShelf reasons) c found same still script is cannot = (reasons, inl refl)
+    tells_none (status.Refused kind name) c found same still script is cannot = absurd found
 
     -- and what can be run is done, where nothing fails
     pub completes : (st : Status) → Counts st s t k l h i → Found (Some told) held st → t ≡ s → l ≡ k → i ≡ h
@@ -128,9 +139,11 @@ module _ (s t k l h i : ℕ) (low_s : s < 2 ^ 64 - 1) (low_k : k < 2 ^ 64 - 1) (
     completes status.ReadFault c found same dry still script is can = absurd (rose_not_same s t low_s c.0 same)
     completes status.WriteFault c found same dry still script is can = absurd (rose_not_same k l low_k c.1 dry)
     completes status.ShelfFault c found same dry still script is can = absurd (rose_not_same h i low_h c.2 still)
+    completes status.TargetFault c found same dry still script is can = absurd found
     completes status.NoMemory c found same dry still script is can = inr refl
     completes (status.NoCleanShelf reasons) c (other, had, none) same dry still script is can =
         absurd (had_not_begun told held other script reasons had none is can)
+    completes (status.Refused kind name) c found same dry still script is can = absurd found
 
   -- the same where the source may tell nothing
   module _ (left : Option (List ℕ)) (held : Option Files) (st : Status) (c : Counts st s t k l h i)
@@ -162,17 +175,19 @@ module _ (s t k l h i : ℕ) (low_s : s < 2 ^ 64 - 1) (low_k : k < 2 ^ 64 - 1) (
         by None found = tt
         by (Some told) found = completes told held st c found same dry still
 
--- a refusal is told only of a run
-pub refused_only : {A : Type 0} (words : List (String A)) (left : Option (List ℕ)) (held : Option Files) (st : Status)
-    → AskRun words → Found left held st → Refusal words left held st
-refused_only words left held status.Done asks found = tt
-refused_only words left held status.Usage asks found = tt
-refused_only words left held (status.Script place what) asks found = (asks, found)
-refused_only words left held status.ReadFault asks found = tt
-refused_only words left held status.WriteFault asks found = tt
-refused_only words left held status.ShelfFault asks found = tt
-refused_only words left held status.NoMemory asks found = tt
-refused_only words left held (status.NoCleanShelf reasons) asks found = (asks, found)
+-- a refusal is told only of what it is a refusal of
+pub refused_only : {A : Type 0} (words : List (String A)) (left : Option (List ℕ)) (held : Option Files) (tells : Bool)
+    (objects : Objects) (st : Status) → AskRun words → Found left held st → RefusedOnly words left held tells objects st
+refused_only words left held tells objects status.Done asks found = tt
+refused_only words left held tells objects status.Usage asks found = tt
+refused_only words left held tells objects (status.Script place what) asks found = (asks, found)
+refused_only words left held tells objects status.ReadFault asks found = tt
+refused_only words left held tells objects status.WriteFault asks found = tt
+refused_only words left held tells objects status.ShelfFault asks found = tt
+refused_only words left held tells objects status.TargetFault asks found = absurd found
+refused_only words left held tells objects status.NoMemory asks found = tt
+refused_only words left held tells objects (status.NoCleanShelf reasons) asks found = (asks, found)
+refused_only words left held tells objects (status.Refused kind name) asks found = absurd found
 
 -- a run is no usage error
 pub no_usage : (left : Option (List ℕ)) (held : Option Files) (st : Status) → Found left held st → st ≡ status.Usage → ⊥

@@ -30,8 +30,10 @@ Counts (status.Script place what) s t k l h i = (t ≡ s) × (l ≡ k) × (i ≡
 Counts status.ReadFault s t k l h i = Rose s t × (l ≡ k) × (i ≡ h)
 Counts status.WriteFault s t k l h i = (t ≡ s) × Rose k l × (Rose h i ⊎ (i ≡ h))
 Counts status.ShelfFault s t k l h i = (t ≡ s) × (l ≡ k) × Rose h i
+Counts status.TargetFault s t k l h i = (t ≡ s) × (l ≡ k) × (i ≡ h)
 Counts status.NoMemory s t k l h i = (t ≡ s) × (Rose k l ⊎ (l ≡ k)) × (i ≡ h)
 Counts (status.NoCleanShelf reasons) s t k l h i = (t ≡ s) × (l ≡ k) × (i ≡ h)
+Counts (status.Refused kind name) s t k l h i = (t ≡ s) × (l ≡ k) × (i ≡ h)
 
 -- The source had a script that opens folders of which none is clean, each for its reason.
 abbrev pub HadNoCleanShelf : Option (List ℕ) → Option Files → List Reason → Type 0
@@ -49,8 +51,10 @@ Found left held (status.Script place what) = HadNoScript left place what
 Found left held status.ReadFault = Unit {0}
 Found left held status.WriteFault = HadBegun left held
 Found left held status.ShelfFault = (script : Script) × HadScript left script
+Found left held status.TargetFault = ⊥
 Found left held status.NoMemory = Unit {0}
 Found left held (status.NoCleanShelf reasons) = HadNoCleanShelf left held reasons
+Found left held (status.Refused kind name) = ⊥
 
 -- What is left then: `same` says that the sink is as it was, `untouched` that the shelves are, and `still` that they hold
 -- what they held.
@@ -61,5 +65,7 @@ Leaves Runs same untouched still left old new (status.Script place what) = same 
 Leaves Runs same untouched still left old new status.ReadFault = same × untouched
 Leaves Runs same untouched still left old new status.WriteFault = PrintsPrefix Runs status.WriteFault left old new
 Leaves Runs same untouched still left old new status.ShelfFault = (same × still) ⊎ Prints Runs status.ShelfFault left old new
+Leaves Runs same untouched still left old new status.TargetFault = ⊥
 Leaves Runs same untouched still left old new status.NoMemory = (same × still) ⊎ PrintsPrefix Runs status.NoMemory left old new
 Leaves Runs same untouched still left old new (status.NoCleanShelf reasons) = same × still
+Leaves Runs same untouched still left old new (status.Refused kind name) = ⊥

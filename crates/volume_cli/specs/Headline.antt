@@ -1,5 +1,6 @@
 -- What the status of the program tells.
-use Rattle.std.specs.Prelude.{◌≡◌, ℕ, ◌⊎◌, List, map, Option, Some, None, string_bytes, String}
+use Rattle.std.specs.Prelude.{◌≡◌, ℕ, ◌⊎◌, Bool, true, List, map, Option, Some, None, string_bytes, String}
+use Rattle.target_traits.specs.Objects.{Objects}
 use Rattle.program_words.specs.declared.words.Workers.{Workers}
 use Rattle.program_words.specs.declared.words.Words.{Words}
 use Rattle.program_words.specs.declared.words.Words.TheVariants.{Run}
@@ -10,6 +11,7 @@ use Rattle.volume_cli.specs.declared.status.Status.{Status}
 use Rattle.volume_cli.specs.declared.status.Status.TheVariants as status
 use Rattle.volume_cli.specs.Begun.{HadNoScript}
 use Rattle.volume_cli.specs.Ends.{HadNoCleanShelf}
+use Rattle.volume_cli.specs.Stores.{IsOfStore, RefusesObject}
 
 -- what the words ask for, if they ask for anything that there is
 abbrev pub asked_for : {A : Type 0} → List (String A) → Option Words
@@ -18,6 +20,10 @@ asked_for words = asked_by (map string_bytes words)
 -- the words ask for a run
 abbrev pub AskRun : {A : Type 0} → List (String A) → Type 0
 AskRun words = (workers : Workers) × (asked_for words ≡ Some (Run workers))
+
+-- the words ask for what is in a store of backups
+abbrev pub AskStore : {A : Type 0} → List (String A) → Type 0
+AskStore words = (asked : Words) × (asked_for words ≡ Some asked) × IsOfStore asked
 
 -- the words are a usage error: they ask for nothing that there is
 abbrev pub IsUsageError : {A : Type 0} → List (String A) → Type 0
@@ -36,13 +42,18 @@ abbrev pub TellsNoCleanShelf : Status → Type 0
 TellsNoCleanShelf answer = (reasons : List Reason) × IsStatus answer (status.NoCleanShelf reasons)
 
 -- A script is refused only where the words ask for a run, and the input is none, for this reason first, at this place.
--- That no folder is clean is told only where they ask for one, of a script that opens them, each for its reason.
-abbrev pub Refusal : {A : Type 0} → List (String A) → Option (List ℕ) → Option Files → Status → Type 0
-Refusal words left held status.Done = Unit {0}
-Refusal words left held status.Usage = Unit {0}
-Refusal words left held (status.Script place what) = AskRun words × HadNoScript left place what
-Refusal words left held status.ReadFault = Unit {0}
-Refusal words left held status.WriteFault = Unit {0}
-Refusal words left held status.ShelfFault = Unit {0}
-Refusal words left held status.NoMemory = Unit {0}
-Refusal words left held (status.NoCleanShelf reasons) = AskRun words × HadNoCleanShelf left held reasons
+-- That no folder is clean is told only where they ask for one, of a script that opens them, each for its reason. An object
+-- is refused only where they ask for what is in a store, and it is the first that is not as it has to be.
+abbrev pub RefusedOnly : {A : Type 0} → List (String A) → Option (List ℕ) → Option Files → Bool → Objects → Status → Type 0
+RefusedOnly words left held tells objects status.Done = Unit {0}
+RefusedOnly words left held tells objects status.Usage = Unit {0}
+RefusedOnly words left held tells objects (status.Script place what) = AskRun words × HadNoScript left place what
+RefusedOnly words left held tells objects status.ReadFault = Unit {0}
+RefusedOnly words left held tells objects status.WriteFault = Unit {0}
+RefusedOnly words left held tells objects status.ShelfFault = Unit {0}
+RefusedOnly words left held tells objects status.TargetFault = AskStore words
+RefusedOnly words left held tells objects status.NoMemory = Unit {0}
+RefusedOnly words left held tells objects (status.NoCleanShelf reasons) = AskRun words × HadNoCleanShelf left held reasons
+RefusedOnly words left held tells objects (status.Refused kind name) =
+    (asked : Words) × (asked_for words ≡ Some asked) × IsOfStore asked
+    × (tells ≡ true → RefusesObject objects asked kind name)

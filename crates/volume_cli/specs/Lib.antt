@@ -4,3 +4,4 @@ pub mod Ends
 pub mod Steps
 pub mod Statuses
 pub mod Headline
+pub mod Stores

@@ -30,8 +30,10 @@ ReadEnd before now (status.Script place what) = ⊥
 ReadEnd before now status.ReadFault = Rose before now
 ReadEnd before now status.WriteFault = ⊥
 ReadEnd before now status.ShelfFault = ⊥
+ReadEnd before now status.TargetFault = ⊥
 ReadEnd before now status.NoMemory = now ≡ before
 ReadEnd before now (status.NoCleanShelf reasons) = ⊥
+ReadEnd before now (status.Refused kind name) = ⊥
 
 abbrev pub ReadCounts : {T : Type 0} → Result T Status → ℕ → ℕ → Type 0
 ReadCounts (Ok x) before now = now ≡ before
@@ -55,8 +57,10 @@ BeginEnd held script before now (status.Script place what) = ⊥
 BeginEnd held script before now status.ReadFault = ⊥
 BeginEnd held script before now status.WriteFault = ⊥
 BeginEnd held script before now status.ShelfFault = Rose before now
+BeginEnd held script before now status.TargetFault = ⊥
 BeginEnd held script before now status.NoMemory = now ≡ before
 BeginEnd held script before now (status.NoCleanShelf reasons) = (now ≡ before) × HasNoCleanShelf held script reasons
+BeginEnd held script before now (status.Refused kind name) = ⊥
 
 abbrev pub IsBeginEnd : {T : Type 0} → Option Files → Script → ℕ → ℕ → Result T Status → Type 0
 IsBeginEnd held script before now (Ok x) = now ≡ before
@@ -97,8 +101,10 @@ HasPrinted (status.Script place what) P = Unit {0}
 HasPrinted status.ReadFault P = Unit {0}
 HasPrinted status.WriteFault P = Unit {0}
 HasPrinted status.ShelfFault P = P
+HasPrinted status.TargetFault P = Unit {0}
 HasPrinted status.NoMemory P = Unit {0}
 HasPrinted (status.NoCleanShelf reasons) P = Unit {0}
+HasPrinted (status.Refused kind name) P = Unit {0}
 
 -- what the counts of the sink (k, then l) and of the shelves (h, then i) say of how a run ended that was served
 abbrev pub FinishCounts : Status → ℕ → ℕ → ℕ → ℕ → Type 0
@@ -108,5 +114,7 @@ FinishCounts (status.Script place what) k l h i = ⊥
 FinishCounts status.ReadFault k l h i = ⊥
 FinishCounts status.WriteFault k l h i = Rose k l × (Rose h i ⊎ (i ≡ h))
 FinishCounts status.ShelfFault k l h i = (l ≡ k) × Rose h i
+FinishCounts status.TargetFault k l h i = ⊥
 FinishCounts status.NoMemory k l h i = (Rose k l ⊎ (l ≡ k)) × (i ≡ h)
 FinishCounts (status.NoCleanShelf reasons) k l h i = ⊥
+FinishCounts (status.Refused kind name) k l h i = ⊥

@@ -1,5 +1,5 @@
 //! `longhorn`: serves the streams of a script on a replicated volume, and prints the journal of the run
-//! with the replies.
+//! with the replies; or writes what a store of backups holds.
 #![tactic(auto)]
 
 mod begin;
@@ -7,12 +7,14 @@ mod edge;
 mod finish;
 mod standard;
 mod status;
+mod stores;
 #[cfg(test)]
 mod tests;
 mod top;
 
 use crate::status::Status;
 use fault_lines::PlanWiring;
+use folder_target::FolderTarget;
 use outer_real::{FolderShelves, OpenGate, StdSink, StdSource};
 use std::io;
 use std::process::ExitCode;
@@ -20,10 +22,16 @@ use std::process::ExitCode;
 /// The folder that the replicas' folders lie in.
 const REPLICAS: &str = "replicas";
 
+/// The folder that the store of backups lies in.
+const STORE_BASE: &str = ".";
+
 fn main(rt: HostRuntime) -> ExitCode {
     let status = match standard::words(&rt) {
-        Ok(words) => match FolderShelves::new(&rt, REPLICAS) {
-            Ok(mut shelves) => {
+        Ok(words) => match (
+            FolderShelves::new(&rt, REPLICAS),
+            FolderTarget::new(&rt, STORE_BASE),
+        ) {
+            (Ok(mut shelves), Ok(mut target)) => {
                 let mut source = StdSource::new(rt.reader());
                 let mut sink = StdSink::new(io::writer(&rt));
                 let mut wiring = PlanWiring::new(rt.alloc());
@@ -35,10 +43,11 @@ fn main(rt: HostRuntime) -> ExitCode {
                     &mut sink,
                     &mut wiring,
                     &mut shelves,
+                    &mut target,
                     &OpenGate,
                 )
             }
-            Err(_) => Status::NoMemory,
+            _ => Status::NoMemory,
         },
         Err(status) => status,
     };

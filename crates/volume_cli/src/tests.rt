@@ -7,3 +7,4 @@ mod purges;
 mod row;
 mod runs;
 mod script;
+mod stores;

@@ -1,4 +1,4 @@
-ghost use Rattle.std.specs.Prelude.{◌≡◌, ◌<◌, ◌-◌, ◌^◌, ◌↔◌, true, false, ℕ, Some, None, IfOk, IfSome, OnOk};
+ghost use Rattle.std.specs.Prelude.{◌≡◌, ◌<◌, ◌-◌, ◌^◌, ◌↔◌, true, false, ℕ, List, Some, None, IfOk, IfSome, OnOk};
 ghost use Rattle.std.specs.Io.KnownBytes.{IsAtEnd};
 ghost use Rattle.outer_traits.specs.Causes.{Rose};
 ghost use Rattle.outer_traits.specs.Lines.{TellsMore};
@@ -7,6 +7,7 @@ ghost use Rattle.script_text.specs.Script.{IsScript, IsNoScript};
 ghost use Rattle.script_text.specs.declared.script.Script.{Script};
 ghost use Rattle.script_text.specs.declared.what.What.{What};
 ghost use Rattle.program_words.specs.declared.words.Workers.{Workers};
+ghost use Rattle.program_words.specs.declared.words.Words.{Words};
 ghost use Rattle.program_words.specs.declared.words.Words.TheVariants.{Run};
 ghost use Rattle.volume_model.specs.History.{Spot};
 ghost use Rattle.stream_turns.specs.Serving.{IsRead, IsBegun, IsServed, IsServedInTurn};
@@ -14,13 +15,16 @@ ghost use Rattle.stream_turns.specs.Volume.{asks_in};
 ghost use Rattle.volume_cli.specs.Begun.{CanBegin, CannotBegin};
 ghost use Rattle.volume_cli.specs.Left.{IsRunOf};
 ghost use Rattle.volume_cli.specs.Ends.{ended, Counts, Found, Leaves};
-ghost use Rattle.volume_cli.specs.Headline.{asked_for, AskRun, IsUsageError, IsStatus};
-ghost use Rattle.volume_cli.specs.Headline.{ExactlyWhere, TellsNoCleanShelf, Refusal};
+ghost use Rattle.volume_cli.specs.Headline.{asked_for, AskRun, AskStore, IsUsageError, IsStatus};
+ghost use Rattle.volume_cli.specs.Headline.{ExactlyWhere, TellsNoCleanShelf, RefusedOnly};
+ghost use Rattle.volume_cli.specs.Stores.{IsOfStore, HasAnswer, RefusesObject, LeavesAnswer};
+ghost use Rattle.backup_restore.specs.declared.error.Refusal.{Refusal};
 
 use crate::begin::{Begun, begin};
 use crate::edge::read_input;
 use crate::finish::{ServedRun, finish};
 use crate::status::Status;
+use crate::stores::{print_backups, restore_backup};
 use outer_traits::{Gate, Sink, Source, Wiring};
 use program_words::{Words, WordsError, Workers, read_words};
 use script_text::{Script, read_script};
@@ -29,19 +33,22 @@ use std::alloc::{AllocError, Global};
 use std::sync::Wait;
 use std::thread::Threads;
 use stream_turns::{ServedStreams, World};
+use target_traits::Target;
 use vol_units::TimeText;
 
 /// Does what the words of the command line ask: `run` reads a script from the source and serves its streams on a
 /// replicated volume, over lines that the wiring makes, and writes the opening, the journal, the replies and the
 /// replicas' last lines to the sink. The replicas are those of the shelves, where the script opens them, and else zeros;
 /// where it saves them, they are on the shelves at the end. The streams are served side by side, a worker for each, which
-/// passes the gate on its way; or one after another, by one worker, which passes none.
+/// passes the gate on its way; or one after another, by one worker, which passes none. `restore` writes the disk of a
+/// backup to the sink, and `backups` a line for each backup of a volume, by what the target holds; neither changes it.
 pub fn longhorn<
     R: Threads + Wait + Sync,
     S: Source,
     K: Sink,
     W: Wiring,
     H: Shelves,
+    T: Target,
     G: Gate + Sync,
 >(
     rt: &R,
@@ -51,20 +58,24 @@ pub fn longhorn<
     sink: &mut K,
     wiring: &mut W,
     shelves: &mut H,
+    target: &mut T,
     gate: &G,
 ) -> Status
     requires source_count { S.faults source.old < 2 ^ 64 - 1 }
     requires sink_count { K.faults sink.old < 2 ^ 64 - 1 }
     requires shelf_count { H.faults shelves.old < 2 ^ 64 - 1 }
+    requires target_count { T.faults target.old < 2 ^ 64 - 1 }
 
-    // When each status comes. Out of memory alone is free: but a fault of the source or of the shelves is told in any
-    // case, unless a fault of the sink came before, and so is that, unless memory runs out behind it.
+    // When each status comes. Out of memory alone is free: but a fault of the source, of the shelves or of the target is
+    // told in any case, unless a fault of the sink came before, and so is that, unless memory runs out behind it.
     ensures usage { ExactlyWhere result Status.Usage (IsUsageError words.now) }
     ensures read_fault { result ≡ Status.ReadFault ↔ S.faults source.old < S.faults source.new }
     ensures write_fault { ExactlyWhere result Status.WriteFault (K.faults sink.old < K.faults sink.new) }
     ensures shelf_fault { result ≡ Status.ShelfFault
         ↔ (H.faults shelves.old < H.faults shelves.new) × (K.faults sink.new ≡ K.faults sink.old) }
-    ensures refused_only { Refusal words.now (S.left source.old) (H.holds shelves.old) result }
+    ensures target_fault { result ≡ Status.TargetFault ↔ T.faults target.old < T.faults target.new }
+    ensures refused_only { RefusedOnly words.now (S.left source.old) (H.holds shelves.old)
+        T.tells (T.holds target.old) result }
     ensures script { AskRun words.now → S.faults source.new ≡ S.faults source.old
         → IfSome (S.left source.old) (λ input. (place : ℕ) (what : What)
         → IsNoScript input place what → IsStatus result (Status.Script place what)) }
@@ -72,9 +83,13 @@ pub fn longhorn<
         → H.faults shelves.new ≡ H.faults shelves.old
         → IfSome (S.left source.old) (λ input. (script : Script)
         → IsScript input script → CannotBegin (H.holds shelves.old) script → TellsNoCleanShelf result) }
-    ensures done { result ≡ Status.Done → AskRun words.now × IsAtEnd (S.left source.new)
-        × (S.faults source.new ≡ S.faults source.old) × (K.faults sink.new ≡ K.faults sink.old)
-        × (H.faults shelves.new ≡ H.faults shelves.old) }
+    ensures refused { T.tells ≡ true → K.faults sink.new ≡ K.faults sink.old → T.faults target.new ≡ T.faults target.old
+        → (asked : Words) → asked_for words.now ≡ Some asked
+        → (kind : Refusal) (name : List ℕ) → RefusesObject (T.holds target.old) asked kind name
+        → IsStatus result (Status.Refused kind name) }
+    ensures done { result ≡ Status.Done → (S.faults source.new ≡ S.faults source.old)
+        × (K.faults sink.new ≡ K.faults sink.old) × (H.faults shelves.new ≡ H.faults shelves.old)
+        × (T.faults target.new ≡ T.faults target.old) × (AskRun words.now → IsAtEnd (S.left source.new)) }
 
     // Where a run is asked for, the input is a script, some folder is clean where folders are opened, and neither
     // source nor sink nor shelves fail, the run is done, whichever lines fail.
@@ -83,8 +98,17 @@ pub fn longhorn<
         → IfSome (S.left source.old) (λ input. (script : Script)
         → IsScript input script → CanBegin (H.holds shelves.old) script → IsStatus result Status.Done) }
 
-    // A usage error leaves the source. Else at most one byte more is read than an input may have.
-    ensures unread { result ≡ Status.Usage → source.new ≡ source.old }
+    // Where the objects that are asked for are as they have to be, and neither sink nor target fails, they are written.
+    ensures answered { T.tells ≡ true → K.faults sink.new ≡ K.faults sink.old → T.faults target.new ≡ T.faults target.old
+        → (asked : Words) → asked_for words.now ≡ Some asked → HasAnswer (T.holds target.old) asked
+        → IsStatus result Status.Done }
+
+    // Only a run reads the source, asks for lines and uses the shelves, and at most one byte more is read than an input
+    // may have. Only where what is in a store is asked for the target is asked, which holds what it held.
+    ensures unread { (AskRun words.now → ⊥) → source.new ≡ source.old }
+    ensures unasked { (AskRun words.now → ⊥) → (wiring.new ≡ wiring.old) × (shelves.new ≡ shelves.old) }
+    ensures untouched { (AskStore words.now → ⊥) → target.new ≡ target.old }
+    ensures held { T.holds target.new ≡ T.holds target.old }
     ensures most { GivesAtMost (S.left source.old) (S.left source.new) 268435457 }
 
     // However the workers' steps interleave, at Done the sink has the report of one journal. It begins on the folders
@@ -98,18 +122,29 @@ pub fn longhorn<
     // Of a script that saves, the folder of each replica that is read and written at the end is clean and reads as the
     // journal's replay, and that of each in ERR says so; of another the folders stay. After a write fault the sink has a
     // prefix of the report, and the folders are saved all the same; after a refusal and a read fault all is as it was.
-    ensures printed { Leaves (IsRunOf (asked_for words.now) (W.asked wiring.old) (W.asked wiring.new)
+    ensures printed { (AskStore words.now → ⊥) → Leaves (IsRunOf (asked_for words.now) (W.asked wiring.old) (W.asked wiring.new)
         (W.counts wiring.new) (W.carried wiring.new) (H.holds shelves.old) (H.holds shelves.new)
         (Rose (H.faults shelves.old) (H.faults shelves.new) → ⊥))
         (sink.new ≡ sink.old) (shelves.new ≡ shelves.old) (H.holds shelves.new ≡ H.holds shelves.old)
         (S.left source.old) (K.contents sink.old) (K.contents sink.new) result }
+
+    // What is in a store is written whole at Done: the disk of a backup, or the lines of a volume's backups. After a fault
+    // of the sink or of the target, and where memory runs out, the sink has a prefix of it; where an object is refused it
+    // is as it was.
+    ensures restored { T.tells ≡ true → (asked : Words) → asked_for words.now ≡ Some asked → IsOfStore asked
+        → LeavesAnswer (T.holds target.old) asked (sink.new ≡ sink.old) (K.contents sink.old) (K.contents sink.new) result }
 {
-    match read_words(alloc, words) {
-        Ok(Words::Run { workers }) => {
-            how_ended(run(rt, alloc, workers, source, sink, wiring, shelves, gate))
-        }
-        Err(WordsError::Usage) => Status::Usage,
-        Err(WordsError::NoMemory) => Status::NoMemory,
+    let asked = match read_words(alloc, words) {
+        Ok(asked) => asked,
+        Err(WordsError::Usage) => return Status::Usage,
+        Err(WordsError::NoMemory) => return Status::NoMemory,
+    };
+    match &asked {
+        Words::Run { workers } => how_ended(run(
+            rt, alloc, *workers, source, sink, wiring, shelves, gate,
+        )),
+        Words::Restore { backup, volume } => restore_backup(alloc, target, volume, backup, sink),
+        Words::Backups { volume } => print_backups(alloc, target, volume, sink),
     }
 }
 

@@ -11,8 +11,9 @@ use shelf_traits::Shelves;
 use std::alloc::{AllocError, Global};
 use std::sync::Wait;
 use std::thread::Threads;
+use target_memory::NoFaultTarget;
 
-fn owned(alloc: Global, all: &[&str]) -> Result<Vec<String>, AllocError> {
+pub(crate) fn owned(alloc: Global, all: &[&str]) -> Result<Vec<String>, AllocError> {
     let mut words = Vec::new(alloc);
     for word in all {
         words.push(String::from_str(alloc, word)?)?;
@@ -35,6 +36,7 @@ pub(crate) fn ends<S: Source, K: Sink, H: Shelves, G: Gate + Sync>(
 {
     let words = owned(rt.alloc(), words)?;
     let mut wiring = PlanWiring::new(rt.alloc());
+    let mut target = NoFaultTarget::new(rt.alloc());
     Ok(longhorn(
         rt,
         rt.alloc(),
@@ -43,6 +45,7 @@ pub(crate) fn ends<S: Source, K: Sink, H: Shelves, G: Gate + Sync>(
         sink,
         &mut wiring,
         shelves,
+        &mut target,
         gate,
     ))
 }

@@ -1,49 +1,82 @@
-use Rattle.std.proofs.Common.{◌∙◌, sym}
+use Rattle.std.proofs.Common.{subst}
+use Rattle.program_words.specs.declared.words.Words.TheVariants.{Restore, Backups}
 use Rattle.volume_cli.specs.Ends.{ended}
-use Rattle.volume_cli.proofs.Asked.{asks_run}
-use Rattle.volume_cli.proofs.Statuses.{script_clause, no_clean_clause, complete_clause, refused_only, done_counts}
+use Rattle.volume_cli.specs.Stores.{AnswersStore}
+use Rattle.volume_cli.proofs.Asked.{asks_that, one_words}
+use Rattle.volume_cli.proofs.StoreLemmas.{store_refused_only, store_refuses, store_answers}
+use Rattle.volume_cli.proofs.Statuses.{script_clause, no_clean_clause, complete_clause}
 use Rattle.volume_cli.proofs.top.longhorn.Goals as goal
 
-pub returns-in-Ok-Run-clause-refused_only : goal.returns-in-Ok-Run-clause-refused_only
-returns-in-Ok-Run-clause-refused_only g c =
-    rw c.how_ended.ensures (refused_only c.args.words.now (g.S.Source.left c.args.source.now)
-    (g.H.Shelves.holds c.args.shelves.now) (ended c.run.result)
-    (asks_run _ c.read_words.result c.in-Ok-Run.field-0 c.in-Ok-Run.is c.read_words.ensures.found) c.run.ensures.found)
-
-pub returns-in-Ok-Run-clause-script : goal.returns-in-Ok-Run-clause-script
-returns-in-Ok-Run-clause-script g c =
+pub returns-in-Run-clause-script : goal.returns-in-Run-clause-script
+returns-in-Run-clause-script g c =
     rw c.how_ended.ensures (λ asked. script_clause (g.S.Source.faults c.args.source.now) (g.S.Source.faults c.run.new.source)
     (g.K.Sink.faults c.args.sink.now) (g.K.Sink.faults c.run.new.sink)
     (g.H.Shelves.faults c.args.shelves.now) (g.H.Shelves.faults c.run.new.shelves)
     c.requires.source_count c.requires.sink_count c.requires.shelf_count (g.S.Source.left c.args.source.now)
     (g.H.Shelves.holds c.args.shelves.now) (ended c.run.result) c.run.ensures.counts c.run.ensures.found)
 
-pub returns-in-Ok-Run-clause-no_clean : goal.returns-in-Ok-Run-clause-no_clean
-returns-in-Ok-Run-clause-no_clean g c =
+pub returns-in-Run-clause-no_clean : goal.returns-in-Run-clause-no_clean
+returns-in-Run-clause-no_clean g c =
     rw c.how_ended.ensures (λ asked. no_clean_clause (g.S.Source.faults c.args.source.now) (g.S.Source.faults c.run.new.source)
     (g.K.Sink.faults c.args.sink.now) (g.K.Sink.faults c.run.new.sink)
     (g.H.Shelves.faults c.args.shelves.now) (g.H.Shelves.faults c.run.new.shelves)
     c.requires.source_count c.requires.sink_count c.requires.shelf_count (g.S.Source.left c.args.source.now)
     (g.H.Shelves.holds c.args.shelves.now) (ended c.run.result) c.run.ensures.counts c.run.ensures.found)
 
-pub returns-in-Ok-Run-clause-done : goal.returns-in-Ok-Run-clause-done
-returns-in-Ok-Run-clause-done g c = λ is.
-    let done = sym c.how_ended.ensures ∙ is in
-    let counts = done_counts (g.S.Source.faults c.args.source.now) (g.S.Source.faults c.run.new.source)
-    (g.K.Sink.faults c.args.sink.now) (g.K.Sink.faults c.run.new.sink)
-    (g.H.Shelves.faults c.args.shelves.now) (g.H.Shelves.faults c.run.new.shelves)
-    c.requires.source_count c.requires.sink_count c.requires.shelf_count (ended c.run.result) c.run.ensures.counts done in (
-      asks_run _ c.read_words.result c.in-Ok-Run.field-0 c.in-Ok-Run.is c.read_words.ensures.found,
-      c.run.ensures.whole done,
-      counts.0,
-      counts.1,
-      counts.2,
-    )
-
-pub returns-in-Ok-Run-clause-complete : goal.returns-in-Ok-Run-clause-complete
-returns-in-Ok-Run-clause-complete g c =
+pub returns-in-Run-clause-complete : goal.returns-in-Run-clause-complete
+returns-in-Run-clause-complete g c =
     rw c.how_ended.ensures (λ asked. complete_clause (g.S.Source.faults c.args.source.now) (g.S.Source.faults c.run.new.source)
     (g.K.Sink.faults c.args.sink.now) (g.K.Sink.faults c.run.new.sink)
     (g.H.Shelves.faults c.args.shelves.now) (g.H.Shelves.faults c.run.new.shelves)
     c.requires.source_count c.requires.sink_count c.requires.shelf_count (g.S.Source.left c.args.source.now)
     (g.H.Shelves.holds c.args.shelves.now) (ended c.run.result) c.run.ensures.counts c.run.ensures.found)
+
+pub returns-in-Restore-clause-refused_only : goal.returns-in-Restore-clause-refused_only
+returns-in-Restore-clause-refused_only g c =
+    let words = (Restore c.in-Restore.backup c.in-Restore.volume) in
+    store_refused_only c.args.words.now (g.S.Source.left c.args.source.now) (g.H.Shelves.holds c.args.shelves.now)
+    g.T.Target.tells (g.T.Target.holds c.args.target.now) c.restore_backup.result
+    (g.K.Sink.faults c.args.sink.now) (g.K.Sink.faults c.restore_backup.new.sink)
+    (g.T.Target.faults c.args.target.now) (g.T.Target.faults c.restore_backup.new.target) words
+    (asks_that _ c.read_words.result c.in-Ok.asked words c.in-Ok.is c.in-Restore.is c.read_words.ensures.found)
+    tt c.restore_backup.ensures.counts c.restore_backup.ensures.answer
+
+pub returns-in-Restore-clause-refused : goal.returns-in-Restore-clause-refused
+returns-in-Restore-clause-refused g c = λ tells dry well asked is kind name refuses.
+    let words = (Restore c.in-Restore.backup c.in-Restore.volume) in
+    let read = asks_that _ c.read_words.result c.in-Ok.asked words c.in-Ok.is c.in-Restore.is c.read_words.ensures.found in
+    store_refuses (g.T.Target.holds c.args.target.now) asked (g.K.Sink.faults c.args.sink.now)
+    (g.K.Sink.faults c.restore_backup.new.sink) (g.T.Target.faults c.args.target.now) (g.T.Target.faults c.restore_backup.new.target)
+    c.requires.sink_count c.requires.target_count dry well c.restore_backup.result c.restore_backup.ensures.counts
+    (subst (λ a. AnswersStore (g.T.Target.holds c.args.target.now) a c.restore_backup.result) (one_words _ words asked read is)
+    (c.restore_backup.ensures.answer tells)) kind name refuses
+
+pub returns-in-Restore-clause-answered : goal.returns-in-Restore-clause-answered
+returns-in-Restore-clause-answered g c = λ tells dry well asked is has.
+    let words = (Restore c.in-Restore.backup c.in-Restore.volume) in
+    let read = asks_that _ c.read_words.result c.in-Ok.asked words c.in-Ok.is c.in-Restore.is c.read_words.ensures.found in
+    store_answers (g.T.Target.holds c.args.target.now) asked (g.K.Sink.faults c.args.sink.now)
+    (g.K.Sink.faults c.restore_backup.new.sink) (g.T.Target.faults c.args.target.now) (g.T.Target.faults c.restore_backup.new.target)
+    c.requires.sink_count c.requires.target_count dry well c.restore_backup.result c.restore_backup.ensures.counts
+    (subst (λ a. AnswersStore (g.T.Target.holds c.args.target.now) a c.restore_backup.result) (one_words _ words asked read is)
+    (c.restore_backup.ensures.answer tells)) has
+
+pub returns-in-Backups-clause-refused : goal.returns-in-Backups-clause-refused
+returns-in-Backups-clause-refused g c = λ tells dry well asked is kind name refuses.
+    let words = (Backups c.in-Backups.volume) in
+    let read = asks_that _ c.read_words.result c.in-Ok.asked words c.in-Ok.is c.in-Backups.is c.read_words.ensures.found in
+    store_refuses (g.T.Target.holds c.args.target.now) asked (g.K.Sink.faults c.args.sink.now)
+    (g.K.Sink.faults c.print_backups.new.sink) (g.T.Target.faults c.args.target.now) (g.T.Target.faults c.print_backups.new.target)
+    c.requires.sink_count c.requires.target_count dry well c.print_backups.result c.print_backups.ensures.counts
+    (subst (λ a. AnswersStore (g.T.Target.holds c.args.target.now) a c.print_backups.result) (one_words _ words asked read is)
+    (c.print_backups.ensures.answer tells)) kind name refuses
+
+pub returns-in-Backups-clause-answered : goal.returns-in-Backups-clause-answered
+returns-in-Backups-clause-answered g c = λ tells dry well asked is has.
+    let words = (Backups c.in-Backups.volume) in
+    let read = asks_that _ c.read_words.result c.in-Ok.asked words c.in-Ok.is c.in-Backups.is c.read_words.ensures.found in
+    store_answers (g.T.Target.holds c.args.target.now) asked (g.K.Sink.faults c.args.sink.now)
+    (g.K.Sink.faults c.print_backups.new.sink) (g.T.Target.faults c.args.target.now) (g.T.Target.faults c.print_backups.new.target)
+    c.requires.sink_count c.requires.target_count dry well c.print_backups.result c.print_backups.ensures.counts
+    (subst (λ a. AnswersStore (g.T.Target.holds c.args.target.now) a c.print_backups.result) (one_words _ words asked read is)
+    (c.print_backups.ensures.answer tells)) has
