@@ -1,17 +1,17 @@
 -- Pages that are looked at and written, one after another.
-use Rattle.std.proofs.Common.{◌≡◌, ℕ, ◌+◌, ◌<◌, ◌≤◌, true, false, List, [], ◌∷◌, ◌++◌, length, take, drop, get_or}
-use Rattle.std.proofs.Common.{Option, None, Some, Result, Ok, Err, refl, sym, ap, subst, ◌∙◌, append_assoc, replicate}
-use Rattle.std.proofs.lemmas.List.{append-nil, at_drop_more, take_more, take_all, get_or_read, take-append-drop}
-use Rattle.std.specs.Prelude.{unwrap_or, IfErr}
+use Rattle.std.proofs.Common.{◌≡◌, ℕ, ◌+◌, ◌-◌, ◌*◌, ◌<◌, ◌≤◌, true, false, List, [], ◌∷◌, ◌++◌, length, take, drop, get_or}
+use Rattle.std.proofs.Common.{Option, None, Some, Result, Ok, Err, refl, sym, ap, subst, ◌∙◌, append_assoc, arith, replicate}
+use Rattle.std.proofs.lemmas.List.{append-nil, at_drop_more, take_more, take_all, get_or_read, take-append-drop, replicate-append-replicate}
+use Rattle.std.specs.Prelude.{IfErr}
 use Rattle.std.specs.Io.KnownBytes.{Appends}
 use Rattle.outer_traits.specs.Passing.{WritesPrefix}
 use Rattle.target_traits.specs.Objects.{Objects}
 use Rattle.vol_units.specs.Bytes.{zeros}
 use Rattle.backup_units.specs.Backups.{IsWhole, AreWhole, page_of, disk_of, listed_at}
-use Rattle.backup_units.specs.Blocks.{IsBlock, HoldsBlock, page_bytes}
+use Rattle.backup_units.specs.Blocks.{IsBlock, HoldsBlock}
 use Rattle.backup_units.specs.Names.{block_name}
 use Rattle.backup_restore.specs.Errors.{is_refusal, is_target_fault}
-use Rattle.backup_restore.specs.Restoring.{IsBad, IsBadPage, AnswersBlocks, RefusesBlock, RefusesPage}
+use Rattle.backup_restore.specs.Restoring.{IsBad, IsBadPage, AnswersBlocks, RefusesBlock, RefusesPage, zeros_at_once}
 use Rattle.backup_restore.specs.declared.error.Refusal.{Refusal}
 use Rattle.backup_restore.specs.declared.error.Refusal.TheVariants.{Missing, Damaged, Syntax, Compressed, Backing}
 use Rattle.backup_restore.specs.declared.error.RestoreError.{RestoreError}
@@ -161,18 +161,44 @@ pub written_all : (objects : Objects) (volume : List ℕ) (listed : Listed) (i :
     → Appends a b (disk_of objects volume (take i listed)) → Appends a b (disk_of objects volume listed)
 written_all objects volume listed i a b past so_far = subst (λ xs. Appends a b (disk_of objects volume xs)) (take_all i listed past) so_far
 
-pub blank_page_of : (objects : Objects) (volume : List ℕ) (page : Option (List ℕ)) → page ≡ None
-    → page_of objects volume page ≡ zeros page_bytes
-blank_page_of objects volume page is = ap (page_of objects volume) is
-
-pub block_page_of : (objects : Objects) (volume : List ℕ) (page : Option (List ℕ)) (checksum bytes : List ℕ) → page ≡ Some checksum
-    → HoldsBlock objects volume checksum bytes → page_of objects volume page ≡ bytes
-block_page_of objects volume page checksum bytes is held =
-    ap (page_of objects volume) is ∙ ap (λ o. unwrap_or o []) held.there
-
 pub zeros_are : (n : ℕ) → replicate n 0 ≡ zeros n
 unfolding zeros
 zeros_are n = refl
+
+zeros_add : (m n : ℕ) → zeros (m + n) ≡ zeros m ++ zeros n
+unfolding zeros
+zeros_add m n = sym (replicate-append-replicate m n 0)
+
+pub zeros_none : (a : Option (List ℕ)) → Appends a a (zeros (0 * zeros_at_once))
+unfolding zeros
+zeros_none a = appends_none a
+
+next_piece : (i : ℕ) → (i + 1) * zeros_at_once ≡ i * zeros_at_once + zeros_at_once
+next_piece i = omega (arith)
+
+all_pieces : (i count : ℕ) → i < count
+    → count * zeros_at_once ≡ i * zeros_at_once + (zeros_at_once + (count - (i + 1)) * zeros_at_once)
+all_pieces i count within = omega (arith, within)
+
+pub zeros_more : (i : ℕ) (a b c : Option (List ℕ)) → Appends a b (zeros (i * zeros_at_once)) → Appends b c (zeros zeros_at_once)
+    → Appends a c (zeros ((i + 1) * zeros_at_once))
+zeros_more i a b c so_far more =
+    subst (Appends a c) (sym (ap zeros (next_piece i) ∙ zeros_add (i * zeros_at_once) zeros_at_once))
+    (appends_then a b c (zeros (i * zeros_at_once)) (zeros zeros_at_once) so_far more)
+
+pub zeros_prefix : (i count : ℕ) (a b c : Option (List ℕ)) → i < count → Appends a b (zeros (i * zeros_at_once))
+    → WritesPrefix b c (zeros zeros_at_once) → WritesPrefix a c (zeros (count * zeros_at_once))
+zeros_prefix i count a b c within so_far (front, rest, cut, more) =
+    let before = zeros (i * zeros_at_once) in
+    let left = (count - (i + 1)) * zeros_at_once in
+    let after = zeros left in (
+      before ++ front,
+      rest ++ after,
+      ap zeros (all_pieces i count within) ∙ zeros_add (i * zeros_at_once) (zeros_at_once + left)
+          ∙ ap (λ bytes. before ++ bytes) (zeros_add zeros_at_once left) ∙ ap (λ bytes. before ++ (bytes ++ after)) cut
+          ∙ ap (λ bytes. before ++ bytes) (append_assoc front rest after) ∙ sym (append_assoc before front (rest ++ after)),
+      appends_then a b c before front so_far more,
+    )
 
 pub none_refused : (objects : Objects) (volume : List ℕ) (page : Option (List ℕ)) (r : Result (Unit {0}) RestoreError)
     → IfErr r (λ e. (is_refusal e ≡ false) × (is_target_fault e ≡ false))

@@ -1,6 +1,5 @@
 -- What restoring the blocks of a list answers.
-use Rattle.std.specs.Prelude.{◌≡◌, ◌<◌, ⊤, ℕ, List, length, Option, None, Some, Result, Ok, Err, Vec}
-use Rattle.std.specs.declared.alloc.Global.{Global}
+use Rattle.std.specs.Prelude.{◌≡◌, ◌<◌, ⊤, ℕ, List, length, Option, None, Some, Result, Ok, Err}
 use Rattle.target_traits.specs.Objects.{Objects}
 use Rattle.backup_units.specs.Backups.{IsWhole, AreWhole, listed_at}
 use Rattle.backup_units.specs.Blocks.{IsBlock}
@@ -12,10 +11,9 @@ use Rattle.backup_restore.specs.declared.error.RestoreError.TheVariants.{Refused
 use Rattle.backup_restore.specs.declared.error.StoredObject.{StoredObject}
 use Rattle.backup_restore.specs.declared.error.StoredObject.TheVariants.{BackupCfg, VolumeCfg, Block}
 
--- the bytes of a block, or those where there is none
-abbrev pub bytes_or : List ℕ → Option (Vec ℕ Global) → List ℕ
-bytes_or blank None = blank
-bytes_or blank (Some bytes) = bytes.items
+-- so many zeros are written at once where no block is listed
+abbrev pub zeros_at_once : ℕ
+zeros_at_once = 65536
 
 -- what is wrong with a block: there is no such object, or one that is no block of that checksum
 abbrev pub IsBad : Option (List ℕ) → List ℕ → Refusal → Type 0

@@ -1,12 +1,12 @@
-ghost use Rattle.std.specs.Prelude.{◌≡◌, true, false, IfOk, OnOk, IfErr};
+ghost use Rattle.std.specs.Prelude.{◌≡◌, ◌*◌, true, false, IfOk, OnOk, IfErr};
 ghost use Rattle.std.specs.Io.KnownBytes.{Appends};
 ghost use Rattle.outer_traits.specs.Passing.{WritesPrefix};
 ghost use Rattle.vol_units.specs.Bytes.{zeros};
 ghost use Rattle.backup_units.specs.Backups.{IsWhole, page_of, disk_of};
-ghost use Rattle.backup_units.specs.Blocks.{page_bytes, HoldsBlock};
+ghost use Rattle.backup_units.specs.Blocks.{HoldsBlock};
 ghost use Rattle.backup_units.specs.Faults.{HasFault};
 ghost use Rattle.backup_restore.specs.Errors.{is_refusal, is_target_fault, is_write_fault};
-ghost use Rattle.backup_restore.specs.Restoring.{AnswersBlocks, RefusesBlock, RefusesPage, bytes_or};
+ghost use Rattle.backup_restore.specs.Restoring.{AnswersBlocks, RefusesBlock, RefusesPage, zeros_at_once};
 
 use crate::error::{Refusal, RestoreError, StoredObject};
 use backup_units::{Checksum, PAGE_LENGTH};
@@ -15,6 +15,9 @@ use outer_traits::{Sink, write_all};
 use std::alloc::{AllocError, Global};
 use target_traits::Target;
 use vol_units::PlainName;
+
+/// So many zeros are written at once where no block is listed.
+const ZEROS_AT_ONCE: usize = 65_536;
 
 /// Restores a disk: looks at each listed block, and only then writes.
 pub fn restore_blocks<T: Target, K: Sink>(
@@ -99,9 +102,9 @@ fn write_blocks<T: Target, K: Sink>(
     ensures cause { HasFault is_target_fault (T.faults target.old) (T.faults target.new) result }
     ensures write_cause { HasFault is_write_fault (K.faults sink.old) (K.faults sink.new) result }
 {
-    let blank = blank_page(alloc)?;
+    let piece = zeros_of(alloc, ZEROS_AT_ONCE)?;
     for page in listed {
-        write_page(alloc, target, volume, page, &blank, sink)?;
+        write_page(alloc, target, volume, page, &piece, sink)?;
     }
     Ok(())
 }
@@ -112,10 +115,10 @@ fn write_page<T: Target, K: Sink>(
     target: &mut T,
     volume: &PlainName,
     page: &Option<Checksum>,
-    blank: &[u8],
+    piece: &[u8],
     sink: &mut K,
 ) -> Result<(), RestoreError>
-    requires { blank.now ≡ zeros page_bytes }
+    requires { piece.now ≡ zeros zeros_at_once }
     ensures written { T.tells ≡ true → OnOk result
         (Appends (K.contents sink.old) (K.contents sink.new) (page_of (T.holds target.old) volume.now page.now)) }
     ensures prefix { T.tells ≡ true
@@ -126,53 +129,33 @@ fn write_page<T: Target, K: Sink>(
     ensures cause { HasFault is_target_fault (T.faults target.old) (T.faults target.new) result }
     ensures write_cause { HasFault is_write_fault (K.faults sink.old) (K.faults sink.new) result }
 {
-    let got = get_page(alloc, target, volume, page)?;
-    write(sink, bytes_or(&got, blank))
+    match page {
+        None => write_zeros(piece, PAGE_LENGTH / ZEROS_AT_ONCE, sink),
+        Some(checksum) => {
+            let bytes = get(alloc, target, volume, checksum)?;
+            write(sink, &bytes)
+        }
+    }
 }
 
-fn blank_page(alloc: Global) -> Result<Vec<u8>, AllocError>
-    ensures { IfOk result (λ page. page.items ≡ zeros page_bytes) }
+/// Writes so many pieces of zeros.
+fn write_zeros<K: Sink>(piece: &[u8], count: usize, sink: &mut K) -> Result<(), RestoreError>
+    requires { piece.now ≡ zeros zeros_at_once }
+    ensures written { OnOk result (Appends (K.contents sink.old) (K.contents sink.new) (zeros (count * zeros_at_once))) }
+    ensures prefix { WritesPrefix (K.contents sink.old) (K.contents sink.new) (zeros (count * zeros_at_once)) }
+    ensures cause { HasFault is_write_fault (K.faults sink.old) (K.faults sink.new) result }
+    ensures no_refusal { IfErr result (λ e. (is_refusal e ≡ false) × (is_target_fault e ≡ false)) }
 {
-    zeros_of(alloc, PAGE_LENGTH)
+    for _ in 0..count {
+        write(sink, piece)?;
+    }
+    Ok(())
 }
 
 fn zeros_of(alloc: Global, count: usize) -> Result<Vec<u8>, AllocError>
     ensures { IfOk result (λ bytes. bytes.items ≡ zeros count) }
 {
     vec![in alloc; 0; count]
-}
-
-/// The bytes of a page's block, or none where none is listed.
-fn get_page<T: Target>(
-    alloc: Global,
-    target: &mut T,
-    volume: &PlainName,
-    page: &Option<Checksum>,
-) -> Result<Option<Vec<u8>>, RestoreError>
-    ensures bytes { T.tells ≡ true → IfOk result (λ got.
-        page_of (T.holds target.old) volume.now page.now ≡ bytes_or (zeros page_bytes) got) }
-    ensures whole { T.tells ≡ true → OnOk result (IsWhole (T.holds target.old) volume.now page.now) }
-    ensures refused { T.tells ≡ true → IfErr result (RefusesPage (T.holds target.old) volume.now page.now) }
-    ensures same { T.holds target.new ≡ T.holds target.old }
-    ensures cause { HasFault is_target_fault (T.faults target.old) (T.faults target.new) result }
-    ensures no_write { IfErr result (λ e. is_write_fault e ≡ false) }
-{
-    match page {
-        None => Ok(None),
-        Some(checksum) => {
-            let bytes = get(alloc, target, volume, checksum)?;
-            Ok(Some(bytes))
-        }
-    }
-}
-
-fn bytes_or<'a>(got: &'a Option<Vec<u8>>, blank: &'a [u8]) -> &'a [u8]
-    ensures { result.now ≡ bytes_or blank.now got.now }
-{
-    match got {
-        None => blank,
-        Some(bytes) => bytes.as_slice(),
-    }
 }
 
 pub(crate) fn write<K: Sink>(sink: &mut K, bytes: &[u8]) -> Result<(), RestoreError>

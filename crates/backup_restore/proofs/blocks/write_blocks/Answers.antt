@@ -25,8 +25,8 @@ loop-page-preserved g c =
       write_faults = search rules;
     }
 
-pub returns-in_err-blank-clause-prefix : goal.returns-in_err-blank-clause-prefix
-returns-in_err-blank-clause-prefix g c t = prefix_none _ _
+pub returns-in_err-piece-clause-prefix : goal.returns-in_err-piece-clause-prefix
+returns-in_err-piece-clause-prefix g c t = prefix_none _ _
 
 pub returns-in_err-write_page-clause-prefix : goal.returns-in_err-write_page-clause-prefix
 returns-in_err-write_page-clause-prefix g c t =
