@@ -62,9 +62,8 @@ const BLOCKS: [(&str, u32, u8); 5] = [
     ("volume-head-004.img", 511, 4),
 ];
 
-/// The fixed folder, with that metadata of the volume.
-pub fn fixed_folder(alloc: Global, volume: &str) -> Result<NoFaultShelves, Fail> {
-    let mut shelves = NoFaultShelves::new(alloc);
+/// Puts the files of the fixed folder, with that metadata of the volume.
+fn put_fixed(shelves: &mut impl Shelves, volume: &str) -> Result<(), Fail> {
     shelves.write_at(0, "volume.meta", 0, volume.as_bytes())?;
     for (file, text) in TEXTS {
         shelves.write_at(0, file, 0, text.as_bytes())?;
@@ -75,6 +74,13 @@ pub fn fixed_folder(alloc: Global, volume: &str) -> Result<NoFaultShelves, Fail>
     for (image, block, byte) in BLOCKS {
         shelves.write_at(0, image, u64::from(block) * 4096, &[byte; BLOCK_BYTES])?;
     }
+    Ok(())
+}
+
+/// The fixed folder, with that metadata of the volume.
+pub fn fixed_folder(alloc: Global, volume: &str) -> Result<NoFaultShelves, Fail> {
+    let mut shelves = NoFaultShelves::new(alloc);
+    put_fixed(&mut shelves, volume)?;
     Ok(shelves)
 }
 

@@ -1,13 +1,13 @@
-use crate::fixed::{CLEAN, DIRTY, FAILED, fixed_folder, put_older_files};
+use crate::fixed::{CLEAN, DIRTY, FAILED, fixed_folder};
 use crate::hollow::HollowShelves;
-use crate::replica::{keep, meta, replica, size};
+use crate::replica::{keep, meta, replica, save_on, save_over_older, size};
 use chain_meta::{DiskMeta, ImageName};
 use folder_names::{map_file, meta_file};
 use outer_memory::FaultPlan;
 use replica_compare::compare;
 use replica_node::ReplicaNode;
 use replica_open::{Flag, Opened, open};
-use replica_shelf::save;
+use replica_shelf::{HeadMeta, save};
 use shelf_memory::{MemoryShelves, NoFaultShelves};
 use shelf_traits::{OuterError, Shelves};
 use std::alloc::Global;
@@ -15,13 +15,18 @@ use std::process::Abort;
 use std::test::Fail;
 use vol_units::{TimeText, VolumeSize};
 
-/// The replica that the folder is.
-fn opened<S: Shelves>(alloc: Global, shelves: &mut S) -> Result<ReplicaNode, Fail> {
-    match open(alloc, size()?, 0, shelves)? {
+/// The replica, where that is one.
+fn replica_of(opened: Opened) -> Result<ReplicaNode, Fail> {
+    match opened {
         Opened::Clean(node, _) => Ok(node),
         Opened::Unclean(_) => Err(Fail::new("unclean")),
         Opened::Damaged(_) => Err(Fail::new("damaged")),
     }
+}
+
+/// The replica that the folder is.
+fn opened<S: Shelves>(alloc: Global, shelves: &mut S) -> Result<ReplicaNode, Fail> {
+    replica_of(open(alloc, size()?, 0, shelves)?)
 }
 
 /// The folder opens as the replica.
@@ -55,8 +60,7 @@ fn is_damaged(opened: Opened, file: &str, place: u64) -> bool {
 fn what_was_saved_is_opened(rt: HostRuntime) -> Result<(), Fail> {
     let (alloc, node) = (rt.alloc(), replica(rt.alloc())?);
     let mut shelves = NoFaultShelves::new(alloc);
-    put_older_files(&mut shelves)?;
-    save(alloc, &node, &meta(alloc, false)?, 0, &mut shelves)?;
+    save_over_older(alloc, &node, &mut shelves)?;
     opens_as(&rt, alloc, &node, &mut shelves)
 }
 
@@ -66,16 +70,38 @@ fn a_folder_of_an_earlier_version_is_opened(rt: HostRuntime) -> Result<(), Fail>
     opens_as(&rt, alloc, &node, &mut fixed_folder(alloc, CLEAN)?)
 }
 
+/// The file holds that text, or is gone.
+fn change(shelves: &mut impl Shelves, file: &str, text: Option<&str>) -> Result<(), Fail> {
+    shelves.remove(0, file)?;
+    if let Some(text) = text {
+        shelves.write_at(0, file, 0, text.as_bytes())?;
+    }
+    Ok(())
+}
+
 /// What another program may tell of the fixed folder's head.
 const HEAD: &str = "{\"Created\":\"2020-02-29\",\"Labels\":{},\"Name\":\"volume-head-004.img\",\
     \"Parent\":\"volume-snap-c.img\",\"Removed\":false,\"UserCreated\":true}";
 
+/// The fixed folder, of whose head that is told.
+fn folder_of_head(alloc: Global, file: &str) -> Result<NoFaultShelves, Fail> {
+    let mut shelves = fixed_folder(alloc, CLEAN)?;
+    change(&mut shelves, file, Some(HEAD))?;
+    Ok(shelves)
+}
+
+/// The folder of the replica, saved with what is told of its head.
+fn saved_with(alloc: Global, node: &ReplicaNode, head: &HeadMeta) -> Result<NoFaultShelves, Fail> {
+    let (mut saved, mut told) = (NoFaultShelves::new(alloc), meta(alloc, false)?);
+    told.head = head.copied(alloc)?;
+    save(alloc, node, &told, 0, &mut saved)?;
+    Ok(saved)
+}
+
 #[test]
 fn a_head_that_was_opened_keeps_what_is_told_of_it(rt: HostRuntime) -> Result<(), Fail> {
     let (alloc, file) = (rt.alloc(), "volume-head-004.img.meta");
-    let mut shelves = fixed_folder(alloc, CLEAN)?;
-    shelves.remove(0, file)?;
-    shelves.write_at(0, file, 0, HEAD.as_bytes())?;
+    let mut shelves = folder_of_head(alloc, file)?;
     let Opened::Clean(node, head) = open(alloc, size()?, 0, &mut shelves)? else {
         return Err(Fail::new("no replica"));
     };
@@ -83,23 +109,24 @@ fn a_head_that_was_opened_keeps_what_is_told_of_it(rt: HostRuntime) -> Result<()
         (head.created.as_str(), head.user_created),
         ("2020-02-29", true)
     );
-    let (mut saved, mut told) = (NoFaultShelves::new(alloc), meta(alloc, false)?);
-    told.head = head.copied(alloc)?;
-    save(alloc, &node, &told, 0, &mut saved)?;
+    let mut saved = saved_with(alloc, &node, &head)?;
     assert_eq!(rt; saved.held(0, file), Some(HEAD.as_bytes()));
     opens_as(&rt, alloc, &node, &mut saved)
+}
+
+/// Whether the fixed folder, with that metadata of the volume, is unclean by that.
+fn is_left(alloc: Global, size: VolumeSize, volume: &str, flag: Flag) -> Result<bool, Fail> {
+    let mut shelves = fixed_folder(alloc, volume)?;
+    Ok(is_flagged(open(alloc, size, 0, &mut shelves)?, flag))
 }
 
 #[test]
 fn a_folder_that_was_left_so_is_unclean(rt: HostRuntime) -> Result<(), Fail> {
     let alloc = rt.alloc();
-    for (volume, flag) in [(DIRTY, Flag::Dirty), (FAILED, Flag::Error)] {
-        let found = open(alloc, size()?, 0, &mut fixed_folder(alloc, volume)?)?;
-        assert!(rt; is_flagged(found, flag));
-    }
+    assert!(rt; is_left(alloc, size()?, DIRTY, Flag::Dirty)?);
+    assert!(rt; is_left(alloc, size()?, FAILED, Flag::Error)?);
     let larger = VolumeSize::new(4_194_304)?;
-    let found = open(alloc, larger, 0, &mut fixed_folder(alloc, CLEAN)?)?;
-    assert!(rt; is_flagged(found, Flag::Size));
+    assert!(rt; is_left(alloc, larger, CLEAN, Flag::Size)?);
     Ok(())
 }
 
@@ -141,17 +168,18 @@ const DAMAGED: [(&str, Option<&str>, &str, u64); 9] = [
     ),
 ];
 
+/// What the fixed folder opens as where that file is changed or gone.
+fn opened_but(alloc: Global, file: &str, text: Option<&str>) -> Result<Opened, Fail> {
+    let mut shelves = fixed_folder(alloc, CLEAN)?;
+    change(&mut shelves, file, text)?;
+    Ok(open(alloc, size()?, 0, &mut shelves)?)
+}
+
 #[test]
 fn a_file_that_is_damaged_is_told(rt: HostRuntime) -> Result<(), Fail> {
-    let alloc = rt.alloc();
-    for (file, text, told, place) in DAMAGED {
-        let mut shelves = fixed_folder(alloc, CLEAN)?;
-        shelves.remove(0, file)?;
-        if let Some(text) = text {
-            shelves.write_at(0, file, 0, text.as_bytes())?;
-        }
-        let found = open(alloc, size()?, 0, &mut shelves)?;
-        assert!(rt; is_damaged(found, told, place), "{file}");
+    for (file, text, told, place) in DAMAGED.iter() {
+        let found = opened_but(rt.alloc(), file, *text)?;
+        assert!(rt; is_damaged(found, told, *place), "{file}");
     }
     Ok(())
 }
@@ -206,24 +234,39 @@ const MISFITS: [(&str, &str, &str); 6] = [
     ("volume-snap-sys-03.img", "", "volume-snap-sys-03.img.meta"),
 ];
 
+/// What the fixed folder opens as with such a snapshot.
+fn opened_with(alloc: Global, image: &str, parent: &str) -> Result<Opened, Fail> {
+    let mut shelves = fixed_folder(alloc, CLEAN)?;
+    put_snapshot(&mut shelves, alloc, image, parent)?;
+    Ok(open(alloc, size()?, 0, &mut shelves)?)
+}
+
 #[test]
 fn a_layer_that_cannot_stand_is_told(rt: HostRuntime) -> Result<(), Fail> {
     let alloc = rt.alloc();
-    for (image, parent, told) in MISFITS {
-        let mut shelves = fixed_folder(alloc, CLEAN)?;
-        put_snapshot(&mut shelves, alloc, image, parent)?;
-        let found = open(alloc, size()?, 0, &mut shelves)?;
+    for (image, parent, told) in MISFITS.iter() {
+        let found = opened_with(alloc, image, parent)?;
         assert!(rt; is_damaged(found, told, 0), "{image}");
     }
-    let mut shelves = fixed_folder(alloc, CLEAN)?;
-    put_snapshot(
-        &mut shelves,
-        alloc,
-        "volume-snap-sys-3.img",
-        "volume-snap-b.img",
-    )?;
-    opened(alloc, &mut shelves)?;
+    replica_of(opened_with(alloc, "volume-snap-sys-3.img", "volume-snap-b.img")?)?;
     Ok(())
+}
+
+/// Whether the fixed folder opens where the call of that number is to fail. If not, that call failed, and no other.
+fn opens_but(
+    rt: &impl Abort,
+    alloc: Global,
+    shelves: &mut MemoryShelves,
+    call: u64,
+) -> Result<bool, Fail> {
+    shelves.plan = FaultPlan::new(Vec::from_slice(alloc, &[call])?);
+    match open(alloc, size()?, 0, shelves) {
+        Err(error) => assert_eq!(rt; error, OuterError::Failed, "at call {call}"),
+        Ok(Opened::Clean(_, _)) => return Ok(true),
+        Ok(_) => return Err(Fail::new("no replica")),
+    }
+    assert_eq!(rt; shelves.faults, call);
+    Ok(false)
 }
 
 #[test]
@@ -233,13 +276,9 @@ fn each_call_of_an_open_may_fail(rt: HostRuntime) -> Result<(), Fail> {
     shelves.shelves = fixed_folder(alloc, CLEAN)?;
     // The last plan fails none: there are not so many calls.
     for call in 1..60u64 {
-        shelves.plan = FaultPlan::new(Vec::from_slice(alloc, &[call])?);
-        match open(alloc, size()?, 0, &mut shelves) {
-            Err(error) => assert_eq!(rt; error, OuterError::Failed, "at call {call}"),
-            Ok(Opened::Clean(_, _)) => return Ok(()),
-            Ok(_) => return Err(Fail::new("no replica")),
+        if opens_but(&rt, alloc, &mut shelves, call)? {
+            return Ok(());
         }
-        assert_eq!(rt; shelves.faults, call);
     }
     Err(Fail::new("too many calls"))
 }
@@ -256,11 +295,11 @@ const NAMES: [&str; 4] = [
 fn names_of_all_characters_are_opened(rt: HostRuntime) -> Result<(), Fail> {
     let alloc = rt.alloc();
     let mut node = ReplicaNode::blank(alloc, size()?)?;
-    for name in NAMES {
+    for name in NAMES.iter() {
         keep(&mut node, alloc, name.as_bytes())?;
     }
     let mut shelves = NoFaultShelves::new(alloc);
-    save(alloc, &node, &meta(alloc, false)?, 0, &mut shelves)?;
+    save_on(alloc, &node, &mut shelves)?;
     opens_as(&rt, alloc, &node, &mut shelves)
 }
 
@@ -269,16 +308,21 @@ fn digit(number: u32) -> u8 {
     b'0' + (number % 10) as u8
 }
 
-#[test]
-fn a_folder_of_250_layers_is_opened_and_no_more(rt: HostRuntime) -> Result<(), Fail> {
-    let alloc = rt.alloc();
+/// A replica of as many layers as there may be.
+fn deepest(alloc: Global) -> Result<ReplicaNode, Fail> {
     let mut node = ReplicaNode::blank(alloc, size()?)?;
     for number in 0..249 {
         let name = [digit(number / 100), digit(number / 10), digit(number)];
         keep(&mut node, alloc, &name)?;
     }
+    Ok(node)
+}
+
+#[test]
+fn a_folder_of_250_layers_is_opened_and_no_more(rt: HostRuntime) -> Result<(), Fail> {
+    let alloc = rt.alloc();
     let mut shelves = HollowShelves::new(alloc);
-    save(alloc, &node, &meta(alloc, false)?, 0, &mut shelves)?;
+    save_on(alloc, &deepest(alloc)?, &mut shelves)?;
     assert_eq!(rt; opened(alloc, &mut shelves)?.layer_count(), 250);
     put_snapshot(&mut shelves, alloc, "volume-snap-x.img", "")?;
     let found = open(alloc, size()?, 0, &mut shelves)?;

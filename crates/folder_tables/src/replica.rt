@@ -1,5 +1,7 @@
+use crate::fixed::put_older_files;
 use replica_node::{BLOCK_BYTES, BlockRange, Blocks, LayerName, ReplicaNode, VolumeSize};
-use replica_shelf::{HeadMeta, SaveMeta};
+use replica_shelf::{HeadMeta, SaveMeta, save};
+use shelf_traits::Shelves;
 use std::alloc::Global;
 use std::test::Fail;
 use vol_units::{MOST_LAYERS, TimeText};
@@ -51,17 +53,22 @@ fn mark(node: &mut ReplicaNode, name: &[u8]) -> Result<(), Fail> {
     Ok(())
 }
 
+/// Two snapshots, the second of them on the first and marked; the head is on the first again.
+fn put_beside(node: &mut ReplicaNode, alloc: Global) -> Result<(), Fail> {
+    keep(node, alloc, b"a")?;
+    put(node, alloc, 5, 3)?;
+    keep(node, alloc, b"b")?;
+    go_back(node, alloc, b"a")?;
+    mark(node, b"b")
+}
+
 /// Of number 4. Three layers, two of them on the first. A block of zeros is a block.
 pub fn replica(alloc: Global) -> Result<ReplicaNode, Fail> {
     let mut node = ReplicaNode::blank(alloc, size()?)?;
     for (block, byte) in [(3, 1), (4, 2), (6, 0)] {
         put(&mut node, alloc, block, byte)?;
     }
-    keep(&mut node, alloc, b"a")?;
-    put(&mut node, alloc, 5, 3)?;
-    keep(&mut node, alloc, b"b")?;
-    go_back(&mut node, alloc, b"a")?;
-    mark(&mut node, b"b")?;
+    put_beside(&mut node, alloc)?;
     keep(&mut node, alloc, b"c")?;
     put(&mut node, alloc, 511, 4)?;
     Ok(node)
@@ -71,4 +78,19 @@ pub fn meta(alloc: Global, failed: bool) -> Result<SaveMeta, Fail> {
     let time = TimeText::read(alloc, "2026-01-02")?.ok_or("no time")?;
     let head = HeadMeta::made_at(alloc, &time)?;
     Ok(SaveMeta { time, head, failed })
+}
+
+/// Saves the replica to shelf 0.
+pub fn save_on(alloc: Global, node: &ReplicaNode, shelves: &mut impl Shelves) -> Result<(), Fail> {
+    Ok(save(alloc, node, &meta(alloc, false)?, 0, shelves)?)
+}
+
+/// Saves the replica to shelf 0, on which older files are.
+pub fn save_over_older(
+    alloc: Global,
+    node: &ReplicaNode,
+    shelves: &mut impl Shelves,
+) -> Result<(), Fail> {
+    put_older_files(shelves)?;
+    save_on(alloc, node, shelves)
 }
