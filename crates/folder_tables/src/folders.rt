@@ -1,8 +1,10 @@
 use crate::opened::opens_as;
 use crate::replica::{replica, save_over_older};
 use outer_real::FolderShelves;
+use replica_node::ReplicaNode;
 use shelf_memory::NoFaultShelves;
 use shelf_traits::{Outer, OuterError, Shelves};
+use std::alloc::Global;
 use std::os::unix::fs::symlink;
 use std::path::PathBuf;
 use std::process::{self, Abort, Process};
@@ -158,16 +160,30 @@ fn has_the_files<R: Files + AllocGlobal + Abort>(
     Ok(())
 }
 
+/// The folder of the replica in memory.
+fn saved(alloc: Global, node: &ReplicaNode) -> Result<NoFaultShelves, Fail> {
+    let mut shelves = NoFaultShelves::new(alloc);
+    save_over_older(alloc, node, &mut shelves)?;
+    Ok(shelves)
+}
+
+/// The replica is saved to shelf 0, which is the folder, as it is in memory, and opened.
+fn is_saved<R: Files + AllocGlobal + Abort>(
+    rt: &R,
+    folder: &PathBuf,
+    node: &ReplicaNode,
+    shelves: &mut impl Shelves,
+) -> Result<(), Fail> {
+    save_over_older(rt.alloc(), node, shelves)?;
+    let files = shelves.files(0)?.len();
+    has_the_files(rt, folder, files, &mut saved(rt.alloc(), node)?)?;
+    opens_as(rt, rt.alloc(), node, shelves)
+}
+
 #[test]
 fn a_replica_is_saved_to_a_folder_as_in_memory_and_opened(rt: HostRuntime) -> Result<(), Fail> {
-    let (alloc, base) = (rt.alloc(), own_folder(&rt, "saved", rt.process())?);
-    let node = replica(alloc)?;
-    let mut shelves = FolderShelves::new(&rt, &base)?;
-    save_over_older(alloc, &node, &mut shelves)?;
-    let mut wanted = NoFaultShelves::new(alloc);
-    save_over_older(alloc, &node, &mut wanted)?;
-    let files = shelves.files(0)?.len();
-    has_the_files(&rt, &path_of(&base, "r0")?, files, &mut wanted)?;
-    opens_as(&rt, alloc, &node, &mut shelves)?;
+    let base = own_folder(&rt, "saved", rt.process())?;
+    let (folder, node) = (path_of(&base, "r0")?, replica(rt.alloc())?);
+    is_saved(&rt, &folder, &node, &mut FolderShelves::new(&rt, &base)?)?;
     Ok(fs::remove_dir_all(&rt, base)?)
 }

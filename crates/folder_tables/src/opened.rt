@@ -184,6 +184,29 @@ fn a_file_that_is_damaged_is_told(rt: HostRuntime) -> Result<(), Fail> {
     Ok(())
 }
 
+/// What is told of a snapshot on that parent.
+fn snapshot_meta(alloc: Global, image: &str, parent: &str) -> Result<DiskMeta, Fail> {
+    Ok(DiskMeta {
+        created: TimeText::read(alloc, "")?.ok_or("no time")?,
+        name: ImageName::read(alloc, image)?.ok_or("no image")?,
+        parent: ImageName::read(alloc, parent)?,
+        removed: false,
+        user_created: false,
+    })
+}
+
+/// A file of zeros, in place of the one that there may be.
+fn put_zeros(shelves: &mut impl Shelves, file: &str, length: u32) -> Result<(), Fail> {
+    shelves.remove(0, file)?;
+    Ok(shelves.set_len(0, file, u64::from(length))?)
+}
+
+/// A file of these bytes, in place of the one that there may be.
+fn put_bytes(shelves: &mut impl Shelves, file: &str, bytes: &[u8]) -> Result<(), Fail> {
+    shelves.remove(0, file)?;
+    Ok(shelves.write_at(0, file, 0, bytes)?)
+}
+
 /// A snapshot without a block, on that parent, in place of the one that there may be.
 fn put_snapshot(
     shelves: &mut impl Shelves,
@@ -191,21 +214,15 @@ fn put_snapshot(
     image: &str,
     parent: &str,
 ) -> Result<(), Fail> {
-    let meta = DiskMeta {
-        created: TimeText::read(alloc, "")?.ok_or("no time")?,
-        name: ImageName::read(alloc, image)?.ok_or("no image")?,
-        parent: ImageName::read(alloc, parent)?,
-        removed: false,
-        user_created: false,
-    };
-    let (map, told) = (map_file(alloc, &meta.name)?, meta_file(alloc, &meta.name)?);
-    for file in [image, map.as_str(), told.as_str()] {
-        shelves.remove(0, file)?;
-    }
-    shelves.set_len(0, image, 2_097_152)?;
-    shelves.set_len(0, map.as_str(), 0)?;
-    shelves.write_at(0, told.as_str(), 0, meta.write(alloc)?.as_slice())?;
-    Ok(())
+    let meta = snapshot_meta(alloc, image, parent)?;
+    put_zeros(shelves, image, 2_097_152)?;
+    put_zeros(shelves, map_file(alloc, &meta.name)?.as_str(), 0)?;
+    let told = meta.write(alloc)?;
+    put_bytes(
+        shelves,
+        meta_file(alloc, &meta.name)?.as_str(),
+        told.as_slice(),
+    )
 }
 
 /// The parent that a snapshot of the fixed folder is given, and the file that is told.
