@@ -79,12 +79,12 @@ fn a_sink_that_fails_has_a_beginning(rt: HostRuntime) -> Result<(), Fail> {
     let disk = disk_of(alloc, &SECOND)?;
     let mut target = MemoryTarget::new(alloc, FaultPlan::none(alloc));
     make_two(&rt, alloc, &mut target)?.second?;
-    // Each page is taken in two pieces.
-    for pieces in 0..=6u64 {
+    // Each page is taken in 32 pieces.
+    for pieces in [0u64, 1, 31, 32, 33, 64, 95, 96] {
         let plan = FaultPlan::new(Vec::from_slice(alloc, &[pieces + 1])?);
-        let mut sink = MemorySink::new(alloc, 1_048_576, plan);
+        let mut sink = MemorySink::new(alloc, 65_536, plan);
         let answer = restore_to(alloc, &mut target, "b2", &mut sink)?;
-        let wanted = if pieces < 6 {
+        let wanted = if pieces < 96 {
             Restored::WriteFault
         } else {
             Restored::Whole
@@ -93,7 +93,7 @@ fn a_sink_that_fails_has_a_beginning(rt: HostRuntime) -> Result<(), Fail> {
         assert!(rt; disk.starts_with(sink.bytes()), "at piece {pieces}");
         assert_eq!(rt;
             sink.bytes().len() as u64,
-            pieces * 1_048_576,
+            pieces * 65_536,
             "at piece {pieces}"
         );
     }

@@ -12,12 +12,12 @@ use target_memory::NoFaultTarget;
 /// What pages are filled with, again and again. Most are zeros, since each block that is listed is digested twice.
 const FILLS: [u8; 8] = [7, 0, 0, 9, 0, 0, 0, 5];
 
-/// A sink that looks at what it is given, page by page, and keeps none of it.
+/// A sink that looks at what it is given, piece by piece, and keeps none of it.
 #[derive(Drop)]
 struct Pages {
     /// What the pages hold, again and again.
     wanted: Vec<Vec<u8>>,
-    /// How many pages came as they were wanted.
+    /// How many bytes came as they were wanted.
     good: usize,
 }
 
@@ -30,8 +30,12 @@ impl Sink for Pages {
 
     fn write(&mut self, bytes: &[u8]) -> Outer<usize> {
         let count = self.wanted.len();
-        if count > 0 && self.wanted[self.good % count].as_slice() == bytes {
-            self.good = self.good.saturating_add(1);
+        if count > 0 {
+            let page = self.wanted[self.good / 2_097_152 % count].as_slice();
+            let (_, rest) = page.split_at((self.good % 2_097_152).min(page.len()));
+            if rest.starts_with(bytes) {
+                self.good = self.good.saturating_add(bytes.len());
+            }
         }
         Ok(bytes.len())
     }
@@ -78,6 +82,6 @@ fn a_disk_of_the_largest_size_is_restored(rt: HostRuntime) -> Result<(), Fail> {
         restore_to(alloc, &mut target, "b", &mut sink)?,
         Restored::Whole
     );
-    assert_eq!(rt; sink.good, 512);
+    assert_eq!(rt; sink.good, 512 * 2_097_152);
     Ok(())
 }
