@@ -28,8 +28,8 @@ use Rattle.volume_model.specs.Modes.{modes_after}
 use Rattle.volume_model.specs.Names.{NamesOnce, AreNamed}
 use Rattle.volume_model.specs.Copies.{has_copy, HasCopies}
 use Rattle.volume_model.specs.Rebuilds.{added_by}
-use Rattle.volume_model.specs.History.{Spot, says_no_replica, IsAnswered, IsEnded, MayStand, LegalAfter, IsLegal}
-use Rattle.volume_model.proofs.StepLemmas.{says_refusal}
+use Rattle.volume_model.specs.History.{Spot, IsAnswered, IsEnded, MayStand, LegalAfter, IsLegal}
+use Rattle.volume_model.proofs.StepLemmas.{done_is_of_volume}
 use Rattle.volume_model.proofs.NamesLemmas.{stands, next, named_entry, is_live-marked, is_live-part}
 
 -- ---- what each change leaves
@@ -74,7 +74,7 @@ has_copy-without (c ∷ cs) name q apart = one (bytes_eq name c.name) refl (has_
     one true is more = more ∙ sym (ap (λ b. b || has_copy cs q) (ap (bytes_eq q) (sym ((bytes_eq-Decides name c.name).0 is)) ∙ apart))
     one false is more = ap (λ b. bytes_eq q c.name || b) more
 
-copy_of-without : (copies : List Copy) (name q : List ℕ) → bytes_eq q name ≡ false → copy_of (without copies name) q ≡ copy_of copies q
+pub copy_of-without : (copies : List Copy) (name q : List ℕ) → bytes_eq q name ≡ false → copy_of (without copies name) q ≡ copy_of copies q
 copy_of-without [] name q apart = refl
 copy_of-without (c ∷ cs) name q apart = one (bytes_eq name c.name) refl (copy_of-without cs name q apart)
   where
@@ -130,10 +130,8 @@ clear_of : (before : List Entry) (state : PlainState) (modes : List Mode) (a : A
 clear_of before state modes a none ended done = plainly (subst (λ x. IsEnded x before state modes a) none ended)
   where
     plainly : IsAnswered state modes a → refusal_of modes state a.call ≡ None
-    plainly answered = elim (cases_Bool (says_no_replica a.reply)) [
-      | inl says ↦ absurd (true≢false (sym (says_refusal a.reply says) ∙ done))
-      | inr other ↦ clear_when (refusal_of modes state a.call) modes state a.call (sym (ap is_refusal (answered.reply other)) ∙ done)
-    ]
+    plainly answered = clear_when (refusal_of modes state a.call) modes state a.call
+        (sym (ap is_refusal (answered.reply (done_is_of_volume a.reply done))) ∙ done)
 
 good_when : (good : Bool) → cond good None (Some OutOfRange) ≡ None → good ≡ true
 good_when true is = refl
@@ -166,6 +164,7 @@ whole_called size modes state (call.Command command.Purge) clear whole = whole
 whole_called size modes state (call.Command command.Status) clear whole = whole
 whole_called size modes state (call.Command (command.Fail r)) clear whole = whole
 whole_called size modes state (call.Command (command.Add r)) clear whole = whole
+whole_called size modes state (call.Command (command.Backup backup snapshot)) clear whole = whole
 
 whole_unless : (refused : Bool) (size : ℕ) (modes : List Mode) (state : PlainState) (c : Call)
     → (added_by c ≡ None → refused ≡ false → refusal_of modes state c ≡ None)

@@ -28,11 +28,11 @@ use Rattle.volume_model.specs.Marks.{after_mark}
 use Rattle.volume_model.specs.PlainStep.{volume_refusal, after_call, step_unless, plain_step}
 use Rattle.volume_model.specs.Replay.{is_refusal, after_entry, replay}
 use Rattle.volume_model.specs.Modes.{modes_after}
-use Rattle.volume_model.specs.History.{Spot, says_no_replica, IsAnswered, IsEnded, CouldBe, MayStand, LegalAfter, IsLegal}
+use Rattle.volume_model.specs.History.{Spot, IsAnswered, IsEnded, CouldBe, MayStand, LegalAfter, IsLegal}
 use Rattle.volume_model.specs.Names.{is_used_in, is_live_in, with_name, name_marked, names_in, names_after_call}
 use Rattle.volume_model.specs.Names.{names_after_entry, names_after, layers_after_call, layers_after_entry}
 use Rattle.volume_model.specs.Names.{layers_after, has_name, NamesOnce, TellOf, AreNamed}
-use Rattle.volume_model.proofs.StepLemmas.{replay-push, says_refusal}
+use Rattle.volume_model.proofs.StepLemmas.{replay-push, done_is_of_volume}
 use Rattle.volume_model.proofs.PurgeLemmas.{any_cases, length-with_part}
 
 -- ---- a snapshot that is to be removed
@@ -285,11 +285,8 @@ answer_stands before state modes a ended = λ name is done. plainly name is done
   where
     plainly : (name : List ℕ) → a.call ≡ call.Command (command.Snapshot name) → is_refusal a.reply ≡ false
         → IsAnswered state modes a → is_used state.used name ≡ false
-    plainly name is done answered = elim (cases_Bool (says_no_replica a.reply)) [
-      | inl says ↦ absurd (true≢false (sym (says_refusal a.reply says) ∙ done))
-      | inr other ↦ taken_is_new modes state name
-          (sym (ap is_refusal (answered.reply other ∙ ap (λ c. (plain_step modes state c).1) is)) ∙ done)
-    ]
+    plainly name is done answered = taken_is_new modes state name (sym (ap is_refusal
+        (answered.reply (done_is_of_volume a.reply done) ∙ ap (λ c. (plain_step modes state c).1) is)) ∙ done)
 
 -- so does each that may stand behind a journal that leaves them
 pub stands : (opening : Spot) (before : List Entry) (state : PlainState) (e : Entry) (after : List Entry)
@@ -367,6 +364,7 @@ named_called state (call.Command command.Purge) new named = named
 named_called state (call.Command command.Status) new named = named
 named_called state (call.Command (command.Fail r)) new named = named
 named_called state (call.Command (command.Add r)) new named = named
+named_called state (call.Command (command.Backup backup snapshot)) new named = named
 
 -- a call that was answered so
 pub named_unless : (refused : Bool) (state : PlainState) (c : Call)
@@ -465,6 +463,7 @@ tell_called names state (call.Command command.Purge) new tell = tell
 tell_called names state (call.Command command.Status) new tell = tell
 tell_called names state (call.Command (command.Fail r)) new tell = tell
 tell_called names state (call.Command (command.Add r)) new tell = tell
+tell_called names state (call.Command (command.Backup backup snapshot)) new tell = tell
 
 tell_unless : (refused : Bool) (names : List UsedName) (state : PlainState) (c : Call)
     → ((name : List ℕ) → c ≡ call.Command (command.Snapshot name) → refused ≡ false → is_used state.used name ≡ false) → TellOf names state
@@ -517,6 +516,7 @@ layers_called state (call.Command command.Purge) = refl
 layers_called state (call.Command command.Status) = refl
 layers_called state (call.Command (command.Fail r)) = refl
 layers_called state (call.Command (command.Add r)) = refl
+layers_called state (call.Command (command.Backup backup snapshot)) = refl
 
 layers_unless : (refused : Bool) (state : PlainState) (c : Call)
     → cond refused (layer_count state.volume.snapshots)

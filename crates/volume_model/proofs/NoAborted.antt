@@ -13,7 +13,7 @@ use Rattle.volume_model.specs.PlainState.{PlainState}
 use Rattle.volume_model.specs.Purge.{parts_of}
 use Rattle.volume_model.specs.Modes.{mode_of, source_of}
 use Rattle.volume_model.specs.History.{Spot}
-use Rattle.volume_model.specs.OneWorker.{fail_marks, add_marks, refused_at, marks_unless, answer_for, entries_at}
+use Rattle.volume_model.specs.OneWorker.{Against, Store, fail_marks, add_marks, refused_by, marks_unless, answer_for, entries_by}
 use Rattle.volume_model.specs.OneWorker.{after_done, behind, served_from, after_calls, served_streams}
 use Rattle.volume_model.proofs.FallLemmas.{HasNoAborted, no_aborted-append}
 
@@ -43,22 +43,28 @@ none_before spot None (call.Command command.Purge) = none_of (parts_of spot.stat
 none_before spot None (call.Command command.Status) = tt
 none_before spot None (call.Command (command.Fail r)) = none_failed r (mode_of spot.modes r)
 none_before spot None (call.Command (command.Add r)) = none_added spot.state r (source_of spot.modes)
+none_before spot None (call.Command (command.Backup backup snapshot)) = tt
 
-none_at : (spot : Spot) (stream place index : ℕ) (c : Call) → HasNoAborted (entries_at spot stream place index c)
-none_at spot stream place index c = no_aborted-append (marks_unless (refused_at spot c) spot c)
-    (answer_for (refused_at spot c) spot stream place index c ∷ []) (none_before spot (refused_at spot c) c) (tt, tt)
+none_at : (told : Option Against) (spot : Spot) (stream place index : ℕ) (c : Call)
+    → HasNoAborted (entries_by told spot stream place index c)
+none_at told spot stream place index c = no_aborted-append (marks_unless (refused_by told spot c) spot c)
+    (answer_for (refused_by told spot c) spot stream place index c ∷ []) (none_before spot (refused_by told spot c) c) (tt, tt)
 
-none_from : (spot : Spot) (stream place index : ℕ) (cs : List Call) → HasNoAborted (served_from spot stream place index cs)
-none_from spot stream place index [] = tt
-none_from spot stream place index (c ∷ cs) =
-    let first = entries_at spot stream place index c in
-    no_aborted-append first (served_from (after_done spot c) stream (behind place first) (suc index) cs) (none_at spot stream place index c)
-    (none_from (after_done spot c) stream (behind place first) (suc index) cs)
+none_from : (store : Store) (spot : Spot) (stream place index : ℕ) (cs : List Call)
+    → HasNoAborted (served_from store spot stream place index cs)
+none_from store spot stream place index [] = tt
+none_from store spot stream place index (c ∷ cs) =
+    let first = entries_by (store place) spot stream place index c in
+    no_aborted-append first (served_from store (after_done spot c) stream (behind place first) (suc index) cs)
+    (none_at (store place) spot stream place index c)
+    (none_from store (after_done spot c) stream (behind place first) (suc index) cs)
 
 -- in the journal of these streams no mark is an aborted one
-pub none_aborted : (spot : Spot) (stream place : ℕ) (css : List (List Call)) → HasNoAborted (served_streams spot stream place css)
-none_aborted spot stream place [] = tt
-none_aborted spot stream place (cs ∷ css) =
-    let first = served_from spot stream place 0 cs in
-    no_aborted-append first (served_streams (after_calls spot cs) (suc stream) (behind place first) css) (none_from spot stream place 0 cs)
-    (none_aborted (after_calls spot cs) (suc stream) (behind place first) css)
+pub none_aborted : (store : Store) (spot : Spot) (stream place : ℕ) (css : List (List Call))
+    → HasNoAborted (served_streams store spot stream place css)
+none_aborted store spot stream place [] = tt
+none_aborted store spot stream place (cs ∷ css) =
+    let first = served_from store spot stream place 0 cs in
+    no_aborted-append first (served_streams store (after_calls spot cs) (suc stream) (behind place first) css)
+    (none_from store spot stream place 0 cs)
+    (none_aborted store (after_calls spot cs) (suc stream) (behind place first) css)

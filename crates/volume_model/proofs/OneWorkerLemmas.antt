@@ -32,8 +32,8 @@ use Rattle.volume_model.specs.Faults.{fault_counts, RisesTo}
 use Rattle.volume_model.specs.Names.{AreOwnFree}
 use Rattle.volume_model.specs.Rebuilds.{added_by, rebuild_after_add, rebuild_from, rebuild_of, MayBegin}
 use Rattle.volume_model.specs.History.{Spot, IsAnswered, IsEnded, EndsAdd, LegalAfter, answers_from, InOrderFrom, IsHistory}
-use Rattle.volume_model.specs.OneWorker.{behind_entries, fail_marks, add_marks, after_streams, want_of_replica}
-use Rattle.volume_model.specs.OneWorker.{refused_at, call_marks, marks_unless, reply_for, answer_for, entries_for}
+use Rattle.volume_model.specs.OneWorker.{Against, Store, behind_entries, fail_marks, add_marks, after_streams, want_of_replica}
+use Rattle.volume_model.specs.OneWorker.{refused_at, refused_by, entries_by, call_marks, marks_unless, reply_for, answer_for, entries_for}
 use Rattle.volume_model.specs.OneWorker.{entries_at, after_done, behind, served_from, after_calls, served_streams}
 use Rattle.volume_model.specs.OneWorker.{served, IsProper, AreProper, AllProper, call_count, stream_of}
 use Rattle.volume_model.proofs.PurgeLemmas.{next_can, purged_after, after_parts}
@@ -47,7 +47,8 @@ use Rattle.volume_model.proofs.FallLemmas.{behind_falls_none}
 use Rattle.volume_model.proofs.NoAborted.{none_aborted}
 use Rattle.volume_model.proofs.WithinLemmas.{served_within}
 use Rattle.volume_model.proofs.OwnNames.{own_entry, own_sys, entry_raises}
-use Rattle.volume_model.proofs.SpotLemmas.{source_is, has_source, answer_by, answered_there}
+use Rattle.volume_model.proofs.SpotLemmas.{source_is, has_source, answer_by, answered_there, answered_by_store}
+use Rattle.volume_model.proofs.SpotLemmas.{asks_none, by_store}
 
 -- ---- where the worker stands behind a journal
 
@@ -99,19 +100,16 @@ module _ (opening : Spot) (before : List Entry) (spot : Spot) (here : Here openi
   as_answered a answered = subst (λ s. IsAnswered s (modes_after opening.modes before) a) (sym here.state)
       (subst (λ ms. IsAnswered spot.state ms a) (sym here.modes) answered)
 
-  -- a call that makes no marks
-  quiet : (c : Call) → ((name : List ℕ) → c ≡ call.Command (command.Snapshot name) → begins_sys name ≡ false) → added_by c ≡ None
-      → ((r : ℕ) → c ≡ call.Command (command.Fail r) → mode_of spot.modes r ≡ Err)
-      → (c ≡ call.Command command.Purge → is_refusal (reply_for (refused_at spot c) spot c) ≡ false
-      → IsPurged spot.state.volume.snapshots.tree spot.state.volume.snapshots.on)
-      → (marks : List Entry) → marks ≡ [] → Goes opening before spot
-      (marks ++ answer_for (refused_at spot c) spot stream place index c ∷ [])
-  quiet c user none fails purged marks empty =
-      let a = answer_by spot c (refused_at spot c) stream place index in
+  -- a call that makes no marks, and is refused for that, if it is
+  quiet_by : (c : Call) (why : Option Refusal) → ((name : List ℕ) → c ≡ call.Command (command.Snapshot name) → begins_sys name ≡ false)
+      → added_by c ≡ None → IsAnswered spot.state spot.modes (answer_by spot c why stream place index)
+      → (marks : List Entry) → marks ≡ [] → Goes opening before spot (marks ++ answer_for why spot stream place index c ∷ [])
+  quiet_by c why user none answered marks empty =
+      let a = answer_by spot c why stream place index in
       subst (λ l. Goes opening before spot (l ++ entry.Answer a ∷ [])) (sym empty) (record {
         legal = (
           subst (λ x. IsEnded x before (replay opening.state before) (modes_after opening.modes before) a) (sym none)
-              (as_answered a (answered_there spot c stream place index fails purged)),
+              (as_answered a answered),
           tt,
         );
         free = own_entry spot.state (entry.Answer a) user here.free;
@@ -119,6 +117,15 @@ module _ (opening : Spot) (before : List Entry) (spot : Spot) (here : Here openi
         raise = entry_raises spot.state (entry.Answer a);
         faults = λ s r. refl;
       })
+
+  quiet : (c : Call) → ((name : List ℕ) → c ≡ call.Command (command.Snapshot name) → begins_sys name ≡ false) → added_by c ≡ None
+      → ((r : ℕ) → c ≡ call.Command (command.Fail r) → mode_of spot.modes r ≡ Err)
+      → (c ≡ call.Command command.Purge → is_refusal (reply_for (refused_at spot c) spot c) ≡ false
+      → IsPurged spot.state.volume.snapshots.tree spot.state.volume.snapshots.on)
+      → (marks : List Entry) → marks ≡ [] → Goes opening before spot
+      (marks ++ answer_for (refused_at spot c) spot stream place index c ∷ [])
+  quiet c user none fails purged =
+      quiet_by c (refused_at spot c) user none (answered_there spot c stream place index fails purged)
 
   no_marks : (why : Option Refusal) (c : Call) → call_marks spot c ≡ [] → marks_unless why spot c ≡ []
   no_marks (Some why) c e = refl
@@ -202,6 +209,7 @@ purge_goes opening before spot stream place index s here source =
             record {
               reply = λ says. refl;
               none = λ says. absurd cc;
+              store = λ says. absurd cc;
               fails = λ r is. absurd cc;
               source = λ change done. subst HasSource (sym same) (has_source spot.modes s source);
               purged = λ is done. subst (λ (s : PlainState). IsPurged s.volume.snapshots.tree s.volume.snapshots.on) (sym found)
@@ -242,6 +250,7 @@ fail_goes opening before spot stream place index r here up =
           record {
             reply = λ says. refl;
             none = λ says. absurd cc;
+            store = λ says. absurd cc;
             fails = λ q is. subst (λ ms. mode_of ms q ≡ Err) (sym now)
                 (subst (λ n. mode_of (set spot.modes r Err) n ≡ Err) (same_replica r q is) (failed_is spot.modes r));
             source = λ change done. absurd cc;
@@ -445,16 +454,37 @@ module _ (opening : Spot) (before : List Entry) (spot : Spot) (here : Here openi
       (λ r e. absurd cc) (λ e. absurd cc) refl
   call_goes (call.Command (command.Fail r)) proper = fail_entries r (mode_of spot.modes r) refl
   call_goes (call.Command (command.Add r)) proper = add_entries r proper (refused_at spot (call.Command (command.Add r))) refl
+  call_goes (call.Command (command.Backup backup snapshot)) proper =
+      plain (call.Command (command.Backup backup snapshot)) (λ n e. absurd cc) refl (λ r e. absurd cc) (λ e. absurd cc) refl
+
+  backup_goes : (told : Option Against) (backup snapshot : List ℕ)
+      → Goes opening before spot (entries_by told spot stream place index (call.Command (command.Backup backup snapshot)))
+  backup_goes None backup snapshot = call_goes (call.Command (command.Backup backup snapshot)) tt
+  backup_goes (Some against) backup snapshot =
+      let c = call.Command (command.Backup backup snapshot) in
+      let why = refused_by (Some against) spot c in
+      quiet_by opening before spot here fits stream place index c why (λ n e. absurd cc) refl
+      (answered_by_store spot backup snapshot against stream place index)
+      (marks_unless why spot c) (no_marks opening before spot here fits stream place index why c refl)
+
+  -- the same, whatever the store tells of it
+  pub call_goes_by : (told : Option Against) (c : Call) → IsProper (length opening.modes) c
+      → Goes opening before spot (entries_by told spot stream place index c)
+  call_goes_by told = by_store (λ c. IsProper (length opening.modes) c
+      → Goes opening before spot (entries_by told spot stream place index c))
+      (λ c apart proper. subst (λ why. Goes opening before spot (entries_for why spot stream place index c))
+      (sym (asks_none told spot c apart)) (call_goes c proper))
+      (λ backup snapshot proper. backup_goes told backup snapshot)
 
 -- ---- one call after another
 
 -- of which stream a call is, and at which place, is nothing to what it leaves
-pub same_after : (spot : Spot) (stream place index : ℕ) (c : Call)
-    → behind_entries spot (entries_at spot stream place index c) ≡ after_done spot c
-same_after spot stream place index c =
-    let marks = marks_unless (refused_at spot c) spot c in
-    let a = answer_for (refused_at spot c) spot stream place index c in
-    let b = answer_for (refused_at spot c) spot 0 0 0 c in
+after_by : (why : Option Refusal) (spot : Spot) (stream place index : ℕ) (c : Call)
+    → behind_entries spot (entries_for why spot stream place index c) ≡ behind_entries spot (entries_for why spot 0 0 0 c)
+after_by why spot stream place index c =
+    let marks = marks_unless why spot c in
+    let a = answer_for why spot stream place index c in
+    let b = answer_for why spot 0 0 0 c in
     both _ _ _ _ (replay-append spot.state marks (a ∷ []) ∙ sym (replay-append spot.state marks (b ∷ [])))
     (modes_after-append spot.modes marks (a ∷ []) ∙ sym (modes_after-append spot.modes marks (b ∷ [])))
   where
@@ -463,6 +493,21 @@ same_after spot stream place index c =
 
     both : (s t : PlainState) (ms ns : List Mode) → s ≡ t → ms ≡ ns → spot_of s ms ≡ spot_of t ns
     both s t ms ns e f = cc
+
+-- a backup leaves all as it was
+after_backup : (why : Option Refusal) (spot : Spot) (backup snapshot : List ℕ)
+    → behind_entries spot (entries_for why spot 0 0 0 (call.Command (command.Backup backup snapshot))) ≡ spot
+after_backup (Some why) spot backup snapshot = refl
+after_backup None spot backup snapshot = refl
+
+-- nor is what the store tells of it
+pub same_after : (told : Option Against) (spot : Spot) (stream place index : ℕ) (c : Call)
+    → behind_entries spot (entries_by told spot stream place index c) ≡ after_done spot c
+same_after told spot stream place index c = after_by (refused_by told spot c) spot stream place index c ∙ by_store
+    (λ c. behind_entries spot (entries_by told spot 0 0 0 c) ≡ after_done spot c)
+    (λ c apart. ap (λ why. behind_entries spot (entries_for why spot 0 0 0 c)) (asks_none told spot c apart))
+    (λ backup snapshot. after_backup (refused_by told spot (call.Command (command.Backup backup snapshot))) spot backup snapshot
+    ∙ sym (after_backup (refused_at spot (call.Command (command.Backup backup snapshot))) spot backup snapshot)) c
 
 -- entries that one worker makes there of so many calls, and where it stands then
 record Ran (opening : Spot) (before : List Entry) (spot : Spot) (es : List Entry) (next : Spot) (calls : ℕ) : Type 0 where
@@ -493,44 +538,44 @@ ran_more opening before spot xs ys next last m n total sum a b = record {
     nil_nil : {xs ys : List ℕ} → xs ≡ [] → ys ≡ [] → xs ++ ys ≡ []
     nil_nil e f = cc
 
-ran_call : (opening : Spot) (before : List Entry) (spot : Spot) (stream place index : ℕ) (c : Call)
+ran_call : (told : Option Against) (opening : Spot) (before : List Entry) (spot : Spot) (stream place index : ℕ) (c : Call)
     → Here opening before spot → spot.state.volume.snapshots.number < 2 ^ 64
-    → IsProper (length opening.modes) c → Ran opening before spot (entries_at spot stream place index c) (after_done spot c) 1
-ran_call opening before spot stream place index c here fits proper =
-    let goes = call_goes opening before spot here fits stream place index c proper in
-    let same = same_after spot stream place index c in
+    → IsProper (length opening.modes) c → Ran opening before spot (entries_by told spot stream place index c) (after_done spot c) 1
+ran_call told opening before spot stream place index c here fits proper =
+    let goes = call_goes_by opening before spot here fits stream place index told c proper in
+    let same = same_after told spot stream place index c in
     record {
       legal = goes.legal;
-      here = subst (Here opening (before ++ entries_at spot stream place index c)) same
-          (here_behind opening before spot (entries_at spot stream place index c) here goes);
+      here = subst (Here opening (before ++ entries_by told spot stream place index c)) same
+          (here_behind opening before spot (entries_by told spot stream place index c) here goes);
       raise = subst (λ (s : Spot). s.state.volume.snapshots.number ≤ spot.state.volume.snapshots.number + 1) same goes.raise;
       faults = goes.faults;
     }
 
-ran_calls : (opening : Spot) (before : List Entry) (spot : Spot) (stream place index : ℕ) (cs : List Call)
+ran_calls : (store : Store) (opening : Spot) (before : List Entry) (spot : Spot) (stream place index : ℕ) (cs : List Call)
     → Here opening before spot → spot.state.volume.snapshots.number + length cs ≤ 2 ^ 64
-    → AreProper (length opening.modes) cs → Ran opening before spot (served_from spot stream place index cs)
+    → AreProper (length opening.modes) cs → Ran opening before spot (served_from store spot stream place index cs)
     (after_calls spot cs) (length cs)
-ran_calls opening before spot stream place index [] here fits proper = ran_none opening before spot here
-ran_calls opening before spot stream place index (c ∷ cs) here fits proper =
-    let first = entries_at spot stream place index c in
-    let one = ran_call opening before spot stream place index c here (omega (arith, fits)) proper.0 in
-    let rest = ran_calls opening (before ++ first) (after_done spot c) stream (behind place first) (suc index) cs one.here
+ran_calls store opening before spot stream place index [] here fits proper = ran_none opening before spot here
+ran_calls store opening before spot stream place index (c ∷ cs) here fits proper =
+    let first = entries_by (store place) spot stream place index c in
+    let one = ran_call (store place) opening before spot stream place index c here (omega (arith, fits)) proper.0 in
+    let rest = ran_calls store opening (before ++ first) (after_done spot c) stream (behind place first) (suc index) cs one.here
     (omega (arith, fits, one.raise)) proper.1 in
-    ran_more opening before spot first (served_from (after_done spot c) stream (behind place first) (suc index) cs)
+    ran_more opening before spot first (served_from store (after_done spot c) stream (behind place first) (suc index) cs)
     (after_done spot c) (after_calls (after_done spot c) cs) 1 (length cs) (length (c ∷ cs)) (omega arith) one rest
 
-ran_streams : (opening : Spot) (before : List Entry) (spot : Spot) (stream place : ℕ) (css : List (List Call))
+ran_streams : (store : Store) (opening : Spot) (before : List Entry) (spot : Spot) (stream place : ℕ) (css : List (List Call))
     → Here opening before spot → spot.state.volume.snapshots.number + call_count css ≤ 2 ^ 64
-    → AllProper (length opening.modes) css → Ran opening before spot (served_streams spot stream place css)
+    → AllProper (length opening.modes) css → Ran opening before spot (served_streams store spot stream place css)
     (after_streams spot css) (call_count css)
-ran_streams opening before spot stream place [] here fits proper = ran_none opening before spot here
-ran_streams opening before spot stream place (cs ∷ css) here fits proper =
-    let own = served_from spot stream place 0 cs in
-    let one = ran_calls opening before spot stream place 0 cs here (omega (arith, fits)) proper.0 in
-    let rest = ran_streams opening (before ++ own) (after_calls spot cs) (suc stream) (behind place own) css one.here
+ran_streams store opening before spot stream place [] here fits proper = ran_none opening before spot here
+ran_streams store opening before spot stream place (cs ∷ css) here fits proper =
+    let own = served_from store spot stream place 0 cs in
+    let one = ran_calls store opening before spot stream place 0 cs here (omega (arith, fits)) proper.0 in
+    let rest = ran_streams store opening (before ++ own) (after_calls spot cs) (suc stream) (behind place own) css one.here
     (omega (arith, fits, one.raise)) proper.1 in
-    ran_more opening before spot own (served_streams (after_calls spot cs) (suc stream) (behind place own) css)
+    ran_more opening before spot own (served_streams store (after_calls spot cs) (suc stream) (behind place own) css)
     (after_calls spot cs) (after_streams (after_calls spot cs) css) (length cs) (call_count css) (call_count (cs ∷ css))
     (omega arith) one rest
 
@@ -563,101 +608,104 @@ none_before spot None (call.Command (command.Add r)) stream place = added (sourc
     added : (x : Option ℕ) → answers_from stream place (add_marks spot.state r x) ≡ []
     added None = refl
     added (Some s) = refl
+none_before spot None (call.Command (command.Backup backup snapshot)) stream place = refl
 
 own_answer :
-    (spot : Spot) (stream place index n : ℕ) (c : Call)
-    → answers_from stream n (answer_for (refused_at spot c) spot stream place index c ∷ []) ≡ (
+    (told : Option Against) (spot : Spot) (stream place index n : ℕ) (c : Call)
+    → answers_from stream n (answer_for (refused_by told spot c) spot stream place index c ∷ []) ≡ (
       n,
-      answer_by spot c (refused_at spot c) stream place index,
+      answer_by spot c (refused_by told spot c) stream place index,
     ) ∷ []
-own_answer spot stream place index n c = rw (eq-eqb stream stream refl) refl
+own_answer told spot stream place index n c = rw (eq-eqb stream stream refl) refl
 
 other_answer :
-    (spot : Spot) (stream other place index n : ℕ) (c : Call) → (stream ≡ other → ⊥)
-    → answers_from other n (answer_for (refused_at spot c) spot stream place index c ∷ []) ≡ []
-other_answer spot stream other place index n c apart = rw (ne_eqb stream other apart) refl
+    (told : Option Against) (spot : Spot) (stream other place index n : ℕ) (c : Call) → (stream ≡ other → ⊥)
+    → answers_from other n (answer_for (refused_by told spot c) spot stream place index c ∷ []) ≡ []
+other_answer told spot stream other place index n c apart = rw (ne_eqb stream other apart) refl
 
 -- a call's answer stands under its stream, behind its marks
 own_entries :
-    (spot : Spot) (stream place index n : ℕ) (c : Call) (es : List Entry)
-    → answers_from stream n (entries_at spot stream place index c ++ es)
-    ≡ (n + length (marks_unless (refused_at spot c) spot c), answer_by spot c (refused_at spot c) stream place index)
-    ∷ answers_from stream (behind n (entries_at spot stream place index c)) es
-own_entries spot stream place index n c es =
-    let marks = marks_unless (refused_at spot c) spot c in
-    let a = answer_for (refused_at spot c) spot stream place index c in
-    let one : answers_from stream n (marks ++ a ∷ []) ≡ (n + length marks, answer_by spot c (refused_at spot c) stream place index) ∷ [] =
+    (told : Option Against) (spot : Spot) (stream place index n : ℕ) (c : Call) (es : List Entry)
+    → answers_from stream n (entries_by told spot stream place index c ++ es)
+    ≡ (n + length (marks_unless (refused_by told spot c) spot c), answer_by spot c (refused_by told spot c) stream place index)
+    ∷ answers_from stream (behind n (entries_by told spot stream place index c)) es
+own_entries told spot stream place index n c es =
+    let marks = marks_unless (refused_by told spot c) spot c in
+    let a = answer_for (refused_by told spot c) spot stream place index c in
+    let one : answers_from stream n (marks ++ a ∷ []) ≡
+    (n + length marks, answer_by spot c (refused_by told spot c) stream place index) ∷ [] =
     answers_from-append stream n marks (a ∷ []) ∙ ap (λ l. l ++ answers_from stream (n + length marks) (a ∷ []))
-    (none_before spot (refused_at spot c) c stream n)
-    ∙ own_answer spot stream place index (n + length marks) c in
+    (none_before spot (refused_by told spot c) c stream n)
+    ∙ own_answer told spot stream place index (n + length marks) c in
     answers_from-append stream n (marks ++ a ∷ []) es ∙ ap (λ l. l ++ answers_from stream (behind n (marks ++ a ∷ [])) es) one
 
 -- and under no other
 other_entries :
-    (spot : Spot) (stream other place index n : ℕ) (c : Call) (es : List Entry) → (stream ≡ other → ⊥)
-    → answers_from other n (entries_at spot stream place index c ++ es)
-    ≡ answers_from other (behind n (entries_at spot stream place index c)) es
-other_entries spot stream other place index n c es apart =
-    let marks = marks_unless (refused_at spot c) spot c in
-    let a = answer_for (refused_at spot c) spot stream place index c in
+    (told : Option Against) (spot : Spot) (stream other place index n : ℕ) (c : Call) (es : List Entry) → (stream ≡ other → ⊥)
+    → answers_from other n (entries_by told spot stream place index c ++ es)
+    ≡ answers_from other (behind n (entries_by told spot stream place index c)) es
+other_entries told spot stream other place index n c es apart =
+    let marks = marks_unless (refused_by told spot c) spot c in
+    let a = answer_for (refused_by told spot c) spot stream place index c in
     let none : answers_from other n (marks ++ a ∷ []) ≡ [] =
     answers_from-append other n marks (a ∷ []) ∙ ap (λ l. l ++ answers_from other (n + length marks) (a ∷ []))
-    (none_before spot (refused_at spot c) c other n)
-    ∙ other_answer spot stream other place index (n + length marks) c apart in
+    (none_before spot (refused_by told spot c) c other n)
+    ∙ other_answer told spot stream other place index (n + length marks) c apart in
     answers_from-append other n (marks ++ a ∷ []) es ∙ ap (λ l. l ++ answers_from other (behind n (marks ++ a ∷ [])) es) none
 
 -- the answers of a stream's calls are in order
 pub served_in_order :
-    (spot : Spot) (stream place index least : ℕ) (cs : List Call) → least ≤ place
-    → InOrderFrom index least (answers_from stream place (served_from spot stream place index cs))
-served_in_order spot stream place index least [] low = tt
-served_in_order spot stream place index least (c ∷ cs) low =
-    let marks_unless_here = marks_unless (refused_at spot c) spot c in
+    (store : Store) (spot : Spot) (stream place index least : ℕ) (cs : List Call) → least ≤ place
+    → InOrderFrom index least (answers_from stream place (served_from store spot stream place index cs))
+served_in_order store spot stream place index least [] low = tt
+served_in_order store spot stream place index least (c ∷ cs) low =
+    let marks_unless_here = marks_unless (refused_by (store place) spot c) spot c in
     let next = after_done spot c in
-    let first = entries_at spot stream place index c in
+    let first = entries_by (store place) spot stream place index c in
     let last : behind place first ≡ suc (place + length marks_unless_here) =
-    omega (arith, length-append marks_unless_here (answer_for (refused_at spot c) spot stream place index c ∷ [])) in
+    omega (arith, length-append marks_unless_here (answer_for (refused_by (store place) spot c) spot stream place index c ∷ [])) in
     subst (InOrderFrom index least)
-    (sym (own_entries spot stream place index place c (served_from next stream (behind place first) (suc index) cs))) (
+    (sym (own_entries (store place) spot stream place index place c (served_from store next stream (behind place first) (suc index) cs))) (
       refl,
       low,
       omega arith,
-      served_in_order next stream (behind place first) (suc index) (suc (place + length marks_unless_here)) cs (omega (arith, last)),
+      served_in_order store next stream (behind place first) (suc index) (suc (place + length marks_unless_here)) cs (omega (arith, last)),
     )
 
 -- and those calls are in it, each once
 pub served_calls :
-    (spot : Spot) (stream place index : ℕ) (cs : List Call)
-    → map (λ p. p.1.call) (answers_from stream place (served_from spot stream place index cs)) ≡ cs
-served_calls spot stream place index [] = refl
-served_calls spot stream place index (c ∷ cs) =
+    (store : Store) (spot : Spot) (stream place index : ℕ) (cs : List Call)
+    → map (λ p. p.1.call) (answers_from stream place (served_from store spot stream place index cs)) ≡ cs
+served_calls store spot stream place index [] = refl
+served_calls store spot stream place index (c ∷ cs) =
     let next = after_done spot c in
-    let first = entries_at spot stream place index c in
-    ap (map (λ p. p.1.call)) (own_entries spot stream place index place c (served_from next stream (behind place first) (suc index) cs))
-    ∙ ap (λ l. c ∷ l) (served_calls next stream (behind place first) (suc index) cs)
+    let first = entries_by (store place) spot stream place index c in
+    ap (map (λ p. p.1.call)) (own_entries (store place) spot stream place index place c
+    (served_from store next stream (behind place first) (suc index) cs))
+    ∙ ap (λ l. c ∷ l) (served_calls store next stream (behind place first) (suc index) cs)
 
 -- no other stream has answers among them
 pub served_no_other :
-    (spot : Spot) (stream other n place index : ℕ) (cs : List Call) → (stream ≡ other → ⊥)
-    → answers_from other n (served_from spot stream place index cs) ≡ []
-served_no_other spot stream other n place index [] apart = refl
-served_no_other spot stream other n place index (c ∷ cs) apart =
+    (store : Store) (spot : Spot) (stream other n place index : ℕ) (cs : List Call) → (stream ≡ other → ⊥)
+    → answers_from other n (served_from store spot stream place index cs) ≡ []
+served_no_other store spot stream other n place index [] apart = refl
+served_no_other store spot stream other n place index (c ∷ cs) apart =
     let next = after_done spot c in
-    let first = entries_at spot stream place index c in
-    other_entries spot stream other place index n c (served_from next stream (behind place first) (suc index) cs) apart
-    ∙ served_no_other next stream other (behind n first) (behind place first) (suc index) cs apart
+    let first = entries_by (store place) spot stream place index c in
+    other_entries (store place) spot stream other place index n c (served_from store next stream (behind place first) (suc index) cs) apart
+    ∙ served_no_other store next stream other (behind n first) (behind place first) (suc index) cs apart
 
 -- nor has a stream of a lower number, among those of streams
 pub none_below :
-    (spot : Spot) (stream other n place : ℕ) (css : List (List Call)) → other < stream
-    → answers_from other n (served_streams spot stream place css) ≡ []
-none_below spot stream other n place [] low = refl
-none_below spot stream other n place (cs ∷ css) low =
+    (store : Store) (spot : Spot) (stream other n place : ℕ) (css : List (List Call)) → other < stream
+    → answers_from other n (served_streams store spot stream place css) ≡ []
+none_below store spot stream other n place [] low = refl
+none_below store spot stream other n place (cs ∷ css) low =
     let next = after_calls spot cs in
-    let own = served_from spot stream place 0 cs in
-    answers_from-append other n own (served_streams next (suc stream) (behind place own) css)
-    ∙ joined (served_no_other spot stream other n place 0 cs (λ e. apart stream other low e))
-    (none_below next (suc stream) other _ (behind place own) css (omega arith))
+    let own = served_from store spot stream place 0 cs in
+    answers_from-append other n own (served_streams store next (suc stream) (behind place own) css)
+    ∙ joined (served_no_other store spot stream other n place 0 cs (λ e. apart stream other low e))
+    (none_below store next (suc stream) other _ (behind place own) css (omega arith))
   where
     apart : (s o : ℕ) → o < s → s ≡ o → ⊥
     apart s o low e = omega arith
@@ -666,86 +714,87 @@ none_below spot stream other n place (cs ∷ css) low =
     joined e f = cc
 
 -- the answers of a stream among those of streams are those of its calls, from some state and place on
-pub record AnswersOf (stream : ℕ) (calls : List Call) (answers : List (ℕ × Answer)) : Type 0 where
+pub record AnswersOf (store : Store) (stream : ℕ) (calls : List Call) (answers : List (ℕ × Answer)) : Type 0 where
   pub spot : Spot
   pub place : ℕ
-  pub are : answers ≡ answers_from stream place (served_from spot stream place 0 calls)
+  pub are : answers ≡ answers_from stream place (served_from store spot stream place 0 calls)
 
 -- a journal whose front has none of them
 AnswersOf-behind :
-    (stream stream' place place' : ℕ) (calls : List Call) (front rest : List Entry)
+    (store : Store) (stream stream' place place' : ℕ) (calls : List Call) (front rest : List Entry)
     → stream ≡ stream' → place + length front ≡ place' → answers_from stream place front ≡ []
-    → AnswersOf stream' calls (answers_from stream' place' rest)
-    → AnswersOf stream calls (answers_from stream place (front ++ rest))
-AnswersOf-behind stream stream' place place' calls front rest same at none found = record {
+    → AnswersOf store stream' calls (answers_from stream' place' rest)
+    → AnswersOf store stream calls (answers_from stream place (front ++ rest))
+AnswersOf-behind store stream stream' place place' calls front rest same at none found = record {
   spot = found.spot;
   place = found.place;
   are = answers_from-append stream place front rest ∙ ap (λ l. l ++ answers_from stream (place + length front) rest) none
       ∙ moved stream stream' _ place' same at
-      ∙ found.are ∙ ap (λ s. answers_from s found.place (served_from found.spot s found.place 0 calls)) (sym same);
+      ∙ found.are ∙ ap (λ s. answers_from s found.place (served_from store found.spot s found.place 0 calls)) (sym same);
 }
   where
     moved : (s s' p p' : ℕ) → s ≡ s' → p ≡ p' → answers_from s p rest ≡ answers_from s' p' rest
     moved s s' p p' e f = cc
 
 pub its_answers :
-    (spot : Spot) (stream k place : ℕ) (css : List (List Call))
-    → AnswersOf (stream + k) (stream_of css k) (answers_from (stream + k) place (served_streams spot stream place css))
-its_answers spot stream k place [] = record { spot = spot; place = place; are = refl }
-its_answers spot stream zero place (cs ∷ css) =
-    let own = served_from spot stream place 0 cs in
-    let rest = served_streams (after_calls spot cs) (suc stream) (behind place own) css in
+    (store : Store) (spot : Spot) (stream k place : ℕ) (css : List (List Call))
+    → AnswersOf store (stream + k) (stream_of css k) (answers_from (stream + k) place (served_streams store spot stream place css))
+its_answers store spot stream k place [] = record { spot = spot; place = place; are = refl }
+its_answers store spot stream zero place (cs ∷ css) =
+    let own = served_from store spot stream place 0 cs in
+    let rest = served_streams store (after_calls spot cs) (suc stream) (behind place own) css in
     record {
       spot = spot;
       place = place;
       are = answers_from-append (stream + 0) place own rest
           ∙ ap (λ l. answers_from (stream + 0) place own ++ l)
-          (none_below (after_calls spot cs) (suc stream) (stream + 0) _ (behind place own) css (omega arith))
-          ∙ append-nil _ ∙ ap (λ s. answers_from (stream + 0) place (served_from spot s place 0 cs)) (omega arith);
+          (none_below store (after_calls spot cs) (suc stream) (stream + 0) _ (behind place own) css (omega arith))
+          ∙ append-nil _ ∙ ap (λ s. answers_from (stream + 0) place (served_from store spot s place 0 cs)) (omega arith);
     }
-its_answers spot stream (suc k) place (cs ∷ css) =
-    let own = served_from spot stream place 0 cs in
-    AnswersOf-behind (stream + suc k) (suc stream + k) place (behind place own) (stream_of css k) own _ (omega arith)
-    refl (served_no_other spot stream (stream + suc k) place place 0 cs (apart stream k))
-    (its_answers (after_calls spot cs) (suc stream) k (behind place own) css)
+its_answers store spot stream (suc k) place (cs ∷ css) =
+    let own = served_from store spot stream place 0 cs in
+    AnswersOf-behind store (stream + suc k) (suc stream + k) place (behind place own) (stream_of css k) own _ (omega arith)
+    refl (served_no_other store spot stream (stream + suc k) place place 0 cs (apart stream k))
+    (its_answers store (after_calls spot cs) (suc stream) k (behind place own) css)
   where
     apart : (n k : ℕ) → n ≡ n + suc k → ⊥
     apart n k e = omega arith
 
 -- so they are in order
 pub AnswersOf-in_order :
-    (stream : ℕ) (calls : List Call) (answers : List (ℕ × Answer)) → AnswersOf stream calls answers → InOrderFrom 0 0 answers
-AnswersOf-in_order stream calls answers found =
-    subst (InOrderFrom 0 0) (sym found.are) (served_in_order found.spot stream found.place 0 0 calls (omega arith))
+    (store : Store) (stream : ℕ) (calls : List Call) (answers : List (ℕ × Answer)) → AnswersOf store stream calls answers
+    → InOrderFrom 0 0 answers
+AnswersOf-in_order store stream calls answers found =
+    subst (InOrderFrom 0 0) (sym found.are) (served_in_order store found.spot stream found.place 0 0 calls (omega arith))
 
 -- and each call is answered once
 pub AnswersOf-calls :
-    (stream : ℕ) (calls : List Call) (answers : List (ℕ × Answer)) → AnswersOf stream calls answers
+    (store : Store) (stream : ℕ) (calls : List Call) (answers : List (ℕ × Answer)) → AnswersOf store stream calls answers
     → map (λ p. p.1.call) answers ≡ calls
-AnswersOf-calls stream calls answers found =
-    ap (map (λ p. p.1.call)) found.are ∙ served_calls found.spot stream found.place 0 calls
+AnswersOf-calls store stream calls answers found =
+    ap (map (λ p. p.1.call)) found.are ∙ served_calls store found.spot stream found.place 0 calls
 
 -- ---- the law
 
 pub served_is_history :
-    (opening : Spot) (counted : ℕ → ℕ → ℕ) (streams : List (List Call)) → AllProper (length opening.modes) streams
+    (store : Store) (opening : Spot) (counted : ℕ → ℕ → ℕ) (streams : List (List Call)) → AllProper (length opening.modes) streams
     → AreOwnFree opening.state → opening.state.volume.snapshots.number + call_count streams ≤ 2 ^ 64
-    → IsHistory opening counted (stream_of streams) (served opening streams)
-served_is_history opening counted streams proper free fits =
-    let ran = ran_streams opening [] opening 0 0 streams
+    → IsHistory opening counted (stream_of streams) (served store opening streams)
+served_is_history store opening counted streams proper free fits =
+    let ran = ran_streams store opening [] opening 0 0 streams
     (record { state = refl; modes = refl; idle = λ q. refl; free = free; many = refl }) fits proper in
     record {
       legal = ran.legal;
-      fell = behind_falls_none [] (served opening streams) (none_aborted opening 0 0 streams);
-      within = served_within opening 0 0 streams [] refl;
-      order = λ stream. AnswersOf-in_order stream (stream_of streams stream) _ (its stream);
-      each_once = λ stream. AnswersOf-calls stream (stream_of streams stream) _ (its stream);
+      fell = behind_falls_none [] (served store opening streams) (none_aborted store opening 0 0 streams);
+      within = served_within store opening 0 0 streams [] refl;
+      order = λ stream. AnswersOf-in_order store stream (stream_of streams stream) _ (its stream);
+      each_once = λ stream. AnswersOf-calls store stream (stream_of streams stream) _ (its stream);
       faults = λ stream replica. subst (RisesTo (counted stream replica) 0) (sym (ran.faults stream replica)) tt;
     }
   where
-    its : (stream : ℕ) → AnswersOf stream (stream_of streams stream) (answers_from stream 0 (served opening streams))
-    its stream = subst (λ s. AnswersOf s (stream_of streams stream) (answers_from s 0 (served opening streams)))
-        (from_none stream) (its_answers opening 0 stream 0 streams)
+    its : (stream : ℕ) → AnswersOf store stream (stream_of streams stream) (answers_from stream 0 (served store opening streams))
+    its stream = subst (λ s. AnswersOf store s (stream_of streams stream) (answers_from s 0 (served store opening streams)))
+        (from_none stream) (its_answers store opening 0 stream 0 streams)
       where
         from_none : (s : ℕ) → 0 + s ≡ s
         from_none s = omega arith

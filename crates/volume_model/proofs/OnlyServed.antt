@@ -16,17 +16,17 @@ use Rattle.volume_model.specs.declared.mode.Mode.{Mode}
 use Rattle.volume_model.specs.PlainStep.{refusal_of, plain_step}
 use Rattle.volume_model.specs.Marks.{marks_of, HasNoMark}
 use Rattle.volume_model.specs.Replay.{is_refusal, after_entry, replay}
-use Rattle.volume_model.specs.Modes.{modes_after, asks_replica, HasSource, source_of}
+use Rattle.volume_model.specs.Modes.{modes_after, asks_replica, asks_store, HasSource, source_of}
 use Rattle.volume_model.specs.History.{Spot, IsAnswered, IsEnded, EndsAdd, LegalAfter, answers_from, InOrderFrom, IsHistory}
 use Rattle.volume_model.specs.declared.mark.Rebuild.TheVariants as rebuild
 use Rattle.volume_model.specs.Rebuilds.{added_by, rebuild_of, rebuild_after_add}
 use Rattle.volume_model.specs.declared.call.Refusal.{Refusal}
 use Rattle.std.specs.Prelude.{Option, None, Some}
 use Rattle.std.proofs.lemmas.Bool.{true≢false}
-use Rattle.volume_model.specs.OneWorker.{behind_entries, want_of_replica, refused_at, fail_marks, call_marks}
-use Rattle.volume_model.specs.OneWorker.{marks_unless, marks_before, reply_for, answer_for, entries_at, after_done}
+use Rattle.volume_model.specs.OneWorker.{Store, AskNone, behind_entries, want_of_replica, refused_at, fail_marks, call_marks}
+use Rattle.volume_model.specs.OneWorker.{marks_unless, marks_before, reply_for, answer_for, entries_for, entries_at, after_done}
 use Rattle.volume_model.specs.OneWorker.{behind, served_from, served, stream_of}
-use Rattle.volume_model.proofs.SpotLemmas.{no_source}
+use Rattle.volume_model.proofs.SpotLemmas.{no_source, asks_none}
 use Rattle.volume_model.proofs.OneWorkerLemmas.{same_after}
 use Rattle.volume_model.proofs.PushLemmas.{modes_after-push}
 use Rattle.volume_model.proofs.RebuildLemmas.{rebuild_of-push}
@@ -71,13 +71,15 @@ plainly spot before a idle ended = go (added_by a.call) refl ended
     go (Some r) is e = let f = subst (λ b. EndsAdd b before spot.state spot.modes a r) (idle r) e in
         record { answered = f.0; add = λ q g. f.1 }
 
-reply_is : (spot : Spot) (a : Answer) → HasSource spot.modes → IsPlain spot a → a.reply ≡ reply_for (refused_at spot a.call) spot a.call
-reply_is spot a source is = answered_plainly spot.state spot.modes a source is.answered
+reply_is : (spot : Spot) (a : Answer) → HasSource spot.modes → asks_store a.call ≡ false → IsPlain spot a
+    → a.reply ≡ reply_for (refused_at spot a.call) spot a.call
+reply_is spot a source apart is = answered_plainly spot.state spot.modes a source apart is.answered
     ∙ ap (λ x. reply_for x spot a.call) (sym (with_source spot a.call source))
 
 -- what makes no mark
-no_marks : (spot : Spot) (a : Answer) → HasSource spot.modes → IsPlain spot a → marks_before spot a.call ≡ []
-no_marks spot a source is = go a.call refl
+no_marks : (spot : Spot) (a : Answer) → HasSource spot.modes → asks_store a.call ≡ false → IsPlain spot a
+    → marks_before spot a.call ≡ []
+no_marks spot a source apart is = go a.call refl
   where
     unless : (why : Option Refusal) (c : Call) → call_marks spot c ≡ [] → marks_unless why spot c ≡ []
     unless (Some why) c e = refl
@@ -87,7 +89,7 @@ no_marks spot a source is = go a.call refl
         → marks_unless why spot (call.Command (command.Add r)) ≡ []
     added r e (Some why) w = refl
     added r e None w = absurd (true≢false (sym (is.add r e)
-        ∙ ap is_refusal (reply_is spot a source is ∙ ap (λ x. reply_for x spot a.call) w
+        ∙ ap is_refusal (reply_is spot a source apart is ∙ ap (λ x. reply_for x spot a.call) w
         ∙ ap (λ c. reply_for None spot c) e)))
 
     go : (c : Call) → a.call ≡ c → marks_before spot c ≡ []
@@ -102,7 +104,7 @@ no_marks spot a source is = go a.call refl
     go (call.Command (command.Revert name)) e = unless (refused_at spot (call.Command (command.Revert name)))
         (call.Command (command.Revert name)) refl
     go (call.Command command.Purge) e =
-        let done : is_refusal a.reply ≡ false = ap is_refusal (answered_plainly spot.state spot.modes a source is.answered)
+        let done : is_refusal a.reply ≡ false = ap is_refusal (answered_plainly spot.state spot.modes a source apart is.answered)
         ∙ ap (λ c. is_refusal (plain_step spot.modes spot.state c).1) e in
         unless (refused_at spot (call.Command command.Purge)) (call.Command command.Purge)
         (ap marks_of (parts-none spot.state.volume.snapshots
@@ -111,6 +113,7 @@ no_marks spot a source is = go a.call refl
     go (call.Command (command.Fail r)) e = ap (fail_marks r) (is.answered.fails r e)
     go (call.Command (command.Add r)) e = ap (λ x. marks_unless x spot (call.Command (command.Add r)))
         (sym (ap (refused_at spot) e)) ∙ added r e (refused_at spot a.call) refl
+    go (call.Command (command.Backup backup snapshot)) e = absurd (true≢false (ap asks_store (sym e) ∙ apart))
 
 -- so its answer is its one entry
 one_entry : (spot : Spot) (k : ℕ) (c : Call) → marks_before spot c ≡ []
@@ -119,13 +122,16 @@ one_entry spot k c none = ap (λ l. l ++ answer_for (refused_at spot c) spot 0 k
 
 left_by : (spot : Spot) (k : ℕ) (c : Call) → marks_before spot c ≡ []
     → behind_entries spot (answer_for (refused_at spot c) spot 0 k k c ∷ []) ≡ after_done spot c
-left_by spot k c none = ap (behind_entries spot) (sym (one_entry spot k c none)) ∙ same_after spot 0 k k c
+left_by spot k c none = ap (behind_entries spot) (sym (one_entry spot k c none)) ∙ same_after None spot 0 k k c
 
-served_alone : (spot : Spot) (k : ℕ) (c : Call) (cs : List Call) → marks_before spot c ≡ []
-    → served_from spot 0 k k (c ∷ cs) ≡ answer_for (refused_at spot c) spot 0 k k c ∷ served_from (after_done spot c) 0 (suc k) (suc k) cs
-served_alone spot k c cs none =
-    ap (λ first. first ++ served_from (after_done spot c) 0 (behind k first) (suc k) cs) (one_entry spot k c none)
-    ∙ ap (λ place. answer_for (refused_at spot c) spot 0 k k c ∷ served_from (after_done spot c) 0 place (suc k) cs) (omega arith)
+served_alone : (store : Store) (spot : Spot) (k : ℕ) (c : Call) (cs : List Call) → asks_store c ≡ false → marks_before spot c ≡ []
+    → served_from store spot 0 k k (c ∷ cs)
+    ≡ answer_for (refused_at spot c) spot 0 k k c ∷ served_from store (after_done spot c) 0 (suc k) (suc k) cs
+served_alone store spot k c cs apart none =
+    ap (λ why. let first = entries_for why spot 0 k k c in
+    first ++ served_from store (after_done spot c) 0 (behind k first) (suc k) cs) (asks_none (store k) spot c apart)
+    ∙ ap (λ first. first ++ served_from store (after_done spot c) 0 (behind k first) (suc k) cs) (one_entry spot k c none)
+    ∙ ap (λ place. answer_for (refused_at spot c) spot 0 k k c ∷ served_from store (after_done spot c) 0 place (suc k) cs) (omega arith)
 
 -- ---- each entry
 
@@ -177,12 +183,12 @@ quiet_push opening before spot a q = record {
     unasked r (Some q) = either (eqb q r)
 
 -- the first entry, where the entries behind it are known
-first_entry : (opening : Spot) (before : List Entry) (spot : Spot) (k : ℕ) (cs : List Call) (a : Answer) (es : List Entry)
-    → Quiet opening before spot → LegalAfter opening before (entry.Answer a ∷ es) → Follows cs (entry.Answer a ∷ es) k
+first_entry : (store : Store) (opening : Spot) (before : List Entry) (spot : Spot) (k : ℕ) (cs : List Call) (a : Answer) (es : List Entry)
+    → Quiet opening before spot → LegalAfter opening before (entry.Answer a ∷ es) → AskNone cs → Follows cs (entry.Answer a ∷ es) k
     → ((more : List Entry) (s : Spot) (rest : List Call) → Quiet opening more s → LegalAfter opening more es
-    → Follows rest es (suc k) → es ≡ served_from s 0 (suc k) (suc k) rest)
-    → entry.Answer a ∷ es ≡ served_from spot 0 k k cs
-first_entry opening before spot k cs a es at legal follows later' =
+    → AskNone rest → Follows rest es (suc k) → es ≡ served_from store s 0 (suc k) (suc k) rest)
+    → entry.Answer a ∷ es ≡ served_from store spot 0 k k cs
+first_entry store opening before spot k cs a es at legal ask follows later' =
     elim (eqb_tells a.stream 0) [ inl own ↦ mine own.0 own.1 | inr other ↦ absurd (not_mine a.stream other.1 refl) ]
   where
     cond_is : {A : Type 0} (b c : Bool) (x y : A) → b ≡ c → cond b x y ≡ cond c x y
@@ -197,37 +203,38 @@ first_entry opening before spot k cs a es at legal follows later' =
         not_nil (k, a) _ (sym (cond_is (eqb a.stream (suc s)) true ((k, a) ∷ answers_from (suc s) (suc k) es)
         (answers_from (suc s) (suc k) es) (eq-eqb _ _ is)) ∙ follows.other s)
 
-    mine : eqb a.stream 0 ≡ true → a.stream ≡ 0 → entry.Answer a ∷ es ≡ served_from spot 0 k k cs
+    mine : eqb a.stream 0 ≡ true → a.stream ≡ 0 → entry.Answer a ∷ es ≡ served_from store spot 0 k k cs
     mine test own =
         let answers : answers_from 0 k (entry.Answer a ∷ es) ≡ (k, a) ∷ answers_from 0 (suc k) es =
         cond_is (eqb a.stream 0) true ((k, a) ∷ answers_from 0 (suc k) es) (answers_from 0 (suc k) es) test in
         let order : InOrderFrom k k ((k, a) ∷ answers_from 0 (suc k) es) = subst (InOrderFrom k k) answers follows.order in
         let calls : a.call ∷ map (λ p. p.1.call) (answers_from 0 (suc k) es) ≡ cs = sym (ap (map (λ p. p.1.call)) answers) ∙ follows.own in
-        go cs own order calls
+        go cs ask own order calls
       where
-        go : (cs : List Call) → a.stream ≡ 0 → InOrderFrom k k ((k, a) ∷ answers_from 0 (suc k) es)
+        go : (cs : List Call) → AskNone cs → a.stream ≡ 0 → InOrderFrom k k ((k, a) ∷ answers_from 0 (suc k) es)
             → a.call ∷ map (λ p. p.1.call) (answers_from 0 (suc k) es) ≡ cs
-            → entry.Answer a ∷ es ≡ served_from spot 0 k k cs
-        go [] own order calls = absurd (not_nil _ _ calls)
-        go (c ∷ rest) own order calls =
+            → entry.Answer a ∷ es ≡ served_from store spot 0 k k cs
+        go [] ask own order calls = absurd (not_nil _ _ calls)
+        go (c ∷ rest) ask own order calls =
             let call : a.call ≡ c = heads calls in
+            let apart : asks_store a.call ≡ false = ap asks_store call ∙ ask.0 in
             let is = plainly spot before a at.idle
             (subst (λ s. IsEnded (added_by a.call) before s spot.modes a) at.state
             (subst (λ ms. IsEnded (added_by a.call) before (replay opening.state before) ms a) at.modes legal.0)) in
-            let none : marks_before spot c ≡ [] = ap (λ x. marks_before spot x) (sym call) ∙ no_marks spot a at.source is in
+            let none : marks_before spot c ≡ [] = ap (λ x. marks_before spot x) (sym call) ∙ no_marks spot a at.source apart is in
             let first : entry.Answer a ≡ answer_for (refused_at spot c) spot 0 k k c =
             same_answer spot k c a own order.0 (omega (arith, order.1, order.2)) call
-            (reply_is spot a at.source is ∙ ap (λ x. reply_for (refused_at spot x) spot x) call) in
+            (reply_is spot a at.source apart is ∙ ap (λ x. reply_for (refused_at spot x) spot x) call) in
             let left : behind_entries spot (entry.Answer a ∷ []) ≡ after_done spot c =
             ap (λ e. behind_entries spot (e ∷ [])) first ∙ left_by spot k c none in
             let later = later' (before ++ entry.Answer a ∷ []) (after_done spot c) rest
-            (subst (Quiet opening (before ++ entry.Answer a ∷ [])) left (quiet_push opening before spot a at)) legal.1
+            (subst (Quiet opening (before ++ entry.Answer a ∷ [])) left (quiet_push opening before spot a at)) legal.1 ask.1
             (record {
               order = order.3;
               own = tails calls;
               other = λ stream. sym (skip stream) ∙ follows.other stream;
             }) in
-            joined first later ∙ sym (served_alone spot k c rest none)
+            joined first later ∙ sym (served_alone store spot k c rest ask.0 none)
           where
             heads : {x y : Call} {xs ys : List Call} → x ∷ xs ≡ y ∷ ys → x ≡ y
             heads e = cc
@@ -247,13 +254,14 @@ first_entry opening before spot k cs a es at legal follows later' =
                 (ne_eqb _ _ (λ e. zero_not_suc stream (sym own ∙ e)))
 
 -- the entries behind those before, which leave this state
-unique : (opening : Spot) (before : List Entry) (spot : Spot) (k : ℕ) (cs : List Call) (journal : List Entry)
-    → Quiet opening before spot → LegalAfter opening before journal → HasNoMark journal → Follows cs journal k
-    → journal ≡ served_from spot 0 k k cs
-unique opening before spot k cs [] at legal none follows = ap (served_from spot 0 k k) follows.own
-unique opening before spot k cs (entry.Mark m ∷ es) at legal none follows = absurd none
-unique opening before spot k cs (entry.Answer a ∷ es) at legal none follows =
-    first_entry opening before spot k cs a es at legal follows (λ more s rest e l f. unique opening more s (suc k) rest es e l none f)
+unique : (store : Store) (opening : Spot) (before : List Entry) (spot : Spot) (k : ℕ) (cs : List Call) (journal : List Entry)
+    → Quiet opening before spot → LegalAfter opening before journal → HasNoMark journal → AskNone cs → Follows cs journal k
+    → journal ≡ served_from store spot 0 k k cs
+unique store opening before spot k cs [] at legal none ask follows = ap (served_from store spot 0 k k) follows.own
+unique store opening before spot k cs (entry.Mark m ∷ es) at legal none ask follows = absurd none
+unique store opening before spot k cs (entry.Answer a ∷ es) at legal none ask follows =
+    first_entry store opening before spot k cs a es at legal ask follows
+    (λ more s rest e l q f. unique store opening more s (suc k) rest es e l none q f)
 
 -- ---- the law
 
@@ -265,12 +273,13 @@ nil_from_map (p ∷ ps) e = absurd (not_nil e)
     not_nil : p.1.call ∷ map (λ p. p.1.call) ps ≡ [] → ⊥
     not_nil e = cc
 
-pub only_served : (opening : Spot) (counted : ℕ → ℕ → ℕ) (calls : List Call) (journal : List Entry) → HasSource opening.modes
-    → IsHistory opening counted (stream_of (calls ∷ [])) journal → HasNoMark journal → journal ≡ served opening (calls ∷ [])
-only_served opening counted calls journal source history none =
-    unique opening [] opening 0 calls journal (record { state = refl; modes = refl; idle = λ q. refl; source = source })
-    history.legal none (record {
+pub only_served : (store : Store) (opening : Spot) (counted : ℕ → ℕ → ℕ) (calls : List Call) (journal : List Entry)
+    → HasSource opening.modes → AskNone calls
+    → IsHistory opening counted (stream_of (calls ∷ [])) journal → HasNoMark journal → journal ≡ served store opening (calls ∷ [])
+only_served store opening counted calls journal source ask history none =
+    unique store opening [] opening 0 calls journal (record { state = refl; modes = refl; idle = λ q. refl; source = source })
+    history.legal none ask (record {
       order = history.order 0;
       own = history.each_once 0;
       other = λ stream. nil_from_map _ (history.each_once (suc stream));
-    }) ∙ sym (append-nil (served_from opening 0 0 0 calls))
+    }) ∙ sym (append-nil (served_from store opening 0 0 0 calls))

@@ -84,6 +84,7 @@ own_called state (call.Command command.Purge) user free = free
 own_called state (call.Command command.Status) user free = free
 own_called state (call.Command (command.Fail r)) user free = free
 own_called state (call.Command (command.Add r)) user free = free
+own_called state (call.Command (command.Backup backup snapshot)) user free = free
 
 own_unless : (refused : Bool) (state : PlainState) (c : Call)
     → ((name : List ℕ) → c ≡ call.Command (command.Snapshot name) → begins_sys name ≡ false)

@@ -18,7 +18,7 @@ use Rattle.volume_model.specs.Modes.{mode_of, is_change}
 use Rattle.volume_model.specs.declared.mode.Mode.TheVariants.{Err}
 use Rattle.volume_model.specs.Replay.{replay}
 use Rattle.volume_model.specs.Modes.{modes_after}
-use Rattle.volume_model.specs.History.{Spot, says_no_replica, EndsAdd, IsEnded, IsLegal}
+use Rattle.volume_model.specs.History.{Spot, OfVolume, OfReplicas, OfStore, subject_of, EndsAdd, IsEnded, IsLegal}
 use Rattle.volume_model.specs.Rebuilds.{added_by, rebuild_after_entry, MayBegin, MayFall, rebuild_from, rebuild_of}
 use Rattle.volume_model.proofs.LegalLemmas.{LegalAfter-append}
 use Rattle.volume_model.proofs.PushLemmas.{modes_after-push, IsLegal-push}
@@ -130,7 +130,8 @@ fail_answered : (state : PlainState) (modes : List Mode) (a : Answer) (r : ℕ) 
     → (before : List Entry) → IsEnded (added_by a.call) before state modes a
 fail_answered state modes a r is done failed before = subst (λ c. IsEnded (added_by c) before state modes a) (sym is) (record {
   reply = λ says. done ∙ sym (ap (λ c. (plain_step modes state c).1) is);
-  none = λ says. absurd (false≢true (sym (ap says_no_replica done) ∙ says));
+  none = λ says. absurd (apart_replicas (sym (ap subject_of done) ∙ says));
+  store = λ says. absurd (apart_store (sym (ap subject_of done) ∙ says));
   fails = λ q e. subst (λ n. mode_of modes n ≡ Err) (same_replica q (sym is ∙ e)) failed;
   source = λ change kept. absurd (false≢true (sym (ap is_change is) ∙ change));
   purged = λ e kept. absurd (no_purge (sym is ∙ e));
@@ -141,6 +142,12 @@ fail_answered state modes a r is done failed before = subst (λ c. IsEnded (adde
 
     no_purge : call.Command (command.Fail r) ≡ call.Command command.Purge → ⊥
     no_purge e = cc
+
+    apart_replicas : OfVolume ≡ OfReplicas → ⊥
+    apart_replicas e = cc
+
+    apart_store : OfVolume ≡ OfStore → ⊥
+    apart_store e = cc
 
 -- a replica that was told to fail, with the end of the rebuild, and its answer
 pub legal_fail : (opening : Spot) (journal : List Entry) (r q source : ℕ) (a : Answer) → IsLegal opening journal

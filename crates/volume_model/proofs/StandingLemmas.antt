@@ -15,3 +15,10 @@ StandFrom-append Stands longer before (x ∷ xs) ys h k = (
   StandFrom-append Stands longer (before ++ x ∷ []) xs ys h.1
       (subst (λ l. StandFrom Stands l ys) (sym (append_assoc before (x ∷ []) xs)) k),
 )
+
+-- and so it is of those behind the others
+pub StandFrom-behind : (Stands : Place) (before xs ys : List Entry) → StandFrom Stands before (xs ++ ys)
+    → StandFrom Stands (before ++ xs) ys
+StandFrom-behind Stands before [] ys h = subst (λ l. StandFrom Stands l ys) (sym (append-nil before)) h
+StandFrom-behind Stands before (x ∷ xs) ys h =
+    subst (λ l. StandFrom Stands l ys) (append_assoc before (x ∷ []) xs) (StandFrom-behind Stands (before ++ x ∷ []) xs ys h.1)

@@ -1,8 +1,8 @@
 -- One step of the plain disk, and the replay of it.
-use Rattle.std.proofs.Common.{◌≡◌, ℕ, ◌+◌, ◌≤◌, inl, inr, cond, Bool, true, false, List, [], ◌∷◌, ◌++◌, length, refl, ◌∙◌, arith}
+use Rattle.std.proofs.Common.{◌≡◌, ℕ, ◌+◌, ◌≤◌, cond, Bool, true, false, List, [], ◌∷◌, ◌++◌, length, refl, sym, ◌∙◌, arith}
 use Rattle.std.specs.Prelude.{Option, Some, None, ℤ, nat_lt}
 use Rattle.std.specs.Option.{option_or}
-use Rattle.std.proofs.lemmas.Bool.{cases_Bool}
+use Rattle.std.proofs.lemmas.Bool.{true≢false}
 use Rattle.std.proofs.lemmas.List.{get_or_default}
 use Rattle.volume_model.specs.declared.command.Command.{Command}
 use Rattle.volume_model.specs.declared.command.Command.TheVariants as command
@@ -18,13 +18,13 @@ use Rattle.volume_model.specs.declared.call.Reply.TheVariants as reply
 use Rattle.volume_model.specs.declared.call.Refusal.TheVariants.{TooLong, OutOfRange, NameUsed, ChainFull, NoSuchSnapshot}
 use Rattle.volume_model.specs.Disk.{is_good}
 use Rattle.volume_model.specs.Snapshots.{layer_count, is_live}
-use Rattle.volume_model.specs.History.{says_no_replica, IsAnswered}
+use Rattle.volume_model.specs.History.{Subject, OfVolume, OfReplicas, OfStore, subject_of, IsAnswered}
 use Rattle.volume_model.specs.PlainState.{Volume, PlainState, is_used}
 use Rattle.volume_model.specs.PlainStep.{longest_call, most_layers, range_refusal, room_refusal, live_refusal}
 use Rattle.volume_model.specs.PlainStep.{add_refusal, command_refusal, volume_refusal, name_refusal, refusal_of}
 use Rattle.volume_model.specs.PlainStep.{after_call, reply_of, step_unless, plain_step}
 use Rattle.volume_model.specs.Replay.{is_refusal, after_entry, replay}
-use Rattle.volume_model.specs.Modes.{mode_of, modes_after_entry, modes_after, HasSource, HasNoSource}
+use Rattle.volume_model.specs.Modes.{mode_of, modes_after_entry, modes_after, HasSource, HasNoSource, asks_store}
 
 -- the replay of two journals, one behind the other
 pub replay-append : (opening : PlainState) (before after : List Entry)
@@ -43,35 +43,36 @@ pub modes_after-append : (modes : List Mode) (before after : List Entry)
 modes_after-append modes [] after = refl
 modes_after-append modes (e ∷ es) after = modes_after-append (modes_after_entry modes e) es after
 
--- ---- the plain disk has its replica
+-- ---- the plain disk answers of itself
 
-abbrev pub says_in : Option Refusal → Bool
-says_in (Some why) = says_no_replica (reply.Refused why)
-says_in None = false
+-- what an answer is about that this stands against
+abbrev pub says_in : Option Refusal → Subject
+says_in (Some why) = subject_of (reply.Refused why)
+says_in None = OfVolume
 
-says-cond : (b : Bool) (x y : Option Refusal) → says_in x ≡ false → says_in y ≡ false → says_in (cond b x y) ≡ false
+says-cond : (b : Bool) (x y : Option Refusal) → says_in x ≡ OfVolume → says_in y ≡ OfVolume → says_in (cond b x y) ≡ OfVolume
 says-cond true x y e f = e
 says-cond false x y e f = f
 
-says-or : (x y : Option Refusal) → says_in x ≡ false → says_in y ≡ false → says_in (option_or x y) ≡ false
+says-or : (x y : Option Refusal) → says_in x ≡ OfVolume → says_in y ≡ OfVolume → says_in (option_or x y) ≡ OfVolume
 says-or None y e f = f
 says-or (Some why) y e f = e
 
-says-range : (volume : Volume) (offset : ℤ) (n : ℕ) → says_in (range_refusal volume offset n) ≡ false
+says-range : (volume : Volume) (offset : ℤ) (n : ℕ) → says_in (range_refusal volume offset n) ≡ OfVolume
 says-range volume offset n = says-cond (is_good (length volume.disk) offset n) None (Some OutOfRange) refl refl
 
-says-room : (volume : Volume) → says_in (room_refusal volume) ≡ false
+says-room : (volume : Volume) → says_in (room_refusal volume) ≡ OfVolume
 says-room volume = says-cond (nat_lt (layer_count volume.snapshots) most_layers) None (Some ChainFull) refl refl
 
-says-live : (volume : Volume) (name : List ℕ) → says_in (live_refusal volume name) ≡ false
+says-live : (volume : Volume) (name : List ℕ) → says_in (live_refusal volume name) ≡ OfVolume
 says-live volume name = says-cond (is_live volume.snapshots.tree name) None (Some NoSuchSnapshot) refl refl
 
-says-add : (m : Mode) (volume : Volume) → says_in (add_refusal m volume) ≡ false
+says-add : (m : Mode) (volume : Volume) → says_in (add_refusal m volume) ≡ OfVolume
 says-add Rw volume = refl
 says-add Wo volume = refl
 says-add Err volume = says-room volume
 
-says-command : (modes : List Mode) (volume : Volume) (c : Command) → says_in (command_refusal modes volume c) ≡ false
+says-command : (modes : List Mode) (volume : Volume) (c : Command) → says_in (command_refusal modes volume c) ≡ OfVolume
 says-command modes volume (command.Snapshot name) = says-room volume
 says-command modes volume (command.Remove name) = says-live volume name
 says-command modes volume (command.Revert name) = says-live volume name
@@ -79,8 +80,9 @@ says-command modes volume command.Purge = refl
 says-command modes volume command.Status = refl
 says-command modes volume (command.Fail r) = refl
 says-command modes volume (command.Add r) = says-add (mode_of modes r) volume
+says-command modes volume (command.Backup backup snapshot) = says-live volume snapshot
 
-says-volume : (modes : List Mode) (volume : Volume) (c : Call) → says_in (volume_refusal modes volume c) ≡ false
+says-volume : (modes : List Mode) (volume : Volume) (c : Call) → says_in (volume_refusal modes volume c) ≡ OfVolume
 says-volume modes volume (call.Read offset n) =
     says-cond (nat_lt longest_call n) (Some TooLong) (range_refusal volume offset n) refl (says-range volume offset n)
 says-volume modes volume (call.Write offset bytes) = says-range volume offset (length bytes)
@@ -88,7 +90,7 @@ says-volume modes volume call.Ping = refl
 says-volume modes volume (call.Other kind) = refl
 says-volume modes volume (call.Command c) = says-command modes volume c
 
-says-name : (used : List (List ℕ)) (c : Call) → says_in (name_refusal used c) ≡ false
+says-name : (used : List (List ℕ)) (c : Call) → says_in (name_refusal used c) ≡ OfVolume
 says-name used (call.Read offset n) = refl
 says-name used (call.Write offset bytes) = refl
 says-name used call.Ping = refl
@@ -100,12 +102,13 @@ says-name used (call.Command command.Purge) = refl
 says-name used (call.Command command.Status) = refl
 says-name used (call.Command (command.Fail r)) = refl
 says-name used (call.Command (command.Add r)) = refl
+says-name used (call.Command (command.Backup backup snapshot)) = refl
 
-pub says-refusal : (modes : List Mode) (state : PlainState) (c : Call) → says_in (refusal_of modes state c) ≡ false
+pub says-refusal : (modes : List Mode) (state : PlainState) (c : Call) → says_in (refusal_of modes state c) ≡ OfVolume
 says-refusal modes state c =
     says-or (name_refusal state.used c) (volume_refusal modes state.volume c) (says-name state.used c) (says-volume modes state.volume c)
 
-pub says-reply : (modes : List Mode) (volume : Volume) (c : Call) → says_no_replica (reply_of modes volume c) ≡ false
+pub says-reply : (modes : List Mode) (volume : Volume) (c : Call) → subject_of (reply_of modes volume c) ≡ OfVolume
 says-reply modes volume (call.Read offset n) = refl
 says-reply modes volume (call.Write offset bytes) = refl
 says-reply modes volume call.Ping = refl
@@ -117,34 +120,38 @@ says-reply modes volume (call.Command command.Purge) = refl
 says-reply modes volume (call.Command command.Status) = refl
 says-reply modes volume (call.Command (command.Fail r)) = refl
 says-reply modes volume (call.Command (command.Add r)) = refl
+says-reply modes volume (call.Command (command.Backup backup snapshot)) = refl
 
-says-unless : (why : Option Refusal) (modes : List Mode) (state : PlainState) (c : Call) → says_in why ≡ false
-    → says_no_replica (step_unless why modes state c).1 ≡ false
+says-unless : (why : Option Refusal) (modes : List Mode) (state : PlainState) (c : Call) → says_in why ≡ OfVolume
+    → subject_of (step_unless why modes state c).1 ≡ OfVolume
 says-unless (Some why) modes state c e = e
 says-unless None modes state c e = says-reply modes state.volume c
 
--- the plain step never answers that there is no replica
-pub says-plain_step : (modes : List Mode) (state : PlainState) (c : Call) → says_no_replica (plain_step modes state c).1 ≡ false
+-- the plain step answers of the volume alone
+pub says-plain_step : (modes : List Mode) (state : PlainState) (c : Call) → subject_of (plain_step modes state c).1 ≡ OfVolume
 says-plain_step modes state c = says-unless (refusal_of modes state c) modes state c (says-refusal modes state c)
 
--- what says that there is no replica is a refusal
-pub says_refusal : (r : Reply) → says_no_replica r ≡ true → is_refusal r ≡ true
-says_refusal reply.Done e = e
-says_refusal (reply.Read bytes) e = e
-says_refusal (reply.Status layers modes) e = e
-says_refusal (reply.Refused why) e = refl
-says_refusal (reply.Aborted place) e = refl
+-- what is no refusal is of the volume
+pub done_is_of_volume : (r : Reply) → is_refusal r ≡ false → subject_of r ≡ OfVolume
+done_is_of_volume reply.Done done = refl
+done_is_of_volume (reply.Read bytes) done = refl
+done_is_of_volume (reply.Status layers modes) done = refl
+done_is_of_volume (reply.Refused why) done = absurd (true≢false done)
+done_is_of_volume (reply.Aborted place) done = absurd (true≢false done)
 
 -- where one is read and written, that there is none is not answered
 pub has_no_source : (modes : List Mode) → HasSource modes → HasNoSource modes → ⊥
 has_no_source modes source none = none source.0 (get_or_default modes source.0 Err Rw source.1 ∙ source.2)
 
-pub answered_plainly : (state : PlainState) (modes : List Mode) (a : Answer) → HasSource modes → IsAnswered state modes a
+pub answered_plainly : (state : PlainState) (modes : List Mode) (a : Answer) → HasSource modes → asks_store a.call ≡ false
+    → IsAnswered state modes a
     → a.reply ≡ (plain_step modes state a.call).1
-answered_plainly state modes a source answered = elim (cases_Bool (says_no_replica a.reply)) [
-  | inl says ↦ absurd (has_no_source modes source (answered.none says).none)
-  | inr other ↦ answered.reply other
-]
+answered_plainly state modes a source apart answered = go (subject_of a.reply) refl
+  where
+    go : (about : Subject) → subject_of a.reply ≡ about → a.reply ≡ (plain_step modes state a.call).1
+    go OfVolume is = answered.reply is
+    go OfReplicas is = absurd (has_no_source modes source (answered.none is).none)
+    go OfStore is = absurd (true≢false (sym (answered.store is).asks ∙ apart))
 
 -- a step gives the head the next number, or leaves it
 pub call_raises : (state : PlainState) (c : Call) → (after_call state c).volume.snapshots.number ≤ state.volume.snapshots.number + 1
@@ -159,3 +166,4 @@ call_raises state (call.Command command.Purge) = omega arith
 call_raises state (call.Command command.Status) = omega arith
 call_raises state (call.Command (command.Fail r)) = omega arith
 call_raises state (call.Command (command.Add r)) = omega arith
+call_raises state (call.Command (command.Backup backup snapshot)) = omega arith

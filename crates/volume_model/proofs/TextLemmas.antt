@@ -6,8 +6,9 @@ use Rattle.std.proofs.lemmas.List.{take-append-drop}
 use Rattle.std.proofs.lemmas.Slice.Eq.{bytes_eq-Decides}
 use Rattle.std.proofs.lemmas.Fmt.{decimal_digit, decimal_injective}
 use Rattle.volume_model.specs.Commands.{IsCommand}
+use Rattle.volume_model.proofs.NameParts.{same_names}
 use Rattle.volume_model.specs.declared.command.Command.{Command}
-use Rattle.volume_model.specs.declared.command.Command.TheVariants.{Fail, Add}
+use Rattle.volume_model.specs.declared.command.Command.TheVariants.{Fail, Add, Backup}
 
 -- a text that begins with a word is that word and the name that is left
 pub word_and_name :
@@ -44,4 +45,10 @@ same_text text (Add m) (Add n) is too =
     let m_small : m < 10 = is.named in
     let n_small : n < 10 = too.named in
     ap Add (decimal_injective m n (omega arith) (omega arith) (ap (drop 5) (sym is.spelled ∙ too.spelled)))
+same_text text (Backup b m) (Backup c n) is too =
+    let same = same_names b c m n is.named.0 too.named.0 (ap (drop 7) (sym is.spelled ∙ too.spelled)) in
+    both same.0 same.1
+  where
+    both : b ≡ c → m ≡ n → Backup b m ≡ Backup c n
+    both e f = cc
 same_text text a b is too = search rules

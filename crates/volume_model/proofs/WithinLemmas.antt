@@ -21,7 +21,7 @@ use Rattle.volume_model.specs.Purge.{parts_of}
 use Rattle.volume_model.specs.Modes.{mode_of, source_of}
 use Rattle.volume_model.specs.Standing.{StandFrom}
 use Rattle.volume_model.specs.History.{Spot, command_behind, EndsCommand, StandsInCommand}
-use Rattle.volume_model.specs.OneWorker.{fail_marks, add_marks, refused_at, marks_unless, answer_for, entries_at}
+use Rattle.volume_model.specs.OneWorker.{Against, Store, fail_marks, add_marks, refused_by, marks_unless, answer_for, entries_by}
 use Rattle.volume_model.specs.OneWorker.{after_done, behind, served_from, after_calls, served_streams}
 use Rattle.volume_model.proofs.PurgeLemmas.{any_here, any_later}
 use Rattle.volume_model.proofs.StandingLemmas.{StandFrom-append}
@@ -93,6 +93,7 @@ by_command spot None command.Purge = by_purge (parts_of spot.state.volume.snapsh
 by_command spot None command.Status = tt
 by_command spot None (command.Fail r) = by_fail (command.Fail r) r (mode_of spot.modes r)
 by_command spot None (command.Add r) = by_add spot.state r (source_of spot.modes)
+by_command spot None (command.Backup backup snapshot) = tt
 
 -- a call of another kind has no marks
 abbrev IsNoCommand : Call → Type 0
@@ -107,41 +108,44 @@ no_marks spot None call.Ping other = refl
 no_marks spot None (call.Other kind) other = refl
 no_marks spot None (call.Command d) other = absurd other
 
-answer_alone : (spot : Spot) (stream place index : ℕ) (c : Call) (before : List Entry) → IsNoCommand c
-    → StandFrom StandsInCommand before (entries_at spot stream place index c)
-answer_alone spot stream place index c before other =
-    let why = refused_at spot c in
+answer_alone : (told : Option Against) (spot : Spot) (stream place index : ℕ) (c : Call) (before : List Entry) → IsNoCommand c
+    → StandFrom StandsInCommand before (entries_by told spot stream place index c)
+answer_alone told spot stream place index c before other =
+    let why = refused_by told spot c in
     subst (λ ms. StandFrom StandsInCommand before (ms ++ answer_for why spot stream place index c ∷ []))
     (sym (no_marks spot why c other)) (tt, tt)
 
-within_at : (spot : Spot) (stream place index : ℕ) (c : Call) (before : List Entry) → place ≤ length before
-    → StandFrom StandsInCommand before (entries_at spot stream place index c)
-within_at spot stream place index (call.Command c) before saw =
-    stand_by c _ before (marks_unless (refused_at spot (call.Command c)) spot (call.Command c)) refl saw
-    (by_command spot (refused_at spot (call.Command c)) c)
-within_at spot stream place index (call.Read offset n) before saw = answer_alone spot stream place index (call.Read offset n) before tt
-within_at spot stream place index (call.Write offset bytes) before saw =
-    answer_alone spot stream place index (call.Write offset bytes) before tt
-within_at spot stream place index call.Ping before saw = answer_alone spot stream place index call.Ping before tt
-within_at spot stream place index (call.Other kind) before saw = answer_alone spot stream place index (call.Other kind) before tt
+within_at : (told : Option Against) (spot : Spot) (stream place index : ℕ) (c : Call) (before : List Entry) → place ≤ length before
+    → StandFrom StandsInCommand before (entries_by told spot stream place index c)
+within_at told spot stream place index (call.Command c) before saw =
+    let why = refused_by told spot (call.Command c) in
+    stand_by c _ before (marks_unless why spot (call.Command c)) refl saw (by_command spot why c)
+within_at told spot stream place index (call.Read offset n) before saw =
+    answer_alone told spot stream place index (call.Read offset n) before tt
+within_at told spot stream place index (call.Write offset bytes) before saw =
+    answer_alone told spot stream place index (call.Write offset bytes) before tt
+within_at told spot stream place index call.Ping before saw = answer_alone told spot stream place index call.Ping before tt
+within_at told spot stream place index (call.Other kind) before saw = answer_alone told spot stream place index (call.Other kind) before tt
 
-within_from : (spot : Spot) (stream place index : ℕ) (cs : List Call) (before : List Entry) → place ≡ length before
-    → StandFrom StandsInCommand before (served_from spot stream place index cs)
-within_from spot stream place index [] before at = tt
-within_from spot stream place index (c ∷ cs) before at =
-    let first = entries_at spot stream place index c in
-    StandFrom-append StandsInCommand within_longer before first (served_from (after_done spot c) stream (behind place first) (suc index) cs)
-    (within_at spot stream place index c before (omega (arith, at)))
-    (within_from (after_done spot c) stream (behind place first) (suc index) cs (before ++ first)
+within_from : (store : Store) (spot : Spot) (stream place index : ℕ) (cs : List Call) (before : List Entry) → place ≡ length before
+    → StandFrom StandsInCommand before (served_from store spot stream place index cs)
+within_from store spot stream place index [] before at = tt
+within_from store spot stream place index (c ∷ cs) before at =
+    let first = entries_by (store place) spot stream place index c in
+    StandFrom-append StandsInCommand within_longer before first
+    (served_from store (after_done spot c) stream (behind place first) (suc index) cs)
+    (within_at (store place) spot stream place index c before (omega (arith, at)))
+    (within_from store (after_done spot c) stream (behind place first) (suc index) cs (before ++ first)
     (omega (arith, at, length-append before first)))
 
 -- each mark of its journal stands so
-pub served_within : (spot : Spot) (stream place : ℕ) (css : List (List Call)) (before : List Entry) → place ≡ length before
-    → StandFrom StandsInCommand before (served_streams spot stream place css)
-served_within spot stream place [] before at = tt
-served_within spot stream place (cs ∷ css) before at =
-    let first = served_from spot stream place 0 cs in
-    StandFrom-append StandsInCommand within_longer before first (served_streams (after_calls spot cs) (suc stream) (behind place first) css)
-    (within_from spot stream place 0 cs before at)
-    (served_within (after_calls spot cs) (suc stream) (behind place first) css (before ++ first)
+pub served_within : (store : Store) (spot : Spot) (stream place : ℕ) (css : List (List Call)) (before : List Entry) → place ≡ length before
+    → StandFrom StandsInCommand before (served_streams store spot stream place css)
+served_within store spot stream place [] before at = tt
+served_within store spot stream place (cs ∷ css) before at =
+    let first = served_from store spot stream place 0 cs in
+    StandFrom-append StandsInCommand within_longer before first
+    (served_streams store (after_calls spot cs) (suc stream) (behind place first) css)
+    (within_from store spot stream place 0 cs before at)
+    (served_within store (after_calls spot cs) (suc stream) (behind place first) css (before ++ first)
     (omega (arith, at, length-append before first)))

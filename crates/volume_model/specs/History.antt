@@ -1,5 +1,5 @@
 -- When a journal is one legal history, and in which order its calls stand.
-use Rattle.std.specs.Prelude.{◌≡◌, ℕ, suc, ◌≤◌, ◌==◌, Bool, true, false, Option, None, Some, IfSome}
+use Rattle.std.specs.Prelude.{◌≡◌, ℕ, suc, ◌≤◌, ◌==◌, true, false, Option, None, Some, IfSome}
 use Rattle.std.specs.Prelude.{List, [], ◌∷◌, length, map, Any, if◌then◌else◌}
 use Rattle.volume_model.specs.declared.command.Command.{Command}
 use Rattle.volume_model.specs.declared.command.Command.TheVariants as command
@@ -13,14 +13,14 @@ use Rattle.volume_model.specs.declared.mark.Mark.TheVariants as mark
 use Rattle.volume_model.specs.declared.mode.Mode.{Mode}
 use Rattle.volume_model.specs.PlainState.{PlainState}
 use Rattle.volume_model.specs.Purge.{CanBeDone, IsPurged}
-use Rattle.volume_model.specs.declared.call.Refusal.TheVariants.{NoReplica}
+use Rattle.volume_model.specs.declared.call.Refusal.TheVariants.{NoReplica, BackupExists, BlockDiffers, TargetFault}
 use Rattle.volume_model.specs.declared.call.Reply.{Reply}
 use Rattle.volume_model.specs.declared.call.Reply.TheVariants as reply
 use Rattle.volume_model.specs.declared.mode.Mode.TheVariants.{Err}
 use Rattle.volume_model.specs.PlainStep.{plain_step, refusal_of}
 use Rattle.volume_model.specs.Replay.{is_refusal, replay}
 use Rattle.volume_model.specs.Standing.{StandFrom, EachStands}
-use Rattle.volume_model.specs.Modes.{modes_after, mode_of, HasSource, HasNoSource, is_change, asks_replica}
+use Rattle.volume_model.specs.Modes.{modes_after, mode_of, HasSource, HasNoSource, is_change, asks_replica, asks_store}
 use Rattle.volume_model.specs.Faults.{FaultsShown}
 use Rattle.volume_model.specs.declared.mark.Rebuild.{Rebuild}
 use Rattle.volume_model.specs.declared.mark.Rebuild.TheVariants as rebuild
@@ -31,10 +31,18 @@ pub record Spot : Type 0 where
   pub state : PlainState
   pub modes : List Mode
 
--- whether it says that there is no replica
-abbrev pub says_no_replica : Reply → Bool
-says_no_replica (reply.Refused NoReplica) = true
-says_no_replica r = false
+-- what a reply is about: the volume, its replicas, of which there is none, or the store of backups
+pub data Subject : Type 0 where
+  OfVolume : Subject
+  OfReplicas : Subject
+  OfStore : Subject
+
+abbrev pub subject_of : Reply → Subject
+subject_of (reply.Refused NoReplica) = OfReplicas
+subject_of (reply.Refused BackupExists) = OfStore
+subject_of (reply.Refused BlockDiffers) = OfStore
+subject_of (reply.Refused TargetFault) = OfStore
+subject_of r = OfVolume
 
 -- the call may be answered that there is no replica: nothing else stands against it, and there is none
 pub record HasNoReplica (state : PlainState) (modes : List Mode) (c : Call) : Type 0 where
@@ -42,11 +50,18 @@ pub record HasNoReplica (state : PlainState) (modes : List Mode) (c : Call) : Ty
   pub refused : refusal_of modes state c ≡ None
   pub none : HasNoSource modes
 
--- A call is answered as the plain disk answers there, or that there is no replica. A change was done only with a replica
--- to read and write, and a purge only where nothing is left to fold or to drop. One that was told to fail has failed.
+-- the call may be answered what the store has against it: nothing else stands before that
+pub record MayTellOfStore (state : PlainState) (modes : List Mode) (c : Call) : Type 0 where
+  pub asks : asks_store c ≡ true
+  pub refused : refusal_of modes state c ≡ None
+
+-- A call is answered as the plain disk answers there, that there is no replica, or what the store of backups has against
+-- it. A change was done only with a replica to read and write, and a purge only where nothing is left to fold or to drop.
+-- One that was told to fail has failed.
 pub record IsAnswered (state : PlainState) (modes : List Mode) (a : Answer) : Type 0 where
-  pub reply : says_no_replica a.reply ≡ false → a.reply ≡ (plain_step modes state a.call).1
-  pub none : says_no_replica a.reply ≡ true → HasNoReplica state modes a.call
+  pub reply : subject_of a.reply ≡ OfVolume → a.reply ≡ (plain_step modes state a.call).1
+  pub none : subject_of a.reply ≡ OfReplicas → HasNoReplica state modes a.call
+  pub store : subject_of a.reply ≡ OfStore → MayTellOfStore state modes a.call
   pub fails : (replica : ℕ) → a.call ≡ call.Command (command.Fail replica) → mode_of modes replica ≡ Err
   pub source : is_change a.call ≡ true → is_refusal a.reply ≡ false → HasSource modes
   pub purged : a.call ≡ call.Command command.Purge → is_refusal a.reply ≡ false

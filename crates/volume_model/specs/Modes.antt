@@ -76,8 +76,14 @@ is_change (call.Write offset bytes) = true
 is_change (call.Command c) = is_command_change c
 is_change c = false
 
--- whether the call may be answered that there is no replica: it changes, it reads, or it rebuilds
+-- whether the call may be answered what the store of backups has against it: it backs up
+abbrev pub asks_store : Call → Bool
+asks_store (call.Command (command.Backup backup snapshot)) = true
+asks_store c = false
+
+-- whether the call may be answered that there is no replica: it changes, it reads, it rebuilds, or it backs up
 abbrev pub asks_replica : Call → Bool
 asks_replica (call.Read offset n) = true
 asks_replica (call.Command (command.Add r)) = true
+asks_replica (call.Command (command.Backup backup snapshot)) = true
 asks_replica c = is_change c

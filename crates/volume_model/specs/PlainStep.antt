@@ -54,6 +54,7 @@ command_refusal modes volume command.Purge = None
 command_refusal modes volume command.Status = None
 command_refusal modes volume (command.Fail r) = None
 command_refusal modes volume (command.Add r) = add_refusal (mode_of modes r) volume
+command_refusal modes volume (command.Backup backup snapshot) = live_refusal volume snapshot
 
 abbrev pub volume_refusal : List Mode → Volume → Call → Option Refusal
 volume_refusal modes volume (call.Read offset n) = if nat_lt longest_call n then Some TooLong else range_refusal volume offset n

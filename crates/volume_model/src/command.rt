@@ -1,10 +1,10 @@
-ghost use Rattle.std.specs.Prelude.{◌≡◌, ◌≢◌, ℕ, ◌<◌, ◌++◌, decimal, IfOk, IfErr, OnOk, OnErr, IfSome, IfNone};
-ghost use Rattle.volume_model.specs.Commands.{command_text, IsCommand, IsNoCommand};
+ghost use Rattle.std.specs.Prelude.{◌≡◌, ◌≢◌, ◌==◌, ℕ, ◌<◌, ◌++◌, length, take, decimal, position, IfOk, IfErr, OnOk, OnErr, IfSome, IfNone};
+ghost use Rattle.volume_model.specs.Commands.{command_text, IsCommand, IsNoCommand, IsOfBackup, IsOfNoBackup, HasNoBlank, ArePartsOf};
 
 use itoa::Buffer;
 use std::alloc::AllocError;
 use thiserror::Error;
-use vol_units::{BadName, LayerName, SnapName};
+use vol_units::{BadName, LayerName, PlainName, SnapName};
 
 /// What a control stream asks of the volume.
 #[derive(Clone, Copy, Debug, PartialEq, Eq)]
@@ -23,6 +23,11 @@ pub enum Command {
     Fail(u8),
     /// Lets the replica of that number, which failed, be rebuilt.
     Add(u8),
+    /// Backs a snapshot up, under the name of the backup.
+    Backup {
+        backup: PlainName,
+        snapshot: LayerName,
+    },
 }
 
 /// A text that is no command.
@@ -57,6 +62,9 @@ impl Command {
         if let Some(number) = text.strip_prefix(b"add r") {
             return Ok(Command::Add(digit_in(number).ok_or(BadCommand)?));
         }
+        if let Some(names) = text.strip_prefix(b"backup ") {
+            return backup_of(names);
+        }
         Err(BadCommand)
     }
 
@@ -65,32 +73,77 @@ impl Command {
         ensures ok { OnOk result (into.new.items ≡ into.old.items ++ command_text self.now) }
         ensures err { OnErr result (into.new.items ≡ into.old.items) }
     {
-        let mut digits = Buffer::new();
-        let (word, object) = self.parts(&mut digits);
         let len = into.len();
-        into.extend_from_slice(word)?;
-        let appended = into.extend_from_slice(object);
+        let appended = self.append_parts(into);
         if appended.is_err() {
             into.truncate(len);
         }
         appended
     }
 
-    /// The command's word with what stands behind it up to its name or number, and that name or number. It is empty where
-    /// the command has none.
-    fn parts<'a>(&'a self, digits: &'a mut Buffer) -> (&'a [u8], &'a [u8])
-        ensures { result.0.now ++ result.1.now ≡ command_text self.now }
+    /// Appends the text, or where memory runs out what there is room for.
+    fn append_parts(&self, into: &mut Vec<u8>) -> Result<(), AllocError>
+        ensures ok { OnOk result (into.new.items ≡ into.old.items ++ command_text self.now) }
+        ensures err { OnErr result (take (length into.old.items) into.new.items ≡ into.old.items) }
+    {
+        let mut digits = Buffer::new();
+        let (word, name, blank, other) = self.parts(&mut digits);
+        into.extend_from_slice(word)?;
+        into.extend_from_slice(name)?;
+        into.extend_from_slice(blank)?;
+        into.extend_from_slice(other)
+    }
+
+    /// The command's word with what stands behind it up to its name or number, that name or number, and of a backup the
+    /// blank behind it and the snapshot's name. What the command has not is empty.
+    fn parts<'a>(&'a self, digits: &'a mut Buffer) -> (&'a [u8], &'a [u8], &'a [u8], &'a [u8])
+        ensures { result.0.now ++ (result.1.now ++ (result.2.now ++ result.3.now)) ≡ command_text self.now }
     {
         match self {
-            Command::Snapshot(name) => (b"snapshot ", name.as_bytes()),
-            Command::Remove(name) => (b"remove ", name.as_bytes()),
-            Command::Revert(name) => (b"revert ", name.as_bytes()),
-            Command::Purge => (b"purge", b""),
-            Command::Status => (b"status", b""),
-            Command::Fail(replica) => (b"fail r", digits.format(*replica).as_bytes()),
-            Command::Add(replica) => (b"add r", digits.format(*replica).as_bytes()),
+            Command::Snapshot(name) => (b"snapshot ", name.as_bytes(), b"", b""),
+            Command::Remove(name) => (b"remove ", name.as_bytes(), b"", b""),
+            Command::Revert(name) => (b"revert ", name.as_bytes(), b"", b""),
+            Command::Purge => (b"purge", b"", b"", b""),
+            Command::Status => (b"status", b"", b"", b""),
+            Command::Fail(replica) => (b"fail r", digits.format(*replica).as_bytes(), b"", b""),
+            Command::Add(replica) => (b"add r", digits.format(*replica).as_bytes(), b"", b""),
+            Command::Backup { backup, snapshot } => {
+                (b"backup ", backup.as_bytes(), b" ", snapshot.as_bytes())
+            }
         }
     }
+}
+
+/// The backup that two names ask, which one blank parts: its own name and that of the snapshot.
+fn backup_of(names: &[u8]) -> Result<Command, BadCommand>
+    ensures found { IfOk result (IsOfBackup names.now) }
+    ensures refused { IfErr result (λ _. IsOfNoBackup names.now) }
+{
+    let Some((backup, snapshot)) = parted(names) else {
+        return Err(BadCommand);
+    };
+    let backup = PlainName::read(backup)?;
+    let snapshot = LayerName::read(snapshot)?;
+    Ok(Command::Backup { backup, snapshot })
+}
+
+/// What stands before the first blank of a text, and what stands behind it.
+fn parted(text: &[u8]) -> Option<(&[u8], &[u8])>
+    ensures some { IfSome result (λ parts. ArePartsOf text.now parts.0.now parts.1.now) }
+    ensures none { IfNone result (HasNoBlank text.now) }
+{
+    match first_blank(text) {
+        Some(blank) => Some((&text[..blank], &text[blank + 1..])),
+        None => None,
+    }
+}
+
+/// The place of the first blank.
+fn first_blank(text: &[u8]) -> Option<usize>
+    ensures place { result ≡ position (λ byte. byte == 32) text.now }
+    ensures within { IfSome result (λ n. n < length text.now) }
+{
+    text.iter().position(|byte| *byte == b' ')
 }
 
 /// The number that one digit is.

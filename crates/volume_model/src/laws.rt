@@ -1,6 +1,6 @@
 //! What follows from the definitions alone. Each law is a contract.
 
-ghost use Rattle.std.specs.Prelude.{◌≡◌, ◌≢◌, ℕ, ℤ, ◌+◌, ◌≤◌, ◌^◌, List, ◌∷◌, [], length, take, drop, Option, Some, None};
+ghost use Rattle.std.specs.Prelude.{◌≡◌, ◌≢◌, ℕ, ℤ, ◌+◌, ◌≤◌, ◌^◌, ◌++◌, List, ◌∷◌, [], length, take, drop, Option, Some, None};
 ghost use Rattle.volume_model.specs.Commands.{IsCommand};
 ghost use Rattle.volume_model.specs.declared.call.Call.{Call};
 ghost use Rattle.volume_model.specs.declared.call.Refusal.{Refusal};
@@ -22,8 +22,8 @@ ghost use Rattle.volume_model.specs.Replay.{replay};
 ghost use Rattle.volume_model.specs.Modes.{HasSource, mode_of, modes_after};
 ghost use Rattle.volume_model.specs.Rebuilds.{rebuild_of};
 ghost use Rattle.volume_model.specs.History.{Spot, IsLegal, IsHistory};
-ghost use Rattle.volume_model.specs.OneWorker.{served, after_streams, stream_of, AllProper, call_count, behind_entries};
-ghost use Rattle.volume_model.specs.Copies.{HasCopies};
+ghost use Rattle.volume_model.specs.OneWorker.{Store, AskNone, served, after_streams, stream_of, AllProper, call_count, behind_entries};
+ghost use Rattle.volume_model.specs.Copies.{HasCopies, IsCopyOf, RemovesNone};
 ghost use Rattle.volume_model.specs.Names.{AreOwnFree, TellOf, AreNamed, names_after, layers_after};
 
 /// Two commands have two texts.
@@ -73,12 +73,13 @@ pub fn the_next_to_go_is_the_first()
 {}
 
 /// The calls of streams, answered one after another and one stream after another while no line fails, make a legal
-/// history. They are as a script may have them: a user's snapshot has no name of the engine's own, and an `add` names a
-/// replica that there is.
+/// history, whatever a store of backups has against backups. They are as a script may have them: a user's snapshot has no
+/// name of the engine's own, and an `add` names a replica that there is.
 pub fn one_worker_makes_a_history()
-    ensures { (opening : Spot) (counted : ℕ → ℕ → ℕ) (streams : List (List Call)) → AllProper (length opening.modes) streams
+    ensures { (store : Store) (opening : Spot) (counted : ℕ → ℕ → ℕ) (streams : List (List Call))
+        → AllProper (length opening.modes) streams
         → AreOwnFree opening.state → opening.state.volume.snapshots.number + call_count streams ≤ 2 ^ 64
-        → IsHistory opening counted (stream_of streams) (served opening streams) }
+        → IsHistory opening counted (stream_of streams) (served store opening streams) }
 {}
 
 /// Where a legal history ends no rebuild is open; and no replica is written alone, if none was as it began.
@@ -90,18 +91,19 @@ pub fn a_history_ends_with_no_rebuild_open()
         → (r : ℕ) → mode_of (modes_after opening.modes journal) r ≢ Wo }
 {}
 
-/// A legal history of one stream's calls in which no mark stands, on replicas of which one is read and written, is what
-/// answering them one after another gives.
+/// A legal history of one stream's calls, none of them a backup, in which no mark stands, on replicas of which one is
+/// read and written, is what answering them one after another gives.
 pub fn one_stream_has_one_history()
-    ensures { (opening : Spot) (counted : ℕ → ℕ → ℕ) (calls : List Call) (journal : List Entry) → HasSource opening.modes
+    ensures { (store : Store) (opening : Spot) (counted : ℕ → ℕ → ℕ) (calls : List Call) (journal : List Entry)
+        → HasSource opening.modes → AskNone calls
         → IsHistory opening counted (stream_of (calls ∷ [])) journal → HasNoMark journal
-        → journal ≡ served opening (calls ∷ []) }
+        → journal ≡ served store opening (calls ∷ []) }
 {}
 
 /// The replay of that journal, and the modes after it, are what the calls leave.
 pub fn the_replay_is_the_last_state()
-    ensures { (opening : Spot) (streams : List (List Call))
-        → behind_entries opening (served opening streams) ≡ after_streams opening streams }
+    ensures { (store : Store) (opening : Spot) (streams : List (List Call))
+        → behind_entries opening (served store opening streams) ≡ after_streams opening streams }
 {}
 
 /// A legal journal tells which names were taken, which can be used, and how many layers there are. Where no two snapshots
@@ -120,4 +122,12 @@ pub fn a_journal_tells_of_its_snapshots()
 pub fn a_legal_journal_keeps_the_copies()
     ensures { (opening : Spot) (size : ℕ) (journal : List Entry) → IsLegal opening journal → AreNamed opening.state
         → HasCopies size opening.state.volume → HasCopies size (replay opening.state journal).volume }
+{}
+
+/// A snapshot that can be used keeps its copy until it is removed: whatever else a legal journal goes on with.
+pub fn a_snapshot_keeps_its_copy()
+    ensures { (opening : Spot) (before es : List Entry) (name disk : List ℕ) → IsLegal opening before
+        → IsLegal opening (before ++ es) → AreNamed opening.state → RemovesNone name es
+        → IsCopyOf (replay opening.state before).volume name disk
+        → IsCopyOf (replay opening.state (before ++ es)).volume name disk }
 {}

@@ -26,6 +26,7 @@ returns c = (
     record {
       reply = λ says. refl;
       none = λ says. absurd cc;
+      store = λ says. absurd cc;
       fails = λ q is. second_failed q (same_replica 1 q is);
       source = λ change done. absurd cc;
       purged = λ is done. absurd cc;
@@ -44,6 +45,7 @@ returns c = (
         record {
           reply = λ says. refl;
           none = λ says. absurd cc;
+          store = λ says. absurd cc;
           fails = λ q is. absurd cc;
           source = λ change done. (0, omega arith, refl);
           purged = λ is done. absurd cc;
@@ -58,6 +60,7 @@ returns c = (
                 record {
                   reply = λ says. refl;
                   none = λ says. absurd cc;
+                  store = λ says. absurd cc;
                   fails = λ q is. first_failed q (same_replica 0 q is);
                   source = λ change done. absurd cc;
                   purged = λ is done. absurd cc;
@@ -66,6 +69,7 @@ returns c = (
                   record {
                     reply = λ says. refl;
                     none = λ says. absurd cc;
+                    store = λ says. absurd cc;
                     fails = λ q is. absurd cc;
                     source = λ change done. absurd cc;
                     purged = λ is done. absurd cc;

@@ -27,6 +27,7 @@ returns-clause-legal c = (
     record {
       reply = λ says. refl;
       none = λ says. absurd cc;
+      store = λ says. absurd cc;
       fails = λ q is. second_failed q (same_replica 1 q is);
       source = λ change done. absurd cc;
       purged = λ is done. absurd cc;
