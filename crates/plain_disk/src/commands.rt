@@ -1,4 +1,4 @@
-ghost use Rattle.std.specs.Prelude.{◌≡◌, ◌+◌, ◌^◌, ◌<◌, List, IfOk, OnOk, OnErr};
+ghost use Rattle.std.specs.Prelude.{◌≡◌, ◌+◌, ◌^◌, ◌<◌, ℕ, List, IfOk, OnOk, OnErr};
 ghost use Rattle.volume_model.specs.declared.mode.Mode.{Mode};
 ghost use Rattle.volume_model.specs.PlainState.{taken, reverted};
 ghost use Rattle.volume_model.specs.PlainStep.{plain_step, room_refusal};
@@ -31,6 +31,7 @@ impl PlainDisk {
             Command::Purge | Command::Fail(_) => Ok(Reply::Done),
             Command::Add(replica) => Ok(self.add(modes, *replica)),
             Command::Status => self.status(alloc, modes),
+            Command::Backup { snapshot, .. } => Ok(self.backup(snapshot)),
         }
     }
 
@@ -141,5 +142,16 @@ impl PlainDisk {
             layers: self.snapshots.len() as u64 + 1,
             modes: Sequence::of(Vec::from_slice(alloc, modes)?),
         })
+    }
+
+    /// A backup reads the snapshot's copy, and leaves the disk as it was.
+    fn backup(&self, snapshot: &LayerName) -> Reply
+        ensures { (modes : List Mode) (backup : List ℕ) → plain_step modes self.now
+            (Call.Command (Command.Backup backup snapshot.now)) ≡ (self.now, result) }
+    {
+        if !is_live(&self.snapshots, snapshot) {
+            return Reply::Refused(Refusal::NoSuchSnapshot);
+        }
+        Reply::Done
     }
 }
