@@ -2,7 +2,7 @@
 use Rattle.std.proofs.Common.{◌≡◌, ℕ, List, ◌∷◌, ◌++◌, length, drop, refl, ap, append_assoc, arith}
 use Rattle.volume_model.specs.declared.call.Call.{Call}
 use Rattle.volume_model.specs.declared.call.Call.TheVariants.{Read, Write, Ping, Other, Command}
-use Rattle.volume_model.specs.declared.command.Command.TheVariants.{Snapshot, Remove, Revert, Purge, Status, Fail, Add}
+use Rattle.volume_model.specs.declared.command.Command.TheVariants.{Snapshot, Remove, Revert, Purge, Status, Fail, Add, Backup}
 use Rattle.run_report.specs.Lines.{call_text}
 use Rattle.report_laws.specs.Fits.{CallFits}
 use Rattle.report_laws.proofs.Words.{space, three}
@@ -32,6 +32,9 @@ same_call (Command (Fail m)) (Command (Fail n)) xs ys p q e =
     one_by (λ r. Command (Fail r)) (field.number 32 space xs ys m n p q (ap (drop 6) e))
 same_call (Command (Add m)) (Command (Add n)) xs ys p q e =
     one_by (λ r. Command (Add r)) (field.number 32 space xs ys m n p q (ap (drop 5) e))
+same_call (Command (Backup a m)) (Command (Backup b n)) xs ys p q e =
+    two_by (λ k l. Command (Backup k l)) (field.name 32 space _ _ a b p.0 q.0 (simp append_assoc at (ap (drop 7) e)))
+    (λ rest. field.name 32 space xs ys m n p.1 q.1 rest)
 same_call (Read y m) (Command (Snapshot n)) xs ys p q e = absurd (omega (arith, ap three e))
 same_call (Write y us) (Command (Snapshot n)) xs ys p q e = absurd (omega (arith, ap three e))
 same_call Ping (Command (Snapshot n)) xs ys p q e = absurd (omega (arith, ap three e))

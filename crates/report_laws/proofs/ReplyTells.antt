@@ -5,6 +5,7 @@ use Rattle.std.specs.List.{AllByRecursion}
 use Rattle.volume_model.specs.declared.call.Refusal.{Refusal}
 use Rattle.volume_model.specs.declared.call.Refusal.TheVariants.{TooLong, OutOfRange, Unsupported, NameUsed}
 use Rattle.volume_model.specs.declared.call.Refusal.TheVariants.{ChainFull, NoSuchSnapshot, NoReplica, InUse}
+use Rattle.volume_model.specs.declared.call.Refusal.TheVariants.{BackupExists, BlockDiffers, TargetFault}
 use Rattle.volume_model.specs.declared.call.Reply.{Reply}
 use Rattle.volume_model.specs.declared.call.Reply.TheVariants.{Done, Read, Status, Refused, Aborted}
 use Rattle.volume_model.specs.declared.mode.Mode.{Mode}
@@ -63,6 +64,9 @@ same_refusal ChainFull ChainFull xs ys e = record { same = refl; rest = ap (drop
 same_refusal NoSuchSnapshot NoSuchSnapshot xs ys e = record { same = refl; rest = ap (drop 17) e }
 same_refusal NoReplica NoReplica xs ys e = record { same = refl; rest = ap (drop 11) e }
 same_refusal InUse InUse xs ys e = record { same = refl; rest = ap (drop 7) e }
+same_refusal BackupExists BackupExists xs ys e = record { same = refl; rest = ap (drop 14) e }
+same_refusal BlockDiffers BlockDiffers xs ys e = record { same = refl; rest = ap (drop 14) e }
+same_refusal TargetFault TargetFault xs ys e = record { same = refl; rest = ap (drop 13) e }
 same_refusal NoSuchSnapshot NoReplica xs ys e = absurd (omega (arith, ap (λ text. get_or text 3 0) e))
 same_refusal NoReplica NoSuchSnapshot xs ys e = absurd (omega (arith, ap (λ text. get_or text 3 0) e))
 same_refusal w v xs ys e = absurd (omega (arith, ap three e))

@@ -8,7 +8,7 @@ use Rattle.volume_model.specs.declared.call.Call.TheVariants as call
 use Rattle.volume_model.specs.declared.call.Reply.{Reply}
 use Rattle.volume_model.specs.declared.call.Reply.TheVariants as reply
 use Rattle.volume_model.specs.declared.command.Command.{Command}
-use Rattle.volume_model.specs.declared.command.Command.TheVariants.{Snapshot, Remove, Revert, Fail, Add}
+use Rattle.volume_model.specs.declared.command.Command.TheVariants.{Snapshot, Remove, Revert, Fail, Add, Backup}
 use Rattle.volume_model.specs.declared.entry.Answer.{Answer}
 use Rattle.volume_model.specs.declared.entry.Entry.{Entry}
 use Rattle.volume_model.specs.declared.entry.Entry.TheVariants as entry
@@ -26,13 +26,14 @@ pub record AreBytes (bytes : List ℕ) : Type 0 where
   pub each : All (λ b. b < 256) bytes
   pub few : Fits64 (length bytes)
 
--- the snapshot or the replica that a command names
+-- the snapshot, the replica or the backup that a command names
 abbrev pub CommandFits : Command → Type 0
 CommandFits (Snapshot name) = IsName name
 CommandFits (Remove name) = IsName name
 CommandFits (Revert name) = IsName name
 CommandFits (Fail r) = Fits64 r
 CommandFits (Add r) = Fits64 r
+CommandFits (Backup backup snapshot) = IsName backup × IsName snapshot
 CommandFits c = Unit {0}
 
 -- what a call asks

@@ -62,6 +62,10 @@ fn know_command(command: &Command)
             let _bytes = name.as_bytes();
         }
         Command::Remove(name) | Command::Revert(name) => know_layer(name),
+        Command::Backup { backup, snapshot } => {
+            let _bytes = backup.as_bytes();
+            know_layer(snapshot);
+        }
         Command::Purge | Command::Status => {}
         Command::Fail(replica) | Command::Add(replica) => {
             let _replica = *replica;

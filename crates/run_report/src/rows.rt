@@ -5,16 +5,17 @@ ghost use Rattle.std.specs.Prelude.{◌≡◌, ◌∷◌, [], map, codes, pos, t
 ghost use Rattle.volume_model.specs.declared.command.Command.TheVariants as command;
 ghost use Rattle.volume_model.specs.declared.call.Call.TheVariants as call;
 ghost use Rattle.volume_model.specs.declared.call.Reply.TheVariants as reply;
+ghost use Rattle.volume_model.specs.declared.call.Refusal.TheVariants.{BackupExists, BlockDiffers, TargetFault};
 ghost use Rattle.volume_model.specs.PlainState.{state_of};
 ghost use Rattle.volume_model.specs.Replay.{replay};
 ghost use Rattle.volume_model.specs.Snapshots.{chain_of};
-ghost use Rattle.volume_model.specs.OneWorker.{served};
+ghost use Rattle.volume_model.specs.OneWorker.{no_store, served};
 ghost use Rattle.volume_model.specs.declared.entry.Entry.TheVariants as entry;
 ghost use Rattle.volume_model.specs.declared.mark.FoldOrDrop.TheVariants as part;
 ghost use Rattle.volume_model.specs.declared.mark.Mark.TheVariants as mark;
 ghost use Rattle.volume_model.specs.declared.mode.Mode.TheVariants as mode;
 ghost use Rattle.run_report.specs.declared.reason.Reason.TheVariants as reason;
-ghost use Rattle.run_report.specs.Lines.{reason_text, opening_line, reply_text, reply_line, mode_line, chain_line};
+ghost use Rattle.run_report.specs.Lines.{reason_text, opening_line, call_text, reply_text, reply_line, mode_line, chain_line};
 ghost use Rattle.run_report.specs.Report.{opening_lines, journal_lines, call_lines};
 
 use crate::reason::Reason;
@@ -49,12 +50,12 @@ pub fn a_damaged_file_reads() -> Reason<'static>
 pub fn the_report_reads()
     ensures done { call_lines (((record { seq = 1; kind = 1; offset = pos 1; size = 1; len = 1 })
         ∷ (record { seq = 2; kind = 0; offset = pos 0; size = 4; len = 0 }) ∷ []) ∷ [])
-        (served (record { state = state_of (0 ∷ 0 ∷ 0 ∷ 0 ∷ []); modes = mode.Rw ∷ [] })
+        (served no_store (record { state = state_of (0 ∷ 0 ∷ 0 ∷ 0 ∷ []); modes = mode.Rw ∷ [] })
         ((call.Write (pos 1) (97 ∷ []) ∷ call.Read (pos 0) 4 ∷ []) ∷ []))
         ≡ codes "0 0 0 0 write 1 1 61*1 ok\n1 1 0 1 read 0 4 ok 00*1,61*1,00*2\nreply 0 0 1 2 1 1 -\nreply 0 1 2 2 0 4 00*1,61*1,00*2\n" }
     ensures refused { call_lines (((record { seq = 9; kind = 0; offset = pos 5; size = 1; len = 0 })
         ∷ (record { seq = 8; kind = 6; offset = pos 0; size = 0; len = 0 }) ∷ []) ∷ [])
-        (served (record { state = state_of (0 ∷ []); modes = mode.Rw ∷ [] })
+        (served no_store (record { state = state_of (0 ∷ []); modes = mode.Rw ∷ [] })
         ((call.Read (pos 5) 1 ∷ call.Ping ∷ []) ∷ []))
         ≡ codes "0 0 0 0 read 5 1 error out of range\n1 1 0 1 ping ok\nreply 0 0 9 3 5 12 6f*1,75*1,74*1,20*1,6f*1,66*1,20*1,72*1,61*1,6e*1,67*1,65*1\nreply 0 1 8 2 0 0 -\n" }
 {}
@@ -63,11 +64,19 @@ pub fn the_report_reads()
 pub fn the_commands_read()
     ensures { call_lines (((record { seq = 5; kind = 1; offset = pos 0; size = 1; len = 1 }) ∷ []) ∷ []
         ∷ ((record { seq = 6; kind = 0; offset = pos 0; size = 1; len = 0 }) ∷ []) ∷ [])
-        (served (record { state = state_of (97 ∷ []); modes = mode.Rw ∷ mode.Err ∷ [] })
+        (served no_store (record { state = state_of (97 ∷ []); modes = mode.Rw ∷ mode.Err ∷ [] })
         ((call.Write (pos 0) (98 ∷ []) ∷ [])
         ∷ map call.Command (command.Snapshot (codes "s") ∷ command.Status ∷ command.Revert (codes "s") ∷ command.Remove (codes "t") ∷ [])
         ∷ (call.Read (pos 0) 1 ∷ []) ∷ []))
         ≡ codes "0 0 0 0 write 0 1 62*1 ok\n1 1 1 0 snapshot s ok\n2 2 1 1 status ok layers 2 modes RW,ERR\n3 3 1 2 revert s ok\n4 4 1 3 remove t error no such snapshot\n5 5 2 0 read 0 1 ok 62*1\nreply 0 0 5 2 0 1 -\nreply 2 0 6 2 0 1 62*1\n" }
+{}
+
+/// What a backup reads as, and what the store has against it.
+pub fn a_backup_reads()
+    ensures call { call_text (call.Command (command.Backup (codes "b1") (codes "s"))) ≡ codes "backup b1 s" }
+    ensures exists { reply_text (reply.Refused BackupExists) ≡ codes "error backup exists" }
+    ensures differs { reply_text (reply.Refused BlockDiffers) ≡ codes "error block differs" }
+    ensures fault { reply_text (reply.Refused TargetFault) ≡ codes "error target fault" }
 {}
 
 /// What is printed of marks, and of a purge that leaves nothing to fold or to drop.
@@ -75,7 +84,7 @@ pub fn the_marks_read()
     ensures each { journal_lines 0 (map entry.Mark (mark.Fault 3 1 12 ∷ mark.Failed 1 ∷ mark.Added 1 0 (codes "sys-7") ∷ mark.Promoted 1
         ∷ mark.Aborted 1 ∷ mark.Purged (part.Fold (codes "s") (codes "t")) ∷ mark.Purged (part.Drop (codes "b")) ∷ []))
         ≡ codes "0 mark fault 3 r1 12\n1 mark failed r1\n2 mark added r1 r0 sys-7\n3 mark promoted r1\n4 mark aborted r1\n5 mark folded s t\n6 mark dropped b\n" }
-    ensures purge { call_lines ([] ∷ []) (served (record { state = state_of (97 ∷ []); modes = mode.Rw ∷ [] })
+    ensures purge { call_lines ([] ∷ []) (served no_store (record { state = state_of (97 ∷ []); modes = mode.Rw ∷ [] })
         (map call.Command (command.Snapshot (codes "s") ∷ command.Remove (codes "s") ∷ command.Snapshot (codes "t") ∷ command.Purge ∷ []) ∷ []))
         ≡ codes "0 0 0 0 snapshot s ok\n1 1 0 1 remove s ok\n2 2 0 2 snapshot t ok\n3 mark folded s t\n4 3 0 3 purge ok\n" }
 {}
@@ -102,7 +111,7 @@ pub fn the_end_reads()
     ensures sound { mode_line 1 mode.Rw ≡ codes "mode r1 RW\n" }
     ensures alone { chain_line (Some 0) [] ≡ codes "chain r0 head\n" }
     ensures marked { chain_line (Some 0) (chain_of (replay (state_of (97 ∷ []))
-        (served (record { state = state_of (97 ∷ []); modes = mode.Rw ∷ [] })
+        (served no_store (record { state = state_of (97 ∷ []); modes = mode.Rw ∷ [] })
         (map call.Command (command.Snapshot (codes "a") ∷ command.Snapshot (codes "b") ∷ command.Revert (codes "a")
         ∷ command.Snapshot (codes "c") ∷ command.Remove (codes "a") ∷ []) ∷ []))).volume.snapshots)
         ≡ codes "chain r0 head c a*\n" }
