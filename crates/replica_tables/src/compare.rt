@@ -7,7 +7,7 @@ use std::test::Fail;
 use vol_units::MOST_LAYERS;
 
 /// Puts a block of one byte over and over into a head.
-fn put(node: &mut ReplicaNode, alloc: Global, block: u32, byte: u8) -> Result<(), Fail> {
+pub(crate) fn put(node: &mut ReplicaNode, alloc: Global, block: u32, byte: u8) -> Result<(), Fail> {
     let mut blocks = Blocks::new(alloc);
     blocks.push(Box::new(alloc, [byte; BLOCK_BYTES])?)?;
     if block >= node.block_count() || blocks.len() != 1 || !blocks.is_full() {

@@ -10,4 +10,6 @@ mod node;
 #[cfg(test)]
 mod page;
 #[cfg(test)]
+mod pages;
+#[cfg(test)]
 mod rebuild;

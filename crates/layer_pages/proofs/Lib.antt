@@ -1,0 +1,5 @@
+pub mod BlockLemmas
+pub mod ChainLemmas
+pub mod ListLemmas
+pub mod PlaceLemmas
+pub mod ReadLemmas
