@@ -9,11 +9,12 @@ use Rattle.volume_model.specs.declared.command.Command.TheVariants as command
 use Rattle.volume_model.specs.declared.call.Call.TheVariants as call
 use Rattle.volume_model.specs.declared.call.Refusal.{Refusal}
 use Rattle.volume_model.specs.declared.call.Refusal.TheVariants.{NoReplica}
+use Rattle.volume_model.specs.declared.call.Reply.{Reply}
 use Rattle.volume_model.specs.declared.call.Reply.TheVariants as reply
 use Rattle.volume_model.specs.declared.entry.Answer.{Answer}
 use Rattle.volume_model.specs.declared.mode.Mode.{Mode}
 use Rattle.volume_model.specs.declared.mode.Mode.TheVariants.{Err}
-use Rattle.volume_model.specs.History.{IsAnswered, says_no_replica}
+use Rattle.volume_model.specs.History.{IsAnswered, OfVolume, OfReplicas, OfStore, subject_of}
 use Rattle.volume_model.specs.Modes.{mode_of, HasSource, HasNoSource, is_change, asks_replica}
 use Rattle.volume_model.specs.PlainState.{PlainState}
 use Rattle.volume_model.specs.PlainStep.{refusal_of, plain_step, step_unless, longest_call}
@@ -56,6 +57,17 @@ pub read_free : (modes : List Mode) (p : PlainState) (at n : ℕ) → at + n ≤
     → refusal_of modes p (call.Read (pos at) n) ≡ None
 read_free modes p at n inside short = rw (le-ltb longest_call n short) (rw (good_range (length p.volume.disk) at n inside) refl)
 
+-- ---- what a reply is about is one
+
+pub not_replicas : (r : Reply) → subject_of r ≡ OfVolume → subject_of r ≡ OfReplicas → ⊥
+not_replicas r e f = cc
+
+pub not_store : (r : Reply) → subject_of r ≡ OfVolume → subject_of r ≡ OfStore → ⊥
+not_store r e f = cc
+
+pub replicas_not_store : (r : Reply) → subject_of r ≡ OfReplicas → subject_of r ≡ OfStore → ⊥
+replicas_not_store r e f = cc
+
 -- ---- as the plain disk answers
 
 pub plainly : (modes : List Mode) (p : PlainState) (a : Answer) → a.reply ≡ (plain_step modes p a.call).1
@@ -65,7 +77,8 @@ pub plainly : (modes : List Mode) (p : PlainState) (a : Answer) → a.reply ≡ 
     → IsAnswered p modes a
 plainly modes p a is fails source purge = record {
   reply = λ _. is;
-  none = λ says. absurd (not_both (says_no_replica a.reply) (ap says_no_replica is ∙ says-plain_step modes p a.call) says);
+  none = λ says. absurd (not_replicas a.reply (ap subject_of is ∙ says-plain_step modes p a.call) says);
+  store = λ says. absurd (not_store a.reply (ap subject_of is ∙ says-plain_step modes p a.call) says);
   fails = fails;
   source = source;
   purged = λ e done. absurd (purge e done);
@@ -93,8 +106,9 @@ pub none_answered : (modes : List Mode) (p : PlainState) (a : Answer) → refusa
     → asks_replica a.call ≡ true → ((c : Command) → a.call ≡ call.Command c → ⊥)
     → a.reply ≡ reply.Refused NoReplica → HasNoSource modes → IsAnswered p modes a
 none_answered modes p a free asks none is no_source = record {
-  reply = λ says. absurd (not_both (says_no_replica a.reply) says (ap says_no_replica is));
+  reply = λ says. absurd (not_replicas a.reply says (ap subject_of is));
   none = λ _. record { asks = asks; refused = free; none = no_source };
+  store = λ says. absurd (replicas_not_store a.reply (ap subject_of is) says);
   fails = λ r e. absurd (none (command.Fail r) e);
   source = λ _ done. absurd (not_both (is_refusal a.reply) done (ap is_refusal is));
   purged = λ _ done. absurd (not_both (is_refusal a.reply) done (ap is_refusal is));

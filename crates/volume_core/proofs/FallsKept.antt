@@ -321,6 +321,7 @@ now_sound s stream c ok within idle none now =
     by (call.Command (command.Revert name)) now on = absurd now
     by (call.Command command.Purge) now on = absurd now
     by (call.Command (command.Add r)) now on = absurd now
+    by (call.Command (command.Backup backup snapshot)) now on = absurd now
     by (call.Command command.Status) now on = quiet (call.Command command.Status) (λ b. same b) on
       where
         same : (b : Bool) → cond b (told_of s) (after_call (told_of s) (call.Command command.Status)) ≡ told_of s

@@ -129,4 +129,5 @@ given_up_may s s2 stream target is ok2 = record {
   others = λ n other. ap (λ (x : State). running x n) is;
   turns = λ n other. ap (λ (x : State). turning x n) is;
   gave_up = λ n other. ap (λ (x : State). gave_up_at x.gave_up n) is ∙ get_or-set_other s.gave_up stream n true false other;
+  removes = λ m other turn name. tt;
 }

@@ -14,4 +14,6 @@ pub mod CallLemmas
 pub mod Appends
 pub mod Moves
 pub mod TurnLemmas
+pub mod InTurn
 pub mod Caused
+pub mod Copies

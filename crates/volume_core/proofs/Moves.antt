@@ -1,10 +1,13 @@
 -- What each step leaves to other streams, and what its own sees.
-use Rattle.std.proofs.Common.{◌≡◌, ℕ, ◌+◌, ◌<◌, ⊎_elim, true, false, List, [], ◌∷◌, length, length-set, map, set}
+use Rattle.std.proofs.Common.{◌≡◌, ◌≢◌, ℕ, ◌+◌, ◌<◌, ⊎_elim, true, false, List, [], ◌∷◌, length, length-set, map, set}
 use Rattle.std.proofs.Common.{subst, sym, refl, ap, ◌∙◌, arith, append-nil}
 use lib.Seq.{set-get_or}
 use Rattle.vol_units.specs.declared.range.BlockRange.{BlockRange}
+use Rattle.volume_model.specs.declared.command.Command.TheVariants as command
 use Rattle.volume_model.specs.declared.call.Call.{Call}
+use Rattle.volume_model.specs.declared.call.Call.TheVariants as call
 use Rattle.volume_model.specs.declared.call.Reply.{Reply}
+use Rattle.volume_model.specs.Replay.{is_refusal}
 use Rattle.range_turns.specs.declared.ticket.Kind.{Kind}
 use Rattle.range_turns.specs.declared.ticket.Kind.TheVariants as kind
 use Rattle.range_turns.specs.declared.ticket.Ticket.{Ticket}
@@ -14,6 +17,7 @@ use Rattle.open_calls.specs.declared.open_call.OpenCall.{OpenCall}
 use Rattle.open_calls.specs.Calls.{open_at, call_asked, whole_of, begun, with_part_at, read_from}
 use Rattle.step_answers.specs.declared.parts.Part.{Part}
 use Rattle.open_calls.specs.Clients.{IsIdle}
+use Rattle.open_calls.proofs.FreeLemmas.{write_no_whole, read_no_whole}
 use Rattle.volume_core.specs.State.{State, modes_in, index_at, gave_up_at}
 use Rattle.volume_core.specs.Steps.{with_place, ended, without_call, started, answer_entry}
 use Rattle.volume_core.specs.Sound.{IsSound}
@@ -34,7 +38,11 @@ may_same n s ok = record {
       λ m h. refl;
   turns = λ m h. refl;
   gave_up = λ m h. refl;
+  removes = λ m other turn name. tt;
 }
+
+pub may_still : (n : ℕ) (s s2 : State) → IsSound s → s2 ≡ s → MayGo n s s2
+may_still n s s2 ok is = subst (MayGo n s) (sym is) (may_same n s ok)
 
 pub may_roomier : (n : ℕ) (s s2 : State) → IsSound s2 → IsRoomier s s2 → MayGo n s s2
 may_roomier n s s2 ok r = record {
@@ -46,6 +54,7 @@ may_roomier n s s2 ok r = record {
   others = λ m h. ap (λ (x : State). running x m) r.state;
   turns = λ m h. ap (λ (x : State). turning x m) r.state;
   gave_up = λ m h. ap (λ (x : State). gave_up_at x.gave_up m) r.state;
+  removes = λ m other turn name. tt;
 }
 
 pub stays_same : (n : ℕ) (s : State) → Stays n s s
@@ -86,6 +95,20 @@ own_at n t c s i ok open' stands =
       asked = ap (λ (p : Ticket × OpenCall). call_asked p.0.kind p.1) is ∙ ap (λ (o : Open). o.call) one.2;
     }
 
+-- its answer tells of no removal that was done
+abbrev pub IsNoRemoval : State → ℕ → Reply → Type 0
+IsNoRemoval s i r = (name : List ℕ) → call_asked (ticket_at s.tickets i).kind (open_at s.calls i) ≡ call.Command (command.Remove name)
+    → is_refusal r ≡ true
+
+-- that of a read or a write tells of none
+pub no_removal : (s : State) (i : ℕ) (r : Reply) → (ticket_at s.tickets i).kind ≢ kind.Whole → IsNoRemoval s i r
+no_removal s i r other name e = absurd (by (ticket_at s.tickets i).kind other e)
+  where
+    by : (k : Kind) → k ≢ kind.Whole → call_asked k (open_at s.calls i) ≡ call.Command (command.Remove name) → ⊥
+    by kind.Read n f = cc
+    by kind.Write n f = cc
+    by kind.Whole n f = n refl
+
 -- ---- a call is changed
 
 module _ (n : ℕ) (c : Call) (s : State) (i : ℕ) (ok : IsSound s) (h : i < length s.tickets) (own : IsOwnAt n c s i) where
@@ -107,6 +130,7 @@ module _ (n : ℕ) (c : Call) (s : State) (i : ℕ) (ok : IsSound s) (h : i < le
         ∙ calls-set_other m s.tickets s.calls i t y (λ e. other (sym e ∙ own.stream)) (λ e. other (sym e ∙ same ∙ own.stream));
     turns = λ m other. ap (λ (x : State). turning x m) is;
     gave_up = λ m other. ap (λ (x : State). gave_up_at x.gave_up m) is;
+    removes = λ m other turn name. tt;
   }
 
   -- what the stream then has open
@@ -161,6 +185,7 @@ module _ (n : ℕ) (c : Call) (s : State) (i : ℕ) (ok : IsSound s) (h : i < le
         ∙ calls-remove_other m s.tickets s.calls i ok.on.clients.paired (λ e. other (sym e ∙ own.stream));
     turns = λ m other. ap (λ (x : State). turning x m) is;
     gave_up = λ m other. ap (λ (x : State). gave_up_at x.gave_up m) is;
+    removes = λ m other turn name. tt;
   }
 
   none_left : running (without_call s i) n ≡ []
@@ -171,9 +196,10 @@ module _ (n : ℕ) (c : Call) (s : State) (i : ℕ) (ok : IsSound s) (h : i < le
 
   -- ---- it ends, with places for so many entries
 
-  pub may_ended : (s2 : State) (spare : ℕ) (r : Reply)
+  -- unless it is a removal that was done
+  pub may_ended : (s2 : State) (spare : ℕ) (r : Reply) → IsNoRemoval s i r
       → s2 ≡ ended (record s { book = record s.book { spare = spare } }) i r → IsSound s2 → MayGo n s s2
-  may_ended s2 spare r is ok2 = record {
+  may_ended s2 spare r stays is ok2 = record {
     sound = ok2;
     origin = ap origin_of is
         ∙ ap (λ k. record { first = s.first; opening = s.book.opening; size = s.size; streams = k; replicas = length s.nodes })
@@ -188,6 +214,7 @@ module _ (n : ℕ) (c : Call) (s : State) (i : ℕ) (ok : IsSound s) (h : i < le
         ∙ calls-remove_other m s.tickets s.calls i ok.on.clients.paired (λ e. other (sym e ∙ own.stream));
     turns = λ m other. ap (λ (x : State). turning x m) is;
     gave_up = λ m other. ap (λ (x : State). gave_up_at x.gave_up m) is;
+    removes = λ m other turn name. (stays name, tt);
   }
 
   pub answered_ended : (s2 : State) (spare : ℕ) (r : Reply)
@@ -233,9 +260,9 @@ module _ (s s2 : State) (t i : ℕ) (ok : IsSound s) (ok2 : IsSound s2) (stands 
     idle = idle_without n c s i ok stands.within (own_at n t c s i ok o stands) s2 is;
   }
 
-  pub ended_may : (spare : ℕ) (r : Reply) → s2 ≡ ended (record s { book = record s.book { spare = spare } }) i r
+  pub ended_may : (spare : ℕ) (r : Reply) → IsNoRemoval s i r → s2 ≡ ended (record s { book = record s.book { spare = spare } }) i r
       → ForOwner t s (λ n c. MayGo n s s2)
-  ended_may spare r is = λ n c o. may_ended n c s i ok stands.within (own_at n t c s i ok o stands) s2 spare r is ok2
+  ended_may spare r stays is = λ n c o. may_ended n c s i ok stands.within (own_at n t c s i ok o stands) s2 spare r stays is ok2
 
   pub ended_sees : (spare : ℕ) (r : Reply) → s2 ≡ ended (record s { book = record s.book { spare = spare } }) i r
       → ForOwner t s (λ n c. IsAnsweredTo n c s s2)
@@ -285,6 +312,7 @@ behind_may n t c s s2 b ok ok2 = record {
       ok.on.clients.paired (λ e. other (sym e ∙ b.by));
   turns = λ m other. ap (λ (x : State). turning x m) b.state;
   gave_up = λ m other. ap (λ (x : State). gave_up_at x.gave_up m) b.state;
+  removes = λ m other turn name. tt;
 }
 
 pub behind_sees : (n t : ℕ) (c : Call) (s s2 : State) → IsBehind s n c t s2 → IsIdle n s.calls → IsSound s → Begun n t c s s2
@@ -305,8 +333,10 @@ behind_sees n t c s s2 b idle ok = record {
 
 pub complete_may : (s s2 : State) (t : ℕ) → Completes s t s2 → IsSound s → IsSound s2 → ForOwner t s (λ n c. MayGo n s s2)
 complete_may s s2 t done ok ok2 = ⊎_elim
-    (λ w. ended_may s s2 t done.0 ok ok2 w.0.stands s.book.spare done.1 done.2)
-    (λ r. ended_may s s2 t done.0 ok ok2 r.0.stands s.book.spare done.1 done.2)
+    (λ w. ended_may s s2 t done.0 ok ok2 w.0.stands s.book.spare done.1
+    (no_removal s done.0 done.1 (write_no_whole (ticket_at s.tickets done.0).kind w.0.writes.writes)) done.2)
+    (λ r. ended_may s s2 t done.0 ok ok2 r.0.stands s.book.spare done.1
+    (no_removal s done.0 done.1 (read_no_whole (ticket_at s.tickets done.0).kind r.0.reads.reads)) done.2)
     done.3
 
 pub complete_sees : (s s2 : State) (t : ℕ) → Completes s t s2 → IsSound s → IsSound s2 → ForOwner t s (λ n c. IsAnsweredTo n c s s2)
@@ -351,6 +381,9 @@ given t c r node = ap (λ x. record { number = t.number; range = t.range; call =
 
 pub refused_may : (t : ℕ) (s : State) → IsSound s → ForOwner t s (λ n c. MayGo n s s)
 refused_may t s ok = λ n c o. may_same n s ok
+
+pub still_may : (t : ℕ) (s s2 : State) → IsSound s → s2 ≡ s → ForOwner t s (λ n c. MayGo n s s2)
+still_may t s s2 ok is = λ n c o. may_still n s s2 ok is
 
 pub refused_stays : (t : ℕ) (s : State) → ForOwner t s (λ n c. Stays n s s)
 refused_stays t s = λ n c o. stays_same n s

@@ -66,6 +66,7 @@ now_on v ns s stream (call.Command (command.Remove name)) ok within idle now = a
 now_on v ns s stream (call.Command (command.Revert name)) ok within idle now = absurd now
 now_on v ns s stream (call.Command command.Purge) ok within idle now = absurd now
 now_on v ns s stream (call.Command (command.Add r)) ok within idle now = absurd now
+now_on v ns s stream (call.Command (command.Backup backup snapshot)) ok within idle now = absurd now
 now_on v ns s stream (call.Command command.Status) ok within idle now =
     quiet_sound v ns s stream (call.Command command.Status) ok within idle refl refl (λ r e. absurd cc)
 now_on v ns s stream (call.Command (command.Fail r)) ok within idle now = by_mode (mode_of (modes_in s) r) refl

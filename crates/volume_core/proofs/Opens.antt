@@ -7,6 +7,7 @@ use Rattle.std.proofs.lemmas.List.Sums.{count_by-le-length}
 use Rattle.vol_units.proofs.BytesLemmas.{length-zeros}
 use Rattle.volume_model.specs.declared.mode.Mode.{Mode}
 use Rattle.volume_model.specs.declared.mode.Mode.TheVariants.{Rw, Wo, Err}
+use Rattle.volume_model.specs.Copies.{HasCopies}
 use Rattle.volume_model.specs.Modes.{mode_of}
 use Rattle.volume_model.specs.PlainState.{Volume}
 use Rattle.journal_book.specs.declared.opening.Opening.{Opening}
@@ -28,16 +29,17 @@ none_answered : (streams stream : ℕ) → stream < length (replicate streams ze
 none_answered streams stream l = get_or-replicate streams stream zero zero (subst (λ n. stream < n) (length-replicate streams zero) l)
 
 pub opened_sound : (size streams : ℕ) (opening : Opening) (nodes : List Node) (s : State) → MayOpen size opening nodes
-    → IsOpenedOn size opening nodes streams s → IsSound s
-opened_sound size streams opening nodes s may is =
+    → IsOpenedOn size opening nodes streams s → HasCopies (length s.first.disk) (volume_of_node s.first) → IsSound s
+opened_sound size streams opening nodes s may is whole =
     let source = is.source in
+    let copies = subst (λ (x : State). HasCopies (length x.first.disk) (volume_of_node x.first)) is.state whole in
     let read = is.first.read in
     let begin = may.each source read in
     let reads = λ (r : ℕ) (up : mode_of opening.modes r ≢ Err). read_where_up (mode_of opening.modes r) up (may.rebuilt r) in
     let same = λ (r : ℕ) (e : mode_of opening.modes r ≡ Rw). may.agree r source e read in
     subst IsSound (sym is.state) (record {
       on = record {
-        opened = record { layers = begin.layers; names = begin.names; named = begin.named; number = begin.number };
+        opened = record { layers = begin.layers; names = begin.names; named = begin.named; copies = copies; number = begin.number };
         told = record {
           legal = tt;
           ordered = record {

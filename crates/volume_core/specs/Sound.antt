@@ -5,6 +5,7 @@ use Rattle.volume_model.specs.declared.command.Command.{Command}
 use Rattle.volume_model.specs.declared.command.Command.TheVariants as command
 use Rattle.volume_model.specs.declared.mode.Mode.{Mode}
 use Rattle.volume_model.specs.declared.mode.Mode.TheVariants.{Rw, Wo, Err}
+use Rattle.volume_model.specs.Copies.{HasCopies}
 use Rattle.volume_model.specs.Faults.{CountsRise}
 use Rattle.volume_model.specs.History.{Spot, IsLegal, SeenInOrder, answers_of, command_behind, EndsCommand}
 use Rattle.volume_model.specs.Names.{TellOf, AreNamed, AreOwnFree}
@@ -34,11 +35,13 @@ use Rattle.volume_core.specs.State.{State, opening_of, told_of, modes_in, index_
 abbrev pub largest_number : ℕ
 largest_number = 999999
 
--- What the journal was told of how the run began is so; no two snapshots had one name, and each name was taken.
+-- What the journal was told of how the run began is so; no two snapshots had one name, and each name was taken. Each
+-- snapshot that could be used had a copy as long as the disk.
 pub record IsOpened (o : Spot) (opening : Opening) : Type 0 where
   pub layers : opening.layers ≡ layer_count o.state.volume.snapshots
   pub names : TellOf opening.names o.state
   pub named : AreNamed o.state
+  pub copies : HasCopies (length o.state.volume.disk) o.state.volume
   pub number : o.state.volume.snapshots.number ≤ largest_number
 
 -- How far the rebuild of a replica is: open for the target of the one that is open, aborted for the target of the one

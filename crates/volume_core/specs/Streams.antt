@@ -1,5 +1,5 @@
 -- What a step for one stream leaves to the others, and what its own stream sees of it.
-use Rattle.std.specs.Prelude.{◌≡◌, ◌≢◌, ◌⊎◌, ℕ, ◌==◌, List, [], ◌∷◌, ◌++◌, length, map, if◌then◌else◌}
+use Rattle.std.specs.Prelude.{◌≡◌, ◌≢◌, ◌⊎◌, ℕ, ◌==◌, true, List, [], ◌∷◌, ◌++◌, length, map, Any, if◌then◌else◌}
 use Rattle.vol_units.specs.declared.range.BlockRange.{BlockRange}
 use Rattle.volume_model.specs.declared.call.Call.{Call}
 use Rattle.volume_model.specs.declared.entry.Answer.{Answer}
@@ -7,6 +7,7 @@ use Rattle.volume_model.specs.declared.entry.Entry.{Entry}
 use Rattle.volume_model.specs.declared.entry.Entry.TheVariants as entry
 use Rattle.volume_model.specs.declared.mark.Mark.{Mark}
 use Rattle.volume_model.specs.declared.mark.Mark.TheVariants as mark
+use Rattle.volume_model.specs.Copies.{RemovesNone}
 use Rattle.journal_book.specs.declared.opening.Opening.{Opening}
 use Rattle.range_turns.specs.declared.ticket.Ticket.{Ticket}
 use Rattle.replica_node.specs.Node.{Node}
@@ -90,7 +91,11 @@ MayAppend stream [] = Unit {0}
 MayAppend stream (entry.Answer a ∷ es) = (a.stream ≡ stream) × MayAppend stream es
 MayAppend stream (entry.Mark m ∷ es) = MayAppendMark stream m × MayAppend stream es
 
--- what a step for the stream may make of a World
+-- a command of the stream has the maintenance turn
+abbrev pub IsInTurn : ℕ → State → Type 0
+IsInTurn stream s = Any (λ (p : Ticket × MaintCall). p.0.started ≡ true) (turning s stream)
+
+-- What a step for the stream may make of a World. While another stream's command has the turn it removes no snapshot.
 pub record MayGo (stream : ℕ) (s s2 : State) : Type 0 where
   pub sound : IsSound s2
   pub origin : origin_of s2 ≡ origin_of s
@@ -98,6 +103,7 @@ pub record MayGo (stream : ℕ) (s s2 : State) : Type 0 where
   pub others : (other : ℕ) → other ≢ stream → running s2 other ≡ running s other
   pub turns : (other : ℕ) → other ≢ stream → turning s2 other ≡ turning s other
   pub gave_up : (other : ℕ) → other ≢ stream → gave_up_at s2.gave_up other ≡ gave_up_at s.gave_up other
+  pub removes : (other : ℕ) → other ≢ stream → IsInTurn other s → (name : List ℕ) → RemovesNone name added.0
 
 -- ---- what its own stream sees
 

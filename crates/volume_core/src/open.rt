@@ -1,7 +1,9 @@
 //! A World that has just been opened.
 
-ghost use Rattle.std.specs.Prelude.{◌≡◌, ◌<◌, ◌≤◌, replicate, IfOk};
+ghost use Rattle.std.specs.Prelude.{◌≡◌, ◌<◌, ◌≤◌, length, replicate, IfOk};
+ghost use Rattle.volume_model.specs.Copies.{HasCopies};
 ghost use Rattle.replica_node.specs.Node.{blank};
+ghost use Rattle.replica_node.specs.Volume.{volume_of_node};
 ghost use Rattle.volume_core.specs.State.{state_of};
 ghost use Rattle.volume_core.specs.Sound.{IsSound};
 ghost use Rattle.volume_core.specs.Opened.{MayOpen, IsOpenedOn, blank_opening};
@@ -61,10 +63,14 @@ fn opened(
     streams: u8,
 ) -> Result<World, AllocError>
     requires { MayOpen size opening nodes.items }
-    ensures { IfOk result (λ w. IsOpenedOn size opening nodes.items streams (state_of w)) }
+    ensures begun { IfOk result (λ w. IsOpenedOn size opening nodes.items streams (state_of w)) }
+    ensures copies { IfOk result (λ w. HasCopies (length w.first.value.disk) (volume_of_node w.first.value)) }
 {
     let source = opening.modes.source().unwrap();
-    let first = Shown::of(&nodes[source as usize]);
+    let node = &nodes[source as usize];
+    // That its layers are as long as its head, a proof learns here.
+    let _blocks = node.block_count();
+    let first = Shown::of(node);
     let indices = vec![in alloc; 0; streams as usize]?;
     let gave_up = vec![in alloc; false; streams as usize]?;
     let mut journal = Journal::new(alloc, opening);

@@ -10,7 +10,7 @@ use Rattle.volume_core.specs.Steps.{with_place, ended}
 use Rattle.volume_core.specs.Sound.{IsSound, IsCalm}
 use Rattle.volume_core.proofs.Keep.{begins_kept, refused_start_kept, calm_by, calm_of, place_kept, roomier_kept, roomier_place}
 use Rattle.volume_core.proofs.Rows.{place_sound}
-use Rattle.volume_core.proofs.Moves.{may_roomier, begins_may, begins_sees, ended_may, ended_sees}
+use Rattle.volume_core.proofs.Moves.{may_roomier, begins_may, begins_sees, ended_may, ended_sees, refused_may, still_may}
 use Rattle.volume_core.proofs.world.World.admit.Goals as goal
 
 pub returns-in_ok-begin-in-Some-source-clause-sound : goal.returns-in_ok-begin-in-Some-source-clause-sound
@@ -61,7 +61,7 @@ returns-in-None-clause-may c =
     let s : State = state_of c.args.self.now in
     let e : state_of c.end_at.new.self ≡ ended (with_place s) c.waiting_at-i.result (reply.Refused NoReplica) = search rules in
     ended_may s (state_of c.end_at.new.self) c.args.t c.waiting_at-i.result c.requires.sound
-    (returns-in-None-clause-sound c) c.waiting_at-i.ensures.stands (s.book.spare + 1) (reply.Refused NoReplica) e
+    (returns-in-None-clause-sound c) c.waiting_at-i.ensures.stands (s.book.spare + 1) (reply.Refused NoReplica) (λ name removes. refl) e
 
 pub returns-in-None-clause-sees : goal.returns-in-None-clause-sees
 returns-in-None-clause-sees c =
@@ -100,3 +100,10 @@ returns-in_err-begin-in-Some-source-clause-may c =
     let err : IsRoomier (state_of c.make_place.new.self) (state_of c.begin.new.self) = search rules in
     λ n call o. may_roomier n s (state_of c.begin.new.self) (returns-in_err-begin-in-Some-source-clause-sound c)
     (roomier_place s (state_of c.begin.new.self) (subst (λ (x : State). IsRoomier x (state_of c.begin.new.self)) placed err))
+
+pub returns-in-Some-clause-may : goal.returns-in-Some-clause-may
+returns-in-Some-clause-may c = refused_may c.args.t (state_of c.args.self.now) c.requires.sound
+
+pub returns-in_err-make_place-clause-may : goal.returns-in_err-make_place-clause-may
+returns-in_err-make_place-clause-may c = still_may c.args.t (state_of c.args.self.now) (state_of c.make_place.new.self) c.requires.sound
+    (search rules)

@@ -58,3 +58,9 @@ returns-clause-stays c =
     taken_stays (state_of c.args.self.now) (state_of c.write_over.new.self) c.args.t c.in-Some.i c.args.replica
     c.requires.sound c.in-Some.ensures.place
     c.write_over.result (returns-clause-sound c) c.write_over.ensures.takes
+
+pub returns-in_default-clause-may : goal.returns-in_default-clause-may
+returns-in_default-clause-may c = refused_may c.args.t (state_of c.args.self.now) c.requires.sound
+
+pub returns-then-eq-clause-may : goal.returns-then-eq-clause-may
+returns-then-eq-clause-may c = refused_may c.args.t (state_of c.args.self.now) c.requires.sound

@@ -8,7 +8,7 @@ use Rattle.volume_core.specs.Sound.{IsSound}
 use Rattle.volume_core.proofs.Keep.{call_enrolled}
 use Rattle.volume_model.specs.declared.call.Call.TheVariants as call
 use Rattle.volume_core.specs.Answers.{IsBehind}
-use Rattle.volume_core.proofs.Moves.{behind_may, behind_sees}
+use Rattle.volume_core.proofs.Moves.{behind_may, behind_sees, may_still}
 use Rattle.volume_core.proofs.world.World.enrol_read.Goals as goal
 
 no_write : kind.Read ≡ kind.Write → ⊥
@@ -59,3 +59,7 @@ returns-clause-sees c =
     (state_of c.put_behind.new.self) = search rules in
     behind_sees c.args.stream c.in_ok-number.number (call.Read c.args.offset c.args.count) s
     (state_of c.put_behind.new.self) is c.requires.idle c.requires.sound
+
+pub returns-in_err-number-clause-may : goal.returns-in_err-number-clause-may
+returns-in_err-number-clause-may c = may_still c.args.stream (state_of c.args.self.now) (state_of c.put_behind.new.self)
+    c.requires.sound (search rules)

@@ -1,4 +1,4 @@
-use Rattle.std.proofs.Common.{◌≡◌, length, sym, subst, rules}
+use Rattle.std.proofs.Common.{◌≡◌, length, sym, subst, rules, refl}
 use Rattle.volume_model.specs.declared.call.Refusal.TheVariants.{OutOfRange}
 use Rattle.volume_model.specs.declared.call.Reply.TheVariants as reply
 use Rattle.volume_core.specs.State.{State, state_of}
@@ -6,6 +6,7 @@ use Rattle.volume_core.specs.Steps.{with_place, answered}
 use Rattle.volume_core.specs.Sound.{IsSound}
 use Rattle.volume_core.proofs.Keep.{refused_kept}
 use Rattle.volume_core.proofs.Appends.{nothing_more, answered_may, answered_sees}
+use Rattle.volume_core.proofs.Moves.{may_still}
 use Rattle.volume_core.proofs.world.World.refuse_range.Goals as goal
 
 pub returns-clause-sound : goal.returns-clause-sound
@@ -22,7 +23,7 @@ returns-clause-may c =
     let e : state_of c.push_answer.new.self ≡ answered (with_place s) c.args.stream (length s.book.entries) c.args.call
     (reply.Refused OutOfRange) = search rules in
     answered_may c.args.stream s (with_place s) (state_of c.push_answer.new.self) (length s.book.entries) c.args.call
-    (reply.Refused OutOfRange) (nothing_more c.args.stream s) e (returns-clause-sound c)
+    (reply.Refused OutOfRange) (nothing_more c.args.stream s) e (λ name removes. refl) (returns-clause-sound c)
 
 pub returns-clause-sees : goal.returns-clause-sees
 returns-clause-sees c =
@@ -31,3 +32,7 @@ returns-clause-sees c =
     (reply.Refused OutOfRange) = search rules in
     answered_sees c.args.stream s (with_place s) (state_of c.push_answer.new.self) (length s.book.entries) c.args.call
     (reply.Refused OutOfRange) (nothing_more c.args.stream s) e c.requires.idle
+
+pub returns-in_err-make_place-clause-may : goal.returns-in_err-make_place-clause-may
+returns-in_err-make_place-clause-may c = may_still c.args.stream (state_of c.args.self.now) (state_of c.make_place.new.self)
+    c.requires.sound (search rules)
