@@ -13,6 +13,7 @@ use Rattle.volume_model.specs.declared.entry.Entry.TheVariants as entry
 use Rattle.volume_model.specs.declared.mark.Rebuild.{Rebuild}
 use Rattle.volume_model.specs.declared.mark.Rebuild.TheVariants as rebuild
 use Rattle.volume_model.specs.History.{IsEnded, EndsAdd}
+use Rattle.volume_model.specs.PlainStep.{after_call}
 use Rattle.volume_model.specs.Rebuilds.{added_by, rebuild_of, rebuild_after_add}
 use Rattle.volume_model.proofs.RebuildLemmas.{rebuild_of-push}
 use Rattle.range_turns.specs.declared.ticket.Ticket.{Ticket}
@@ -22,9 +23,9 @@ use Rattle.open_rebuild.specs.declared.rebuilding.Rebuilding.{Rebuilding}
 use Rattle.volume_core.specs.declared.world.EndedRebuild.{EndedRebuild}
 use Rattle.volume_core.specs.State.{State, told_of, modes_in}
 use Rattle.volume_core.specs.Sound.{IsSound, AreAdds, how_far}
-use Rattle.volume_maint.specs.Answers.{HasNoRebuild, MayEnd}
+use Rattle.volume_maint.specs.Answers.{HasNoRebuild, MayBeDone, MayEnd}
 use Rattle.volume_maint.proofs.Adds.{no_rebuild}
-use Rattle.volume_maint.proofs.Refusals.{refused_right, done_right}
+use Rattle.volume_maint.proofs.Refusals.{told_right, purge_right, backup_right, by_done}
 
 -- ---- what the journal tells of rebuilds
 
@@ -81,14 +82,23 @@ none_beside (Some b) g one e is = absurd (none_some (sym one ∙ is))
 
 -- ---- how it ends
 
--- a purge is done
+-- it is done
 pub done_ends : (s : State) (stream saw index : ℕ) (c : Command) → MayEnd s c reply.Done
     → IsEnded (added_by (call.Command c)) s.book.entries (told_of s) (modes_in s)
     (record { call = call.Command c; reply = reply.Done; index = index; saw = saw; stream = stream })
-done_ends s stream saw index c may =
-    subst (λ (x : Option ℕ). IsEnded x s.book.entries (told_of s) (modes_in s)
+done_ends s stream saw index = by_done s
+    (λ c. IsEnded (added_by (call.Command c)) s.book.entries (told_of s) (modes_in s)
     (record { call = call.Command c; reply = reply.Done; index = index; saw = saw; stream = stream }))
-    (sym (ap (λ (d : Command). added_by (call.Command d)) may.0)) (done_right s stream saw index c may.0 may.1 may.2)
+    (λ may. purge_right s stream saw index may.0 may.1)
+    (λ backup snapshot free. backup_right s stream saw index backup snapshot free)
+
+-- and then it is no add
+pub done_no_add : (s : State) (c : Command) → MayBeDone s c → (r : ℕ) → c ≡ command.Add r → ⊥
+done_no_add s c may r e = subst (MayBeDone s) e may
+
+-- and leaves the plain volume
+pub done_leaves : (s : State) (c : Command) → MayBeDone s c → after_call (told_of s) (call.Command c) ≡ told_of s
+done_leaves s = by_done s (λ c. after_call (told_of s) (call.Command c) ≡ told_of s) (λ may. refl) (λ backup snapshot free. refl)
 
 module _ (s : State) (ok : IsSound s) (stream saw index : ℕ) where
   abbrev refused_so : Command → Refusal → Answer
@@ -100,9 +110,11 @@ module _ (s : State) (ok : IsSound s) (stream saw index : ℕ) where
   -- a command is refused
   pub refused_ends : (c : Command) (why : Refusal) → IsMaint c → MayEnd s c (reply.Refused why) → Ends c why
   refused_ends (command.Snapshot name) why wants may = absurd wants
-  refused_ends (command.Remove name) why wants may = refused_right s stream saw index (command.Remove name) why tt may.0
-  refused_ends (command.Revert name) why wants may = refused_right s stream saw index (command.Revert name) why tt may.0
-  refused_ends command.Purge why wants may = refused_right s stream saw index command.Purge why tt may.0
+  refused_ends (command.Remove name) why wants may = told_right s stream saw index (command.Remove name) why may.0.0 tt may.0.1
+  refused_ends (command.Revert name) why wants may = told_right s stream saw index (command.Revert name) why may.0.0 tt may.0.1
+  refused_ends command.Purge why wants may = told_right s stream saw index command.Purge why may.0.0 tt may.0.1
+  refused_ends (command.Backup backup snapshot) why wants may =
+      told_right s stream saw index (command.Backup backup snapshot) why may.0.0 tt may.0.1
   refused_ends command.Status why wants may = absurd wants
   refused_ends (command.Fail r) why wants may = absurd wants
   refused_ends (command.Add r) why wants may =
@@ -110,7 +122,7 @@ module _ (s : State) (ok : IsSound s) (stream saw index : ℕ) where
       ok.on.told.ordered.rebuild r ∙ ap (λ (x : Option Rebuilding). how_far x s.ended r) may.1.0
       ∙ ap (λ (x : Option EndedRebuild). how_far None x r) may.1.1 in
       subst (λ (x : Rebuild). EndsAdd x s.book.entries (told_of s) (modes_in s) (refused_so (command.Add r) why) r) (sym unasked)
-      (refused_right s stream saw index (command.Add r) why tt may.0, refl)
+      (told_right s stream saw index (command.Add r) why may.0.0 tt may.0.1, refl)
 
 -- the rebuild of an add was aborted
 pub aborted_far : (s : State) → IsSound s → (r place : ℕ) → s.rebuild ≡ None

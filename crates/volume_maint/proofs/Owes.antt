@@ -2,6 +2,7 @@
 use Rattle.std.proofs.Common.{◌≡◌, ◌≢◌, ℕ, ◌+◌, Bool, true, List, [], ◌∷◌, ◌++◌, length, length-set, refl, sym, ap, subst, ◌∙◌, append-nil}
 use Rattle.std.specs.Prelude.{Option, None, Some}
 use Rattle.std.proofs.lemmas.List.{set-get_or}
+use Rattle.volume_model.specs.declared.command.Command.TheVariants as command
 use Rattle.volume_model.specs.declared.call.Call.TheVariants as call
 use Rattle.volume_model.specs.declared.call.Refusal.TheVariants.{NoReplica}
 use Rattle.volume_model.specs.declared.call.Reply.{Reply}
@@ -19,6 +20,7 @@ use Rattle.replica_node.specs.Node.{Node}
 use Rattle.replica_node.specs.Held.{emptied}
 use Rattle.step_answers.specs.declared.whole_op.WholeOp.{WholeOp}
 use Rattle.step_answers.specs.declared.whole_op.WholeOp.TheVariants as whole
+use Rattle.volume_model.specs.Replay.{is_refusal}
 use Rattle.step_answers.specs.Asked.{command_of}
 use Rattle.open_calls.specs.Calls.{open_at, node_at, whole_call, no_call}
 use Rattle.open_calls.specs.declared.whole.Whole.{Whole}
@@ -36,6 +38,8 @@ use Rattle.volume_maint.specs.Steps.{without_whole, whole_ended, whole_marked, t
 use Rattle.volume_maint.specs.Steps.{barrier_ended, folded_on}
 use Rattle.volume_maint.specs.Places.{ForCaller, IsWholeOn}
 use Rattle.volume_maint.specs.Answers.{whole_done, whole_lost, BeginsWhole, EndsWhole}
+use Rattle.volume_core.specs.Streams.{IsInTurn}
+use Rattle.volume_core.proofs.InTurn.{not_in_turn}
 use Rattle.volume_core.proofs.TurnLemmas.{commands-remove_other}
 use Rattle.volume_maint.proofs.WholeAsked.{over_book}
 use Rattle.volume_maint.proofs.WholeSound.{is_started, place_is}
@@ -59,6 +63,7 @@ module _ (n : ℕ) (s s2 : State) (ok2 : IsSound s2) where
     others = λ m other. ap (λ (x : State). running x m) is;
     turns = λ m other. ap (λ (x : State). turning x m) is;
     gave_up = λ m other. ap (λ (x : State). gave_up_at x.gave_up m) is;
+    removes = λ m other turn name. tt;
   }
 
   pub parted_goes : (w : Whole) (r : ℕ) → s2 ≡ whole_parted s w r → MayGo n s s2
@@ -84,6 +89,7 @@ module _ (s s2 : State) (ok : IsSound s) (ok2 : IsSound s2) where
         (λ e. other (sym e));
     turns = λ m other. ap (λ (x : State). turning x m) is;
     gave_up = λ m other. ap (λ (x : State). gave_up_at x.gave_up m) is;
+    removes = λ m other turn name. tt;
   }
 
   module _ (i : ℕ) where
@@ -105,6 +111,7 @@ module _ (s s2 : State) (ok : IsSound s) (ok2 : IsSound s2) where
       others = λ m other. ap (λ (x : State). running x m) is ∙ start_others m other;
       turns = λ m other. ap (λ (x : State). turning x m) is;
       gave_up = λ m other. ap (λ (x : State). gave_up_at x.gave_up m) is;
+      removes = λ m other turn name. tt;
     }
 
     -- a barrier's mark is no stream's
@@ -119,6 +126,7 @@ module _ (s s2 : State) (ok : IsSound s) (ok2 : IsSound s2) where
       others = λ m other. ap (λ (x : State). running x m) is ∙ start_others m other;
       turns = λ m other. ap (λ (x : State). turning x m) is;
       gave_up = λ m other. ap (λ (x : State). gave_up_at x.gave_up m) is;
+      removes = λ m other turn name. tt;
     }
 
     pub starts_goes : (op : WholeOp) → BeginsWhole s i op s2 → MayGo (open_at s.calls i).stream s s2
@@ -138,6 +146,7 @@ module _ (s s2 : State) (ok : IsSound s) (ok2 : IsSound s2) where
       others = λ m other. ap (λ (x : State). running x m) is ∙ without_others m other;
       turns = λ m other. ap (λ (x : State). turning x m) is;
       gave_up = λ m other. ap (λ (x : State). gave_up_at x.gave_up m) is;
+      removes = λ m other turn name. tt;
     }
 
     pub marked_goes : (f : FoldOrDrop) → s2 ≡ whole_marked s i f → MayGo (open_at s.calls i).stream s s2
@@ -148,6 +157,7 @@ module _ (s s2 : State) (ok : IsSound s) (ok2 : IsSound s2) where
       others = λ m other. ap (λ (x : State). running x m) is ∙ without_others m other;
       turns = λ m other. ap (λ (x : State). turning x m) is;
       gave_up = λ m other. ap (λ (x : State). gave_up_at x.gave_up m) is;
+      removes = λ m other turn name. tt;
     }
 
 -- ---- with the turn
@@ -191,6 +201,17 @@ with_spare s spare = record s { book = record s.book { spare = spare } }
 
 module _ (s s2 : State) (ok : IsSound s) (ok2 : IsSound s2) (i : ℕ) where
   -- it ends with the answer of its command, with places for so many entries
+  -- a removal is of the stream whose command has the turn
+  ended_removes : (op : WholeOp) (r : Reply) → IsAskedBy s.maint s.commands (open_at s.calls i).stream op
+      → (other : ℕ) → other ≢ (open_at s.calls i).stream → IsInTurn other s → (name : List ℕ)
+      → call.Command (command_of op) ≡ call.Command (command.Remove name) → is_refusal r ≡ true
+  ended_removes (whole.Snapshot taken) r asked other apart turn name e = absurd cc
+  ended_removes (whole.Remove gone) r asked other apart turn name e =
+      absurd (not_in_turn s ok (open_at s.calls i).stream other asked.own apart turn)
+  ended_removes (whole.Revert back) r asked other apart turn name e = absurd cc
+  ended_removes (whole.Purge f) r asked other apart turn name e = absurd cc
+  ended_removes (whole.Barrier q) r asked other apart turn name e = absurd cc
+
   pub ended_goes : (spare : ℕ) (op : WholeOp) (r : Reply) → IsAskedBy s.maint s.commands (open_at s.calls i).stream op
       → s2 ≡ whole_ended (with_spare s spare) i op r → MayGo (open_at s.calls i).stream s s2
   ended_goes spare op r asked is =
@@ -208,6 +229,7 @@ module _ (s s2 : State) (ok : IsSound s) (ok2 : IsSound s2) (i : ℕ) where
         others = λ m other. ap (λ (y : State). running y m) is ∙ over_running op less m ∙ without_others s s2 ok ok2 i m other;
         turns = λ m other. ap (λ (y : State). turning y m) is ∙ over_turning op less c.stream m ok.maint.queued.paired asked other;
         gave_up = λ m other. ap (λ (y : State). gave_up_at y.gave_up m) is ∙ ap (λ (g : List Bool). gave_up_at g m) (over_gave_up op less);
+        removes = λ m other turn name. (ended_removes op r asked m other turn name, tt);
       }
 
   -- as a replica is read

@@ -2,38 +2,40 @@
 use Rattle.std.proofs.Common.{◌≡◌, ℕ, ◌<◌, ◌≤◌, true, false, cond, List, refl, sym, ap, subst, ◌∙◌, arith}
 use Rattle.std.specs.Prelude.{Option, None, Some}
 use Rattle.std.specs.Option.{option_or}
-use Rattle.std.proofs.lemmas.Bool.{lt-ltb, le-ltb}
+use Rattle.std.proofs.lemmas.Bool.{lt-ltb, le-ltb, true≢false}
 use Rattle.volume_model.specs.declared.command.Command.{Command}
 use Rattle.volume_model.specs.declared.command.Command.TheVariants as command
 use Rattle.volume_model.specs.declared.call.Call.TheVariants as call
 use Rattle.volume_model.specs.declared.call.Refusal.{Refusal}
-use Rattle.volume_model.specs.declared.call.Refusal.TheVariants.{NameUsed, ChainFull, NoSuchSnapshot}
+use Rattle.volume_model.specs.declared.call.Refusal.TheVariants.{TooLong, OutOfRange, Unsupported, NameUsed, ChainFull, NoSuchSnapshot}
+use Rattle.volume_model.specs.declared.call.Refusal.TheVariants.{NoReplica, InUse, BackupExists, BlockDiffers, TargetFault}
 use Rattle.volume_model.specs.declared.call.Reply.{Reply}
 use Rattle.volume_model.specs.declared.call.Reply.TheVariants as reply
 use Rattle.volume_model.specs.declared.mark.FoldOrDrop.{FoldOrDrop}
-use Rattle.volume_model.specs.History.{IsAnswered}
+use Rattle.volume_model.specs.History.{IsAnswered, MayTellOfStore, OfStore, subject_of}
 use Rattle.volume_model.specs.Modes.{source_of}
 use Rattle.volume_model.specs.Names.{TellOf, is_used_in, is_live_in}
-use Rattle.volume_model.specs.OneWorker.{want_of_replica, reply_for}
+use Rattle.volume_model.specs.OneWorker.{Against, Exists, Differs, Fails, why_against, refused_by, want_of_replica, reply_for}
 use Rattle.volume_model.specs.PlainState.{Volume, is_used}
-use Rattle.volume_model.specs.PlainStep.{refusal_of, room_refusal, live_refusal, most_layers}
+use Rattle.volume_model.specs.PlainStep.{refusal_of, room_refusal, live_refusal, most_layers, step_unless}
 use Rattle.volume_model.specs.Purge.{IsPurged, next_of}
 use Rattle.volume_model.specs.Replay.{is_refusal}
 use Rattle.volume_model.specs.Snapshots.{is_live, layer_count}
 use Rattle.volume_model.proofs.NamesLemmas.{names_tell, is_used-names_in}
 use Rattle.volume_model.proofs.OnlyServed.{with_source}
 use Rattle.volume_model.proofs.PurgeLemmas.{next_left}
-use Rattle.volume_model.proofs.SpotLemmas.{answered_there, has_source}
+use Rattle.volume_model.proofs.SpotLemmas.{answered_there, answered_by_store, has_source}
 use Rattle.volume_model.proofs.StepLemmas.{has_no_source}
 use Rattle.journal_book.specs.Book.{names_of}
 use Rattle.open_calls.specs.declared.whole.Whole.{Whole}
 use Rattle.volume_core.specs.State.{State, opening_of, told_of, modes_in}
 use Rattle.volume_core.specs.Sound.{IsSound}
+use Rattle.volume_core.proofs.Answered.{plainly}
 use Rattle.volume_maint.specs.Places.{IsWholeCommand}
 use Rattle.step_answers.specs.declared.answers.NextPart.{NextPart}
 use Rattle.step_answers.specs.declared.answers.NextPart.TheVariants as next
 use Rattle.volume_core.specs.State.{spot_of}
-use Rattle.volume_maint.specs.Answers.{snapshots_told, refused_in, IsNextPart, MayEnd}
+use Rattle.volume_maint.specs.Answers.{snapshots_told, refused_in, IsNextPart, MayRefuse, MayBeDone, IsGoodBackup}
 
 -- ---- what the journal tells
 
@@ -84,6 +86,7 @@ asks_source s command.Purge asks = refl
 asks_source s command.Status asks = absurd asks
 asks_source s (command.Fail r) asks = absurd asks
 asks_source s (command.Add r) asks = refl
+asks_source s (command.Backup backup snapshot) asks = refl
 
 -- ---- nothing stands against it
 
@@ -126,34 +129,151 @@ pub refused_right : (s : State) (stream saw index : ℕ) (c : Command) (why : Re
 refused_right s stream saw index c why asks refused =
     right_by s stream saw index c (reply.Refused why) asks (ap (λ w. reply_for w (spot_of s) (call.Command c)) refused) (λ done. absurd cc)
 
+-- so it is, whatever a store has against it
+pub told_right : (s : State) (stream saw index : ℕ) (c : Command) (why : Refusal) (told : Option Against) → IsWholeCommand c
+    → refused_by told (spot_of s) (call.Command c) ≡ Some why → answer_by s stream saw index c (reply.Refused why)
+told_right s stream saw index c why None asks refused = refused_right s stream saw index c why asks refused
+told_right s stream saw index (command.Backup backup snapshot) why (Some against) asks refused =
+    subst (λ x. answer_by s stream saw index (command.Backup backup snapshot) x)
+    (ap (λ w. reply_for w (spot_of s) (call.Command (command.Backup backup snapshot))) refused)
+    (answered_by_store (spot_of s) backup snapshot against stream saw index)
+told_right s stream saw index (command.Snapshot name) why (Some against) asks refused =
+    refused_right s stream saw index (command.Snapshot name) why asks refused
+told_right s stream saw index (command.Remove name) why (Some against) asks refused =
+    refused_right s stream saw index (command.Remove name) why asks refused
+told_right s stream saw index (command.Revert name) why (Some against) asks refused =
+    refused_right s stream saw index (command.Revert name) why asks refused
+told_right s stream saw index command.Purge why (Some against) asks refused =
+    refused_right s stream saw index command.Purge why asks refused
+told_right s stream saw index command.Status why (Some against) asks refused = absurd asks
+told_right s stream saw index (command.Fail r) why (Some against) asks refused = absurd asks
+told_right s stream saw index (command.Add r) why (Some against) asks refused =
+    refused_right s stream saw index (command.Add r) why asks refused
+
 -- a purge is done where nothing can go
-pub done_right : (s : State) (stream saw index : ℕ) (c : Command) → c ≡ command.Purge → refused_in s c ≡ None
-    → next_of (snapshots_told s) ≡ None → answer_by s stream saw index c reply.Done
-done_right s stream saw index c purge free none =
-    right_by s stream saw index c reply.Done (subst IsWholeCommand (sym purge) tt)
-    (ap (λ w. reply_for w (spot_of s) (call.Command c)) free ∙ as_done purge)
+pub purge_right : (s : State) (stream saw index : ℕ) → refused_in s command.Purge ≡ None
+    → next_of (snapshots_told s) ≡ None → answer_by s stream saw index command.Purge reply.Done
+purge_right s stream saw index free none =
+    right_by s stream saw index command.Purge reply.Done tt
+    (ap (λ w. reply_for w (spot_of s) (call.Command command.Purge)) free)
     (λ _. next_left (snapshots_told s).tree (snapshots_told s).on none)
+
+-- a backup is done while its snapshot can be used
+pub backup_right : (s : State) (stream saw index : ℕ) (backup snapshot : List ℕ) → live_refusal (told_of s).volume snapshot ≡ None
+    → answer_by s stream saw index (command.Backup backup snapshot) reply.Done
+backup_right s stream saw index backup snapshot free =
+    let c = call.Command (command.Backup backup snapshot) in
+    plainly (modes_in s) (told_of s) (record { call = c; reply = reply.Done; index = index; saw = saw; stream = stream })
+    (sym (ap (λ w. (step_unless w (modes_in s) (told_of s) c).1) free))
+    (λ r e. absurd cc) (λ change done. absurd cc) (λ e done. absurd cc)
+
+-- what is so of each command that may be done is so of a purge and of a backup
+pub by_done : (s : State) (P : Command → Type 0) → (MayBeDone s command.Purge → P command.Purge)
+    → ((backup snapshot : List ℕ) → MayBeDone s (command.Backup backup snapshot) → P (command.Backup backup snapshot))
+    → (c : Command) → MayBeDone s c → P c
+by_done s P purge backs command.Purge may = purge may
+by_done s P purge backs (command.Backup backup snapshot) may = backs backup snapshot may
+by_done s P purge backs (command.Snapshot name) may = absurd may
+by_done s P purge backs (command.Remove name) may = absurd may
+by_done s P purge backs (command.Revert name) may = absurd may
+by_done s P purge backs command.Status may = absurd may
+by_done s P purge backs (command.Fail r) may = absurd may
+by_done s P purge backs (command.Add r) may = absurd may
+
+-- ---- what a store may have against a backup
+
+-- a reply about the store is given to no command but a backup that the volume does not refuse
+pub store_is_backup : (s : State) (c : Command) (why : Refusal) → IsWholeCommand c → subject_of (reply.Refused why) ≡ OfStore
+    → MayRefuse s c why → IsGoodBackup s c
+store_is_backup s c why asks about may = go c ((told_right s 0 0 0 c why may.0 asks may.1).store about)
   where
-    as_done : c ≡ command.Purge → reply_for None (spot_of s) (call.Command c) ≡ reply.Done
-    as_done e = ap (λ d. reply_for None (spot_of s) (call.Command d)) e
+    go : (c : Command) → MayTellOfStore (told_of s) (modes_in s) (call.Command c) → IsGoodBackup s c
+    go (command.Backup backup snapshot) m = m.refused
+    go command.Purge m = absurd (true≢false (sym m.asks))
+    go (command.Snapshot name) m = absurd (true≢false (sym m.asks))
+    go (command.Remove name) m = absurd (true≢false (sym m.asks))
+    go (command.Revert name) m = absurd (true≢false (sym m.asks))
+    go command.Status m = absurd (true≢false (sym m.asks))
+    go (command.Fail r) m = absurd (true≢false (sym m.asks))
+    go (command.Add r) m = absurd (true≢false (sym m.asks))
+
+-- such a backup may be refused by whatever the store has against it
+against_of : (why : Refusal) → subject_of (reply.Refused why) ≡ OfStore → (a : Against) × (why_against a ≡ why)
+against_of BackupExists about = (Exists, refl)
+against_of BlockDiffers about = (Differs, refl)
+against_of TargetFault about = (Fails, refl)
+against_of TooLong about = absurd cc
+against_of OutOfRange about = absurd cc
+against_of Unsupported about = absurd cc
+against_of NameUsed about = absurd cc
+against_of ChainFull about = absurd cc
+against_of NoSuchSnapshot about = absurd cc
+against_of NoReplica about = absurd cc
+against_of InUse about = absurd cc
+
+refused_so : (s : State) (c : Command) (a : Against) → IsGoodBackup s c
+    → refused_by (Some a) (spot_of s) (call.Command c) ≡ Some (why_against a)
+refused_so s (command.Backup backup snapshot) a free =
+    ap (λ x. option_or x (option_or (Some (why_against a)) (want_of_replica true (source_of (modes_in s))))) free
+refused_so s command.Purge a free = absurd free
+refused_so s (command.Snapshot name) a free = absurd free
+refused_so s (command.Remove name) a free = absurd free
+refused_so s (command.Revert name) a free = absurd free
+refused_so s command.Status a free = absurd free
+refused_so s (command.Fail r) a free = absurd free
+refused_so s (command.Add r) a free = absurd free
+
+pub good_refused : (s : State) (c : Command) (why : Refusal) → subject_of (reply.Refused why) ≡ OfStore → IsGoodBackup s c
+    → MayRefuse s c why
+good_refused s c why about good = let a = against_of why about in (Some a.0, refused_so s c a.0 good ∙ ap Some a.1)
+
+-- any other refusal is that of the volume, or for want of a replica
+plain_or : (x rest : Option Refusal) (a : Against) (why : Refusal) → (subject_of (reply.Refused why) ≡ OfStore → ⊥)
+    → option_or x (Some (why_against a)) ≡ Some why → option_or x rest ≡ Some why
+plain_or (Some y) rest a why other e = e
+plain_or None rest a why other e = absurd (other (of_store a (inside e)))
+  where
+    inside : Some (why_against a) ≡ Some why → why_against a ≡ why
+    inside f = cc
+
+    of_store : (a : Against) → why_against a ≡ why → subject_of (reply.Refused why) ≡ OfStore
+    of_store Exists f = subst (λ w. subject_of (reply.Refused w) ≡ OfStore) f refl
+    of_store Differs f = subst (λ w. subject_of (reply.Refused w) ≡ OfStore) f refl
+    of_store Fails f = subst (λ w. subject_of (reply.Refused w) ≡ OfStore) f refl
+
+pub plain_refused : (s : State) (c : Command) (why : Refusal) → (subject_of (reply.Refused why) ≡ OfStore → ⊥) → MayRefuse s c why
+    → refused_in s c ≡ Some why
+plain_refused s c why other may = by may.0 c may.1
+  where
+    by : (told : Option Against) (c : Command) → refused_by told (spot_of s) (call.Command c) ≡ Some why → refused_in s c ≡ Some why
+    by None c e = e
+    by (Some a) (command.Backup backup snapshot) e =
+        plain_or (live_refusal (told_of s).volume snapshot) (want_of_replica true (source_of (modes_in s))) a why other e
+    by (Some a) command.Purge e = e
+    by (Some a) (command.Snapshot name) e = e
+    by (Some a) (command.Remove name) e = e
+    by (Some a) (command.Revert name) e = e
+    by (Some a) command.Status e = e
+    by (Some a) (command.Fail r) e = e
+    by (Some a) (command.Add r) e = e
 
 -- ---- a purge has come to its end
 
 -- where nothing is next, it may be answered that it is done
-pub may_be_done : (s : State) (c : Command) → c ≡ command.Purge → IsNextPart s next.Nothing → MayEnd s c reply.Done
-may_be_done s c purge is = (purge, ap (refused_in s) purge ∙ with_source (spot_of s) (call.Command command.Purge) is.1, is.2)
+pub may_be_done : (s : State) → IsNextPart s next.Nothing → MayBeDone s command.Purge
+may_be_done s is = (with_source (spot_of s) (call.Command command.Purge) is.1, is.2)
 
 -- and where it may be, nothing is next, so long as no call on the whole volume is started
-pub done_is_next : (s : State) (c : Command) (n : NextPart) → IsNextPart s n → MayEnd s c reply.Done → s.whole ≡ None → n ≡ next.Nothing
-done_is_next s c (next.Part f) is may none = absurd (no_part f (sym is.1 ∙ may.2))
+pub done_is_next : (s : State) (n : NextPart) → IsNextPart s n → MayBeDone s command.Purge → s.whole ≡ None → n ≡ next.Nothing
+done_is_next s (next.Part f) is may none = absurd (no_part f (sym is.1 ∙ may.1))
   where
     no_part : (f : FoldOrDrop) → Some f ≡ None → ⊥
     no_part f e = cc
-done_is_next s c next.Nothing is may none = refl
-done_is_next s c next.NoReplica is may none =
-    let source = free_source s c (subst IsWholeCommand (sym may.0) tt) may.1 in
+done_is_next s next.Nothing is may none = refl
+done_is_next s next.NoReplica is may none =
+    let source = free_source s command.Purge tt may.0 in
     absurd (has_no_source (modes_in s) (has_source (modes_in s) source.0 source.1) is)
-done_is_next s c (next.After number) is may none = absurd (no_whole is.0 (sym is.1 ∙ none))
+done_is_next s (next.After number) is may none = absurd (no_whole is.0 (sym is.1 ∙ none))
   where
     no_whole : (w : Whole) → Some w ≡ None → ⊥
     no_whole w e = cc

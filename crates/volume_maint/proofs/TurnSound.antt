@@ -17,7 +17,6 @@ use Rattle.volume_model.specs.declared.entry.Entry.TheVariants as entry
 use Rattle.volume_model.specs.declared.mode.Mode.{Mode}
 use Rattle.volume_model.specs.History.{IsLegal, IsEnded}
 use Rattle.volume_model.specs.PlainState.{PlainState, Volume}
-use Rattle.volume_model.specs.PlainStep.{after_call}
 use Rattle.volume_model.specs.Rebuilds.{added_by}
 use Rattle.volume_model.specs.Replay.{after_entry}
 use Rattle.volume_model.proofs.OwnNames.{IsOwn}
@@ -51,8 +50,8 @@ use Rattle.volume_maint.specs.Steps.{ends_aborted, gives_back, abandoned_with, t
 use Rattle.volume_maint.specs.Places.{AwaitsTurn}
 use Rattle.volume_maint.specs.Answers.{MayEnd}
 use Rattle.volume_core.proofs.TurnLemmas.{none_adds}
-use Rattle.volume_maint.proofs.Adds.{adds_still, no_rebuild, purge_no_add}
-use Rattle.volume_maint.proofs.AddEnds.{cleared, unbegun, none_beside, aborted_far, done_ends, refused_ends}
+use Rattle.volume_maint.proofs.Adds.{adds_still, no_rebuild}
+use Rattle.volume_maint.proofs.AddEnds.{cleared, unbegun, none_beside, aborted_far, done_ends, done_no_add, done_leaves, refused_ends}
 
 -- ---- a command is enrolled
 
@@ -229,12 +228,9 @@ module _ (s : State) (t : ℕ) (ok : IsSound s) (at : IsFreeTurn s t) where
 
   pub ended_kept : (r : Reply) → MayEnd s first.command r → IsSound (turn_ended s r)
   ended_kept reply.Done may =
-      ended_with s t reply.Done ok at (no_rebuild s.maint s.commands s.rebuild s.ended ok.adds (purge_no_add first.command may.0)).0
+      ended_with s t reply.Done ok at (no_rebuild s.maint s.commands s.rebuild s.ended ok.adds (done_no_add s first.command may)).0
       (legal_with reply.Done (done_ends s first.stream first.saw (index_at s.indices first.stream) first.command may))
-      (same first.command may.0)
-    where
-      same : (c : Command) → c ≡ command.Purge → after_call (told_of s) (call.Command c) ≡ told_of s
-      same c e = ap (λ x. after_call (told_of s) (call.Command x)) e
+      (done_leaves s first.command may)
   ended_kept (reply.Refused why) may =
       ended_with s t (reply.Refused why) ok at (unbegun s ok.adds first.command refl may.1).0
       (legal_with (reply.Refused why) (refused_ends s ok first.stream first.saw (index_at s.indices first.stream)

@@ -1,12 +1,14 @@
 -- What the other streams see of the steps of the maintenance turn.
 use Rattle.std.proofs.Common.{◌≡◌, ◌≢◌, ℕ, zero, suc, ◌+◌, ◌<◌, true, false, cond, eqb, List, [], ◌∷◌, ◌++◌, length}
-use Rattle.std.proofs.Common.{length-set, set, get_or-set_other, sym, refl, ap, ◌∙◌, arith, append-nil, append_assoc}
+use Rattle.std.proofs.Common.{length-set, set, get_or-set_other, sym, refl, ap, subst, ◌∙◌, arith, append-nil, append_assoc}
 use Rattle.std.specs.Prelude.{Bool, Option, None, Some}
+use Rattle.std.specs.List.{Any}
 use Rattle.volume_model.specs.declared.call.Call.TheVariants as call
 use Rattle.volume_model.specs.declared.call.Reply.{Reply}
 use Rattle.volume_model.specs.declared.call.Reply.TheVariants as reply
 use Rattle.volume_model.specs.declared.entry.Entry.{Entry}
 use Rattle.volume_model.specs.declared.entry.Entry.TheVariants as entry
+use Rattle.volume_model.specs.Copies.{RemovesNone}
 use Rattle.range_turns.specs.declared.ticket.Ticket.{Ticket}
 use Rattle.range_turns.specs.Order.{ticket_at}
 use Rattle.open_calls.specs.declared.maint.MaintCall.{MaintCall}
@@ -19,6 +21,7 @@ use Rattle.volume_core.specs.Sound.{IsSound}
 use Rattle.volume_core.specs.Streams.{running, commands_in, turning, MayAppend, MayGo, origin_of}
 use Rattle.volume_core.specs.Turn.{turn_ended, without_command}
 use Rattle.volume_maint.specs.Steps.{whole_ticket, maint_enrolled, turn_begun, gives_back, abandoned_with, turn_abandoned}
+use Rattle.volume_core.proofs.InTurn.{not_in_turn}
 use Rattle.volume_core.proofs.TurnLemmas.{commands-remove_other, without_head}
 use Rattle.volume_core.proofs.GivenUp.{given_up_kept, given_up_may}
 
@@ -61,6 +64,7 @@ module _ (s s2 : State) (ok : IsSound s) (ok2 : IsSound s2) where
     turns = λ n other. ap (λ (x : State). turning x n) is
         ∙ commands-push_other n s.maint s.commands (whole_ticket number) c ok.maint.queued.paired (λ e. other (sym e));
     gave_up = λ n other. ap (λ (x : State). gave_up_at x.gave_up n) is;
+    removes = λ m other turn name. tt;
   }
 
   pub begun_goes : s2 ≡ turn_begun s → MayGo (command_at s.commands 0).stream s s2
@@ -73,6 +77,7 @@ module _ (s s2 : State) (ok : IsSound s) (ok2 : IsSound s2) where
         ∙ commands-start_other n s.maint s.commands 0 (record (ticket_at s.maint 0) { started = true })
         (λ e. other (sym e));
     gave_up = λ n other. ap (λ (x : State). gave_up_at x.gave_up n) is;
+    removes = λ m other turn name. tt;
   }
 
   pub less_goes : (k : ℕ) (gave_up : List Bool) → s2 ≡ record (without_command s k) { gave_up = gave_up }
@@ -86,6 +91,7 @@ module _ (s s2 : State) (ok : IsSound s) (ok2 : IsSound s2) where
     turns = λ n other. ap (λ (x : State). turning x n) is
         ∙ commands-remove_other n s.maint s.commands k ok.maint.queued.paired (λ e. other (sym e));
     gave_up = λ n other. ap (λ (x : State). gave_up_at x.gave_up n) is ∙ others n other;
+    removes = λ m other turn name. tt;
   }
 
   pub ended_goes : (r : Reply) → s2 ≡ turn_ended s r → MayGo (command_at s.commands 0).stream s s2
@@ -105,6 +111,7 @@ module _ (s s2 : State) (ok : IsSound s) (ok2 : IsSound s2) where
         turns = λ n other. ap (λ (x : State). turning x n) is
             ∙ commands-remove_other n s.maint s.commands 0 ok.maint.queued.paired (λ e. other (sym e));
         gave_up = λ n other. ap (λ (x : State). gave_up_at x.gave_up n) is;
+        removes = λ n other turn name. absurd (not_in_turn s ok c.stream n refl other turn);
       }
 
 -- ---- two steps of one stream
@@ -113,6 +120,11 @@ more_may : (n : ℕ) (xs ys : List Entry) → MayAppend n xs → MayAppend n ys 
 more_may n [] ys h k = k
 more_may n (entry.Answer a ∷ xs) ys h k = (h.0, more_may n xs ys h.1 k)
 more_may n (entry.Mark m ∷ xs) ys h k = (h.0, more_may n xs ys h.1 k)
+
+more_none : (name : List ℕ) (xs ys : List Entry) → RemovesNone name xs → RemovesNone name ys → RemovesNone name (xs ++ ys)
+more_none name [] ys h k = k
+more_none name (entry.Answer a ∷ xs) ys h k = (h.0, more_none name xs ys h.1 k)
+more_none name (entry.Mark m ∷ xs) ys h k = more_none name xs ys h k
 
 pub goes_on : (n : ℕ) (s s1 s2 : State) → MayGo n s s1 → MayGo n s1 s2 → MayGo n s s2
 goes_on n s s1 s2 a b = record {
@@ -126,6 +138,8 @@ goes_on n s s1 s2 a b = record {
   others = λ m other. b.others m other ∙ a.others m other;
   turns = λ m other. b.turns m other ∙ a.turns m other;
   gave_up = λ m other. b.gave_up m other ∙ a.gave_up m other;
+  removes = λ m other turn name. more_none name a.added.0 b.added.0 (a.removes m other turn name)
+      (b.removes m other (subst (λ (l : List (Ticket × MaintCall)). Any (λ p. p.0.started ≡ true) l) (sym (a.turns m other)) turn) name);
 }
 
 -- the turn is abandoned

@@ -15,7 +15,7 @@ use Rattle.volume_model.specs.declared.entry.Answer.{Answer}
 use Rattle.volume_model.specs.declared.entry.Entry.{Entry}
 use Rattle.volume_model.specs.declared.entry.Entry.TheVariants as entry
 use Rattle.volume_model.specs.declared.mode.Mode.{Mode}
-use Rattle.volume_model.specs.History.{IsAnswered}
+use Rattle.volume_model.specs.History.{IsAnswered, subject_of}
 use Rattle.volume_model.specs.Modes.{HasSource, HasNoSource, asks_replica}
 use Rattle.volume_model.specs.OneWorker.{reply_for}
 use Rattle.volume_model.specs.PlainState.{PlainState, Volume}
@@ -48,6 +48,7 @@ use Rattle.open_calls.proofs.PartSteps.{asked_there, saw_there, turn_of}
 use Rattle.volume_core.specs.State.{State, opening_of, told_of, modes_in, index_at}
 use Rattle.volume_core.specs.Steps.{answered}
 use Rattle.volume_core.specs.Sound.{IsSound, IsSoundOn, IsTold, AreAdds, AreCaused, NoneGaveUp, is_up, owed_end}
+use Rattle.volume_core.proofs.Answered.{not_replicas, replicas_not_store}
 use Rattle.volume_core.proofs.Caused.{caused_answer, caused_ended}
 use Rattle.volume_core.proofs.Ends.{same_clients}
 use Rattle.volume_core.proofs.Keep.{of_calm}
@@ -142,8 +143,8 @@ done_answered op ms p a other may source not asks is =
 pub lost_answered : (op : WholeOp) (ms : List Mode) (p : PlainState) (a : Answer) → IsPlain op → MayBeDone op p → HasNoSource ms
     → a.call ≡ call.Command (command_of op) → a.reply ≡ reply.Refused NoReplica → IsAnswered p ms a
 lost_answered op ms p a other may none asks is = record {
-  reply = λ says. absurd (not_both (Rattle.volume_model.specs.History.says_no_replica a.reply) says
-      (ap Rattle.volume_model.specs.History.says_no_replica is));
+  reply = λ says. absurd (not_replicas a.reply says (ap subject_of is));
+  store = λ says. absurd (replicas_not_store a.reply (ap subject_of is) says);
   none = λ says. record {
     asks = ap asks_replica asks ∙ asks_one op;
     refused = ap (refusal_of ms p) asks

@@ -14,7 +14,8 @@ use Rattle.volume_model.specs.declared.mark.FoldOrDrop.TheVariants as part
 use Rattle.volume_model.specs.declared.mode.Mode.{Mode}
 use Rattle.volume_model.specs.declared.mode.Mode.TheVariants.{Rw, Wo, Err}
 use Rattle.volume_model.specs.Modes.{mode_of, HasSource, HasNoSource, IsSource}
-use Rattle.volume_model.specs.OneWorker.{refused_at}
+use Rattle.volume_model.specs.OneWorker.{Against, refused_at, refused_by}
+use Rattle.volume_model.specs.PlainStep.{live_refusal}
 use Rattle.volume_model.specs.Purge.{CanFold, next_of}
 use Rattle.volume_model.specs.Snapshots.{Snapshots}
 use Rattle.range_turns.specs.declared.turns.MayStart.{MayStart}
@@ -69,12 +70,25 @@ abbrev pub HasNoRebuild : State → Command → Type 0
 HasNoRebuild s (command.Add r) = (s.rebuild ≡ None) × (s.ended ≡ None)
 HasNoRebuild s c = Unit {0}
 
--- A command that has the turn may be answered so: as it is refused there, of an add only where no rebuild was begun; of a
--- purge that nothing stands against, that it is done where nothing can go; and of an add whose rebuild was aborted, the
--- place of that mark.
+-- a command is refused so there, whatever a store of backups has against a backup
+abbrev pub MayRefuse : State → Command → Refusal → Type 0
+MayRefuse s c why = (told : Option Against) × (refused_by told (spot_of s) (call.Command c) ≡ Some why)
+
+-- a backup of a snapshot that can be used
+abbrev pub IsGoodBackup : State → Command → Type 0
+IsGoodBackup s (command.Backup backup snapshot) = live_refusal (told_of s).volume snapshot ≡ None
+IsGoodBackup s c = ⊥
+
+-- a purge that nothing stands against is done where nothing can go, and such a backup is
+abbrev pub MayBeDone : State → Command → Type 0
+MayBeDone s command.Purge = (refused_in s command.Purge ≡ None) × (next_of (snapshots_told s) ≡ None)
+MayBeDone s c = IsGoodBackup s c
+
+-- A command that has the turn may be answered so: as it is refused there, of an add only where no rebuild was begun; that
+-- it is done; and of an add whose rebuild was aborted, the place of that mark.
 abbrev pub MayEnd : State → Command → Reply → Type 0
-MayEnd s c (reply.Refused why) = (refused_in s c ≡ Some why) × HasNoRebuild s c
-MayEnd s c reply.Done = (c ≡ command.Purge) × (refused_in s c ≡ None) × (next_of (snapshots_told s) ≡ None)
+MayEnd s c (reply.Refused why) = MayRefuse s c why × HasNoRebuild s c
+MayEnd s c reply.Done = MayBeDone s c
 MayEnd s c (reply.Aborted place) =
     (r : ℕ) × (c ≡ command.Add r) × (s.ended ≡ Some (record { target = r; place = place }))
 MayEnd s c r = ⊥
@@ -87,11 +101,17 @@ pub record EndsTurn (s : State) (t : ℕ) (r : Reply) (s2 : State) : Type 0 wher
 
 -- ---- why it does not
 
--- the first command of the turn is in the state that the reply needs: no rebuild of it was begun, or it is a purge, or its
+-- a command that ends as done, once it has done all: a purge or a backup
+abbrev pub EndsDone : Command → Type 0
+EndsDone command.Purge = Unit {0}
+EndsDone (command.Backup backup snapshot) = Unit {0}
+EndsDone c = ⊥
+
+-- the first command of the turn is in the state that the reply needs: no rebuild of it was begun, or it ends as done, or its
 -- rebuild was aborted in the mark at that place
 abbrev pub IsReadyFor : State → Command → Reply → Type 0
 IsReadyFor s c (reply.Refused why) = HasNoRebuild s c
-IsReadyFor s c reply.Done = c ≡ command.Purge
+IsReadyFor s c reply.Done = EndsDone c
 IsReadyFor s c (reply.Aborted place) =
     (r : ℕ) × (c ≡ command.Add r) × (s.ended ≡ Some (record { target = r; place = place }))
 IsReadyFor s c r = ⊥
@@ -106,7 +126,7 @@ AreModesAgainst s c why = ⊥
 -- and so against the reply: a purge is not done without a replica
 abbrev pub FailsByModes : State → Command → Reply → Type 0
 FailsByModes s c (reply.Refused why) = AreModesAgainst s c why
-FailsByModes s c reply.Done = HasNoSource (modes_in s)
+FailsByModes s command.Purge reply.Done = HasNoSource (modes_in s)
 FailsByModes s c r = ⊥
 
 -- what is left of the replicas: `RW` where one is read, and else `ERR`
@@ -115,10 +135,16 @@ IsModeLeft modes Rw = HasSource modes
 IsModeLeft modes Wo = ⊥
 IsModeLeft modes Err = HasNoSource modes
 
+-- a purge that would be done waits for the call on the whole volume that is started
+pub record WaitsToEnd (s : State) (c : Command) (r : Reply) : Type 0 where
+  pub purge : c ≡ command.Purge
+  pub done : r ≡ reply.Done
+  pub whole : s.whole ≢ None
+
 -- It cannot end so: it has not the turn, or something enrolled, or may not be answered so. While a call on the whole volume
 -- is started, neither can a purge that would be done.
 abbrev pub CannotEnd : State → ℕ → Reply → Type 0
-CannotEnd s t r = IsFreeTurn s t → MayEnd s (command_at s.commands 0).command r → (r ≡ reply.Done) × (s.whole ≢ None)
+CannotEnd s t r = IsFreeTurn s t → MayEnd s (command_at s.commands 0).command r → WaitsToEnd s (command_at s.commands 0).command r
 
 -- the modes stand against the reply, or what it says of the volume, and the modes do not
 abbrev pub IsAgainstReply : State → Command → Reply → NotThis → Type 0

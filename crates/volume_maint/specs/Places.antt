@@ -44,4 +44,5 @@ IsWholeCommand (command.Remove name) = Unit {0}
 IsWholeCommand (command.Revert name) = Unit {0}
 IsWholeCommand command.Purge = Unit {0}
 IsWholeCommand (command.Add r) = Unit {0}
+IsWholeCommand (command.Backup backup snapshot) = Unit {0}
 IsWholeCommand c = ⊥

@@ -3,13 +3,14 @@
 ghost use Rattle.std.specs.Prelude.{◌≡◌, ◌≢◌, ◌<◌, length, false, true, None};
 ghost use Rattle.volume_model.specs.declared.call.Call.TheVariants as call;
 ghost use Rattle.volume_model.specs.declared.call.Reply.TheVariants as reply;
+ghost use Rattle.volume_model.specs.History.{OfStore, subject_of};
 ghost use Rattle.volume_model.specs.Modes.{mode_of};
 ghost use Rattle.volume_model.specs.PlainStep.{refusal_of, room_refusal, live_refusal, add_refusal};
 ghost use Rattle.open_calls.specs.Maint.{command_at};
 ghost use Rattle.volume_core.specs.State.{state_of, told_of, modes_in};
 ghost use Rattle.volume_core.specs.Sound.{IsSound};
 ghost use Rattle.volume_maint.specs.Places.{IsWholeCommand};
-ghost use Rattle.volume_maint.specs.Answers.{refused_in, HasNoRebuild, MayEnd, IsReadyFor, AreModesAgainst, FailsByModes, IsAgainstReply, IsModeLeft};
+ghost use Rattle.volume_maint.specs.Answers.{refused_in, HasNoRebuild, MayEnd, MayRefuse, MayBeDone, IsGoodBackup, EndsDone, IsReadyFor, AreModesAgainst, FailsByModes, IsAgainstReply, IsModeLeft, WaitsToEnd};
 
 use crate::fold::fold_next;
 use step_answers::NextPart;
@@ -46,6 +47,7 @@ fn volume_refusal(world: &World, command: &Command) -> Option<Refusal>
             chain_refusal(world)
         }
         Command::Remove(name) | Command::Revert(name) => name_refusal(world, name),
+        Command::Backup { snapshot, .. } => name_refusal(world, snapshot),
         Command::Purge => None,
         Command::Add(replica) => replica_refusal(world, *replica),
         Command::Status | Command::Fail(_) => unreachable!(),
@@ -99,7 +101,7 @@ pub(crate) fn is_ready_for(world: &World, reply: &Reply) -> bool
     let command = world.commands[0].command;
     match reply {
         Reply::Refused(_) => !has_rebuild(world, &command),
-        Reply::Done => command == Command::Purge,
+        Reply::Done => ends_done(&command),
         Reply::Aborted(place) => was_aborted(world, &command, *place),
         Reply::Read(_) | Reply::Status { .. } => false,
     }
@@ -114,14 +116,84 @@ pub(crate) fn may_end(world: &World, reply: &Reply) -> bool
         → MayEnd (state_of world.now) (command_at world.now.commands.items 0).command reply.now }
     ensures not { result ≡ false
         → MayEnd (state_of world.now) (command_at world.now.commands.items 0).command reply.now
-        → (reply.now ≡ Reply.Done) × ((state_of world.now).whole ≢ None) }
+        → WaitsToEnd (state_of world.now) (command_at world.now.commands.items 0).command reply.now }
 {
     let command = world.commands[0].command;
     match reply {
-        Reply::Refused(why) => refusal(world, &command) == Some(*why),
-        Reply::Done => fold_next(world) == NextPart::Nothing,
+        Reply::Refused(why) => may_refuse(world, &command, *why),
+        Reply::Done => may_be_done(world, &command),
         Reply::Aborted(_) => true,
         Reply::Read(_) | Reply::Status { .. } => unreachable!(),
+    }
+}
+
+/// Whether the command ends as done, once it has done all.
+fn ends_done(command: &Command) -> bool
+    ensures ends { result ≡ true → EndsDone command.now }
+    ensures not { result ≡ false → EndsDone command.now → ⊥ }
+{
+    match command {
+        Command::Purge | Command::Backup { .. } => true,
+        _ => false,
+    }
+}
+
+/// Whether the command is refused so: by the volume or for want of a replica, or a backup by what its store has against it,
+/// where the volume has nothing.
+fn may_refuse(world: &World, command: &Command, why: Refusal) -> bool
+    requires sound { IsSound (state_of world.now) }
+    requires asks { IsWholeCommand command.now }
+    ensures may { result ≡ true → MayRefuse (state_of world.now) command.now why }
+    ensures not { result ≡ false → MayRefuse (state_of world.now) command.now why → ⊥ }
+{
+    if is_of_store(why) {
+        return is_good_backup(world, command);
+    }
+    refusal(world, command) == Some(why)
+}
+
+/// Whether the refusal is what a store of backups has against a backup.
+fn is_of_store(why: Refusal) -> bool
+    ensures yes { result ≡ true → subject_of (reply.Refused why) ≡ OfStore }
+    ensures no { result ≡ false → subject_of (reply.Refused why) ≡ OfStore → ⊥ }
+{
+    match why {
+        Refusal::BackupExists | Refusal::BlockDiffers | Refusal::TargetFault => true,
+        Refusal::TooLong
+        | Refusal::OutOfRange
+        | Refusal::Unsupported
+        | Refusal::NameUsed
+        | Refusal::ChainFull
+        | Refusal::NoSuchSnapshot
+        | Refusal::NoReplica
+        | Refusal::InUse => false,
+    }
+}
+
+/// Whether the command is a backup of a snapshot that can be used.
+fn is_good_backup(world: &World, command: &Command) -> bool
+    requires { IsSound (state_of world.now) }
+    ensures good { result ≡ true → IsGoodBackup (state_of world.now) command.now }
+    ensures not { result ≡ false → IsGoodBackup (state_of world.now) command.now → ⊥ }
+{
+    match command {
+        Command::Backup { snapshot, .. } => name_refusal(world, snapshot).is_none(),
+        _ => false,
+    }
+}
+
+/// Whether the command, which ends as done, may be told done now.
+fn may_be_done(world: &World, command: &Command) -> bool
+    requires sound { IsSound (state_of world.now) }
+    requires ends { EndsDone command.now }
+    ensures may { result ≡ true → MayBeDone (state_of world.now) command.now }
+    ensures not { result ≡ false → MayBeDone (state_of world.now) command.now
+        → (command.now ≡ Command.Purge) × ((state_of world.now).whole ≢ None) }
+{
+    match command {
+        Command::Purge => fold_next(world) == NextPart::Nothing,
+        Command::Backup { .. } => is_good_backup(world, command),
+        _ => unreachable!(),
     }
 }
 
@@ -155,7 +227,7 @@ fn fails_by_modes(world: &World, command: &Command, reply: &Reply) -> bool
 {
     match reply {
         Reply::Refused(why) => are_modes_against(world, command, *why),
-        Reply::Done => mode_left(world) == Mode::Err,
+        Reply::Done => *command == Command::Purge && mode_left(world) == Mode::Err,
         Reply::Aborted(_) | Reply::Read(_) | Reply::Status { .. } => false,
     }
 }

@@ -12,6 +12,7 @@ use Rattle.volume_core.specs.Sound.{IsSound}
 use Rattle.volume_maint.specs.Answers.{snapshots_told, IsNew, IsFreePurge}
 use Rattle.volume_maint.proofs.Owes.{folded_goes}
 use Rattle.volume_maint.proofs.Purging.{IsPurging, can_told, told_can, long_on, folded_sound, one_child, not_onto_new}
+use Rattle.volume_core.proofs.Moves.{may_same}
 use Rattle.volume_maint.proofs.fold.fold_page.Goals as goal
 
 -- where the purge has the turn, and the replica is read
@@ -94,3 +95,15 @@ returns-in-Some-clause-may c =
     let s : State = state_of c.args.world.now in
     folded_goes (command_at s.commands 0).stream s (state_of c.fold_on.new.world) (returns-in-Some-clause-sound c)
     c.args.replica c.args.parent.now c.in-Some.child c.args.page c.fold_on.ensures
+
+pub returns-then-not-is_purging-clause-may : goal.returns-then-not-is_purging-clause-may
+returns-then-not-is_purging-clause-may c = may_same _ (state_of c.args.world.now) c.requires.sound
+
+pub returns-then-ne-clause-may : goal.returns-then-ne-clause-may
+returns-then-ne-clause-may c = may_same _ (state_of c.args.world.now) c.requires.sound
+
+pub returns-in_default-clause-may : goal.returns-in_default-clause-may
+returns-in_default-clause-may c = may_same _ (state_of c.args.world.now) c.requires.sound
+
+pub returns-in_default-2-clause-may : goal.returns-in_default-2-clause-may
+returns-in_default-2-clause-may c = may_same _ (state_of c.args.world.now) c.requires.sound

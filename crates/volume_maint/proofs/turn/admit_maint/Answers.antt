@@ -8,6 +8,7 @@ use Rattle.volume_maint.specs.Steps.{turn_begun}
 use Rattle.volume_maint.proofs.TurnSound.{begun_kept}
 use Rattle.volume_core.proofs.TurnLemmas.{for_asker}
 use Rattle.volume_maint.proofs.TurnStreams.{begun_goes}
+use Rattle.volume_core.proofs.Moves.{may_same}
 use Rattle.volume_maint.proofs.turn.admit_maint.Goals as goal
 
 -- the command is the first
@@ -32,3 +33,6 @@ returns-clause-may c =
     (omega (arith, c.if-k-gt0.false)) in
     for_asker s c.args.t 0 (λ stream. MayGo stream s (state_of after)) stands
     (begun_goes s (state_of after) c.requires.sound (returns-clause-sound c) is)
+
+pub returns-then-k-gt0-clause-may : goal.returns-then-k-gt0-clause-may
+returns-then-k-gt0-clause-may c = λ at stands. may_same _ (state_of c.args.world.now) c.requires.sound

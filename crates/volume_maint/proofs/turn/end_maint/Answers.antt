@@ -8,6 +8,7 @@ use Rattle.volume_maint.specs.Answers.{MayEnd}
 use Rattle.volume_maint.proofs.TurnSound.{ended_kept}
 use Rattle.volume_core.proofs.TurnLemmas.{for_asker}
 use Rattle.volume_maint.proofs.TurnStreams.{ended_goes}
+use Rattle.volume_core.proofs.Moves.{may_same}
 use Rattle.volume_maint.proofs.turn.end_maint.Goals as goal
 
 pub returns-clause-sound : goal.returns-clause-sound
@@ -25,3 +26,9 @@ returns-clause-may c =
     let is : state_of c.end_first.new.world ≡ turn_ended s c.args.reply = c.end_first.ensures.state in
     for_asker s c.args.t 0 (λ stream. MayGo stream s (state_of c.end_first.new.world)) turn.stands
     (ended_goes s (state_of c.end_first.new.world) c.requires.sound (returns-clause-sound c) c.args.reply is)
+
+pub returns-then-not-free_turn_at-clause-may : goal.returns-then-not-free_turn_at-clause-may
+returns-then-not-free_turn_at-clause-may c = λ at stands. may_same _ (state_of c.args.world.now) c.requires.sound
+
+pub returns-then-not-may_end-clause-may : goal.returns-then-not-may_end-clause-may
+returns-then-not-may_end-clause-may c = λ at stands. may_same _ (state_of c.args.world.now) c.requires.sound

@@ -6,6 +6,7 @@ use Rattle.volume_core.specs.Sound.{IsSound}
 use Rattle.volume_maint.specs.Steps.{maint_enrolled}
 use Rattle.volume_maint.proofs.TurnSound.{enrolled_kept}
 use Rattle.volume_maint.proofs.TurnStreams.{enrolled_goes}
+use Rattle.volume_core.proofs.Moves.{may_still}
 use Rattle.volume_maint.proofs.turn.enrol_maint.Goals as goal
 
 pub returns-clause-sound : goal.returns-clause-sound
@@ -34,3 +35,12 @@ returns-clause-may c =
     } in
     let is : state_of after ≡ maint_enrolled s c.enrol-number.result call = search rules in
     enrolled_goes s (state_of after) c.requires.sound (returns-clause-sound c) c.enrol-number.result call is
+
+pub returns-in_err-reserve-clause-may : goal.returns-in_err-reserve-clause-may
+returns-in_err-reserve-clause-may c = may_still c.args.stream (state_of c.args.world.now) _ c.requires.sound (search rules)
+
+pub returns-in_err-reserve-2-clause-may : goal.returns-in_err-reserve-2-clause-may
+returns-in_err-reserve-2-clause-may c = may_still c.args.stream (state_of c.args.world.now) _ c.requires.sound (search rules)
+
+pub returns-in_err-reserve-3-clause-may : goal.returns-in_err-reserve-3-clause-may
+returns-in_err-reserve-3-clause-may c = may_still c.args.stream (state_of c.args.world.now) _ c.requires.sound (search rules)

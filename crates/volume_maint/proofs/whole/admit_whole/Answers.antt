@@ -17,6 +17,7 @@ use Rattle.volume_maint.proofs.BarrierSound.{starts_sound}
 use Rattle.volume_maint.proofs.Begins.{free_source, asked_op}
 use Rattle.volume_maint.proofs.WholeEnds.{refused_whole}
 use Rattle.volume_maint.proofs.Owes.{for_caller, starts_goes, ended_goes}
+use Rattle.volume_core.proofs.Moves.{may_same, may_still}
 use Rattle.volume_maint.proofs.whole.admit_whole.Goals as goal
 
 pub refuse-requires-clause-none : goal.refuse-requires-clause-none
@@ -89,3 +90,17 @@ returns-clause-may c =
     let op : WholeOp = c.op_at-op.result in
     for_caller s c.args.t i (λ n. MayGo n s s2) c.waiting_whole_at-i.ensures.stands
     (starts_goes s s2 c.requires.sound (returns-clause-sound c) i op c.in_ok-begin.ensures.ok)
+
+pub returns-in-Some-clause-may : goal.returns-in-Some-clause-may
+returns-in-Some-clause-may c = λ at stands. may_same _ (state_of c.args.world.now) c.requires.sound
+
+pub returns-then-not-may_begin-clause-may : goal.returns-then-not-may_begin-clause-may
+returns-then-not-may_begin-clause-may c = λ at stands. may_same _ (state_of c.args.world.now) c.requires.sound
+
+pub returns-in_err-place-clause-may : goal.returns-in_err-place-clause-may
+returns-in_err-place-clause-may c =
+    λ at stands. may_still _ (state_of c.args.world.now) (state_of c.refuse.new.world) c.requires.sound (search rules)
+
+pub returns-in_err-begin-clause-may : goal.returns-in_err-begin-clause-may
+returns-in_err-begin-clause-may c =
+    λ at stands. may_still _ (state_of c.args.world.now) (state_of c.begin.new.world) c.requires.sound (search rules)

@@ -6,6 +6,7 @@ use Rattle.volume_core.specs.State.{state_of, modes_in}
 use Rattle.volume_maint.specs.Steps.{whole_parted}
 use Rattle.volume_maint.proofs.Owes.{parted_goes}
 use Rattle.volume_maint.proofs.WholeSound.{OwesPart, owes_fits, owes_kept, if_whole}
+use Rattle.volume_core.proofs.Moves.{may_same}
 use Rattle.volume_maint.proofs.whole.part.Goals as goal
 
 pub part_on-requires-clause-fit : goal.part_on-requires-clause-fit
@@ -30,3 +31,9 @@ returns-clause-may c = λ i stands.
     let is : s2 ≡ whole_parted s owes.0 c.args.replica =
     if_whole s.whole owes.0 (λ w. s2 ≡ whole_parted s w c.args.replica) owes.2.is c.part_on.ensures in
     parted_goes (open_at s.calls i).stream s s2 (returns-clause-sound c) owes.0 c.args.replica is
+
+pub returns-then-eq-clause-may : goal.returns-then-eq-clause-may
+returns-then-eq-clause-may c = λ at stands. may_same _ (state_of c.args.world.now) c.requires.sound
+
+pub returns-then-not-owes_part-clause-may : goal.returns-then-not-owes_part-clause-may
+returns-then-not-owes_part-clause-may c = λ at stands. may_same _ (state_of c.args.world.now) c.requires.sound
