@@ -83,4 +83,5 @@ copied_goes s s2 b page after stream ok2 is = record {
   others = λ n other. ap (λ (x : State). running x n) is;
   turns = λ n other. ap (λ (x : State). turning x n) is;
   gave_up = λ n other. ap (λ (x : State). gave_up_at x.gave_up n) is;
+  removes = λ m other turn name. tt;
 }

@@ -58,6 +58,12 @@ module _ (s : State) (b : Rebuilding) (ok : IsSound s) (is : s.rebuild ≡ Some 
   there : (r : ℕ) → mode_of (modes_in s) r ≢ Err → r < length s.nodes
   there r up = omega (arith, up_in (modes_in s) r up, many)
 
+  pub source_there : b.source < length s.nodes
+  source_there = there b.source up_source
+
+  pub target_there : b.target < length s.nodes
+  target_there = there b.target up_target
+
   -- of a page that may be copied
   module _ (page : PageRef) (frozen : IsFrozenPage b page) where
     beside : IsBesideStarted b s.whole

@@ -56,6 +56,7 @@ use Rattle.volume_core.proofs.Ends.{its_answer, same_clients}
 use Rattle.volume_core.proofs.FarLemmas.{begun_of}
 use Rattle.volume_core.proofs.Keep.{same_whole, same_maint, on_same}
 use Rattle.volume_core.specs.Turn.{IsFreeTurn}
+use Rattle.volume_core.proofs.InTurn.{not_in_turn}
 use Rattle.volume_core.proofs.TurnLemmas.{none_adds, commands-remove_other, told_named}
 use Rattle.volume_rebuild.specs.Answers.{IsAllListed}
 use Rattle.volume_rebuild.specs.Places.{IsPast}
@@ -280,4 +281,5 @@ promoted_goes s s2 target ok ok2 is =
       turns = λ n other. ap (λ (x : State). turning x n) is
           ∙ commands-remove_other n s.maint s.commands 0 ok.maint.queued.paired (λ f. other (sym f));
       gave_up = λ n other. ap (λ (x : State). gave_up_at x.gave_up n) is;
+      removes = λ n other turn name. absurd (not_in_turn s ok c.stream n refl other turn);
     }

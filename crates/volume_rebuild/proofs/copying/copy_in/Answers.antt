@@ -8,8 +8,9 @@ use Rattle.volume_core.specs.State.{State, state_of}
 use Rattle.volume_core.specs.Sound.{IsSound}
 use Rattle.volume_rebuild.specs.Places.{IsToCopy}
 use Rattle.volume_rebuild.specs.Answers.{CopiesIn}
-use Rattle.volume_rebuild.proofs.Left.{target_kept, target_inside}
+use Rattle.volume_rebuild.proofs.Left.{target_kept, target_inside, target_there}
 use Rattle.volume_rebuild.proofs.Copied.{copied_kept, copied_goes}
+use Rattle.volume_core.proofs.Moves.{may_same}
 use Rattle.volume_rebuild.proofs.copying.copy_in.Goals as goal
 
 pub take_page-requires-clause-kept : goal.take_page-requires-clause-kept
@@ -42,3 +43,13 @@ returns-clause-may c =
     let s2 : State = state_of c.list.new.world in
     let copied : CopiesIn s c.args.page.now c.args.with.now c.take_page.new.with s2 = search rules in
     copied_goes s s2 copied.b c.args.page.now copied.after (command_at s.commands 0).stream (returns-clause-sound c) copied.state
+
+pub returns-in_default-clause-may : goal.returns-in_default-clause-may
+returns-in_default-clause-may c = may_same _ (state_of c.args.world.now) c.requires.sound
+
+pub take_page-requires-clause-node : goal.take_page-requires-clause-node
+take_page-requires-clause-node c =
+    let s : State = state_of c.args.world.now in
+    let found = c.in-Some.ensures in
+    let is : IsToCopy s found.0 c.args.page.now = found.1 in
+    subst (λ r. r < length s.nodes) found.2 (target_there s found.0 c.requires.sound is.begun)
