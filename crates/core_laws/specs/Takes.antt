@@ -17,6 +17,7 @@ use Rattle.core_laws.specs.declared.step.Step.TheVariants as step
 use Rattle.core_laws.specs.Guards.{MayEnrol, MayAnswer, IsWaiting, IsStream, MayFault}
 use Rattle.core_laws.specs.MaintTakes.{TakesMaint, IsAgainstMaint}
 use Rattle.core_laws.specs.RebuildTakes.{TakesRebuild, IsAgainstRebuild}
+use Rattle.core_laws.specs.BackupTakes.{TakesBackup, IsAgainstBackup}
 
 -- the step could be taken, and makes that of the World
 abbrev pub Takes : Step → State → State → Type 0
@@ -34,6 +35,7 @@ Takes (step.Fault stream r count) s s2 = MayFault s stream r count × (s2 ≡ fa
 Takes (step.Complete t) s s2 = Completes s t s2
 Takes (step.Maint x) s s2 = TakesMaint x s s2
 Takes (step.Rebuild x) s s2 = TakesRebuild x s s2
+Takes (step.Backup x) s s2 = TakesBackup x s s2
 
 -- something stands against the step: its condition or its guard fails
 abbrev pub IsAgainst : Step → State → Type 0
@@ -49,6 +51,7 @@ IsAgainst (step.Fault stream r count) s =
 IsAgainst (step.Complete t) s = (why : NotThis) × AgainstEnd s t why
 IsAgainst (step.Maint x) s = IsAgainstMaint x s
 IsAgainst (step.Rebuild x) s = IsAgainstRebuild x s
+IsAgainst (step.Backup x) s = IsAgainstBackup x s
 
 -- the step is taken, or something stands against it, and it is skipped
 abbrev pub Makes : Step → State → State → Type 0

@@ -111,7 +111,8 @@ pub(crate) fn names_replica(world: &World, command: &Command) -> bool
         | Command::Remove(_)
         | Command::Revert(_)
         | Command::Purge
-        | Command::Status => true,
+        | Command::Status
+        | Command::Backup { .. } => true,
     }
 }
 
@@ -125,6 +126,7 @@ fn is_command_now(command: &Command) -> bool
         | Command::Remove(_)
         | Command::Revert(_)
         | Command::Purge
-        | Command::Add(_) => false,
+        | Command::Add(_)
+        | Command::Backup { .. } => false,
     }
 }

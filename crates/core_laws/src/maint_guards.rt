@@ -25,7 +25,11 @@ fn is_maint(command: &Command) -> bool
     ensures no { result ≡ false → IsMaint command.now → ⊥ }
 {
     match command {
-        Command::Remove(_) | Command::Revert(_) | Command::Purge | Command::Add(_) => true,
+        Command::Remove(_)
+        | Command::Revert(_)
+        | Command::Purge
+        | Command::Add(_)
+        | Command::Backup { .. } => true,
         Command::Snapshot(_) | Command::Status | Command::Fail(_) => false,
     }
 }

@@ -1,3 +1,4 @@
+use crate::backup_step::BackupStep;
 use crate::maint_step::MaintStep;
 use crate::rebuild_step::RebuildStep;
 use volume_core::{Call, TicketNumber};
@@ -27,4 +28,6 @@ pub enum Step {
     Maint(MaintStep),
     /// A step of a rebuild that is past its barrier.
     Rebuild(RebuildStep),
+    /// What a backup reads.
+    Backup(BackupStep),
 }

@@ -11,6 +11,7 @@ ghost use Rattle.core_laws.specs.Takes.{Makes};
 
 use crate::guards::{is_stream, is_waiting, may_answer, may_enrol};
 use crate::step::Step;
+use crate::take_backup::take_backup_step;
 use crate::take_maint::take_maint_step;
 use crate::take_rebuild::take_rebuild_step;
 use std::alloc::{AllocError, Global};
@@ -51,6 +52,7 @@ pub(crate) fn take_step(world: &mut World, alloc: Global, step: &Step) -> Result
         }
         Step::Maint(step) => take_maint_step(world, alloc, step),
         Step::Rebuild(step) => take_rebuild_step(world, alloc, step),
+        Step::Backup(step) => take_backup_step(world, alloc, step),
     }
 }
 

@@ -1,11 +1,12 @@
 //! One list in which each kind of step is taken.
 
 use core_laws::{
-    Bytes, Call, Command, FoldOrDrop, LayerName, MaintStep, Mode, PageRef, RebuildStep, Reply,
-    SnapName, Step, TicketNumber, VolumeSize, WholeOp, World, run_steps,
+    BackupStep, Bytes, Call, Command, FoldOrDrop, LayerName, MaintStep, Mode, PageRef, RebuildStep,
+    Reply, SnapName, Step, TicketNumber, VolumeSize, WholeOp, World, run_steps,
 };
 use std::alloc::{AllocError, Global};
 use std::test::Fail;
+use volume_backup::{Pages, backup_pages, is_calm, is_live, snap_page};
 
 /// The ticket of each call: tickets have the lowest numbers that are free, and one is out at a time.
 fn ticket() -> TicketNumber {
@@ -92,6 +93,17 @@ fn take_back(steps: &mut Vec<Step>, c: SnapName) -> Result<(), AllocError> {
     maint(steps, MaintStep::WithdrawWhole(ticket))
 }
 
+/// A page of a snapshot's copy is read, and is given to nobody.
+fn read_page(steps: &mut Vec<Step>, name: LayerName) -> Result<(), AllocError> {
+    let (replica, page) = (0, 0);
+    steps.push(Step::Backup(BackupStep::SnapPage {
+        replica,
+        name,
+        page,
+    }))?;
+    Ok(())
+}
+
 /// The first of two snapshots is removed, and purged: the second is folded onto it.
 fn remove_and_purge(
     steps: &mut Vec<Step>,
@@ -148,6 +160,7 @@ fn each_kind(alloc: Global) -> Result<Vec<Step>, Fail> {
     operate(&mut steps, WholeOp::Snapshot(a))?;
     write(&mut steps, alloc)?;
     operate(&mut steps, WholeOp::Snapshot(b))?;
+    read_page(&mut steps, a.into())?;
     remove_and_purge(&mut steps, a.into(), b.into())?;
     fail_and_add(&mut steps, b.into(), LayerName::sys(2))?;
     Ok(steps)
@@ -165,5 +178,33 @@ fn each_kind_of_step_is_taken(rt: HostRuntime) -> Result<(), Fail> {
         (world.journal.len(), world.mode(0), world.mode(1)),
         (13, Mode::Rw, Mode::Rw)
     );
+    Ok(())
+}
+
+#[test]
+fn a_page_of_a_snapshot_is_given(rt: HostRuntime) -> Result<(), Fail> {
+    let alloc = rt.alloc();
+    let mut world = World::blank(alloc, VolumeSize::new(2_097_152)?, 2, 1)?;
+    run_steps(&mut world, alloc, &each_kind(alloc)?)?;
+    let name = LayerName::from(SnapName::read(b"b")?);
+    let mut into = vec![in alloc; 1; 2_097_152]?;
+    let given = snap_page(&mut world, 1, &name, 0, &mut into);
+    assert_eq!(rt; (given.is_ok(), into[0], into[1]), (true, 7, 0));
+    Ok(())
+}
+
+#[test]
+fn a_backup_is_told_which_pages_it_reads(rt: HostRuntime) -> Result<(), Fail> {
+    let alloc = rt.alloc();
+    let mut world = World::blank(alloc, VolumeSize::new(2_097_152)?, 2, 1)?;
+    run_steps(&mut world, alloc, &each_kind(alloc)?)?;
+    let (lower, upper) = (LayerName::from(SnapName::read(b"b")?), LayerName::sys(2));
+    assert!(rt; is_calm(&world));
+    assert!(rt; is_live(&world, &lower));
+    assert!(rt; is_live(&world, &upper));
+    let all = backup_pages(&world, alloc, &upper, &None)?;
+    let above = backup_pages(&world, alloc, &upper, &Some(lower))?;
+    assert!(rt; matches!(&all, Pages::All(pages) if pages.len() == 1 && pages[0] == 0));
+    assert!(rt; matches!(&above, Pages::Above(pages) if pages.is_empty()));
     Ok(())
 }
