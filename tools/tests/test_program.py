@@ -22,7 +22,7 @@ BAD_MEMBERS = [
 ]
 
 # Commands that are none in a script of eight replicas.
-NO_COMMANDS = [b'stop', b'fail r8', b'fail r10', b'fail r01', b'add r8', b'add r10']
+NO_COMMANDS = [b'stop', b'fail r8', b'fail r10', b'fail r01', b'add r8', b'add r10', b'backup b1 s']
 
 # Plans that are none in a script of two replicas and one stream.
 BAD_PLANS = [

@@ -1,7 +1,8 @@
 -- Each line says something, or is refused.
 use Rattle.std.proofs.Common.{◌≡◌, ◌≢◌, ◌⊎◌, ◌∙◌, ℕ, ◌<◌, ◌^◌, Bool, false, List, [], ◌∷◌, ◌++◌, length, codes}
-use Rattle.std.proofs.Common.{Option, Some, None, is_some, decimal, inl, inr, refl, sym}
+use Rattle.std.proofs.Common.{Option, Some, None, is_some, decimal, inl, inr, refl, sym, ap, eqb}
 use Rattle.std.specs.Str.{is_utf8}
+use Rattle.std.specs.List.{position}
 use Rattle.std.proofs.lemmas.Bool.{cases_eq}
 use Rattle.std.proofs.lemmas.Str.{IsUtf8-from_is_utf8, is_utf8-from_IsUtf8}
 use Rattle.std.proofs.lemmas.List.{append_cancel_left}
@@ -11,9 +12,10 @@ use Rattle.serde_json.specs.Read.{read}
 use Rattle.vol_units.specs.Name.{IsName, IsSnapName, IsPlainName, IsLayerName, sys_name}
 use Rattle.vol_units.specs.Size.{IsVolumeSize}
 use Rattle.vol_units.specs.Time.{IsTimeText}
-use Rattle.volume_model.specs.Commands.{IsCommand, NamesReplica}
+use Rattle.volume_model.specs.Commands.{IsCommand, NamesReplica, ArePartsOf, names_text}
 use Rattle.volume_model.specs.declared.command.Command.{Command}
 use Rattle.volume_model.specs.declared.command.Command.TheVariants as command
+use Rattle.volume_model.proofs.NameParts.{no_names, no_backup, parted_into, parted_not}
 use Rattle.volume_model.proofs.TextLemmas.{same_text}
 use Rattle.script_head.specs.declared.error.HeadError.{HeadError}
 use Rattle.script_head.specs.declared.error.HeadError.TheVariants.{Json, BadMember, NoMemory}
@@ -26,7 +28,7 @@ use Rattle.script_head.specs.declared.member.Member.TheVariants as member_of
 use Rattle.script_head.specs.Limits.{most_input, most_replicas, most_streams, most_calls, most_failures, largest_carry}
 use Rattle.script_head.specs.LinePlans.{RisesAbove, AreApart, NoPairTwice}
 use Rattle.script_head.specs.Values.{whole, member, member_or}
-use Rattle.script_head.specs.Members.{IsCommandItem, IsStreamItem, HasReplicas, HasFlag, HasStreams, IsCarryItem}
+use Rattle.script_head.specs.Members.{IsCommandItem, IsServed, IsStreamItem, HasReplicas, HasFlag, HasStreams, IsCarryItem}
 use Rattle.script_head.specs.Members.{HasFail, HasNumberBelow, IsLinePlan, ArePlans, IsGood, IsFirstBadOf, in_order}
 use Rattle.script_head.specs.Head.{IsObject, IsScriptHead, Says, RefusesLine}
 use Rattle.script_head.proofs.Known.{Known, known_along, known_both, known_either, known_not, known_less, known_most, known_true}
@@ -74,6 +76,23 @@ known_named known word text =
 known_digit : (word text : List ℕ) → Known ((r : ℕ) × (r < 10) × (text ≡ word ++ decimal r))
 known_digit word text = known_below 10 (λ r. known_text text (word ++ decimal r))
 
+-- the names of a backup and of a snapshot, by the first blank of their text
+known_names : (text : List ℕ) → Known ((names : List ℕ × List ℕ)
+    × (text ≡ names_text names.0 names.1) × IsPlainName names.0 × IsLayerName names.1)
+known_names text = by_blank (position (λ byte. eqb byte 32) text) refl
+  where
+    HasNames : Type 0
+    HasNames = (names : List ℕ × List ℕ) × (text ≡ names_text names.0 names.1) × IsPlainName names.0 × IsLayerName names.1
+
+    by_names : (first rest : List ℕ) → ArePartsOf text first rest → Known (IsPlainName first × IsLayerName rest) → Known HasNames
+    by_names first rest parts (inl good) = inl ((first, rest), parts.whole, good.0, good.1)
+    by_names first rest parts (inr bad) =
+        inr (λ has. no_backup text first rest parts (λ plain layer. bad (plain, layer)) has.0.0 has.0.1 has.2 has.3 has.1)
+
+    by_blank : (blank : Option ℕ) → position (λ byte. eqb byte 32) text ≡ blank → Known HasNames
+    by_blank None found = inr (λ has. no_names text has.0.0 has.0.1 (parted_not text found) has.1)
+    by_blank (Some n) found = by_names _ _ (parted_into text n found) (known_both (known_plain_name _) (known_layer_name _))
+
 -- which command a text is, as a choice
 abbrev Choice : List ℕ → Type 0
 Choice text =
@@ -83,7 +102,9 @@ Choice text =
     ⊎ ((text ≡ codes "purge")
     ⊎ ((text ≡ codes "status")
     ⊎ (((r : ℕ) × (r < 10) × (text ≡ codes "fail r" ++ decimal r))
-    ⊎ ((r : ℕ) × (r < 10) × (text ≡ codes "add r" ++ decimal r)))))))
+    ⊎ (((r : ℕ) × (r < 10) × (text ≡ codes "add r" ++ decimal r))
+    ⊎ ((names : List ℕ) × (text ≡ codes "backup " ++ names) × ((parts : List ℕ × List ℕ)
+    × (names ≡ names_text parts.0 parts.1) × IsPlainName parts.0 × IsLayerName parts.1))))))))
 
 to_command : (text : List ℕ) → Choice text → (c : Command) × IsCommand text c
 to_command text (inl (name, is, good)) = (command.Snapshot name, record { named = good; spelled = is })
@@ -92,7 +113,9 @@ to_command text (inr (inr (inl (name, is, good)))) = (command.Revert name, recor
 to_command text (inr (inr (inr (inl is)))) = (command.Purge, record { named = tt; spelled = is })
 to_command text (inr (inr (inr (inr (inl is))))) = (command.Status, record { named = tt; spelled = is })
 to_command text (inr (inr (inr (inr (inr (inl (r, small, is))))))) = (command.Fail r, record { named = small; spelled = is })
-to_command text (inr (inr (inr (inr (inr (inr (r, small, is))))))) = (command.Add r, record { named = small; spelled = is })
+to_command text (inr (inr (inr (inr (inr (inr (inl (r, small, is)))))))) = (command.Add r, record { named = small; spelled = is })
+to_command text (inr (inr (inr (inr (inr (inr (inr (names, is, (parts, spelled, plain, layer))))))))) =
+    (command.Backup parts.0 parts.1, record { named = (plain, layer); spelled = is ∙ ap (λ l. codes "backup " ++ l) spelled })
 
 to_choice : (text : List ℕ) (c : Command) → IsCommand text c → Choice text
 to_choice text (command.Snapshot name) is = inl (name, is.spelled, is.named)
@@ -101,7 +124,9 @@ to_choice text (command.Revert name) is = inr (inr (inl (name, is.spelled, is.na
 to_choice text command.Purge is = inr (inr (inr (inl is.spelled)))
 to_choice text command.Status is = inr (inr (inr (inr (inl is.spelled))))
 to_choice text (command.Fail r) is = inr (inr (inr (inr (inr (inl (r, is.named, is.spelled))))))
-to_choice text (command.Add r) is = inr (inr (inr (inr (inr (inr (r, is.named, is.spelled))))))
+to_choice text (command.Add r) is = inr (inr (inr (inr (inr (inr (inl (r, is.named, is.spelled)))))))
+to_choice text (command.Backup backup snapshot) is =
+    inr (inr (inr (inr (inr (inr (inr (names_text backup snapshot, is.spelled, ((backup, snapshot), refl, is.named.0, is.named.1))))))))
 
 known_command : (text : List ℕ) → Known ((c : Command) × IsCommand text c)
 known_command text =
@@ -111,7 +136,8 @@ known_command text =
     (known_either (known_named known_layer_name (codes "revert ") text)
     (known_either (known_text text (codes "purge"))
     (known_either (known_text text (codes "status"))
-    (known_either (known_digit (codes "fail r") text) (known_digit (codes "add r") text)))))))
+    (known_either (known_digit (codes "fail r") text)
+    (known_either (known_digit (codes "add r") text) (known_named known_names (codes "backup ") text))))))))
 
 known_replica : (replicas : ℕ) (c : Command) → Known (NamesReplica replicas c)
 known_replica replicas (command.Fail r) = known_less r replicas
@@ -121,12 +147,24 @@ known_replica replicas (command.Remove name) = inl tt
 known_replica replicas (command.Revert name) = inl tt
 known_replica replicas command.Purge = inl tt
 known_replica replicas command.Status = inl tt
+known_replica replicas (command.Backup backup snapshot) = inl tt
+
+known_served : (c : Command) → Known (IsServed c)
+known_served (command.Backup backup snapshot) = inr (λ served. served)
+known_served (command.Snapshot name) = inl tt
+known_served (command.Remove name) = inl tt
+known_served (command.Revert name) = inl tt
+known_served command.Purge = inl tt
+known_served command.Status = inl tt
+known_served (command.Fail r) = inl tt
+known_served (command.Add r) = inl tt
 
 known_command_item : (replicas : ℕ) (d : Data) → Known ((c : Command) × IsCommandItem replicas d c)
 known_command_item replicas d =
-    known_along (λ found. (found.2.0, (found.0, found.1, found.2.1, found.2.2)))
-    (λ found. (found.1.0, found.1.1, (found.0, found.1.2, found.1.3)))
-    (known_held (as_str d) (λ text. known_of_one (same_text text) (known_command text) (known_replica replicas)))
+    known_along (λ found. (found.2.0, (found.0, found.1, found.2.1, found.2.2.0, found.2.2.1)))
+    (λ found. (found.1.0, found.1.1, (found.0, found.1.2, (found.1.3, found.1.4))))
+    (known_held (as_str d) (λ text. known_of_one (same_text text) (known_command text)
+    (λ c. known_both (known_replica replicas c) (known_served c))))
 
 -- ---- streams
 

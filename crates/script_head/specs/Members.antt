@@ -7,6 +7,7 @@ use Rattle.vol_units.specs.Name.{IsPlainName}
 use Rattle.vol_units.specs.Size.{IsVolumeSize}
 use Rattle.volume_model.specs.Commands.{IsCommand, NamesReplica}
 use Rattle.volume_model.specs.declared.command.Command.{Command}
+use Rattle.volume_model.specs.declared.command.Command.TheVariants.{Backup}
 use Rattle.script_head.specs.declared.head.StreamHead.{StreamHead}
 use Rattle.script_head.specs.declared.head.StreamHead.TheVariants as stream
 use Rattle.script_head.specs.declared.line_plan.LinePlan.{LinePlan}
@@ -38,10 +39,15 @@ HasFlag line name flag = member_or false as_bool name line ≡ Some flag
 abbrev pub HasNow : Data → List ℕ → Type 0
 HasNow line text = (member_or [] as_str (codes "now") line ≡ Some text) × IsTimeText text
 
+-- there is a worker that serves the command: none makes a backup yet
+abbrev pub IsServed : Command → Type 0
+IsServed (Backup backup snapshot) = ⊥
+IsServed c = Unit {0}
+
 -- an item of `control`: the text of a command
 abbrev pub IsCommandItem : ℕ → Data → Command → Type 0
 IsCommandItem replicas d c = (text : List ℕ) × (as_str d ≡ Some text)
-    × IsCommand text c × NamesReplica replicas c
+    × IsCommand text c × NamesReplica replicas c × IsServed c
 
 -- An item of `streams`: a number of bytes under `frames`, or a list of commands under `control`, and one of them alone.
 abbrev pub IsStreamItem : ℕ → Data → StreamHead → Type 0

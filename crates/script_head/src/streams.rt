@@ -4,7 +4,7 @@ ghost use Rattle.std.specs.Prelude.{◌≡◌, ◌↔◌, ◌≤◌, IsTrue, Som
 ghost use Rattle.serde_json.specs.View.{view, items_view};
 ghost use Rattle.script_head.specs.Refusals.{Reads};
 ghost use Rattle.script_head.specs.Limits.{most_calls, most_input};
-ghost use Rattle.script_head.specs.Members.{IsCommandItem, IsStreamItem};
+ghost use Rattle.script_head.specs.Members.{IsCommandItem, IsServed, IsStreamItem};
 ghost use Rattle.volume_model.specs.Commands.{NamesReplica};
 ghost use Rattle.script_head.specs.Values.{whole, AreItems, HasItems};
 
@@ -85,7 +85,7 @@ fn command_of(item: &Value, replicas: u8) -> Result<Command, HeadError>
 {
     let text = item.as_str().ok_or(BAD)?;
     match Command::read(text.as_bytes()) {
-        Ok(command) if names_replica(&command, replicas) => Ok(command),
+        Ok(command) if names_replica(&command, replicas) && is_served(&command) => Ok(command),
         _ => Err(BAD),
     }
 }
@@ -98,4 +98,11 @@ fn names_replica(command: &Command, replicas: u8) -> bool
         Command::Fail(replica) | Command::Add(replica) => *replica < replicas,
         _ => true,
     }
+}
+
+/// Whether there is a worker that serves the command.
+fn is_served(command: &Command) -> bool
+    ensures { IsTrue result ↔ IsServed command.now }
+{
+    !matches!(command, Command::Backup { .. })
 }

@@ -51,7 +51,7 @@ few_streams input script is =
 -- ---- streams
 
 good_command : (replicas : ℕ) (d : Data) (c : Command) → IsCommandItem replicas d c → IsGoodCommand replicas c
-good_command replicas d c (text, there, is, names) = record { named = is.named; there = names }
+good_command replicas d c (text, there, is, names, served) = record { named = is.named; there = names; served = served }
 
 good_stream : (replicas : ℕ) (d : Data) (h : StreamHead) (bytes : List ℕ) (s : Stream) → IsStreamItem replicas d h
     → IsStreamOf h bytes s → IsGoodStream replicas s

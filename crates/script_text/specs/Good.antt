@@ -6,14 +6,16 @@ use Rattle.frame_stream.specs.Asked.{asked_of, call_of}
 use Rattle.frame_stream.specs.declared.asked.Asked.TheVariants as asked
 use Rattle.script_head.specs.Limits.{most_failures, largest_carry}
 use Rattle.script_head.specs.LinePlans.{RisesAbove}
+use Rattle.script_head.specs.Members.{IsServed}
 use Rattle.script_head.specs.declared.line_plan.LinePlan.{LinePlan}
 use Rattle.script_text.specs.declared.script.Stream.{Stream}
 use Rattle.script_text.specs.declared.script.Stream.TheVariants as stream
 
--- a command that a script of so many replicas may have
+-- a command that a script of so many replicas may have: it is of one that is there, and a worker serves it
 pub record IsGoodCommand (replicas : ℕ) (c : Command) : Type 0 where
   pub named : HasGoodName c
   pub there : NamesReplica replicas c
+  pub served : IsServed c
 
 -- a stream of frames that are calls, or of such commands
 abbrev pub IsGoodStream : ℕ → Stream → Type 0

@@ -40,7 +40,7 @@ pub fn a_script_has_few_streams()
         → (1 ≤ length script.streams) × (length script.streams ≤ 16) }
 {}
 
-/// Its frames ask calls, and its commands are such as it may have, of replicas that are there.
+/// Its frames ask calls, and its commands are such as it may have: of replicas that are there, and none that no worker serves.
 pub fn a_script_has_good_streams()
     ensures { (input : List ℕ) (script : Script)
         → IsScript input script → All (IsGoodStream script.replicas) script.streams }
