@@ -1,5 +1,5 @@
 -- All bytes of the blocks of a write, as a disk has them with the write's own put in.
-use Rattle.std.proofs.Common.{◌≡◌, ℕ, ◌+◌, ◌-◌, ◌<◌, ◌≤◌, List, length, get_or, sym, ap, ◌∙◌, arith}
+use Rattle.std.proofs.Common.{◌≡◌, ℕ, ◌+◌, ◌-◌, ◌<◌, ◌≤◌, List, length, get_or, sym, arith}
 use Rattle.std.proofs.lemmas.List.{places, length-append, length-take, length-drop, ext_get_or}
 use Rattle.vol_units.specs.Bytes.{bytes_at, with_bytes_at}
 

@@ -10,8 +10,8 @@ use Rattle.volume_model.specs.declared.entry.Entry.{Entry}
 use Rattle.volume_model.specs.declared.entry.Entry.TheVariants as entry
 use Rattle.volume_model.specs.declared.mark.Mark.TheVariants as mark
 use Rattle.volume_model.specs.declared.mark.Rebuild.TheVariants as rebuild
-use Rattle.volume_model.specs.declared.mode.Mode.{Mode}
 use Rattle.volume_model.specs.Faults.{last_count}
+use Rattle.volume_model.specs.History.{Spot}
 use Rattle.volume_model.specs.OneWorker.{refused_at}
 use Rattle.volume_model.specs.Rebuilds.{rebuild_of}
 use Rattle.stream_steps.specs.declared.add.Added.{Added}
@@ -152,9 +152,9 @@ pub record LeavesOpen (m m2 : Mine) (keeps : Type 0) : Type 0 where
 
 -- the mark tells that the replica is promoted, and the add is answered that it is done
 pub record Promotes (r : ℕ) (o : OwnCall) (m m2 : Mine) : Type 0 where
-  pub modes : List Mode
+  pub spot : Spot
   pub answer : Answer
-  pub is : m2 ≡ with_entries m (answer_placed modes answer ∷ []) (entry.Mark (mark.Promoted r) ∷ entry.Answer answer ∷ []) []
+  pub is : m2 ≡ with_entries m (answer_placed spot answer ∷ []) (entry.Mark (mark.Promoted r) ∷ entry.Answer answer ∷ []) []
   pub call : answer.call ≡ o.call
   pub by : answer.stream ≡ m.stream
   pub saw : answer.saw ≡ o.saw
@@ -170,9 +170,9 @@ pub record AbandonsAdd (o : OwnCall) (m m2 : Mine) : Type 0 where
   pub place : ℕ
   pub marks : List Entry
   pub are : AreAborts marks
-  pub modes : List Mode
+  pub spot : Spot
   pub answer : Answer
-  pub is : m2 ≡ with_entries m (answer_placed modes answer ∷ []) (marks ++ entry.Answer answer ∷ []) []
+  pub is : m2 ≡ with_entries m (answer_placed spot answer ∷ []) (marks ++ entry.Answer answer ∷ []) []
   pub call : answer.call ≡ o.call
   pub by : answer.stream ≡ m.stream
   pub saw : answer.saw ≡ o.saw

@@ -14,6 +14,7 @@ use Rattle.volume_model.specs.declared.mark.Mark.TheVariants as mark
 use Rattle.volume_model.specs.declared.mode.Mode.{Mode}
 use Rattle.volume_model.specs.declared.mode.Mode.TheVariants.{Err}
 use Rattle.vol_units.specs.Name.{sys_name}
+use Rattle.volume_model.specs.History.{Spot}
 use Rattle.volume_model.specs.Modes.{mode_of, source_of, HasSource, HasNoSource}
 use Rattle.volume_model.specs.OneWorker.{refused_at}
 use Rattle.volume_model.specs.Purge.{next_of}
@@ -122,10 +123,10 @@ pub record EnrolsOr (t : ℕ) (op : WholeOp) (number : Option ℕ) (against : Ty
 
 -- its open call is answered, and none is open
 pub record AnswersWhole (o : OwnCall) (r : Reply) (m m2 : Mine) : Type 0 where
-  pub modes : List Mode
+  pub spot : Spot
   pub answer : Answer
-  pub is : m2 ≡ with_more m (answer_placed modes answer ∷ []) []
-  pub here : IfSome m.log (λ log. log.spot.modes ≡ modes)
+  pub is : m2 ≡ with_more m (answer_placed spot answer ∷ []) []
+  pub here : IfSome m.log (λ log. log.spot ≡ spot)
   pub call : answer.call ≡ o.call
   pub by : answer.stream ≡ m.stream
   pub saw : answer.saw ≡ o.saw

@@ -7,25 +7,24 @@ use Rattle.volume_model.specs.declared.entry.Answer.{Answer}
 use Rattle.volume_model.specs.declared.entry.Entry.{Entry}
 use Rattle.volume_model.specs.declared.entry.Entry.TheVariants as entry
 use Rattle.volume_model.specs.declared.mark.Mark.TheVariants as mark
-use Rattle.volume_model.specs.declared.mode.Mode.{Mode}
 use Rattle.volume_model.specs.History.{Spot}
 use Rattle.volume_model.specs.OneWorker.{behind_entries}
 use Rattle.step_answers.specs.declared.parts.Part.{Part}
 use Rattle.step_answers.specs.declared.whole_op.WholeOp.{WholeOp}
 
--- an entry of the stream, with the mode of each replica before it
+-- an entry of the stream, with where the run stood before it
 pub record Placed : Type 0 where
-  pub modes : List Mode
+  pub spot : Spot
   pub entry : Entry
 
 abbrev pub entries_in : List Placed → List Entry
 entries_in es = map (λ (p : Placed). p.entry) es
 
-abbrev pub answer_placed : List Mode → Answer → Placed
-answer_placed modes a = record { modes = modes; entry = entry.Answer a }
+abbrev pub answer_placed : Spot → Answer → Placed
+answer_placed spot a = record { spot = spot; entry = entry.Answer a }
 
-abbrev pub fault_placed : List Mode → ℕ → ℕ → ℕ → Placed
-fault_placed modes stream r count = record { modes = modes; entry = entry.Mark (mark.Fault stream r count) }
+abbrev pub fault_placed : Spot → ℕ → ℕ → ℕ → Placed
+fault_placed spot stream r count = record { spot = spot; entry = entry.Mark (mark.Fault stream r count) }
 
 -- An open call of the stream: its ticket's number and blocks, whether it has started, what was asked, what the caller
 -- had seen, all bytes of a started write's blocks, the bytes that a read has so far, how far each replica is, and what

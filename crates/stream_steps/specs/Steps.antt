@@ -10,8 +10,8 @@ use Rattle.volume_model.specs.declared.call.Call.TheVariants as call
 use Rattle.volume_model.specs.declared.call.Reply.{Reply}
 use Rattle.volume_model.specs.declared.call.Reply.TheVariants as reply
 use Rattle.volume_model.specs.declared.entry.Answer.{Answer}
-use Rattle.volume_model.specs.declared.mode.Mode.{Mode}
 use Rattle.volume_model.specs.declared.mode.Mode.TheVariants.{Rw}
+use Rattle.volume_model.specs.History.{Spot}
 use Rattle.volume_model.specs.Modes.{mode_of}
 use Rattle.step_answers.specs.declared.parts.Part.TheVariants.{Taken, Acked}
 use Rattle.step_answers.specs.Asked.{IsNow}
@@ -105,9 +105,9 @@ IsUncarried c r = Unit {0}
 
 -- the call is answered at once
 pub record AnswersNow (c : Call) (m m2 : Mine) : Type 0 where
-  pub modes : List Mode
+  pub spot : Spot
   pub answer : Answer
-  pub is : m2 ≡ with_more m (answer_placed modes answer ∷ []) []
+  pub is : m2 ≡ with_more m (answer_placed spot answer ∷ []) []
   pub call : answer.call ≡ c
   pub by : answer.stream ≡ m.stream
   pub saw : IfSome (log_length m) (λ place. answer.saw ≡ place)
@@ -116,21 +116,21 @@ pub record AnswersNow (c : Call) (m m2 : Mine) : Type 0 where
 -- An open call is answered. A write was done where each replica that is read and written has acknowledged it, and what
 -- was read are the bytes of one that acknowledged.
 pub record Answers (o : OwnCall) (m m2 : Mine) : Type 0 where
-  pub modes : List Mode
+  pub spot : Spot
   pub answer : Answer
-  pub is : m2 ≡ with_more m (answer_placed modes answer ∷ []) []
-  pub here : IfSome m.log (λ log. log.spot.modes ≡ modes)
+  pub is : m2 ≡ with_more m (answer_placed spot answer ∷ []) []
+  pub here : IfSome m.log (λ log. log.spot ≡ spot)
   pub call : answer.call ≡ o.call
   pub by : answer.stream ≡ m.stream
   pub saw : answer.saw ≡ o.saw
-  pub done : answer.reply ≡ reply.Done → (r : ℕ) → mode_of modes r ≡ Rw → part_at o.parts r ≡ Acked
+  pub done : answer.reply ≡ reply.Done → (r : ℕ) → mode_of spot.modes r ≡ Rw → part_at o.parts r ≡ Acked
   pub read : (bytes : List ℕ) → answer.reply ≡ reply.Read bytes
       → (bytes ≡ o.buffer) × ((r : ℕ) × (r < m.replicas) × (part_at o.parts r ≡ Acked))
 
 -- the same, with nothing carried, since no replica is read and written
 pub record Refuses (o : OwnCall) (m m2 : Mine) : Type 0 where
   pub ends : Answers o m m2
-  pub lost : HasNoSource ends.modes
+  pub lost : HasNoSource ends.spot.modes
   pub uncarried : IsUncarried o.call ends.answer.reply
 
 abbrev pub EnrolsTo : Call → Enrolled → Mine → Mine → Type 0
@@ -214,8 +214,8 @@ AcksTo o r m m2 = m2 ≡ with_running m (record o { parts = slice_set o.parts r 
 
 -- the stream's line to a replica is marked
 pub record FaultsTo (r count : ℕ) (m m2 : Mine) : Type 0 where
-  pub modes : List Mode
-  pub is : m2 ≡ with_more m (fault_placed modes m.stream r count ∷ []) m.running
+  pub spot : Spot
+  pub is : m2 ≡ with_more m (fault_placed spot m.stream r count ∷ []) m.running
 
 -- a rebuild is aborted, or none is
 abbrev pub AreAborts : List Entry → Type 0
@@ -223,9 +223,9 @@ AreAborts es = (es ≡ []) ⊎ ((q : ℕ) × (es ≡ entry.Mark (mark.Aborted q)
 
 -- the same, and behind it stands that a rebuild was aborted thereby, if one was
 pub record FallsTo (r count : ℕ) (m m2 : Mine) : Type 0 where
-  pub modes : List Mode
+  pub spot : Spot
   pub aborted : List Entry
-  pub is : m2 ≡ with_entries m (fault_placed modes m.stream r count ∷ []) (entry.Mark (mark.Fault m.stream r count) ∷ aborted) m.running
+  pub is : m2 ≡ with_entries m (fault_placed spot m.stream r count ∷ []) (entry.Mark (mark.Fault m.stream r count) ∷ aborted) m.running
   pub are : AreAborts aborted
 
 -- ---- commands
@@ -248,9 +248,9 @@ IsCommandAt stream c all answer log = all ≡ entries_at log.spot stream (length
 -- a command of the stream is answered, behind its marks
 pub record CommandsTo (c : Command) (m m2 : Mine) : Type 0 where
   pub marks : List Entry
-  pub modes : List Mode
+  pub spot : Spot
   pub answer : Answer
-  pub is : m2 ≡ with_entries m (answer_placed modes answer ∷ []) (marks ++ entry.Answer answer ∷ []) []
+  pub is : m2 ≡ with_entries m (answer_placed spot answer ∷ []) (marks ++ entry.Answer answer ∷ []) []
   pub are : AreMarks marks
   pub call : answer.call ≡ call.Command c
   pub by : answer.stream ≡ m.stream
