@@ -5,7 +5,7 @@ use Rattle.std.proofs.Common.{arith, ne_eqb}
 use Rattle.std.proofs.lemmas.Bool.{cases_eq}
 use Rattle.outer_traits.specs.Causes.{HasLineCause}
 use Rattle.volume_model.specs.declared.entry.Answer.{Answer}
-use Rattle.volume_model.specs.declared.mode.Mode.{Mode}
+use Rattle.volume_model.specs.History.{Spot}
 use Rattle.volume_model.specs.Faults.{fault_counts, last_in, last_count}
 use Rattle.volume_model.proofs.FaultLemmas.{last_count-append}
 use Rattle.stream_steps.specs.Mine.{Placed, Mine, OwnCall, entries_in, with_more, answer_placed, fault_placed}
@@ -28,10 +28,10 @@ more_counts : (n r : ℕ) (xs : List Placed) (x : Placed)
 more_counts n r xs x = ap (last_count n r) (entries-append xs (x ∷ [])) ∙ last_count-append n r (entries_in xs) (x.entry ∷ [])
 
 -- an answer tells no count
-pub counted_answer : (modes : List Mode) (answer : Answer) (os : List OwnCall) (a b : Mine) (counts : List ℕ)
-    → b ≡ with_more a (answer_placed modes answer ∷ []) os → Counted a counts → Counted b counts
-counted_answer modes answer os a b counts e h = counted_same (with_more a (answer_placed modes answer ∷ []) os) b counts e
-    (λ r. subst (λ (n : ℕ). n ≤ get_or counts r 0) (sym (more_counts a.stream r a.entries (answer_placed modes answer))) (h r))
+pub counted_answer : (spot : Spot) (answer : Answer) (os : List OwnCall) (a b : Mine) (counts : List ℕ)
+    → b ≡ with_more a (answer_placed spot answer ∷ []) os → Counted a counts → Counted b counts
+counted_answer spot answer os a b counts e h = counted_same (with_more a (answer_placed spot answer ∷ []) os) b counts e
+    (λ r. subst (λ (n : ℕ). n ≤ get_or counts r 0) (sym (more_counts a.stream r a.entries (answer_placed spot answer))) (h r))
 
 first_of : (b : Bool) (c n k : ℕ) → n ≤ k → (b ≡ true → c ≤ k) → last_in n (cond b (c ∷ []) []) ≤ k
 first_of true c n k h f = f refl
@@ -44,9 +44,9 @@ and_right false y e = absurd cc
 -- a mark tells the line's count
 pub counted_fault : (r count : ℕ) (a b : Mine) (counts : List ℕ) → FaultsTo r count a b → count ≤ get_or counts r 0
     → Counted a counts → Counted b counts
-counted_fault r count a b counts s low h = counted_same (with_more a (fault_placed s.modes a.stream r count ∷ []) a.running)
+counted_fault r count a b counts s low h = counted_same (with_more a (fault_placed s.spot a.stream r count ∷ []) a.running)
     b counts s.is (λ k.
-    subst (λ (n : ℕ). n ≤ get_or counts k 0) (sym (more_counts a.stream k a.entries (fault_placed s.modes a.stream r count)))
+    subst (λ (n : ℕ). n ≤ get_or counts k 0) (sym (more_counts a.stream k a.entries (fault_placed s.spot a.stream r count)))
     (first_of (eqb a.stream a.stream && eqb r k) count (last_count a.stream k (entries_in a.entries)) (get_or counts k 0) (h k)
     (λ e. ⊎_elim (λ (same : r ≡ k). subst (λ (j : ℕ). count ≤ get_or counts j 0) same low)
     (λ other. let f : true ≡ false = sym (and_right (eqb a.stream a.stream) (eqb r k) e) ∙ ne_eqb r k other in

@@ -69,12 +69,12 @@ goes_then a b c f h = λ o r.
 
 goes_fault : (r count : ℕ) (a b : Mine) → FaultsTo r count a b → KeepsOpen a b
 goes_fault r count a b f = λ o e. record {
-  marks = fault_placed f.modes a.stream r count ∷ [];
+  marks = fault_placed f.spot a.stream r count ∷ [];
   buffer = o.buffer;
   parts = o.parts;
   long = refl;
   faults = one_fault a.stream r count;
-  is = f.is ∙ ap (with_more a (fault_placed f.modes a.stream r count ∷ [])) e;
+  is = f.is ∙ ap (with_more a (fault_placed f.spot a.stream r count ∷ [])) e;
 }
 
 pub goes_told : {E : Type 0} (res : Result (Unit {0}) E) (r count : ℕ) (a b : Mine) → OnOk res (FaultsTo r count a b)

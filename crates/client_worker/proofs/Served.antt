@@ -22,10 +22,10 @@ use Rattle.client_worker.proofs.Going.{after, goes_running, own_of, no_faults}
 ends_answered : (o : OwnCall) (a b c : Mine) (g : StaysOpen o a b) → Answers (after o a b g) b c → EndsTo o a c
 ends_answered o a b c g s = record {
   marks = g.marks;
-  modes = s.modes;
+  spot = s.spot;
   answer = s.answer;
-  is = s.is ∙ ap (λ (m : Mine). with_more m (answer_placed s.modes s.answer ∷ []) []) g.is
-      ∙ more_twice a g.marks (answer_placed s.modes s.answer ∷ []) (after o a b g ∷ []) [];
+  is = s.is ∙ ap (λ (m : Mine). with_more m (answer_placed s.spot s.answer ∷ []) []) g.is
+      ∙ more_twice a g.marks (answer_placed s.spot s.answer ∷ []) (after o a b g ∷ []) [];
   faults = g.faults;
   call = s.call;
   by = s.by ∙ ap (λ (m : Mine). m.stream) g.is;
@@ -54,7 +54,7 @@ pub takes_refused : (o : OwnCall) (a b : Mine) → Refuses o a b → TakesUp o a
 takes_refused o a b s = record {
   ends = record {
     marks = [];
-    modes = s.ends.modes;
+    spot = s.ends.spot;
     answer = s.ends.answer;
     is = s.ends.is;
     faults = no_faults a.stream;
@@ -70,9 +70,9 @@ pub takes_started : (o p : OwnCall) (a b c : Mine) → BeginsAs o p a b → Ends
 takes_started o p a b c g s = record {
   ends = record {
     marks = s.marks;
-    modes = s.modes;
+    spot = s.spot;
     answer = s.answer;
-    is = s.is ∙ ap (λ (m : Mine). with_more m (s.marks ++ answer_placed s.modes s.answer ∷ []) []) g.is;
+    is = s.is ∙ ap (λ (m : Mine). with_more m (s.marks ++ answer_placed s.spot s.answer ∷ []) []) g.is;
     faults = subst (λ n. All (IsOwnFault n) (entries_in s.marks)) (ap (λ (m : Mine). m.stream) g.is) s.faults;
     call = s.call ∙ g.call;
     by = s.by ∙ ap (λ (m : Mine). m.stream) g.is;
@@ -91,12 +91,12 @@ grew_enrolled t c a b d e s =
     let n = s.ends in
     let log : b.log ≡ a.log = ap (λ (m : Mine). m.log) e.is in
     record {
-      added = n.marks ++ answer_placed n.modes n.answer ∷ [];
-      is = n.is ∙ ap (λ (m : Mine). with_more m (n.marks ++ answer_placed n.modes n.answer ∷ []) []) e.is;
+      added = n.marks ++ answer_placed n.spot n.answer ∷ [];
+      is = n.is ∙ ap (λ (m : Mine). with_more m (n.marks ++ answer_placed n.spot n.answer ∷ []) []) e.is;
       served = record {
         marks = entries_in n.marks;
         answer = n.answer;
-        is = entries-append n.marks (answer_placed n.modes n.answer ∷ []);
+        is = entries-append n.marks (answer_placed n.spot n.answer ∷ []);
         faults = subst (λ k. All (IsOwnFault k) (entries_in n.marks)) (ap (λ (m : Mine). m.stream) e.is) n.faults;
         call = n.call ∙ e.call;
         by = n.by ∙ ap (λ (m : Mine). m.stream) e.is;
@@ -107,7 +107,7 @@ grew_enrolled t c a b d e s =
 
 pub grew_now : (c : Call) (a b : Mine) → AnswersNow c a b → GrewBy c a b
 grew_now c a b s = record {
-  added = answer_placed s.modes s.answer ∷ [];
+  added = answer_placed s.spot s.answer ∷ [];
   is = s.is;
   served = record {
     marks = [];

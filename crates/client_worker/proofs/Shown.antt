@@ -9,6 +9,7 @@ use Rattle.volume_model.specs.declared.call.Reply.TheVariants as reply
 use Rattle.volume_model.specs.declared.entry.Answer.{Answer}
 use Rattle.volume_model.specs.declared.mode.Mode.{Mode}
 use Rattle.volume_model.specs.declared.mode.Mode.TheVariants.{Rw}
+use Rattle.volume_model.specs.History.{Spot}
 use Rattle.volume_model.specs.Modes.{mode_of}
 use Rattle.step_answers.specs.declared.parts.Part.{Part}
 use Rattle.step_answers.specs.declared.parts.Part.TheVariants.{Taken, Acked}
@@ -42,20 +43,20 @@ shown_later m before now told told2 later on h = record {
 -- the stream has one entry more, and these calls open
 pub shown_more : (x : Placed) (os : List OwnCall) (a b : Mine) (counts : List ℕ) (carried : List (Option (List (List ℕ))))
     → b ≡ with_more a (x ∷ []) os → Counted b counts → CarryFrames (told_in carried)
-    → IsCarried a.replicas (told_in carried) x.modes x.entry → AreCarried a.replicas (told_in carried) a.entries
+    → IsCarried a.replicas (told_in carried) x.spot.modes x.entry → AreCarried a.replicas (told_in carried) a.entries
     → ((o : OwnCall) → os ≡ o ∷ [] → o.started ≡ true → AreAcked (told_in carried) o) → IsShown b counts carried
 shown_more x os a b counts carried e counted framed here before acked =
     subst (λ (m : Mine). IsShown m counts carried) (sym e) (record {
       counted = counted_same b (with_more a (x ∷ []) os) counts (sym e) counted;
       framed = framed;
-      answered = All-push (λ (p : Placed). IsCarried a.replicas (told_in carried) p.modes p.entry) a.entries x before here;
+      answered = All-push (λ (p : Placed). IsCarried a.replicas (told_in carried) p.spot.modes p.entry) a.entries x before here;
       acked = acked;
     })
 
 shown_fault : (r count : ℕ) (a b : Mine) (counts : List ℕ) (carried : List (Option (List (List ℕ)))) → FaultsTo r count a b
     → count ≤ get_or counts r 0 → IsShown a counts carried → IsShown b counts carried
 shown_fault r count a b counts carried s low h =
-    shown_more (fault_placed s.modes a.stream r count) a.running a b counts carried s.is
+    shown_more (fault_placed s.spot a.stream r count) a.running a b counts carried s.is
     (counted_fault r count a b counts s low h.counted) h.framed tt h.answered h.acked
 
 pub shown_told : {E : Type 0} (res : Result (Unit {0}) E) (r count : ℕ) (a b : Mine) (counts : List ℕ)
@@ -125,10 +126,10 @@ shows_answers : (o : OwnCall) (a b : Mine) → a.running ≡ o ∷ [] → o.star
 shows_answers o a b run started s = (
   ap (λ (m : Mine). m.replicas) s.is,
   λ counts carried h.
-      shown_more (answer_placed s.modes s.answer) [] a b counts carried s.is
-      (counted_answer s.modes s.answer [] a b counts s.is h.counted) h.framed
-      (subst (λ c. CarriedOf a.replicas (told_in carried) s.modes c s.answer.reply) (sym s.call)
-      (answered a.replicas (told_in carried) s.modes o.call s.answer.reply o.parts o.buffer (h.acked o run started) s.done s.read))
+      shown_more (answer_placed s.spot s.answer) [] a b counts carried s.is
+      (counted_answer s.spot s.answer [] a b counts s.is h.counted) h.framed
+      (subst (λ c. CarriedOf a.replicas (told_in carried) s.spot.modes c s.answer.reply) (sym s.call)
+      (answered a.replicas (told_in carried) s.spot.modes o.call s.answer.reply o.parts o.buffer (h.acked o run started) s.done s.read))
       h.answered (λ p e. absurd (no_call p e)),
 )
 
@@ -138,22 +139,22 @@ shows_done (Ok x) t a b op ok err = shows_answers op.0 a b op.1.is op.2.0 (ok op
 shows_done (Err e) t a b op ok err = shows_same a b err
 
 -- with nothing carried, whatever was open
-shows_uncarried : (modes : List Mode) (answer : Answer) (c : Call) (a b : Mine) → b ≡ with_more a (answer_placed modes answer ∷ []) []
+shows_uncarried : (spot : Spot) (answer : Answer) (c : Call) (a b : Mine) → b ≡ with_more a (answer_placed spot answer ∷ []) []
     → answer.call ≡ c → IsUncarried c answer.reply → ShowsOn a b
-shows_uncarried modes answer c a b is call none = (
+shows_uncarried spot answer c a b is call none = (
   ap (λ (m : Mine). m.replicas) is,
   λ counts carried h.
-      shown_more (answer_placed modes answer) [] a b counts carried is (counted_answer modes answer [] a b counts is h.counted) h.framed
-      (subst (λ x. CarriedOf a.replicas (told_in carried) modes x answer.reply) (sym call)
-      (uncarried a.replicas (told_in carried) modes c answer.reply none))
+      shown_more (answer_placed spot answer) [] a b counts carried is (counted_answer spot answer [] a b counts is h.counted) h.framed
+      (subst (λ x. CarriedOf a.replicas (told_in carried) spot.modes x answer.reply) (sym call)
+      (uncarried a.replicas (told_in carried) spot.modes c answer.reply none))
       h.answered (λ p e. absurd (no_call p e)),
 )
 
 pub shows_refuses : (o : OwnCall) (a b : Mine) → Refuses o a b → ShowsOn a b
-shows_refuses o a b s = shows_uncarried s.ends.modes s.ends.answer o.call a b s.ends.is s.ends.call s.uncarried
+shows_refuses o a b s = shows_uncarried s.ends.spot s.ends.answer o.call a b s.ends.is s.ends.call s.uncarried
 
 pub shows_now : (c : Call) (a b : Mine) → AnswersNow c a b → ShowsOn a b
-shows_now c a b s = shows_uncarried s.modes s.answer c a b s.is s.call s.uncarried
+shows_now c a b s = shows_uncarried s.spot s.answer c a b s.is s.call s.uncarried
 
 -- ---- another open call
 

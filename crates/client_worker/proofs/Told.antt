@@ -93,8 +93,8 @@ module _ (before now : List (Option (List (List ℕ)))) (on : TellOn before now)
   carries-on n modes (entry.Mark m) h = tt
 
   pub are_carried-on : (n : ℕ) (ps : List Placed) → AreCarried n (told_in before) ps → AreCarried n (told_in now) ps
-  are_carried-on n ps h = All-weaker (λ (p : Placed). IsCarried n (told_in before) p.modes p.entry)
-      (λ (p : Placed). IsCarried n (told_in now) p.modes p.entry) (λ p. carries-on n p.modes p.entry) ps h
+  are_carried-on n ps h = All-weaker (λ (p : Placed). IsCarried n (told_in before) p.spot.modes p.entry)
+      (λ (p : Placed). IsCarried n (told_in now) p.spot.modes p.entry) (λ p. carries-on n p.spot.modes p.entry) ps h
 
 -- ---- whole frames
 

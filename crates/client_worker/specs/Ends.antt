@@ -2,7 +2,7 @@
 use Rattle.std.specs.Prelude.{◌≡◌, ◌≢◌, ℕ, List, [], ◌∷◌, ◌++◌, All, Option, None, Some, IfSome}
 use Rattle.volume_model.specs.declared.call.Reply.TheVariants as reply
 use Rattle.volume_model.specs.declared.entry.Answer.{Answer}
-use Rattle.volume_model.specs.declared.mode.Mode.{Mode}
+use Rattle.volume_model.specs.History.{Spot}
 use Rattle.volume_model.specs.Modes.{HasSource}
 use Rattle.step_answers.specs.declared.parts.Part.TheVariants.{Acked}
 use Rattle.step_answers.specs.Parts.{part_at}
@@ -40,9 +40,9 @@ StartsOr o (Some job) m m2 = StartsCall o job m m2
 -- the stream's open call is answered, behind faults of its lines, and none is open
 pub record EndsTo (o : OwnCall) (m m2 : Mine) : Type 0 where
   pub marks : List Placed
-  pub modes : List Mode
+  pub spot : Spot
   pub answer : Answer
-  pub is : m2 ≡ with_more m (marks ++ answer_placed modes answer ∷ []) []
+  pub is : m2 ≡ with_more m (marks ++ answer_placed spot answer ∷ []) []
   pub faults : All (IsOwnFault m.stream) (entries_in marks)
   pub call : answer.call ≡ o.call
   pub by : answer.stream ≡ m.stream

@@ -77,7 +77,7 @@ IsCarried replicas told modes (entry.Answer a) = CarriedOf replicas told modes a
 IsCarried replicas told modes (entry.Mark m) = Unit {0}
 
 abbrev pub AreCarried : ℕ → (ℕ → Option (List (List ℕ))) → List Placed → Type 0
-AreCarried replicas told ps = All (λ (p : Placed). IsCarried replicas told p.modes p.entry) ps
+AreCarried replicas told ps = All (λ (p : Placed). IsCarried replicas told p.spot.modes p.entry) ps
 
 -- ---- of a journal
 

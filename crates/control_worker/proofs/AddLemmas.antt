@@ -63,9 +63,9 @@ module _ (r : ℕ) (o : OwnCall) (a c d : Mine) (from : c ≡ with_running a (o 
       let by : w.answer.stream ≡ a.stream = w.by ∙ stream_same in
       let seen : IfSome a.log (λ l. w.answer.saw ≡ length_of l) = known a.log o.saw w.answer.saw w.saw saw in
       record {
-        own = answer_placed w.modes w.answer ∷ [];
+        own = answer_placed w.spot w.answer ∷ [];
         all = entry.Answer w.answer ∷ [];
-        is = w.is ∙ ap (λ (m : Mine). with_more m (answer_placed w.modes w.answer ∷ []) []) from;
+        is = w.is ∙ ap (λ (m : Mine). with_more m (answer_placed w.spot w.answer ∷ []) []) from;
         same = refl;
         done = record {
           marks = [];
@@ -130,7 +130,7 @@ module _ (r : ℕ) (o : OwnCall) (a c d : Mine) (from : c ≡ with_running a (o 
         let promoted = entry.Mark (mark.Promoted r) in
         let last = entry.Mark (mark.Promoted r) ∷ entry.Answer p.answer ∷ [] in
         let first = entry.Mark (mark.Added r g.source g.name) ∷ g.marks in
-        let own = answer_placed p.modes p.answer ∷ [] in
+        let own = answer_placed p.spot p.answer ∷ [] in
         let by : p.answer.stream ≡ a.stream = p.by ∙ ap (λ (m : Mine). m.stream) begun in
         let seen : IfSome a.log (λ l. p.answer.saw ≡ length_of l) = known a.log o.saw p.answer.saw p.saw saw in
         record {
@@ -189,7 +189,7 @@ module _ (r : ℕ) (o : OwnCall) (a c d : Mine) (from : c ≡ with_running a (o 
     grew_aborted place f e =
         let w = e.answers in
         let first = entry.Mark (mark.Added r g.source g.name) ∷ g.marks in
-        let own = answer_placed w.modes w.answer ∷ [] in
+        let own = answer_placed w.spot w.answer ∷ [] in
         let by : w.answer.stream ≡ a.stream = w.by ∙ ap (λ (m : Mine). m.stream) begun in
         let seen : IfSome a.log (λ l. w.answer.saw ≡ length_of l) = known a.log o.saw w.answer.saw w.saw saw in
         record {
@@ -224,7 +224,7 @@ module _ (r : ℕ) (o : OwnCall) (a c d : Mine) (from : c ≡ with_running a (o 
     left = inl refl;
   }
   left_added f g (inr w) =
-      let own = answer_placed w.modes w.answer ∷ [] in
+      let own = answer_placed w.spot w.answer ∷ [] in
       let begun : d ≡ with_entries a g.own g.marks (o ∷ []) = g.is ∙ ap (λ (m : Mine). with_entries m g.own g.marks (o ∷ [])) from in
       let come : All (MayComeBefore a.stream) g.marks = subst (λ n. All (MayComeBefore n) g.marks) stream_same g.come in
       let last = entry.Answer w.answer ∷ [] in
@@ -236,7 +236,7 @@ module _ (r : ℕ) (o : OwnCall) (a c d : Mine) (from : c ≡ with_running a (o 
             ∙ entries_twice a g.own own g.marks (w.marks ++ last) (o ∷ []) []
             ∙ ap (λ es. with_entries a (g.own ++ own) es []) (sym (append_assoc g.marks w.marks last));
         same = has_both g.own own g.marks (w.marks ++ last) g.same
-            (has_last a.stream w.modes w.answer w.marks (aborts_come a.stream w.marks w.are))
+            (has_last a.stream w.spot w.answer w.marks (aborts_come a.stream w.marks w.are))
             ∙ ap answers_in (sym (append_assoc g.marks w.marks last));
         are = All-append (MayComeBefore a.stream) g.marks w.marks come (aborts_come a.stream w.marks w.are);
         left = inr (record {
@@ -316,10 +316,10 @@ pub refused_barrier : (o own : OwnCall) (a b c : Mine) → b ≡ with_running a 
 refused_barrier o own a b c e call saw s = record {
   why = s.why;
   answers = record {
-    modes = s.answers.modes;
+    spot = s.answers.spot;
     answer = s.answers.answer;
-    is = s.answers.is ∙ ap (λ (m : Mine). with_more m (answer_placed s.answers.modes s.answers.answer ∷ []) []) e;
-    here = subst (λ x. IfSome x (λ (l : Log). l.spot.modes ≡ s.answers.modes)) (ap (λ (m : Mine). m.log) e) s.answers.here;
+    is = s.answers.is ∙ ap (λ (m : Mine). with_more m (answer_placed s.answers.spot s.answers.answer ∷ []) []) e;
+    here = subst (λ x. IfSome x (λ (l : Log). l.spot ≡ s.answers.spot)) (ap (λ (m : Mine). m.log) e) s.answers.here;
     call = s.answers.call ∙ call;
     by = s.answers.by ∙ ap (λ (m : Mine). m.stream) e;
     saw = s.answers.saw ∙ saw;
@@ -379,15 +379,15 @@ adding_has t r o a b h g =
 -- what lines show is shown still
 pub leaves_stays : (r : ℕ) (o : OwnCall) (a b : Mine) → o.call ≡ call.Command (command.Add r) → LeavesAdd o a b → StaysShown a b
 leaves_stays r o a b is (inl gone) = stays_running [] a b gone
-leaves_stays r o a b is (inr w) = stays_answer (command.Add r) w.modes w.answer (w.marks ++ entry.Answer w.answer ∷ []) a b
+leaves_stays r o a b is (inr w) = stays_answer (command.Add r) w.spot w.answer (w.marks ++ entry.Answer w.answer ∷ []) a b
     w.is (w.call ∙ is)
 
 pub ends_stays : (t r : ℕ) (o : OwnCall) (a b : Mine) → HasAdd t r o a → EndsRebuild r o a b → StaysShown a b
-ends_stays t r o a b h (inl p) = stays_answer (command.Add r) p.modes p.answer
+ends_stays t r o a b h (inl p) = stays_answer (command.Add r) p.spot p.answer
     (entry.Mark (mark.Promoted r) ∷ entry.Answer p.answer ∷ []) a b p.is (p.call ∙ h.call)
 ends_stays t r o a b h (inr e) =
     let w = e.1.answers in
-    stays_answer (command.Add r) w.modes w.answer (entry.Answer w.answer ∷ []) a b w.is (w.call ∙ h.call)
+    stays_answer (command.Add r) w.spot w.answer (entry.Answer w.answer ∷ []) a b w.is (w.call ∙ h.call)
 
 pub on_ok : {T E : Type 0} (r : Result T E) {P : Type 0} → P → OnOk r P
 on_ok (Ok x) h = h

@@ -83,7 +83,7 @@ refused_call o a b s = record {
     marks = [];
     falls = falls_none a.stream;
     same = refl;
-    modes = s.answers.modes;
+    spot = s.answers.spot;
     answer = s.answers.answer;
     is = s.answers.is;
     call = s.answers.call;
@@ -133,10 +133,10 @@ started_call t op n turn o a b c h s e =
         marks = g.marks;
         falls = falls;
         same = g.same;
-        modes = w.modes;
+        spot = w.spot;
         answer = w.answer;
-        is = w.is ∙ ap (λ (m : Mine). with_more m (answer_placed w.modes w.answer ∷ []) []) mid
-            ∙ entries_twice a g.own (answer_placed w.modes w.answer ∷ []) g.marks (entry.Answer w.answer ∷ []) os [];
+        is = w.is ∙ ap (λ (m : Mine). with_more m (answer_placed w.spot w.answer ∷ []) []) mid
+            ∙ entries_twice a g.own (answer_placed w.spot w.answer ∷ []) g.marks (entry.Answer w.answer ∷ []) os [];
         call = w.call ∙ ap (λ (x : OwnCall). x.call) s.same;
         by = w.by ∙ ap (λ (m : Mine). m.stream) mid;
         saw = w.saw ∙ ap (λ (x : OwnCall). x.saw) s.same;
@@ -187,13 +187,13 @@ grew_call op n p os a b c e is saw s =
     let log : b.log ≡ a.log = ap (λ (m : Mine). m.log) e in
     let stream : d.answer.stream ≡ a.stream = d.by ∙ ap (λ (m : Mine). m.stream) e in
     let seen : IfSome a.log (λ l. d.answer.saw ≡ length_of l) = known a.log p.saw d.answer.saw d.saw saw in
-    let own = d.own ++ answer_placed d.modes d.answer ∷ [] in
+    let own = d.own ++ answer_placed d.spot d.answer ∷ [] in
     let all = d.marks ++ entry.Answer d.answer ∷ [] in
     record {
       own = own;
       all = all;
       is = d.is ∙ ap (λ (m : Mine). with_entries m own all []) e;
-      same = has_both d.own (answer_placed d.modes d.answer ∷ []) d.marks (entry.Answer d.answer ∷ []) d.same refl;
+      same = has_both d.own (answer_placed d.spot d.answer ∷ []) d.marks (entry.Answer d.answer ∷ []) d.same refl;
       done = record {
         marks = d.marks;
         answer = d.answer;
@@ -210,10 +210,10 @@ grew_call op n p os a b c e is saw s =
 -- one that is answered at once
 pub grew_now : (c : Command) (a b : Mine) → CommandsTo c a b → GrewByCommand c a b
 grew_now c a b s = record {
-  own = answer_placed s.modes s.answer ∷ [];
+  own = answer_placed s.spot s.answer ∷ [];
   all = s.marks ++ entry.Answer s.answer ∷ [];
   is = s.is;
-  same = has_last a.stream s.modes s.answer s.marks (marks_come a.stream s.marks s.are);
+  same = has_last a.stream s.spot s.answer s.marks (marks_come a.stream s.marks s.are);
   done = record {
     marks = s.marks;
     answer = s.answer;

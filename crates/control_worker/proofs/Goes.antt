@@ -84,7 +84,7 @@ goes_on a b c f k =
 
 pub goes_fall : (r count : ℕ) (a b : Mine) → FallsTo r count a b → GoesOn a b
 goes_fall r count a b f = record {
-  own = fault_placed f.modes a.stream r count ∷ [];
+  own = fault_placed f.spot a.stream r count ∷ [];
   marks = entry.Mark (mark.Fault a.stream r count) ∷ f.aborted;
   falls = one_fall a.stream r count f.aborted f.are;
   same = has_none a.stream f.aborted (aborts_come a.stream f.aborted f.are);

@@ -6,7 +6,7 @@ use Rattle.volume_model.specs.declared.call.Call.TheVariants as call
 use Rattle.volume_model.specs.declared.entry.Answer.{Answer}
 use Rattle.volume_model.specs.declared.entry.Entry.{Entry}
 use Rattle.volume_model.specs.declared.entry.Entry.TheVariants as entry
-use Rattle.volume_model.specs.declared.mode.Mode.{Mode}
+use Rattle.volume_model.specs.History.{Spot}
 use Rattle.stream_steps.specs.Mine.{Mine, Placed, Log, entries_in, longer, answer_placed}
 use Rattle.stream_steps.proofs.MineLemmas.{entries-append}
 use Rattle.control_worker.specs.OwnAnswers.{answers_in, HasAnswers}
@@ -39,9 +39,9 @@ pub answers-last : (stream : ℕ) (es : List Entry) (a : Answer) → All (MayCom
 answers-last stream es a h = answers-append es (entry.Answer a ∷ []) ∙ ap (λ xs. xs ++ a ∷ []) (none_answer stream es h)
 
 -- the stream's own of those is the answer
-pub has_last : (stream : ℕ) (modes : List Mode) (a : Answer) (es : List Entry) → All (MayComeBefore stream) es
-    → HasAnswers (answer_placed modes a ∷ []) (es ++ entry.Answer a ∷ [])
-has_last stream modes a es h = sym (answers-last stream es a h)
+pub has_last : (stream : ℕ) (spot : Spot) (a : Answer) (es : List Entry) → All (MayComeBefore stream) es
+    → HasAnswers (answer_placed spot a ∷ []) (es ++ entry.Answer a ∷ [])
+has_last stream spot a es h = sym (answers-last stream es a h)
 
 -- ---- of commands
 

@@ -388,7 +388,7 @@ starts_plainly (whole.Barrier r) n turn o a b s = absurd n
 answered_stays : (op : WholeOp) (turn : List OwnCall) (o : OwnCall) (r : _) (t : ℕ) (a b : Mine) → HasWhole t op turn o a
     → AnswersWhole o r a b → StaysShown a b
 answered_stays op turn o r t a b h s =
-    stays_answer (command_of op) s.modes s.answer (entries_in (answer_placed s.modes s.answer ∷ [])) a b s.is (s.call ∙ h.call)
+    stays_answer (command_of op) s.spot s.answer (entries_in (answer_placed s.spot s.answer ∷ [])) a b s.is (s.call ∙ h.call)
 
 pub admitted_stays : (t : ℕ) (op : WholeOp) (turn : List OwnCall) (o : OwnCall) (x : AdmitWhole) (a b : Mine)
     → HasWhole t op turn o a → AdmitsWhole op turn o x a b → StaysShown a b

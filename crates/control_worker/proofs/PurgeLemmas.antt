@@ -164,10 +164,10 @@ on_part f os turn a b c g next e = record {
 pub ends_now : (o p : OwnCall) (r : Reply) (a b c : Mine) → b ≡ a → AnswersWhole o r b c → o.call ≡ p.call → o.saw ≡ p.saw
     → IfSome a.log (λ l. IsPurgeReply l.spot r) → PurgeEnds p a c
 ends_now o p r a b c e s same saw right = record {
-  own = answer_placed s.modes s.answer ∷ [];
+  own = answer_placed s.spot s.answer ∷ [];
   marks = [];
   answer = s.answer;
-  is = s.is ∙ ap (λ (m : Mine). with_more m (answer_placed s.modes s.answer ∷ []) []) e;
+  is = s.is ∙ ap (λ (m : Mine). with_more m (answer_placed s.spot s.answer ∷ []) []) e;
   same = refl;
   are = λ k d l. absurd (omega (arith, l));
   call = s.call ∙ same;
@@ -208,12 +208,12 @@ pub ends_refused : (o p : OwnCall) (os : List OwnCall) (a b c : Mine) → Goes o
 ends_refused o p os a b c g s is same saw =
     let w = s.answers in
     record {
-      own = g.own ++ answer_placed w.modes w.answer ∷ [];
+      own = g.own ++ answer_placed w.spot w.answer ∷ [];
       marks = g.marks;
       answer = w.answer;
-      is = w.is ∙ ap (λ (m : Mine). with_more m (answer_placed w.modes w.answer ∷ []) []) g.is
-          ∙ entries_twice a g.own (answer_placed w.modes w.answer ∷ []) g.marks (entry.Answer w.answer ∷ []) os [];
-      same = has_both g.own (answer_placed w.modes w.answer ∷ []) g.marks (entry.Answer w.answer ∷ []) g.same refl;
+      is = w.is ∙ ap (λ (m : Mine). with_more m (answer_placed w.spot w.answer ∷ []) []) g.is
+          ∙ entries_twice a g.own (answer_placed w.spot w.answer ∷ []) g.marks (entry.Answer w.answer ∷ []) os [];
+      same = has_both g.own (answer_placed w.spot w.answer ∷ []) g.marks (entry.Answer w.answer ∷ []) g.same refl;
       are = g.falls.come;
       call = w.call ∙ same;
       by = w.by ∙ ap (λ (m : Mine). m.stream) g.is;

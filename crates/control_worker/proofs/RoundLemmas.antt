@@ -106,7 +106,7 @@ pub round_stays : {A E : Type 0} (res : Result A E) (t : ℕ) (r : Reply) (b c :
     → OnOk res ((o : OwnCall) → HasTurn t command.Purge o b → AnswersWhole o r b c) → OnErr res (c ≡ b) → StaysShown b c
 round_stays (Ok x) t r b c op ok err =
     let s = ok op.0 op.1 in
-    stays_answer command.Purge s.modes s.answer (entries_in (answer_placed s.modes s.answer ∷ [])) b c s.is (s.call ∙ op.1.call)
+    stays_answer command.Purge s.spot s.answer (entries_in (answer_placed s.spot s.answer ∷ [])) b c s.is (s.call ∙ op.1.call)
 round_stays (Err x) t r b c op ok err = stays_same b c err
 
 -- what goes next says how it may end

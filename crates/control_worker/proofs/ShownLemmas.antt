@@ -6,7 +6,7 @@ use Rattle.volume_model.specs.declared.entry.Answer.{Answer}
 use Rattle.volume_model.specs.declared.entry.Entry.{Entry}
 use Rattle.volume_model.specs.declared.entry.Entry.TheVariants as entry
 use Rattle.volume_model.specs.declared.mark.Mark.TheVariants as mark
-use Rattle.volume_model.specs.declared.mode.Mode.{Mode}
+use Rattle.volume_model.specs.History.{Spot}
 use Rattle.volume_model.specs.declared.command.Command.{Command}
 use Rattle.stream_steps.specs.Mine.{Placed, Mine, OwnCall, entries_in, with_entries, with_more, with_running, answer_placed, fault_placed}
 use Rattle.stream_steps.specs.Steps.{FallsTo}
@@ -59,18 +59,18 @@ stays_others es os a b e = record {
 }
 
 -- a command is answered, whatever other entries came
-pub stays_answer : (c : Command) (modes : List Mode) (answer : Answer) (es : List Entry) (a b : Mine)
-    → b ≡ with_entries a (answer_placed modes answer ∷ []) es [] → answer.call ≡ call.Command c → StaysShown a b
-stays_answer c modes answer es a b e is =
-    let own = answer_placed modes answer ∷ [] in
+pub stays_answer : (c : Command) (spot : Spot) (answer : Answer) (es : List Entry) (a b : Mine)
+    → b ≡ with_entries a (answer_placed spot answer ∷ []) es [] → answer.call ≡ call.Command c → StaysShown a b
+stays_answer c spot answer es a b e is =
+    let own = answer_placed spot answer ∷ [] in
     record {
       replicas = ap (λ (m : Mine). m.replicas) e;
       shown = λ counts carried h.
           subst (λ (m : Mine). IsShown m counts carried) (sym (ap (λ (m : Mine). with_running m []) e))
           (shown_log (with_running a []) own (entries_in own) es counts carried
-          (shown_more (answer_placed modes answer) [] (with_running a []) (with_more (with_running a []) own []) counts carried refl
-          (counted_answer modes answer [] (with_running a []) (with_more (with_running a []) own []) counts refl h.counted) h.framed
-          (subst (λ (x : Call). CarriedOf a.replicas (told_in carried) modes x answer.reply) (sym is) tt)
+          (shown_more (answer_placed spot answer) [] (with_running a []) (with_more (with_running a []) own []) counts carried refl
+          (counted_answer spot answer [] (with_running a []) (with_more (with_running a []) own []) counts refl h.counted) h.framed
+          (subst (λ (x : Call). CarriedOf a.replicas (told_in carried) spot.modes x answer.reply) (sym is) tt)
           h.answered (λ p no. absurd (no_call p no))));
     }
 
@@ -79,9 +79,9 @@ pub idle_told : {E : Type 0} (res : Result (Unit {0}) E) (r count : ℕ) (a b : 
     (carried : List (Option (List (List ℕ)))) → OnOk res (FallsTo r count a b) → OnErr res (b ≡ a)
     → count ≤ get_or counts r 0 → IsShown (with_running a []) counts carried → IsShown (with_running b []) counts carried
 idle_told (Ok u) r count a b counts carried ok err low h =
-    let own = fault_placed ok.modes a.stream r count ∷ [] in
+    let own = fault_placed ok.spot a.stream r count ∷ [] in
     let done : Result (Unit {0}) (Unit {0}) = Ok tt in
     subst (λ (m : Mine). IsShown m counts carried) (sym (ap (λ (m : Mine). with_running m []) ok.is))
     (shown_log a own (entries_in own) (entry.Mark (mark.Fault a.stream r count) ∷ ok.aborted) counts carried
-    (shown_told done r count (with_running a []) (with_more a own []) counts carried (record { modes = ok.modes; is = refl }) tt low h))
+    (shown_told done r count (with_running a []) (with_more a own []) counts carried (record { spot = ok.spot; is = refl }) tt low h))
 idle_told (Err e) r count a b counts carried ok err low h = (stays_same a b err).shown counts carried h

@@ -15,10 +15,11 @@ use Rattle.stream_steps.specs.Steps.{AreMarks, IsCommandAt}
 use Rattle.control_worker.specs.OwnAnswers.{HasAnswers}
 use Rattle.control_worker.specs.Purges.{MayComeBefore}
 
--- A command that a worker of so many lines takes: a snapshot has a name that a user may give, and one that names a replica
--- names a line.
+-- A command that a worker of so many lines takes: a snapshot has a name that a user may give, one that names a replica
+-- names a line, and it is no backup: none carries one yet.
 abbrev pub IsForWorker : ℕ → Command → Type 0
 IsForWorker lines (command.Snapshot name) = begins_sys name ≡ false
+IsForWorker lines (command.Backup backup snapshot) = ⊥
 IsForWorker lines c = NamesReplica lines c
 
 -- The entries are marks, and then the answer of a command that was taken up behind that journal. Where no line failed,

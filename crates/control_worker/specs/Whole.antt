@@ -14,7 +14,6 @@ use Rattle.volume_model.specs.History.{Spot}
 use Rattle.volume_model.specs.declared.entry.Answer.{Answer}
 use Rattle.volume_model.specs.declared.entry.Entry.{Entry}
 use Rattle.volume_model.specs.declared.entry.Entry.TheVariants as entry
-use Rattle.volume_model.specs.declared.mode.Mode.{Mode}
 use Rattle.stream_steps.specs.Mine.{Mine, OwnCall, Placed, with_entries, with_running, answer_placed}
 use Rattle.stream_steps.specs.Steps.{AreMarks}
 use Rattle.stream_steps.specs.Maint.{HasWhole, StartsAs, AnswersWhole, WholeEnds}
@@ -117,9 +116,9 @@ pub record EndsCall (o : OwnCall) (m m2 : Mine) : Type 0 where
   pub marks : List Entry
   pub falls : AreFalls m.stream marks
   pub same : HasAnswers own marks
-  pub modes : List Mode
+  pub spot : Spot
   pub answer : Answer
-  pub is : m2 ≡ with_entries m (own ++ answer_placed modes answer ∷ []) (marks ++ entry.Answer answer ∷ []) []
+  pub is : m2 ≡ with_entries m (own ++ answer_placed spot answer ∷ []) (marks ++ entry.Answer answer ∷ []) []
   pub call : answer.call ≡ o.call
   pub by : answer.stream ≡ m.stream
   pub saw : answer.saw ≡ o.saw

@@ -71,6 +71,7 @@ impl<C: AddSteps + Drop, L: Line + Drop> Carrier<C, L> {
             Command::Revert(name) => self.under_turn(rt, alloc, WholeOp::Revert(*name), rooms),
             Command::Purge => self.purge(rt, alloc, rooms),
             Command::Add(replica) => self.add(rt, alloc, *replica, rooms),
+            Command::Backup { .. } => unreachable!(),
         }
     }
 }

@@ -18,7 +18,7 @@ pub invariant_of-self-in-Fail : goal.invariant_of-self-in-Fail
 invariant_of-self-in-Fail g c =
     let s = c.in_ok-answer_at_once-in-Fail.ensures.ok in
     serves_step g.C.CommandSteps.mine _ _ c.answer_at_once.ensures.stands.ready
-    (stays_answer c.args.command.now s.modes s.answer (s.marks ++ entry.Answer s.answer ∷ []) _ _ s.is s.call) c.self.invariant
+    (stays_answer c.args.command.now s.spot s.answer (s.marks ++ entry.Answer s.answer ∷ []) _ _ s.is s.call) c.self.invariant
 
 pub returns-in_ok-answer_at_once-in-Fail-clause-ok : goal.returns-in_ok-answer_at_once-in-Fail-clause-ok
 returns-in_ok-answer_at_once-in-Fail-clause-ok g c =
