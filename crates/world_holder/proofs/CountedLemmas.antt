@@ -8,10 +8,8 @@ use Rattle.volume_model.specs.declared.mode.Mode.{Mode}
 use Rattle.volume_model.specs.declared.mode.Mode.TheVariants as mode
 use Rattle.volume_model.specs.Modes.{mode_of}
 use Rattle.volume_model.specs.PlainStep.{plain_step}
-use Rattle.range_turns.specs.declared.ticket.Kind.{Kind}
-use Rattle.range_turns.specs.declared.ticket.Kind.TheVariants as kind
 use Rattle.range_turns.specs.declared.ticket.Ticket.{Ticket}
-use Rattle.range_turns.specs.Order.{ticket_at, AreInOrder, ConflictBy}
+use Rattle.range_turns.specs.Order.{ticket_at}
 use Rattle.replica_node.specs.Node.{Node, Kept}
 use Rattle.replica_node.specs.Held.{block_named}
 use Rattle.open_calls.specs.Calls.{node_at}
@@ -24,6 +22,7 @@ use Rattle.volume_core.specs.Sound.{IsSound}
 use Rattle.volume_core.specs.Steps.{with_place, answered, marked, aborted, has_part, aborted_with, behind_fall}
 use Rattle.volume_core.specs.Streams.{turning, commands_in}
 use Rattle.volume_core.specs.Answers.{IsAnsweredNow, failed_by, failed_in, after_fail}
+use Rattle.volume_core.proofs.InTurn.{first_started}
 use Rattle.desk_lock.specs.Account.{Each}
 use Rattle.desk_lock.proofs.Lists.{Each-all}
 use Rattle.world_holder.specs.Counted.{ArePagesKept, IsRebuildKept, CountsOn, AreOthersCounted, kept_later}
@@ -126,18 +125,6 @@ each_started m P (t ∷ ts) (c ∷ cs) f =
         → Each (λ (p : Ticket × MaintCall). p.0.started ≡ true → P) (cond b ((t, c) ∷ commands_in m ts cs) (commands_in m ts cs))
     by rest true own = ((λ started. f zero (omega arith) (omega arith) started (eqb-true c.stream m own)), rest)
     by rest false own = rest
-
-in_way : (a b : Kind) (t u : Ticket) → a ≡ kind.Whole → b ≡ kind.Whole → ConflictBy a b t.range u.range
-in_way a b t u first second = subst (λ (k : Kind × Kind). ConflictBy k.0 k.1 t.range u.range) (λ i. (sym first i, sym second i)) tt
-
--- of tickets for the whole volume only the first has started
-first_started : (ts : List Ticket) → AreInOrder ts → ((k : ℕ) → k < length ts → (ticket_at ts k).kind ≡ kind.Whole)
-    → (k : ℕ) → k < length ts → (ticket_at ts k).started ≡ true → k ≡ 0
-first_started ts order kinds zero less started = refl
-first_started ts order kinds (suc k) less started =
-    absurd (order.apart (suc k) less started zero (omega arith)
-    (in_way (ticket_at ts zero).kind (ticket_at ts (suc k)).kind (ticket_at ts zero) (ticket_at ts (suc k))
-    (kinds zero (omega (arith, less))) (kinds (suc k) less)))
 
 -- where the first command is the stream's, no other stream's has the turn, so that the step owes nothing
 pub own_turn : (n : ℕ) (s s2 : State) → IsSound s → (command_at s.commands 0).stream ≡ n → AreOthersCounted n s s2

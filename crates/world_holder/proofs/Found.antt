@@ -17,7 +17,7 @@ use Rattle.desk_lock.proofs.Lists.{entries_of-append}
 use Rattle.world_holder.specs.declared.kept.WorldOnDesk.{WorldOnDesk}
 use Rattle.world_holder.specs.Laid.{Running, GaveUp, Turn, Call, gave_up_of, MayCountOn, stream_of, parts_for, turn_of}
 use Rattle.world_holder.specs.Laid.{call_of, running_of, parts_of, laid, world_account, IsLater}
-use Rattle.world_holder.specs.Counted.{CountsOn}
+use Rattle.world_holder.specs.Counted.{CountsOn, KeepsCopies}
 
 -- ---- what is open, by its kind
 
@@ -161,29 +161,45 @@ between_none n all before es e same =
     ∙ sym (append-nil (own before)))
 
 -- what commands count on, among all that is open
+abbrev TurnCountsOn : State → State → Ticket × MaintCall → Type 0
+TurnCountsOn s t p = CountsOn p.0 s t × KeepsCopies p.0 s t
+
 counted_in : (s t : State) (ms : List (Ticket × MaintCall)) (rs : List Running)
-    → Each (λ r. MayCountOn r s t) (map turn_of ms ++ rs) → Each (λ (p : Ticket × MaintCall). CountsOn p.0 s t) ms
+    → Each (λ r. MayCountOn r s t) (map turn_of ms ++ rs) → Each (TurnCountsOn s t) ms
 counted_in s t [] rs h = tt
 counted_in s t (m ∷ ms) rs h = (h.0, counted_in s t ms rs h.1)
 
+firsts : {A : Type 0} (P Q : A → Type 0) (xs : List A) → Each (λ x. P x × Q x) xs → Each P xs
+firsts P Q [] h = tt
+firsts P Q (x ∷ xs) h = (h.0.0, firsts P Q xs h.1)
+
+seconds : {A : Type 0} (P Q : A → Type 0) (xs : List A) → Each (λ x. P x × Q x) xs → Each Q xs
+seconds P Q [] h = tt
+seconds P Q (x ∷ xs) h = (h.0.1, seconds P Q xs h.1)
+
 counted_of : (s t : State) (b : Bool) (ms : List (Ticket × MaintCall)) (rs : List Running)
-    → Each (λ r. MayCountOn r s t) (gave_up_of b ++ (map turn_of ms ++ rs))
-    → Each (λ (p : Ticket × MaintCall). CountsOn p.0 s t) ms
+    → Each (λ r. MayCountOn r s t) (gave_up_of b ++ (map turn_of ms ++ rs)) → Each (TurnCountsOn s t) ms
 counted_of s t true ms rs h = counted_in s t ms rs h.1
 counted_of s t false ms rs h = counted_in s t ms rs h
 
 -- the World that it finds is later than the one it saw
 pub found_later : (n : ℕ) (x y : WorldOnDesk) → Finds world_account (Some n) x y → IsLater n (laid y) (laid x)
-found_later n x y f = record {
-  origin = f.same_origin;
-  added = (f.seen.0, f.seen.1, none_own n f.seen.0 (between_none n (laid x).book.entries (laid y).book.entries f.seen.0 f.seen.1 f.mine));
-  calls = same_calls n (laid y) (laid x) f.running;
-  turns = same_turns n (laid y) (laid x) f.running;
-  parts = same_parts n (laid y) (laid x) f.running;
-  gave_up = same_gave_up n (laid y) (laid x) f.running;
-  counted = counted_of (laid y) (laid x) (gave_up_at (laid y).gave_up n) (turning (laid y) n)
-      (map (call_of (laid y).whole) (running (laid y) n)) f.counted;
-}
+found_later n x y f = let s = laid y in let t = laid x in
+    let all = counted_of s t (gave_up_at s.gave_up n) (turning s n) (map (call_of s.whole) (running s n)) f.counted in record {
+      origin = f.same_origin;
+      added = (
+        f.seen.0,
+        f.seen.1,
+        none_own n f.seen.0
+            (between_none n (laid x).book.entries (laid y).book.entries f.seen.0 f.seen.1 f.mine),
+      );
+      calls = same_calls n (laid y) (laid x) f.running;
+      turns = same_turns n (laid y) (laid x) f.running;
+      parts = same_parts n (laid y) (laid x) f.running;
+      gave_up = same_gave_up n (laid y) (laid x) f.running;
+      counted = firsts (λ (p : Ticket × MaintCall). CountsOn p.0 s t) (λ (p : Ticket × MaintCall). KeepsCopies p.0 s t) (turning s n) all;
+      copies = seconds (λ (p : Ticket × MaintCall). CountsOn p.0 s t) (λ (p : Ticket × MaintCall). KeepsCopies p.0 s t) (turning s n) all;
+    }
 
 -- ---- a stream without a command of the turn
 

@@ -3,11 +3,13 @@ use Rattle.std.proofs.Common.{◌≡◌, ℕ, Bool, true, false, List, ◌++◌,
 use Rattle.std.proofs.Common.{Ok, OnErr, append-nil, sym, refl, ap, ◌∙◌, subst}
 use Rattle.std.proofs.Common.{Err as Failed}
 use Rattle.volume_model.specs.declared.entry.Entry.{Entry}
-use Rattle.volume_model.specs.Modes.{modes_after}
+use Rattle.volume_model.specs.History.{Spot}
+use Rattle.volume_model.specs.Names.{names_in}
 use Rattle.volume_model.specs.OneWorker.{behind_entries}
 use Rattle.volume_model.proofs.ServedLemmas.{behind-append}
-use Rattle.volume_core.specs.State.{State, opening_of, modes_in}
-use Rattle.volume_core.specs.Streams.{running, MayGo, Origin}
+use Rattle.replica_node.specs.Volume.{volume_of_node}
+use Rattle.volume_core.specs.State.{State, opening_of}
+use Rattle.volume_core.specs.Streams.{running, MayGo, Origin, origin_of}
 use Rattle.volume_core.specs.State.{spot_of}
 use Rattle.world_holder.specs.Laid.{IsLater}
 use Rattle.world_holder.proofs.Leaves.{made_same}
@@ -15,17 +17,25 @@ use Rattle.stream_steps.specs.Mine.{Mine, OwnCall, Placed, entries_in, longer, w
 use Rattle.world_holder.specs.View.{own_turn, own_with, own_at, own_entries, runs, log_of, view, IsFound}
 use Rattle.world_holder.proofs.Entries.{own-append, none_shown}
 
+-- where the run of that origin began
+abbrev pub began_at : Origin → Spot
+began_at o = record {
+  state = record { volume = volume_of_node o.first; used = names_in o.opening.names };
+  modes = o.opening.modes;
+}
+
+-- a World of the same origin began there too
+pub same_opening : (s t : State) → origin_of t ≡ origin_of s → opening_of t ≡ opening_of s
+same_opening s t origin = ap began_at origin
+
 -- ---- its own steps
 
 module _ (n : ℕ) (s s2 : State) (may : MayGo n s s2) where
   same_replicas : length s2.nodes ≡ length s.nodes
   same_replicas = ap (λ (o : Origin). o.replicas) may.origin
 
-  same_modes : s2.book.opening.modes ≡ s.book.opening.modes
-  same_modes = ap (λ (o : Origin). o.opening.modes) may.origin
-
   same_began : opening_of s2 ≡ opening_of s
-  same_began = λ i. opening_of (record s { first = (may.origin i).first; book = record s.book { opening = (may.origin i).opening } })
+  same_began = same_opening s s2 may.origin
 
   -- the run stands where the entries lead from where it stood
   more_log : (a : Bool) (es : List Entry) → s2.book.entries ≡ s.book.entries ++ es → log_of a s2 ≡ longer (log_of a s) es
@@ -45,23 +55,23 @@ module _ (n : ℕ) (s s2 : State) (may : MayGo n s s2) where
   only_open a os e r = λ i. record {
     stream = n;
     replicas = same_replicas i;
-    entries = own_entries n (same_modes i) (e i);
+    entries = own_entries n (same_began i) (e i);
     running = r i;
     log = same_log a e i;
   }
 
   -- these entries more, of which these are own
   pub grown_by : (a : Bool) (ps : List Placed) (os : List OwnCall) (es : List Entry) → s2.book.entries ≡ s.book.entries ++ es
-      → own_entries n (modes_in s) es ≡ ps → runs n s2 ≡ os → view a n s2 ≡ with_entries (view a n s) ps es os
+      → own_entries n (spot_of s) es ≡ ps → runs n s2 ≡ os → view a n s2 ≡ with_entries (view a n s) ps es os
   grown_by a ps os es e own r =
-      let more : own_entries n s2.book.opening.modes s2.book.entries ≡ own_entries n s.book.opening.modes s.book.entries ++ ps =
-      (λ i. own_entries n (same_modes i) (e i)) ∙ own-append n s.book.opening.modes s.book.entries es
-      ∙ ap (λ l. own_entries n s.book.opening.modes s.book.entries ++ l) own in
+      let more : own_entries n (opening_of s2) s2.book.entries ≡ own_entries n (opening_of s) s.book.entries ++ ps =
+      (λ i. own_entries n (same_began i) (e i)) ∙ own-append n (opening_of s) s.book.entries es
+      ∙ ap (λ l. own_entries n (opening_of s) s.book.entries ++ l) own in
       λ i. record { stream = n; replicas = same_replicas i; entries = more i; running = r i; log = more_log a es e i }
 
   -- these entries more, all of them own
   pub grown : (a : Bool) (ps : List Placed) (os : List OwnCall) (es : List Entry) → s2.book.entries ≡ s.book.entries ++ es
-      → own_entries n (modes_in s) es ≡ ps → entries_in ps ≡ es → runs n s2 ≡ os → view a n s2 ≡ with_more (view a n s) ps os
+      → own_entries n (spot_of s) es ≡ ps → entries_in ps ≡ es → runs n s2 ≡ os → view a n s2 ≡ with_more (view a n s) ps os
   grown a ps os es e own back r = grown_by a ps os es e own r ∙ ap (λ (l : List Entry). with_entries (view a n s) ps l os) (sym back)
 
 -- ---- others' steps
@@ -69,13 +79,13 @@ module _ (n : ℕ) (s s2 : State) (may : MayGo n s s2) where
 -- what is known of a later World but for the journal is what was known
 later_but : (n : ℕ) (s t : State) → IsLater n s t → view false n t ≡ view false n s
 later_but n s t later =
-    let began = s.book.opening.modes in
-    let modes : t.book.opening.modes ≡ began = ap (λ (o : Origin). o.opening.modes) later.origin in
-    let own : own_entries n t.book.opening.modes t.book.entries ≡ own_entries n began s.book.entries =
-    (λ i. own_entries n (modes i) (later.added.1 i))
+    let began = opening_of s in
+    let same : opening_of t ≡ began = same_opening s t later.origin in
+    let own : own_entries n (opening_of t) t.book.entries ≡ own_entries n began s.book.entries =
+    (λ i. own_entries n (same i) (later.added.1 i))
     ∙ own-append n began s.book.entries later.added.0
     ∙ ap (λ l. own_entries n began s.book.entries ++ l)
-    (none_shown n (modes_after began s.book.entries) later.added.0 later.added.2)
+    (none_shown n (behind_entries began s.book.entries) later.added.0 later.added.2)
     ∙ append-nil (own_entries n began s.book.entries) in
     let replicas : length t.nodes ≡ length s.nodes = ap (λ (o : Origin). o.replicas) later.origin in
     let calls : map (own_at t.whole) (running t n) ≡ map (own_at s.whole) (running s n) =

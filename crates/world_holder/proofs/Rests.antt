@@ -2,7 +2,7 @@
 use Rattle.std.proofs.Common.{◌≡◌, ℕ, ◌<◌, false, List, [], ◌∷◌, ◌++◌, length, map, Some, subst, sym}
 use Rattle.std.proofs.Common.{refl, ap, ◌∙◌}
 use Rattle.range_turns.specs.declared.ticket.Ticket.{Ticket}
-use Rattle.volume_core.specs.State.{State, gave_up_at}
+use Rattle.volume_core.specs.State.{State, opening_of, gave_up_at}
 use Rattle.volume_core.specs.Sound.{IsSound, NoneGaveUp}
 use Rattle.volume_core.specs.Streams.{running, turning, calls_in, commands_in}
 use Rattle.desk_lock.specs.Account.{IsSilent}
@@ -69,7 +69,7 @@ seat_idle n x silent =
     λ i. map own_turn (none_turning n (laid x) silent.running i) ++ map (own_at (laid x).whole) (none_running n (laid x) silent.running i)
 
 pub seat_none : (n : ℕ) (x : WorldOnDesk) → IsSilent world_account n x → (view false n (laid x)).entries ≡ []
-seat_none n x silent = none_shown n (laid x).book.opening.modes (laid x).book.entries (none_own n (laid x).book.entries silent.entries)
+seat_none n x silent = none_shown n (opening_of (laid x)) (laid x).book.entries (none_own n (laid x).book.entries silent.entries)
 
 pub seat_free : (n : ℕ) (s : Seat WorldOnDesk) (x : WorldOnDesk) → last_of s ≡ x → IsSilent world_account n x
     → IsFree n (laid (last_of s))

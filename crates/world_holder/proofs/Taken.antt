@@ -16,7 +16,7 @@ use Rattle.volume_core.specs.State.{State, state_of}
 use Rattle.volume_core.specs.Sound.{IsSound}
 use Rattle.volume_core.specs.Streams.{Origin, turning}
 use Rattle.world_holder.specs.declared.kept.WorldOnDesk.{WorldOnDesk}
-use Rattle.world_holder.specs.Counted.{CountsOn, counts_itself}
+use Rattle.world_holder.specs.Counted.{CountsOn, KeepsCopies, counts_itself, copies_itself}
 use Rattle.world_holder.specs.Laid.{laid, world_account, IsLater}
 use Rattle.world_holder.proofs.Found.{found_later}
 use Rattle.world_holder.proofs.Leaves.{may_leave}
@@ -34,6 +34,7 @@ later_itself n s = record {
   parts = refl;
   gave_up = refl;
   counted = Each-all (λ (p : Ticket × MaintCall). CountsOn p.0 s s) (λ p. counts_itself p.0 s) (turning s n);
+  copies = Each-all (λ (p : Ticket × MaintCall). KeepsCopies p.0 s s) (λ p. copies_itself p.0 s) (turning s n);
 }
 
 pub found_in_hand : (n : ℕ) (w v : Box World) → v ≡ w → IsSound (state_of w.value) → IsKept w.value n
@@ -54,10 +55,10 @@ found_at_seat n s x own fits =
       same = λ h. absurd cc;
     }
 
-pub seat_may_leave : (n : ℕ) (s : Seat WorldOnDesk) (y : WorldOnDesk) → IsOwnSeat s n → Owes n (laid (last_of s)) (laid y)
-    → MayLeave world_account (number_of s) (last_of s) y
-seat_may_leave n s y own owes = subst (λ m. MayLeave world_account m (last_of s) y) (sym own.number)
-    (may_leave n (last_of s) y owes.may owes.parts owes.counted)
+pub seat_may_leave : (n : ℕ) (s : Seat WorldOnDesk) (y : WorldOnDesk) → IsOwnSeat s n → IsSound (laid (last_of s))
+    → Owes n (laid (last_of s)) (laid y) → MayLeave world_account (number_of s) (last_of s) y
+seat_may_leave n s y own ok owes = subst (λ m. MayLeave world_account m (last_of s) y) (sym own.number)
+    (may_leave n (last_of s) y ok owes.may owes.parts owes.counted)
 
 -- the seat s took the World x and is t, which is u still
 module _ (d e : Desk WorldOnDesk) (n : ℕ) (s t u : Seat WorldOnDesk) (x : WorldOnDesk) (same : u ≡ t)
@@ -72,6 +73,7 @@ module _ (d e : Desk WorldOnDesk) (n : ℕ) (s t u : Seat WorldOnDesk) (x : Worl
       number = ap (λ (k : Known WorldOnDesk). k.number) turn.0.1.1 ∙ seated.own.number;
       there = subst (λ (w : WorldOnDesk). n < length (laid w).indices) (sym last_is) (found_at_seat n s x seated.own fits).there;
     };
+    sound = subst (λ (w : WorldOnDesk). IsSound (laid w)) (sym last_is) fits.sound;
   })
 
   pub seen_at_seat : (b : Box World) → b ≡ x.world → laid (last_of u) ≡ state_of b.value

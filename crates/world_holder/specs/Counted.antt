@@ -1,5 +1,5 @@
 -- What a command that has the maintenance turn may count on, whatever other streams do between two of its steps: the
--- rebuild that is open stays as it is, or it was aborted.
+-- rebuild that is open stays as it is, or it was aborted; and each snapshot that can be used keeps its copy.
 use Rattle.std.specs.Prelude.{◌≡◌, ◌≢◌, ◌⊎◌, ℕ, true, List, Contains, Option, Some, None, IsSome}
 use Rattle.std.proofs.Common.{inl, inr, refl, sym, ◌∙◌, subst}
 use Rattle.range_turns.specs.declared.ticket.Ticket.{Ticket}
@@ -7,7 +7,8 @@ use Rattle.replica_node.specs.Held.{block_named}
 use Rattle.open_calls.specs.Calls.{node_at}
 use Rattle.open_calls.specs.declared.maint.MaintCall.{MaintCall}
 use Rattle.open_rebuild.specs.declared.rebuilding.Rebuilding.{Rebuilding}
-use Rattle.volume_core.specs.State.{State}
+use Rattle.volume_model.specs.Copies.{IsCopyOf}
+use Rattle.volume_core.specs.State.{State, told_of}
 use Rattle.volume_core.specs.Streams.{turning}
 use Rattle.desk_lock.specs.Account.{Each}
 
@@ -41,6 +42,18 @@ IsRebuildKept (Some b) s s2 = GoesOn b s s2 ⊎ WasAborted s2
 -- what the command of the ticket counts on, from the state s on: nothing before it has the turn
 abbrev pub CountsOn : Ticket → State → State → Type 0
 CountsOn t s s2 = t.started ≡ true → IsRebuildKept s.rebuild s s2
+
+-- each snapshot that can be used can be used still, and has the copy that it had
+abbrev pub AreCopiesKept : State → State → Type 0
+AreCopiesKept s s2 = (name disk : List ℕ) → IsCopyOf (told_of s).volume name disk → IsCopyOf (told_of s2).volume name disk
+
+-- so it is for the command of the ticket
+abbrev pub KeepsCopies : Ticket → State → State → Type 0
+KeepsCopies t s s2 = t.started ≡ true → AreCopiesKept s s2
+
+-- for each command of the stream
+abbrev pub AreAllCopiesKept : ℕ → State → State → Type 0
+AreAllCopiesKept stream s s2 = Each (λ (p : Ticket × MaintCall). KeepsCopies p.0 s s2) (turning s stream)
 
 -- what each command of the stream counts on is so
 abbrev pub AreCounted : ℕ → State → State → Type 0
@@ -80,3 +93,9 @@ kept_later (Some b) s s2 s3 (inr first) next =
 
 pub counts_later : (t : Ticket) (s s2 s3 : State) → CountsOn t s s2 → CountsOn t s2 s3 → CountsOn t s s3
 counts_later t s s2 s3 first next started = kept_later s.rebuild s s2 s3 (first started) (next started)
+
+pub copies_itself : (t : Ticket) (s : State) → KeepsCopies t s s
+copies_itself t s started name disk is = is
+
+pub copies_later : (t : Ticket) (s s2 s3 : State) → KeepsCopies t s s2 → KeepsCopies t s2 s3 → KeepsCopies t s s3
+copies_later t s s2 s3 first next started name disk is = next started name disk (first started name disk is)

@@ -14,7 +14,8 @@ use Rattle.volume_core.specs.Sound.{IsSound}
 use Rattle.volume_core.specs.Streams.{running, turning, Origin, origin_of}
 use Rattle.desk_lock.specs.Account.{Account, Each, is_stream}
 use Rattle.world_holder.specs.declared.kept.WorldOnDesk.{WorldOnDesk}
-use Rattle.world_holder.specs.Counted.{CountsOn, AreCounted, counts_itself, counts_later}
+use Rattle.world_holder.specs.Counted.{CountsOn, AreCounted, KeepsCopies, AreAllCopiesKept}
+use Rattle.world_holder.specs.Counted.{counts_itself, counts_later, copies_itself, copies_later}
 
 -- of which stream an entry is: that whose call it answers, or whose line's fault it tells; other marks are of none
 abbrev pub stream_of_mark : Mark → Option ℕ
@@ -56,20 +57,22 @@ running_of s stream = gave_up_of (gave_up_at s.gave_up stream)
 abbrev pub parts_of : State → ℕ → List (List Part)
 parts_of s stream = map (λ (p : Ticket × OpenCall). parts_for s.whole p.0) (running s stream)
 
--- what it may count on: a command of the turn on the rebuild that is open, and all else on nothing more than to stay
+-- what it may count on: a command of the turn on the rebuild that is open and on copies, and all else on nothing more than
+-- to stay
 abbrev pub MayCountOn : Running → State → State → Type 0
 MayCountOn GaveUp s s2 = Unit {0}
-MayCountOn (Turn t c) s s2 = CountsOn t s s2
+MayCountOn (Turn t c) s s2 = CountsOn t s s2 × KeepsCopies t s s2
 MayCountOn (Call t c parts) s s2 = Unit {0}
 
 pub may_count_itself : (r : Running) (s : State) → MayCountOn r s s
 may_count_itself GaveUp s = tt
-may_count_itself (Turn t c) s = counts_itself t s
+may_count_itself (Turn t c) s = (counts_itself t s, copies_itself t s)
 may_count_itself (Call t c parts) s = tt
 
 pub may_count_later : (r : Running) (s s2 s3 : State) → MayCountOn r s s2 → MayCountOn r s2 s3 → MayCountOn r s s3
 may_count_later GaveUp s s2 s3 first next = tt
-may_count_later (Turn t c) s s2 s3 first next = counts_later t s s2 s3 first next
+may_count_later (Turn t c) s s2 s3 first next =
+    (counts_later t s s2 s3 first.0 next.0, copies_later t s s2 s3 first.1 next.1)
 may_count_later (Call t c parts) s s2 s3 first next = tt
 
 -- the World on a desk, as lists
@@ -101,3 +104,4 @@ pub record IsLater (stream : ℕ) (s t : State) : Type 0 where
   pub parts : parts_of t stream ≡ parts_of s stream
   pub gave_up : gave_up_at t.gave_up stream ≡ gave_up_at s.gave_up stream
   pub counted : AreCounted stream s t
+  pub copies : AreAllCopiesKept stream s t

@@ -32,7 +32,8 @@ pub record IsSeated (d : Desk WorldOnDesk) (s : Seat WorldOnDesk) (stream : ℕ)
   pub seat : IsSeatOf d s
   pub own : IsOwnSeat s stream
 
--- the World is out with it
+-- the World is out with it, as it was seen last
 pub record IsOut (d : Desk WorldOnDesk) (s : Seat WorldOnDesk) (stream : ℕ) : Type 0 where
   pub turn : HasState d s
   pub own : IsOwnSeat s stream
+  pub sound : IsSound (laid (last_of s))

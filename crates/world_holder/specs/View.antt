@@ -9,8 +9,8 @@ use Rattle.volume_model.specs.declared.entry.Entry.{Entry}
 use Rattle.volume_model.specs.declared.entry.Entry.TheVariants as entry
 use Rattle.volume_model.specs.declared.mark.Mark.{Mark}
 use Rattle.volume_model.specs.declared.mark.Mark.TheVariants as mark
-use Rattle.volume_model.specs.declared.mode.Mode.{Mode}
-use Rattle.volume_model.specs.Modes.{modes_after_entry}
+use Rattle.volume_model.specs.History.{Spot}
+use Rattle.volume_model.specs.OneWorker.{behind_entries}
 use Rattle.open_calls.specs.declared.open_call.OpenCall.{OpenCall}
 use Rattle.step_answers.specs.declared.parts.Part.{Part}
 use Rattle.open_calls.specs.Calls.{call_asked, whole_of}
@@ -19,7 +19,7 @@ use Rattle.open_calls.specs.declared.whole.Whole.{Whole}
 use Rattle.volume_core.specs.State.{State, gave_up_at}
 use Rattle.volume_core.specs.Sound.{IsSound}
 use Rattle.volume_core.specs.Streams.{running, turning, MayGo}
-use Rattle.volume_core.specs.State.{spot_of}
+use Rattle.volume_core.specs.State.{opening_of, spot_of}
 use Rattle.world_holder.specs.Laid.{parts_for, parts_of, IsLater}
 use Rattle.world_holder.specs.Counted.{AreOthersCounted}
 use Rattle.stream_steps.specs.Mine.{Mine, OwnCall, Placed, Log}
@@ -82,12 +82,12 @@ abbrev pub is_own : ℕ → Entry → Bool
 is_own stream (entry.Answer a) = a.stream == stream
 is_own stream (entry.Mark m) = is_own_mark stream m
 
--- the stream's entries among these, each with the modes before it, which are these before the first
-abbrev pub own_entries : ℕ → List Mode → List Entry → List Placed
-own_entries stream modes [] = []
-own_entries stream modes (e ∷ es) =
-    let more = own_entries stream (modes_after_entry modes e) es in
-    if is_own stream e then record { modes = modes; entry = e } ∷ more else more
+-- the stream's entries among these, each with where the run stood before it; before the first it stood there
+abbrev pub own_entries : ℕ → Spot → List Entry → List Placed
+own_entries stream spot [] = []
+own_entries stream spot (e ∷ es) =
+    let more = own_entries stream (behind_entries spot (e ∷ [])) es in
+    if is_own stream e then record { spot = spot; entry = e } ∷ more else more
 
 -- the whole journal, where the stream is alone with the World
 abbrev pub log_of : Bool → State → Option Log
@@ -99,7 +99,7 @@ abbrev pub view : Bool → ℕ → State → Mine
 view alone stream s = record {
   stream = stream;
   replicas = length s.nodes;
-  entries = own_entries stream s.book.opening.modes s.book.entries;
+  entries = own_entries stream (opening_of s) s.book.entries;
   running = runs stream s;
   log = log_of alone s;
 }
