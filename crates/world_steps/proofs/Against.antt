@@ -17,7 +17,7 @@ use Rattle.step_answers.specs.declared.parts.Part.TheVariants.{Acked}
 use Rattle.step_answers.specs.declared.whole_op.WholeOp.{WholeOp}
 use Rattle.step_answers.specs.declared.answers.NotThis.{NotThis}
 use Rattle.volume_core.specs.Places.{IsCallAt, IsWriteAt, IsReadAt, IsWaitingAt}
-use Rattle.volume_core.specs.State.{State, modes_in}
+use Rattle.volume_core.specs.State.{State, opening_of, modes_in}
 use Rattle.volume_core.specs.Sound.{IsSound}
 use Rattle.volume_core.specs.Answers.{AreBlocksOfWrite}
 use Rattle.volume_core.specs.Against as core
@@ -273,4 +273,4 @@ module _ {A : Type 0} (a : Bool) (n t r : ℕ) (s s2 : State) (ok : IsSound s) w
       by (against.Mode m) w = w
       by against.Page w = w
       by (against.Pending q) w = w
-      by (against.Count last) w = (w.0 ∙ sym (own_last n r s.book.opening.modes s.book.entries), w.1)
+      by (against.Count last) w = (w.0 ∙ sym (own_last n r (opening_of s) s.book.entries), w.1)

@@ -10,8 +10,9 @@ use Rattle.volume_model.specs.declared.entry.Entry.TheVariants as entry
 use Rattle.volume_model.specs.declared.mark.Mark.TheVariants as mark
 use Rattle.volume_model.specs.declared.mode.Mode.{Mode}
 use Rattle.volume_model.specs.declared.mode.Mode.TheVariants.{Rw, Wo, Err}
-use Rattle.volume_model.specs.Modes.{mode_of, modes_after, modes_after_entry}
-use Rattle.volume_model.specs.OneWorker.{entries_at, fail_marks}
+use Rattle.volume_model.specs.History.{Spot}
+use Rattle.volume_model.specs.Modes.{mode_of}
+use Rattle.volume_model.specs.OneWorker.{behind_entries, entries_at, fail_marks}
 use Rattle.volume_model.specs.PlainStep.{plain_step}
 use Rattle.open_rebuild.specs.declared.rebuilding.Rebuilding.{Rebuilding}
 use Rattle.volume_core.specs.Answers.{failed_in, after_fail, failed_by}
@@ -29,23 +30,23 @@ use Rattle.world_steps.proofs.FaultRows.{shows_fault, fault_grown}
 
 -- ---- marks are not own
 
-own_marks : (n : ℕ) (modes : List Mode) (es : List Entry) → AreMarks es → own_entries n modes es ≡ []
-own_marks n modes [] are = refl
-own_marks n modes (entry.Answer a ∷ es) are = absurd are
-own_marks n modes (entry.Mark (mark.Purged part) ∷ es) are = own_marks n (modes_after_entry modes (entry.Mark (mark.Purged part))) es are.1
-own_marks n modes (entry.Mark (mark.Fault stream r count) ∷ es) are = absurd are.0
-own_marks n modes (entry.Mark (mark.Failed r) ∷ es) are = own_marks n (modes_after_entry modes (entry.Mark (mark.Failed r))) es are.1
-own_marks n modes (entry.Mark (mark.Added r source name) ∷ es) are =
-    own_marks n (modes_after_entry modes (entry.Mark (mark.Added r source name))) es are.1
-own_marks n modes (entry.Mark (mark.Promoted r) ∷ es) are = own_marks n (modes_after_entry modes (entry.Mark (mark.Promoted r))) es are.1
-own_marks n modes (entry.Mark (mark.Aborted r) ∷ es) are = own_marks n (modes_after_entry modes (entry.Mark (mark.Aborted r))) es are.1
+own_marks : (n : ℕ) (spot : Spot) (es : List Entry) → AreMarks es → own_entries n spot es ≡ []
+own_marks n spot [] are = refl
+own_marks n spot (entry.Answer a ∷ es) are = absurd are
+own_marks n spot (entry.Mark (mark.Purged part) ∷ es) are = own_marks n (behind_entries spot (entry.Mark (mark.Purged part) ∷ [])) es are.1
+own_marks n spot (entry.Mark (mark.Fault stream r count) ∷ es) are = absurd are.0
+own_marks n spot (entry.Mark (mark.Failed r) ∷ es) are = own_marks n (behind_entries spot (entry.Mark (mark.Failed r) ∷ [])) es are.1
+own_marks n spot (entry.Mark (mark.Added r source name) ∷ es) are =
+    own_marks n (behind_entries spot (entry.Mark (mark.Added r source name) ∷ [])) es are.1
+own_marks n spot (entry.Mark (mark.Promoted r) ∷ es) are = own_marks n (behind_entries spot (entry.Mark (mark.Promoted r) ∷ [])) es are.1
+own_marks n spot (entry.Mark (mark.Aborted r) ∷ es) are = own_marks n (behind_entries spot (entry.Mark (mark.Aborted r) ∷ [])) es are.1
 
-pub own_behind : (n : ℕ) (modes : List Mode) (marks : List Entry) (a : Answer) → AreMarks marks → a.stream ≡ n
-    → own_entries n modes (marks ++ entry.Answer a ∷ []) ≡ answer_placed (modes_after modes marks) a ∷ []
-own_behind n modes marks a are by =
-    own-append n modes marks (entry.Answer a ∷ [])
-    ∙ ap (λ (l : List Placed). l ++ own_entries n (modes_after modes marks) (entry.Answer a ∷ [])) (own_marks n modes marks are)
-    ∙ own_answer n (modes_after modes marks) a by
+pub own_behind : (n : ℕ) (spot : Spot) (marks : List Entry) (a : Answer) → AreMarks marks → a.stream ≡ n
+    → own_entries n spot (marks ++ entry.Answer a ∷ []) ≡ answer_placed (behind_entries spot marks) a ∷ []
+own_behind n spot marks a are by =
+    own-append n spot marks (entry.Answer a ∷ [])
+    ∙ ap (λ (l : List Placed). l ++ own_entries n (behind_entries spot marks) (entry.Answer a ∷ [])) (own_marks n spot marks are)
+    ∙ own_answer n (behind_entries spot marks) a by
 
 -- ---- a replica is told to fail
 
@@ -115,6 +116,7 @@ turn_at n (command.Remove name) s s1 marks once e = absurd once
 turn_at n (command.Revert name) s s1 marks once e = absurd once
 turn_at n command.Purge s s1 marks once e = absurd once
 turn_at n (command.Add r) s s1 marks once e = absurd once
+turn_at n (command.Backup backup snapshot) s s1 marks once e = absurd once
 
 module _ (a : Bool) (n : ℕ) (c : Command) (s s1 s2 : State) where
   saw_known : (b : Bool) → IfSome (view b n s).log (λ log. length s.book.entries ≡ length_of log)
@@ -136,12 +138,12 @@ module _ (a : Bool) (n : ℕ) (c : Command) (s s1 s2 : State) where
       let all : List Entry = h.marks ++ entry.Answer answer ∷ [] in
       record {
         marks = h.marks;
-        modes = modes_after (modes_in s) h.marks;
+        spot = behind_entries (spot_of s) h.marks;
         answer = answer;
-        is = grown_by n s s2 may a (answer_placed (modes_after (modes_in s) h.marks) answer ∷ []) [] all
+        is = grown_by n s s2 may a (answer_placed (behind_entries (spot_of s) h.marks) answer ∷ []) [] all
             (ap (λ (x : State). x.book.entries) e ∙ ap (λ (l : List Entry). l ++ entry.Answer answer ∷ []) h.entries
             ∙ append_assoc s.book.entries h.marks (entry.Answer answer ∷ []))
-            (own_behind n (modes_in s) h.marks answer h.are refl)
+            (own_behind n (spot_of s) h.marks answer h.are refl)
             (λ i. map own_turn (turns i) ++ map (own_at s2.whole) (calls i));
         are = h.are;
         call = refl;
@@ -168,4 +170,4 @@ pub falls_row : (a : Bool) (n r count : ℕ) (s s2 : State) → MayGo n s s2 →
     → FallsTo r count (view a n s) (view a n s2)
 falls_row a n r count s s2 may e =
     let shows = shows_fault n r count s s2 e in
-    record { modes = modes_in s; aborted = shows.ends; is = fault_grown a n r count s s2 may shows; are = shows.are }
+    record { spot = spot_of s; aborted = shows.ends; is = fault_grown a n r count s s2 may shows; are = shows.are }

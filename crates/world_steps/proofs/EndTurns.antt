@@ -155,7 +155,7 @@ module _ (a : Bool) (n t at : ℕ) (s x y : State) (found : IsFound a n s x) (re
     -- it was not aborted there
     pub abort_why : (res ≡ None → world.CannotEnd x t (reply.Aborted at)) → res ≡ None → ¬ IsEndedAt u at
     abort_why why e is = not_done ((why e (add_free a n t s x found add)
-        (aborted_there x at found.sound (subst (λ (z : State). IsEndedAt z at) (left ∙ none e) is))).0)
+        (aborted_there x at found.sound (subst (λ (z : State). IsEndedAt z at) (left ∙ none e) is))).done)
       where
         not_done : reply.Aborted at ≡ reply.Done → ⊥
         not_done e = cc

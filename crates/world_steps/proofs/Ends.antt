@@ -1,5 +1,5 @@
 -- The end of an add: what each step makes of what its stream knows, of the row of the step.
-use Rattle.std.proofs.Common.{◌≡◌, ℕ, Bool, true, false, cond, List, [], ◌∷◌, ◌++◌, length, inl, inr, Option, Some, None, IfSome}
+use Rattle.std.proofs.Common.{◌≡◌, ℕ, Bool, true, false, cond, [], ◌∷◌, ◌++◌, length, inl, inr, Option, Some, None, IfSome}
 use Rattle.std.proofs.Common.{subst, sym, refl, ap, ◌∙◌, eq-eqb, append_assoc}
 use Rattle.volume_model.specs.declared.command.Command.{Command}
 use Rattle.volume_model.specs.declared.command.Command.TheVariants as command
@@ -11,13 +11,13 @@ use Rattle.volume_model.specs.declared.entry.Entry.{Entry}
 use Rattle.volume_model.specs.declared.entry.Entry.TheVariants as entry
 use Rattle.volume_model.specs.declared.mark.Mark.TheVariants as mark
 use Rattle.volume_model.specs.declared.mark.Rebuild.TheVariants as rebuild
-use Rattle.volume_model.specs.declared.mode.Mode.{Mode}
-use Rattle.volume_model.specs.Modes.{modes_after}
+use Rattle.volume_model.specs.History.{Spot}
+use Rattle.volume_model.specs.OneWorker.{behind_entries}
 use Rattle.volume_model.specs.Rebuilds.{rebuild_of}
 use Rattle.open_calls.specs.declared.maint.MaintCall.{MaintCall}
 use Rattle.open_rebuild.specs.declared.rebuilding.Rebuilding.{Rebuilding}
 use Rattle.volume_core.specs.declared.world.EndedRebuild.{EndedRebuild}
-use Rattle.volume_core.specs.State.{State, modes_in}
+use Rattle.volume_core.specs.State.{State, spot_of}
 use Rattle.volume_core.specs.Sound.{IsSound, AreAdds, how_far}
 use Rattle.volume_core.specs.Streams.{MayGo, running, turning}
 use Rattle.volume_core.specs.Turn.{without_command}
@@ -58,8 +58,8 @@ module _ (a : Bool) (n t : ℕ) (s s2 : State) (ok : IsSound s) (may : MayGo n s
     abbrev its_answer : Answer
     its_answer = ended_answer s y
 
-    abbrev its_modes : List Mode
-    its_modes = modes_after (modes_in s) (m ∷ [])
+    abbrev its_spot : Spot
+    its_spot = behind_entries (spot_of s) (m ∷ [])
 
     its_call : its_answer.call ≡ o.call
     its_call = ap (λ (x : MaintCall). call.Command x.command) (turn_here a n t s ok c o h)
@@ -74,12 +74,12 @@ module _ (a : Bool) (n t : ℕ) (s s2 : State) (ok : IsSound s) (may : MayGo n s
       calls : running s2 n ≡ running s n
       entries : s2.book.entries ≡ s.book.entries ++ (m ∷ entry.Answer its_answer ∷ [])
 
-    marked_mine : Ends → view a n s2 ≡ with_entries (view a n s) (answer_placed its_modes its_answer ∷ [])
+    marked_mine : Ends → view a n s2 ≡ with_entries (view a n s) (answer_placed its_spot its_answer ∷ [])
         (m ∷ entry.Answer its_answer ∷ []) []
     marked_mine e =
         let one = turn_one a n t s ok c o h in
-        grown_by n s s2 may a (answer_placed its_modes its_answer ∷ []) [] (m ∷ entry.Answer its_answer ∷ []) e.entries
-        (own_behind n (modes_in s) (m ∷ []) its_answer are (turn_stream a n t s ok c o h))
+        grown_by n s s2 may a (answer_placed its_spot its_answer ∷ []) [] (m ∷ entry.Answer its_answer ∷ []) e.entries
+        (own_behind n (spot_of s) (m ∷ []) its_answer are (turn_stream a n t s ok c o h))
         (runs_as n s2 [] [] s2.whole (e.turns ∙ none_left a n t s ok o one h.number (its_first a n t s ok c o h))
         (e.calls ∙ one.calls) refl)
 
@@ -89,7 +89,7 @@ module _ (a : Bool) (n t : ℕ) (s s2 : State) (ok : IsSound s) (may : MayGo n s
       place = place;
       marks = m ∷ [];
       are = inr (q, ap (λ x. x ∷ []) marked);
-      modes = its_modes;
+      spot = its_spot;
       answer = its_answer;
       is = marked_mine e;
       call = its_call;
@@ -100,10 +100,10 @@ module _ (a : Bool) (n t : ℕ) (s s2 : State) (ok : IsSound s) (may : MayGo n s
 
     as_promoted : Ends → (q : ℕ) → m ≡ entry.Mark (mark.Promoted q) → y ≡ reply.Done → Promotes q o (view a n s) (view a n s2)
     as_promoted e q marked told = record {
-      modes = its_modes;
+      spot = its_spot;
       answer = its_answer;
       is = marked_mine e ∙ ap
-          (λ x. with_entries (view a n s) (answer_placed its_modes its_answer ∷ []) (x ∷ entry.Answer its_answer ∷ []) [])
+          (λ x. with_entries (view a n s) (answer_placed its_spot its_answer ∷ []) (x ∷ entry.Answer its_answer ∷ []) [])
           marked;
       call = its_call;
       by = turn_stream a n t s ok c o h;
@@ -163,7 +163,7 @@ module _ (a : Bool) (n t : ℕ) (s s2 : State) (ok : IsSound s) (may : MayGo n s
     place = place;
     marks = [];
     are = inl refl;
-    modes = x.modes;
+    spot = x.spot;
     answer = x.answer;
     is = x.is;
     call = x.call;

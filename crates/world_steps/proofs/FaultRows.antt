@@ -11,7 +11,7 @@ use Rattle.volume_model.specs.declared.entry.Entry.TheVariants as entry
 use Rattle.volume_model.specs.declared.mark.Mark.TheVariants as mark
 use Rattle.open_calls.specs.Calls.{begun}
 use Rattle.open_rebuild.specs.declared.rebuilding.Rebuilding.{Rebuilding}
-use Rattle.volume_core.specs.State.{State, modes_in}
+use Rattle.volume_core.specs.State.{State, spot_of, modes_in}
 use Rattle.volume_core.specs.Steps.{faulted, marked, aborted}
 use Rattle.volume_core.specs.Streams.{running, turning, MayGo}
 use Rattle.volume_core.proofs.FarLemmas.{GoesOn, Aborts, behind}
@@ -29,7 +29,7 @@ pub record ShowsFault (n r count : ℕ) (s s2 : State) : Type 0 where
   pub ends : List Entry
   pub entries : s2.book.entries ≡ s.book.entries ++ entry.Mark (mark.Fault n r count) ∷ ends
   pub alone : s.rebuild ≡ None → ends ≡ []
-  pub own : own_entries n (modes_in s) (entry.Mark (mark.Fault n r count) ∷ ends) ≡ fault_placed (modes_in s) n r count ∷ []
+  pub own : own_entries n (spot_of s) (entry.Mark (mark.Fault n r count) ∷ ends) ≡ fault_placed (spot_of s) n r count ∷ []
   pub running : running s2 n ≡ running s n
   pub turning : turning s2 n ≡ turning s n
   pub whole : s2.whole ≡ s.whole
@@ -58,7 +58,7 @@ module _ (n r count : ℕ) (s : State) where
     ends = [];
     entries = refl;
     alone = λ e. refl;
-    own = own_fault n r count (modes_in s);
+    own = own_fault n r count (spot_of s);
     running = refl;
     turning = refl;
     whole = refl;
@@ -72,7 +72,7 @@ module _ (n r count : ℕ) (s : State) where
     ends = entry.Mark (mark.Aborted b.target) ∷ [];
     entries = append_assoc s.book.entries (entry.Mark its_mark ∷ []) (entry.Mark (mark.Aborted b.target) ∷ []);
     alone = λ none. absurd (some_begun (sym begun ∙ none));
-    own = own_fault n r count (modes_in s);
+    own = own_fault n r count (spot_of s);
     running = refl;
     turning = refl;
     whole = refl;
@@ -100,9 +100,9 @@ alone_calm n s ok alone turns = no_rebuild s ok (no_commands s ok (of_all n (tur
 
 -- how it shows: the whole journal has the end of the rebuild too
 pub fault_grown : (a : Bool) (n r count : ℕ) (s s2 : State) → MayGo n s s2 → (f : ShowsFault n r count s s2)
-    → view a n s2 ≡ with_entries (view a n s) (fault_placed (modes_in s) n r count ∷ [])
+    → view a n s2 ≡ with_entries (view a n s) (fault_placed (spot_of s) n r count ∷ [])
     (entry.Mark (mark.Fault n r count) ∷ f.ends) (runs n s)
-fault_grown a n r count s s2 may f = grown_by n s s2 may a (fault_placed (modes_in s) n r count ∷ []) (runs n s)
+fault_grown a n r count s s2 may f = grown_by n s s2 may a (fault_placed (spot_of s) n r count ∷ []) (runs n s)
     (entry.Mark (mark.Fault n r count) ∷ f.ends) f.entries f.own
     (λ i. map own_turn (f.turning i) ++ map (own_at (f.whole i)) (f.running i))
 
@@ -111,10 +111,10 @@ pub fault_row : (a : Bool) (n r count : ℕ) (s s2 : State) → MayGo n s s2 →
 fault_row true n r count s s2 may calm e =
     let shows = shows_fault n r count s s2 e in
     record {
-      modes = modes_in s;
+      spot = spot_of s;
       is = fault_grown true n r count s s2 may shows
-          ∙ ap (λ (l : List Entry). with_entries (view true n s) (fault_placed (modes_in s) n r count ∷ [])
+          ∙ ap (λ (l : List Entry). with_entries (view true n s) (fault_placed (spot_of s) n r count ∷ [])
           (entry.Mark (mark.Fault n r count) ∷ l) (runs n s)) (shows.alone (calm refl));
     }
 fault_row false n r count s s2 may calm e =
-    record { modes = modes_in s; is = fault_grown false n r count s s2 may (shows_fault n r count s s2 e) }
+    record { spot = spot_of s; is = fault_grown false n r count s s2 may (shows_fault n r count s s2 e) }

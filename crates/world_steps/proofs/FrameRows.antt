@@ -33,7 +33,7 @@ use Rattle.step_answers.specs.declared.answers.Enrolled.{Enrolled}
 use Rattle.step_answers.specs.Asked.{IsOnRange, IsNow, AsksReplica}
 use Rattle.volume_core.specs.Answers.{EnrolsAs, Completes, IsAnsweredNow, failed_by, after_fail}
 use Rattle.volume_core.specs.Answers.{IsRoomier}
-use Rattle.volume_core.specs.State.{State, modes_in, index_at, told_of}
+use Rattle.volume_core.specs.State.{State, spot_of, modes_in, index_at, told_of}
 use Rattle.volume_core.specs.Steps.{acked, ended, with_place, answered, wrote, has_read}
 use Rattle.volume_core.specs.Streams.{IsTakenBack}
 use Rattle.volume_core.specs.Streams.{MayGo, IsAnsweredTo, SeesEnrolled, running, turning, opens, open_of}
@@ -131,7 +131,7 @@ module _ (a : Bool) (n t : ℕ) (o : OwnCall) (s : State) (ok : IsSound s) (own 
   -- it is answered, with places for so many entries
   pub end_row : (s2 : State) (spare : ℕ) (r : Reply) → MayGo n s s2 → IsAnsweredTo n o.call s s2
       → s2 ≡ ended (record s { book = record s.book { spare = spare } }) i r → IsBacked (length s.nodes) (modes_in s) o r
-      → (ends : Answers o (view a n s) (view a n s2)) × (ends.answer.reply ≡ r) × (ends.modes ≡ modes_in s)
+      → (ends : Answers o (view a n s) (view a n s2)) × (ends.answer.reply ≡ r) × (ends.spot ≡ spot_of s)
   end_row s2 spare r may sees e backed =
       let call = open_at s.calls i in
       let answer : Answer = record {
@@ -142,10 +142,10 @@ module _ (a : Bool) (n t : ℕ) (o : OwnCall) (s : State) (ok : IsSound s) (own 
         stream = call.stream;
       } in (
         record {
-          modes = modes_in s;
+          spot = spot_of s;
           answer = answer;
-          is = grown n s s2 may a (answer_placed (modes_in s) answer ∷ []) [] (entry.Answer answer ∷ [])
-              (ap (λ (x : State). x.book.entries) e) (own_answer n (modes_in s) answer here.at.stream) refl
+          is = grown n s s2 may a (answer_placed (spot_of s) answer ∷ []) [] (entry.Answer answer ∷ [])
+              (ap (λ (x : State). x.book.entries) e) (own_answer n (spot_of s) answer here.at.stream) refl
               (none_runs n s s2 turns (ap (λ (x : State). turning x n) e) sees.idle);
           here = known a;
           call = here.at.asked;
@@ -158,7 +158,7 @@ module _ (a : Bool) (n t : ℕ) (o : OwnCall) (s : State) (ok : IsSound s) (own 
         refl,
       )
     where
-      known : (b : Bool) → IfSome (view b n s).log (λ log. log.spot.modes ≡ modes_in s)
+      known : (b : Bool) → IfSome (view b n s).log (λ log. log.spot ≡ spot_of s)
       known true = refl
       known false = tt
 
@@ -203,10 +203,10 @@ now_row : (a : Bool) (n : ℕ) (c : Call) (r : Reply) (s s2 : State) (spare : �
 now_row a n c r s s2 spare may sees turns e un =
     let answer : Answer = record { call = c; reply = r; index = index_at s.indices n; saw = length s.book.entries; stream = n } in
     record {
-      modes = modes_in s;
+      spot = spot_of s;
       answer = answer;
-      is = grown n s s2 may a (answer_placed (modes_in s) answer ∷ []) [] (entry.Answer answer ∷ [])
-          (ap (λ (x : State). x.book.entries) e) (own_answer n (modes_in s) answer refl) refl
+      is = grown n s s2 may a (answer_placed (spot_of s) answer ∷ []) [] (entry.Answer answer ∷ [])
+          (ap (λ (x : State). x.book.entries) e) (own_answer n (spot_of s) answer refl) refl
           (none_runs n s s2 turns (ap (λ (x : State). turning x n) e) sees.idle);
       call = refl;
       by = refl;

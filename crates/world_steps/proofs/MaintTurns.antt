@@ -280,7 +280,7 @@ module _ (a : Bool) (n t : ℕ) (r : Reply) (s x y : State) (found : IsFound a n
             let f = found_turn a n t command.Purge s x y found h in
             let held = why.cannot (free_turn a n t x found.sound command.Purge f.0 f.1)
             (purge_ends x (command_at x.commands 0).command (turn_command a n t x found.sound command.Purge f.0 f.1) r may) in
-            (held.0, λ none. held.1 (none_kept x.whole none)))
+            (held.done, λ none. held.whole (none_kept x.whole none)))
 
     pub ends_does : IfErr res (world.AgainstEndTurn x t r) → Does res (view a n s) (view a n u)
         (λ at. ForTurn t command.Purge (view a n s) (λ o. AnswersWhole o r (view a n s) (view a n u)))

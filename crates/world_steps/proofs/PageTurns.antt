@@ -7,7 +7,7 @@ use Rattle.sparse_image.specs.Image.{Table}
 use Rattle.vol_units.specs.declared.page_ref.PageRef.{PageRef}
 use Rattle.open_calls.specs.Maint.{command_at}
 use Rattle.volume_model.specs.Faults.{last_count}
-use Rattle.volume_core.specs.State.{State, gave_up_at}
+use Rattle.volume_core.specs.State.{State, opening_of, gave_up_at}
 use Rattle.volume_core.specs.Steps.{faulted, has_part}
 use Rattle.volume_core.specs.Streams.{MayGo}
 use Rattle.volume_rebuild.specs.Answers.{CopiesIn}
@@ -134,5 +134,5 @@ module _ (a : Bool) (n r count : ℕ) (s x : State) (found : IsFound a n s x) wh
 
   -- and the count is above the last that the journal tells
   pub fall_above : last_count (view a n s).stream r (entries_in (view a n s).entries) < count → last_count n r x.book.entries < count
-  fall_above above = subst (λ k. k < count) (own_last n r x.book.opening.modes x.book.entries)
+  fall_above above = subst (λ k. k < count) (own_last n r (opening_of x) x.book.entries)
       (subst (λ (m : Mine). last_count m.stream r (entries_in m.entries) < count) (sym (found_same a n s x found)) above)

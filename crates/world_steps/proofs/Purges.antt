@@ -44,12 +44,12 @@ purge_refused : (x : State) (c : Command) → c ≡ command.Purge → (v : Optio
 purge_refused x c is v e = ap (refused_in x) is ∙ ap (want_of_replica true) e
 
 pub purge_ends : (x : State) (c : Command) → c ≡ command.Purge → (r : Reply) → MayEndPurge r (seen_of x).log → world.MayEnd x c r
-purge_ends x c is reply.Done may = (is, by (source_of (modes_in x)) refl, may.0)
+purge_ends x c is reply.Done may = subst (world.MayBeDone x) (sym is) (by (source_of (modes_in x)) refl, may.0)
   where
-    by : (v : Option ℕ) → source_of (modes_in x) ≡ v → refused_in x c ≡ None
-    by (Some q) e = purge_refused x c is (Some q) e
+    by : (v : Option ℕ) → source_of (modes_in x) ≡ v → refused_in x command.Purge ≡ None
+    by (Some q) e = purge_refused x command.Purge refl (Some q) e
     by None e = absurd (has_no_source (modes_in x) may.1 (no_source (modes_in x) e))
-purge_ends x c is (reply.Refused why) may = (by (source_of (modes_in x)) refl, subst (world.HasNoRebuild x) (sym is) tt)
+purge_ends x c is (reply.Refused why) may = ((None, by (source_of (modes_in x)) refl), subst (world.HasNoRebuild x) (sym is) tt)
   where
     by : (v : Option ℕ) → source_of (modes_in x) ≡ v → refused_in x c ≡ Some why
     by (Some q) e = absurd (has_no_source (modes_in x) (has_source (modes_in x) q e) may.1)

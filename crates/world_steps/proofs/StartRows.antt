@@ -11,6 +11,7 @@ use Rattle.range_turns.specs.Order.{ticket_at, no_ticket, StandsAt}
 use Rattle.range_turns.specs.declared.ticket.Kind.TheVariants as kind
 use Rattle.volume_model.specs.declared.call.Call.{Call}
 use Rattle.volume_model.specs.declared.mode.Mode.TheVariants.{Err, Rw}
+use Rattle.volume_model.specs.History.{Spot}
 use Rattle.volume_model.specs.Modes.{mode_of, HasSource, HasNoSource, IsSource}
 use Rattle.volume_model.specs.declared.call.Refusal.TheVariants.{NoReplica}
 use Rattle.volume_model.specs.declared.mode.Mode.{Mode}
@@ -148,7 +149,7 @@ admit_rows a n t o (admit.NoReplica place) s s2 ok own blocks may is sees =
     (refused_backed (length s.nodes) (modes_in s) o refused refl) in
     record {
       ends = done.0;
-      lost = subst HasNoSource (sym done.2) is.3;
+      lost = subst (λ (x : Spot). HasNoSource x.modes) (sym done.2) is.3;
       uncarried = subst (IsUncarried o.call) (sym done.1) (uncarried o.call NoReplica);
     }
 

@@ -20,7 +20,7 @@ use Rattle.open_calls.specs.declared.whole.Whole.{Whole}
 use Rattle.open_calls.specs.Maint as core
 use Rattle.open_calls.specs.Maint.{command_at}
 use Rattle.volume_core.proofs.CallLemmas.{idle-calls}
-use Rattle.volume_core.specs.State.{State, modes_in, index_at}
+use Rattle.volume_core.specs.State.{State, spot_of, index_at}
 use Rattle.volume_core.specs.Sound.{IsSound}
 use Rattle.volume_core.specs.Streams.{MayGo, running, turning}
 use Rattle.volume_core.specs.Turn.{turn_ended, without_command, ForAsker, IsFreeTurn}
@@ -54,6 +54,7 @@ wants_maint command.Status w = absurd w
 wants_maint (command.Snapshot name) w = absurd w
 wants_maint (command.Fail r) w = absurd w
 wants_maint (command.Add r) w = tt
+wants_maint (command.Backup backup snapshot) w = absurd w
 
 -- a command that is asked for now
 abbrev pub asked : ℕ → Command → State → MaintCall
@@ -237,7 +238,7 @@ module _ (a : Bool) where
   -- ---- it ends
 
   module _ (n t : ℕ) (s s2 : State) (ok : IsSound s) (may : MayGo n s s2) where
-    here_known : (b : Bool) → IfSome (view b n s).log (λ log. log.spot.modes ≡ modes_in s)
+    here_known : (b : Bool) → IfSome (view b n s).log (λ log. log.spot ≡ spot_of s)
     here_known true = refl
     here_known false = tt
 
@@ -254,10 +255,10 @@ module _ (a : Bool) where
         let is = turn_here n t s ok c o h in
         let by = turn_stream n t s ok c o h in
         record {
-          modes = modes_in s;
+          spot = spot_of s;
           answer = ended_answer s y;
-          is = grown n s s2 may a (answer_placed (modes_in s) (ended_answer s y) ∷ []) [] (entry.Answer (ended_answer s y) ∷ [])
-              (ap (λ (x : State). x.book.entries) e) (own_answer n (modes_in s) (ended_answer s y) by) refl
+          is = grown n s s2 may a (answer_placed (spot_of s) (ended_answer s y) ∷ []) [] (entry.Answer (ended_answer s y) ∷ [])
+              (ap (λ (x : State). x.book.entries) e) (own_answer n (spot_of s) (ended_answer s y) by) refl
               (gone_runs c o h (ap (λ (x : State). turning x n) e) (ap (λ (x : State). running x n) e));
           here = here_known a;
           call = ap (λ (x : MaintCall). call.Command x.command) is ∙ ap (λ (x : OwnCall). x.call) one.is;

@@ -25,7 +25,7 @@ use Rattle.step_answers.specs.declared.answers.NotThis.{NotThis}
 use Rattle.step_answers.specs.declared.answers.NotThis.TheVariants as against
 use Rattle.open_calls.specs.Calls.{open_at}
 use Rattle.open_calls.specs.Maint.{IsAskedBy}
-use Rattle.volume_core.specs.State.{State, modes_in, index_at}
+use Rattle.volume_core.specs.State.{State, spot_of, modes_in, index_at}
 use Rattle.volume_core.specs.Sound.{IsSound}
 use Rattle.volume_core.specs.Streams.{calls_in, running, turning, MayGo}
 use Rattle.volume_maint.specs.Steps.{barrier_ended, whole_ended, without_whole, turn_over}
@@ -135,12 +135,12 @@ module _ (a : Bool) where
 
       pub ended_mine : o.call ≡ call.Command (command_of op) → AnswersWhole o y (view a n s) (view a n s2)
       ended_mine asked = record {
-        modes = modes_in s;
+        spot = spot_of s;
         answer = answer;
-        is = grown n s s2 may a (answer_placed (modes_in s) answer ∷ []) [] (entry.Answer answer ∷ [])
+        is = grown n s s2 may a (answer_placed (spot_of s) answer ∷ []) [] (entry.Answer answer ∷ [])
             (ap (λ (z : State). z.book.entries) e ∙ ap (λ es. es ++ entry.Answer answer ∷ []) same.entries)
-            (own_answer n (modes_in s) answer (stream_at a n s t op turn o x i at)) refl ended_runs;
-        here = if_known a s (λ (log : Log). log.spot.modes ≡ modes_in s) refl;
+            (own_answer n (spot_of s) answer (stream_at a n s t op turn o x i at)) refl ended_runs;
+        here = if_known a s (λ (log : Log). log.spot ≡ spot_of s) refl;
         call = sym asked;
         by = stream_at a n s t op turn o x i at;
         saw = saw_at a n s t op turn o x i at;
