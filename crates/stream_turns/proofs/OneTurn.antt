@@ -18,7 +18,8 @@ use Rattle.volume_model.specs.declared.mode.Mode.{Mode}
 use Rattle.volume_model.specs.declared.mode.Mode.TheVariants.{Rw, Err}
 use Rattle.volume_model.specs.Faults.{fault_counts, last_in, last_count, CountsRise}
 use Rattle.volume_model.specs.History.{Spot, LegalAfter, IsLegal, SeenInOrder, answers_from, InOrderFrom}
-use Rattle.volume_model.specs.Modes.{mode_of, modes_after_entry}
+use Rattle.volume_model.specs.Modes.{mode_of}
+use Rattle.volume_model.specs.OneWorker.{behind_entries}
 use Rattle.volume_model.proofs.FaultLemmas.{fault_counts-append}
 use Rattle.volume_model.proofs.LegalLemmas.{answers_from-append}
 use Rattle.volume_model.proofs.OneWorkerLemmas.{length-modes_after}
@@ -43,13 +44,14 @@ no_answer : (b : Bool) (p : Placed) (q : ℕ × Answer) (ps : List Placed) (qs :
 no_answer true p q ps qs e more = absurd (not_some p ps e)
 no_answer false p q ps qs e more = more e
 
-pub none_answered : (w place : ℕ) (modes : List Mode) (es : List Entry) → own_entries w modes es ≡ [] → answers_from w place es ≡ []
-none_answered w place modes [] none = refl
-none_answered w place modes (entry.Answer a ∷ es) none =
-    no_answer (eqb a.stream w) (record { modes = modes; entry = entry.Answer a }) (place, a) (own_entries w modes es)
-    (answers_from w (suc place) es) none (none_answered w (suc place) modes es)
-none_answered w place modes (entry.Mark m ∷ es) none =
-    none_answered w (suc place) (modes_after_entry modes (entry.Mark m)) es (none_behind w modes (entry.Mark m) es none)
+pub none_answered : (w place : ℕ) (spot : Spot) (es : List Entry) → own_entries w spot es ≡ [] → answers_from w place es ≡ []
+none_answered w place spot [] none = refl
+none_answered w place spot (entry.Answer a ∷ es) none =
+    let after = behind_entries spot (entry.Answer a ∷ []) in
+    no_answer (eqb a.stream w) (record { spot = spot; entry = entry.Answer a }) (place, a) (own_entries w after es)
+    (answers_from w (suc place) es) none (none_answered w (suc place) after es)
+none_answered w place spot (entry.Mark m ∷ es) none =
+    none_answered w (suc place) (behind_entries spot (entry.Mark m ∷ [])) es (none_behind w spot (entry.Mark m) es none)
 
 -- ---- what is behind a part of a legal journal
 
@@ -94,28 +96,27 @@ module _ (replicas w : ℕ) (before told : ℕ → Option (List (List ℕ))) (sa
   told_entry modes (entry.Answer a) many had = told_of modes a.call a.reply many had
   told_entry modes (entry.Mark m) many had = tt
 
-  told_more : (b : Bool) (modes : List Mode) (e : Entry) (ps : List Placed) → length modes ≡ replicas
+  told_more : (b : Bool) (p : Placed) (ps : List Placed) → length p.spot.modes ≡ replicas
       → (AreCarried replicas before ps → AreCarried replicas told ps)
-      → AreCarried replicas before (cond b (record { modes = modes; entry = e } ∷ ps) ps)
-      → AreCarried replicas told (cond b (record { modes = modes; entry = e } ∷ ps) ps)
-  told_more true modes e ps many more had =
-      All-cons (λ (p : Placed). IsCarried replicas told p.modes p.entry) (record { modes = modes; entry = e }) ps
-      (told_entry modes e many
-      (All-head (λ (p : Placed). IsCarried replicas before p.modes p.entry) (record { modes = modes; entry = e }) ps had))
-      (more (All-tail (λ (p : Placed). IsCarried replicas before p.modes p.entry) (record { modes = modes; entry = e }) ps had))
-  told_more false modes e ps many more had = more had
+      → AreCarried replicas before (cond b (p ∷ ps) ps) → AreCarried replicas told (cond b (p ∷ ps) ps)
+  told_more true p ps many more had =
+      All-cons (λ (q : Placed). IsCarried replicas told q.spot.modes q.entry) p ps
+      (told_entry p.spot.modes p.entry many (All-head (λ (q : Placed). IsCarried replicas before q.spot.modes q.entry) p ps had))
+      (more (All-tail (λ (q : Placed). IsCarried replicas before q.spot.modes q.entry) p ps had))
+  told_more false p ps many more had = more had
 
-  pub told_carried : (modes : List Mode) (es : List Entry) → length modes ≡ replicas
-      → AreCarried replicas before (own_entries w modes es) → AreCarried replicas told (own_entries w modes es)
-  told_carried modes [] many had = All-nil (λ (p : Placed). IsCarried replicas told p.modes p.entry)
-  told_carried modes (e ∷ es) many had =
-      let after = modes_after_entry modes e in
-      told_more (is_own w e) modes e (own_entries w after es) many (told_carried after es (length-modes_after modes (e ∷ []) ∙ many)) had
+  pub told_carried : (spot : Spot) (es : List Entry) → length spot.modes ≡ replicas
+      → AreCarried replicas before (own_entries w spot es) → AreCarried replicas told (own_entries w spot es)
+  told_carried spot [] many had = All-nil (λ (p : Placed). IsCarried replicas told p.spot.modes p.entry)
+  told_carried spot (e ∷ es) many had =
+      let after = behind_entries spot (e ∷ []) in
+      told_more (is_own w e) (record { spot = spot; entry = e }) (own_entries w after es) many
+      (told_carried after es (length-modes_after spot.modes (e ∷ []) ∙ many)) had
 
 -- ---- the stream's part of the journal
 
 module _ (opening : Spot) (replicas w : ℕ) (before added after : List Entry) (is : after ≡ before ++ added)
-    (none : own_entries w opening.modes before ≡ [])
+    (none : own_entries w opening before ≡ [])
     (legal : IsLegal opening after) (order : SeenInOrder after) (rise : CountsRise after) where
   legal_added : LegalAfter opening before added
   legal_added = legal_behind opening [] before added (subst (IsLegal opening) is legal)
@@ -125,15 +126,15 @@ module _ (opening : Spot) (replicas w : ℕ) (before added after : List Entry) (
     where
       all : answers_from w 0 after ≡ answers_from w (length before) added
       all = ap (answers_from w 0) is ∙ answers_from-append w 0 before added
-          ∙ ap (λ l. l ++ answers_from w (0 + length before) added) (none_answered w 0 opening.modes before none)
+          ∙ ap (λ l. l ++ answers_from w (0 + length before) added) (none_answered w 0 opening before none)
           ∙ ap (λ n. answers_from w n added) (omega arith)
 
   module _ (counts : ℕ → ℕ) (told : ℕ → Option (List (List ℕ))) (past : (r : ℕ) → replicas ≤ r → counts r ≡ 0)
-      (counted : (r : ℕ) → last_count w r (entries_in (own_entries w opening.modes after)) ≤ counts r)
-      (carried : AreCarried replicas told (own_entries w opening.modes after))
+      (counted : (r : ℕ) → last_count w r (entries_in (own_entries w opening after)) ≤ counts r)
+      (carried : AreCarried replicas told (own_entries w opening after))
       (framed : (r : ℕ) → r < replicas → IfSome (told r) (All IsFrame)) where
     shown : (r : ℕ) → last_count w r after ≤ counts r
-    shown r = subst (λ l. last_in 0 l ≤ counts r) (own_counts w r opening.modes after) (counted r)
+    shown r = subst (λ l. last_in 0 l ≤ counts r) (own_counts w r opening after) (counted r)
 
     no_count : AreWell replicas counts → (r : ℕ) → last_count w r after ≤ 0
     no_count well r = elim (cases_lt r replicas) [
@@ -189,7 +190,7 @@ noted opening replicas w cs before after counts counts' told told' many turn pas
     | inl low ↦ omega (arith, same_counts r low, turn.counted r)
     | inr high ↦ omega (arith, past r high, turn.counted r)
   ];
-  carried = told_carried replicas w told told' same_told opening.modes after many turn.carried;
+  carried = told_carried replicas w told told' same_told opening after many turn.carried;
   framed = λ r low. subst (λ t. IfSome t (All IsFrame)) (sym (same_told r low)) (turn.framed r low);
   turn = λ well. turn.turn (λ r low. sym (same_counts r low) ∙ well r low);
 }

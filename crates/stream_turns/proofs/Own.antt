@@ -4,10 +4,9 @@ use Rattle.volume_model.specs.declared.entry.Entry.{Entry}
 use Rattle.volume_model.specs.declared.entry.Entry.TheVariants as entry
 use Rattle.volume_model.specs.declared.mark.Mark.{Mark}
 use Rattle.volume_model.specs.declared.mark.Mark.TheVariants as mark
-use Rattle.volume_model.specs.declared.mode.Mode.{Mode}
 use Rattle.volume_model.specs.Faults.{count_first, fault_counts}
-use Rattle.volume_model.specs.History.{answers_from}
-use Rattle.volume_model.specs.Modes.{modes_after_entry}
+use Rattle.volume_model.specs.History.{Spot, answers_from}
+use Rattle.volume_model.specs.OneWorker.{behind_entries}
 use Rattle.volume_core.specs.Streams.{MayAppend, MayAppendMark}
 use Rattle.stream_steps.specs.Mine.{Placed}
 use Rattle.world_holder.specs.View.{is_own_mark, is_own, own_entries}
@@ -53,16 +52,17 @@ not_own_mark w v (mark.Added q source name) apart own = refl
 not_own_mark w v (mark.Promoted q) apart own = refl
 not_own_mark w v (mark.Aborted q) apart own = refl
 
-pub none_own : (w v : ℕ) (modes : List Mode) (es : List Entry) → v ≢ w → MayAppend w es → own_entries v modes es ≡ []
-none_own w v modes [] apart own = refl
-none_own w v modes (entry.Answer a ∷ es) apart own =
-    let more = own_entries v modes es in
-    cond_false (eqb a.stream v) (record { modes = modes; entry = entry.Answer a } ∷ more) more
-    (other w v apart a.stream own.0) ∙ none_own w v modes es apart own.1
-none_own w v modes (entry.Mark m ∷ es) apart own =
-    let after = modes_after_entry modes (entry.Mark m) in
+pub none_own : (w v : ℕ) (spot : Spot) (es : List Entry) → v ≢ w → MayAppend w es → own_entries v spot es ≡ []
+none_own w v spot [] apart own = refl
+none_own w v spot (entry.Answer a ∷ es) apart own =
+    let after = behind_entries spot (entry.Answer a ∷ []) in
     let more = own_entries v after es in
-    cond_false (is_own_mark v m) (record { modes = modes; entry = entry.Mark m } ∷ more) more
+    cond_false (eqb a.stream v) (record { spot = spot; entry = entry.Answer a } ∷ more) more
+    (other w v apart a.stream own.0) ∙ none_own w v after es apart own.1
+none_own w v spot (entry.Mark m ∷ es) apart own =
+    let after = behind_entries spot (entry.Mark m ∷ []) in
+    let more = own_entries v after es in
+    cond_false (is_own_mark v m) (record { spot = spot; entry = entry.Mark m } ∷ more) more
     (not_own_mark w v m apart own.0) ∙ none_own w v after es apart own.1
 
 -- ---- of a stream that has no entries
@@ -75,14 +75,14 @@ tail_none true p ps e = absurd (not_some p ps e)
 tail_none false p ps e = e
 
 -- the first is not its own
-pub none_first : (v : ℕ) (modes : List Mode) (e : Entry) (es : List Entry) → is_own v e ≡ true → own_entries v modes (e ∷ es) ≡ [] → ⊥
-none_first v modes e es own none =
-    let p : Placed = record { modes = modes; entry = e } in
-    let more = own_entries v (modes_after_entry modes e) es in
+pub none_first : (v : ℕ) (spot : Spot) (e : Entry) (es : List Entry) → is_own v e ≡ true → own_entries v spot (e ∷ es) ≡ [] → ⊥
+none_first v spot e es own none =
+    let p : Placed = record { spot = spot; entry = e } in
+    let more = own_entries v (behind_entries spot (e ∷ [])) es in
     not_some p more (sym (ap (λ b. cond b (p ∷ more) more) own) ∙ none)
 
 -- and none is behind it
-pub none_behind : (v : ℕ) (modes : List Mode) (e : Entry) (es : List Entry) → own_entries v modes (e ∷ es) ≡ []
-    → own_entries v (modes_after_entry modes e) es ≡ []
-none_behind v modes e es none =
-    tail_none (is_own v e) (record { modes = modes; entry = e }) (own_entries v (modes_after_entry modes e) es) none
+pub none_behind : (v : ℕ) (spot : Spot) (e : Entry) (es : List Entry) → own_entries v spot (e ∷ es) ≡ []
+    → own_entries v (behind_entries spot (e ∷ [])) es ≡ []
+none_behind v spot e es none =
+    tail_none (is_own v e) (record { spot = spot; entry = e }) (own_entries v (behind_entries spot (e ∷ [])) es) none

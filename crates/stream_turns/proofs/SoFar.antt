@@ -10,7 +10,7 @@ use Rattle.volume_model.specs.Replay.{replay}
 use Rattle.volume_model.specs.declared.entry.Entry.{Entry}
 use Rattle.volume_model.specs.Faults.{last_count}
 use Rattle.volume_model.specs.History.{Spot, IsLegal, calls_of}
-use Rattle.volume_model.specs.OneWorker.{served, stream_of}
+use Rattle.volume_model.specs.OneWorker.{no_store, served, stream_of}
 use Rattle.volume_model.proofs.OneWorkerLemmas.{length-modes_after}
 use Rattle.volume_core.specs.declared.world.World.{World}
 use Rattle.volume_core.specs.State.{state_of, opening_of}
@@ -22,6 +22,7 @@ use Rattle.client_worker.specs.Exchanges.{AreCarried, ExchangesShown}
 use Rattle.script_text.specs.declared.script.Script.{Script}
 use Rattle.script_text.specs.declared.script.Stream.{Stream}
 use Rattle.world_holder.specs.View.{own_entries}
+use Rattle.world_holder.proofs.Grow.{same_opening}
 use Rattle.stream_turns.specs.declared.serving.ServedStreams.{ServedStreams}
 use Rattle.stream_turns.specs.Turn.{IsTaken, IsBetween, HasNoEntry, KeepsOrigin, HasTurn, HaveTurns}
 use Rattle.stream_turns.specs.Run.{NamesLine}
@@ -30,7 +31,7 @@ use Rattle.stream_turns.specs.Turns.{IsTurn, AreTurns, TellsOthers}
 use Rattle.stream_turns.specs.Volume.{stream_calls, heads_of}
 use Rattle.stream_turns.proofs.Exchanged.{exchanged}
 use Rattle.stream_turns.proofs.RunLemmas.{lines_named}
-use Rattle.stream_turns.proofs.Turned.{same_opening, same_replicas}
+use Rattle.stream_turns.proofs.Turned.{same_replicas}
 use Rattle.stream_turns.proofs.Replicas.{replicas_are, as_many}
 use Rattle.stream_turns.proofs.Counted.{faults_shown}
 use Rattle.stream_turns.proofs.Streams.{no_turns, more_turns}
@@ -76,7 +77,7 @@ next_taken number all rest x w0 w counts told far taken =
 pub is_first : (number : ℕ) (all rest : List Stream) (w0 w : World) (counts : ℕ → ℕ → ℕ) (told : ℕ → ℕ → Option (List (List ℕ)))
     → StreamsSoFar number all rest w0 w counts told → HasNoEntry number w
 is_first number all rest w0 w counts told far =
-    ap (λ (o : Origin). own_entries number o.opening.modes w.journal.entries) far.origin
+    ap (λ (o : Spot). own_entries number o w.journal.entries) (same_opening (state_of w0) (state_of w) far.origin)
     ∙ far.turns.none number (omega (arith, far.count, length-map far.done stream_calls))
 
 -- one stream more
@@ -158,10 +159,10 @@ module _ (script : Script) (spot : Spot) (w : World) (s : ServedStreams) (stream
   )
 
   pub served_is : (counts : ℕ → ℕ → ℕ) (told : ℕ → ℕ → Option (List (List ℕ)))
-      → ((v : ℕ) → length (map stream_calls streams) ≤ v → own_entries v (opening_of (state_of w)).modes entries ≡ [])
+      → ((v : ℕ) → length (map stream_calls streams) ≤ v → own_entries v (opening_of (state_of w)) entries ≡ [])
       → ((v : ℕ) → calls_of v entries ≡ stream_of (map stream_calls streams) v)
       → ((v r : ℕ) → last_count v r entries ≤ counts v r)
-      → ((v : ℕ) → AreCarried (length w.nodes.items) (told v) (own_entries v (opening_of (state_of w)).modes entries))
+      → ((v : ℕ) → AreCarried (length w.nodes.items) (told v) (own_entries v (opening_of (state_of w)) entries))
       → ((v r : ℕ) → v < length (map stream_calls streams) → r < length w.nodes.items → IfSome (told v r) (All IsFrame))
       → s.heads.items ≡ map heads_of streams → IsServed script spot counts told s
   served_is counts told none calls counted carried framed heads = record {
@@ -178,11 +179,11 @@ module _ (script : Script) (spot : Spot) (w : World) (s : ServedStreams) (stream
       };
       faults = subst (λ m. All (NamesLine m script.replicas) entries) (ap length same)
           (subst (λ m. All (NamesLine (length streams) m) entries) as_many_modes
-          (lines_named (opening_of (state_of w)) (length streams) [] entries (opening_of (state_of w)).modes
+          (lines_named (opening_of (state_of w)) (length streams) [] entries (opening_of (state_of w))
           (λ v past. none v (omega (arith, past, length-map streams stream_calls))) legal));
       carried = subst (λ ms. ExchangesShown script.replicas told ms entries) (ap (λ (o : Spot). o.modes) begun.opening)
           (subst (λ m. ExchangesShown m told (opening_of (state_of w)).modes entries) begun.replicas
-          (exchanged (length w.nodes.items) told (opening_of (state_of w)).modes entries carried));
+          (exchanged (length w.nodes.items) told (opening_of (state_of w)) entries carried));
       framed = λ v r low there. framed v r (omega (arith, low, length-map streams stream_calls, ap length same))
           (omega (arith, there, begun.replicas));
     };
@@ -198,7 +199,7 @@ module _ (script : Script) (spot : Spot) (w : World) (s : ServedStreams) (stream
     is = λ well.
         turns.turns (λ v low r here. well v r (omega (arith, low, length-map streams stream_calls, ap length same))
         (omega (arith, here, begun.replicas)))
-        ∙ (λ i. served (begun.opening i) (map stream_calls (same i)));
+        ∙ (λ i. served no_store (begun.opening i) (map stream_calls (same i)));
   }
 
 pub each_served : {E : Type 0} (script : Script) (spot : Spot) (w : World) (res : Result ServedStreams E) (streams : List Stream)

@@ -11,8 +11,7 @@ use Rattle.volume_model.specs.declared.entry.Entry.{Entry}
 use Rattle.volume_model.specs.declared.entry.Entry.TheVariants as entry
 use Rattle.volume_model.specs.Faults.{last_in, last_count}
 use Rattle.volume_model.specs.History.{Spot, answers_from, calls_of}
-use Rattle.volume_model.specs.Modes.{modes_after}
-use Rattle.volume_model.specs.OneWorker.{behind_entries, behind, served_from, after_streams, served_streams, served, stream_of}
+use Rattle.volume_model.specs.OneWorker.{no_store, behind_entries, behind, served_from, after_streams, served_streams, served, stream_of}
 use Rattle.volume_model.proofs.FaultLemmas.{last_count-append}
 use Rattle.volume_model.proofs.LegalLemmas.{answers_from-append}
 use Rattle.volume_model.proofs.ServedLemmas.{behind-streams, served_streams-push}
@@ -70,7 +69,7 @@ no_turns opening replicas counts carried = record {
   none = λ w past. refl;
   calls = λ w. refl;
   counted = λ w r. omega arith;
-  carried = λ w. All-nil (λ (p : Placed). IsCarried replicas (carried w) p.modes p.entry);
+  carried = λ w. All-nil (λ (p : Placed). IsCarried replicas (carried w) p.spot.modes p.entry);
   framed = λ w r low. absurd (omega (arith, low));
   order = tt;
   turns = λ well. refl;
@@ -85,12 +84,12 @@ module _ (opening : Spot) (replicas : ℕ) (css : List (List Call)) (cs : List C
     (same_counts : (w r : ℕ) → w ≢ length css → counts' w r ≡ counts w r)
     (same_carried : (w r : ℕ) → w ≢ length css → carried' w r ≡ carried w r) where
   -- what others see stays
-  own_stays : (w : ℕ) → w ≢ length css → own_entries w opening.modes after ≡ own_entries w opening.modes before
+  own_stays : (w : ℕ) → w ≢ length css → own_entries w opening after ≡ own_entries w opening before
   own_stays w apart =
-      ap (own_entries w opening.modes) one.is ∙ own-append w opening.modes before one.added
-      ∙ ap (λ l. own_entries w opening.modes before ++ l)
-      (none_own (length css) w (modes_after opening.modes before) one.added apart one.own)
-      ∙ append-nil (own_entries w opening.modes before)
+      ap (own_entries w opening) one.is ∙ own-append w opening before one.added
+      ∙ ap (λ l. own_entries w opening before ++ l)
+      (none_own (length css) w (behind_entries opening before) one.added apart one.own)
+      ∙ append-nil (own_entries w opening before)
 
   count_stays : (w r : ℕ) → w ≢ length css → last_count w r after ≡ last_count w r before
   count_stays w r apart =
@@ -112,23 +111,24 @@ module _ (opening : Spot) (replicas : ℕ) (css : List (List Call)) (cs : List C
   many : length (css ++ cs ∷ []) ≡ suc (length css)
   many = omega (arith, length-append css (cs ∷ []))
 
-  all_turns : ((w : ℕ) → w < length (css ++ cs ∷ []) → AreWell replicas (counts' w)) → after ≡ served opening (css ++ cs ∷ [])
+  all_turns : ((w : ℕ) → w < length (css ++ cs ∷ []) → AreWell replicas (counts' w)) → after ≡ served no_store opening (css ++ cs ∷ [])
   all_turns well =
       one.is ∙ (λ i. first i ++ (one.turn (well (length css) (omega (arith, many))) ∙ second) i)
-      ∙ sym (served_streams-push opening 0 0 css cs)
+      ∙ sym (served_streams-push no_store opening 0 0 css cs)
     where
-      first : before ≡ served opening css
+      first : before ≡ served no_store opening css
       first = turns.turns (λ w low r there. sym (same_counts w r (omega (arith, low))) ∙ well w (omega (arith, low, many)) r there)
 
       stands : behind_entries opening before ≡ after_streams opening css
-      stands = ap (behind_entries opening) first ∙ behind-streams opening 0 0 css
+      stands = ap (behind_entries opening) first ∙ behind-streams no_store opening 0 0 css
 
       zero_more : (n : ℕ) → n ≡ 0 + n
       zero_more n = omega arith
 
-      second : served_from (behind_entries opening before) (length css) (length before) 0 cs
-          ≡ served_from (after_streams opening css) (0 + length css) (behind 0 (served_streams opening 0 0 css)) 0 cs
-      second = λ i. served_from (stands i) (zero_more (length css) i) ((ap length first ∙ zero_more (length (served opening css))) i) 0 cs
+      second : served_from no_store (behind_entries opening before) (length css) (length before) 0 cs
+          ≡ served_from no_store (after_streams opening css) (0 + length css) (behind 0 (served_streams no_store opening 0 0 css)) 0 cs
+      second = λ i. served_from no_store (stands i) (zero_more (length css) i)
+          ((ap length first ∙ zero_more (length (served no_store opening css))) i) 0 cs
 
   pub more_turns : AreTurns opening replicas (css ++ cs ∷ []) after counts' carried'
   more_turns = record {
@@ -142,9 +142,9 @@ module _ (opening : Spot) (replicas : ℕ) (css : List (List Call)) (cs : List C
       | inr other ↦ omega (arith, count_stays w r other.1, turns.counted w r, same_counts w r other.1)
     ];
     carried = λ w. elim (eqb_tells w (length css)) [
-      | inl is ↦ subst (λ n. AreCarried replicas (carried' n) (own_entries n opening.modes after)) (sym is.1) one.carried
+      | inl is ↦ subst (λ n. AreCarried replicas (carried' n) (own_entries n opening after)) (sym is.1) one.carried
       | inr other ↦ subst (AreCarried replicas (carried' w)) (sym (own_stays w other.1))
-          (subst (λ told. AreCarried replicas told (own_entries w opening.modes before))
+          (subst (λ told. AreCarried replicas told (own_entries w opening before))
           (λ i r. sym (same_carried w r other.1) i) (turns.carried w))
     ];
     framed = λ w r low there. elim (eqb_tells w (length css)) [
@@ -153,6 +153,6 @@ module _ (opening : Spot) (replicas : ℕ) (css : List (List Call)) (cs : List C
           (turns.framed w r (omega (arith, low, many, other.1)) there)
     ];
     order = subst (StandInTurn 0) (sym one.is) (
-        more_in_turn (length css) 0 opening.modes before one.added (omega arith) turns.none one.own turns.order);
+        more_in_turn (length css) 0 opening before one.added (omega arith) turns.none one.own turns.order);
     turns = all_turns;
   }

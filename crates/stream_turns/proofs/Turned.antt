@@ -11,12 +11,9 @@ use Rattle.frame_stream.specs.declared.frame.TheConstants.{READ, WRITE, PING}
 use Rattle.volume_model.specs.declared.call.Call.{Call}
 use Rattle.volume_model.specs.declared.call.Call.TheVariants as call
 use Rattle.volume_model.specs.declared.entry.Entry.{Entry}
-use Rattle.volume_model.specs.declared.mode.Mode.{Mode}
 use Rattle.volume_model.specs.Faults.{last_count}
 use Rattle.volume_model.specs.History.{IsLegal}
-use Rattle.volume_model.specs.Names.{names_in}
 use Rattle.volume_model.proofs.OneWorkerLemmas.{length-modes_after}
-use Rattle.replica_node.specs.Volume.{volume_of_node}
 use Rattle.open_calls.proofs.Forms.{length-forms}
 use Rattle.volume_core.specs.declared.world.World.{World}
 use Rattle.volume_core.specs.State.{State, state_of, opening_of}
@@ -28,6 +25,7 @@ use Rattle.client_worker.specs.Exchanges.{told_in, AreCarried}
 use Rattle.client_worker.specs.Serving.{IsShown, Grew}
 use Rattle.control_worker.specs.Serving.{Commanded}
 use Rattle.world_holder.specs.View.{own_entries, view}
+use Rattle.world_holder.proofs.Grow.{same_opening}
 use Rattle.script_text.specs.declared.script.Stream.{Stream}
 use Rattle.script_text.specs.declared.script.Stream.TheVariants as stream
 use Rattle.stream_turns.specs.Volume.{stream_calls}
@@ -64,22 +62,12 @@ frame_calls (f ∷ fs) = All-cons IsFrameCall (call_of f) (map call_of fs) (fram
 
 -- ---- a World that began the same way
 
-pub same_opening : (s s2 : State) → origin_of s2 ≡ origin_of s → opening_of s2 ≡ opening_of s
-same_opening s s2 origin =
-    ap (λ (o : Origin). record {
-      state = record { volume = volume_of_node o.first; used = names_in o.opening.names };
-      modes = o.opening.modes;
-    }) origin
-
 pub same_replicas : (s s2 : State) → origin_of s2 ≡ origin_of s → length s2.nodes ≡ length s.nodes
 same_replicas s s2 origin = ap (λ (o : Origin). o.replicas) origin
 
 pub modes_many : (s : State) → IsSound s → length (opening_of s).modes ≡ length s.nodes
 modes_many s sound = sym (length-modes_after s.book.opening.modes s.book.entries) ∙ sound.on.clients.agree.as_many
     ∙ length-forms s.whole s.nodes
-
-same_own : (n m : ℕ) (ms ns : List Mode) (es : List Entry) → n ≡ m → ms ≡ ns → own_entries n ms es ≡ own_entries m ns es
-same_own n m ms ns es e f = λ i. own_entries (e i) (f i) es
 
 abbrev log_entries : Option Log → List Entry
 log_entries None = []
@@ -97,22 +85,22 @@ module _ (n m : ℕ) (w w2 : World) (sound : IsSound (state_of w2)) (origin : or
   legal : IsLegal (opening_of s) s2.book.entries
   legal = subst (λ o. IsLegal o s2.book.entries) (same_opening s s2 origin) sound.on.told.legal
 
-  own_now : own_entries m s2.book.opening.modes s2.book.entries ≡ own_entries n (opening_of s).modes s2.book.entries
-  own_now = same_own m n s2.book.opening.modes s.book.opening.modes s2.book.entries own (ap (λ (o : Origin). o.opening.modes) origin)
+  own_now : own_entries m (opening_of s2) s2.book.entries ≡ own_entries n (opening_of s) s2.book.entries
+  own_now = λ i. own_entries (own i) (same_opening s s2 origin i) s2.book.entries
 
   past : (r : ℕ) → length w.nodes.items ≤ r → slice_index_or counts r 0 ≡ 0
   past r high = get_or_past counts r 0 (omega (arith, many, high))
 
-  counted : ((r : ℕ) → last_count m r (entries_in (own_entries m s2.book.opening.modes s2.book.entries)) ≤ slice_index_or counts r 0)
-      → (r : ℕ) → last_count n r (entries_in (own_entries n (opening_of s).modes s2.book.entries)) ≤ slice_index_or counts r 0
+  counted : ((r : ℕ) → last_count m r (entries_in (own_entries m (opening_of s2) s2.book.entries)) ≤ slice_index_or counts r 0)
+      → (r : ℕ) → last_count n r (entries_in (own_entries n (opening_of s) s2.book.entries)) ≤ slice_index_or counts r 0
   counted shown r =
-      subst (λ k. last_count k r (entries_in (own_entries n (opening_of s).modes s2.book.entries)) ≤ slice_index_or counts r 0) own
+      subst (λ k. last_count k r (entries_in (own_entries n (opening_of s) s2.book.entries)) ≤ slice_index_or counts r 0) own
       (subst (λ ps. last_count m r (entries_in ps) ≤ slice_index_or counts r 0) own_now (shown r))
 
-  carried : AreCarried (length s2.nodes) (told_in told) (own_entries m s2.book.opening.modes s2.book.entries)
-      → AreCarried (length w.nodes.items) (told_in told) (own_entries n (opening_of s).modes s2.book.entries)
+  carried : AreCarried (length s2.nodes) (told_in told) (own_entries m (opening_of s2) s2.book.entries)
+      → AreCarried (length w.nodes.items) (told_in told) (own_entries n (opening_of s) s2.book.entries)
   carried shown =
-      subst (λ k. AreCarried k (told_in told) (own_entries n (opening_of s).modes s2.book.entries)) (same_replicas s s2 origin)
+      subst (λ k. AreCarried k (told_in told) (own_entries n (opening_of s) s2.book.entries)) (same_replicas s s2 origin)
       (subst (AreCarried (length s2.nodes) (told_in told)) own_now shown)
 
   pub frames_turned : (frames : List Frame) → IsShown (view true m s2) counts told

@@ -4,7 +4,7 @@ use Rattle.std.proofs.Common.{◌++◌, length, map, sym, refl, ap, subst, ◌�
 use Rattle.std.specs.Prelude.{Option, None, Some}
 use Rattle.std.specs.Option.{option_or}
 use Rattle.std.specs.List.{All}
-use Rattle.std.proofs.lemmas.Bool.{cases_Bool}
+use Rattle.std.proofs.lemmas.Bool.{cases_Bool, true≢false}
 use Rattle.std.proofs.lemmas.List.{length-append}
 use Rattle.std.proofs.lemmas.List.Elements.{All-head, All-tail}
 use Rattle.volume_model.specs.declared.command.Command.{Command}
@@ -23,11 +23,12 @@ use Rattle.volume_model.specs.declared.mode.Mode.{Mode}
 use Rattle.volume_model.specs.PlainStep.{refusal_of}
 use Rattle.volume_model.specs.Replay.{is_refusal}
 use Rattle.volume_model.specs.Faults.{fault_counts}
-use Rattle.volume_model.specs.Modes.{HasSource, HasNoSource, source_of, asks_replica, is_change}
+use Rattle.volume_model.specs.Modes.{HasSource, HasNoSource, source_of, asks_replica, asks_store, is_change}
 use Rattle.volume_model.specs.Rebuilds.{added_by}
-use Rattle.volume_model.specs.History.{Spot, says_no_replica, IsAnswered, IsEnded, LegalAfter, answers_from, InOrderFrom}
+use Rattle.volume_model.specs.History.{Spot, Subject, OfVolume, OfReplicas, OfStore, subject_of, IsAnswered, IsEnded}
+use Rattle.volume_model.specs.History.{LegalAfter, answers_from, InOrderFrom}
 use Rattle.volume_model.specs.OneWorker.{behind_entries, want_of_replica, refused_at, marks_unless, reply_for}
-use Rattle.volume_model.specs.OneWorker.{answer_for, entries_at, after_done, behind, served_from}
+use Rattle.volume_model.specs.OneWorker.{no_store, answer_for, entries_at, after_done, behind, served_from}
 use Rattle.volume_model.proofs.FaultLemmas.{fault_counts-append}
 use Rattle.volume_model.proofs.SpotLemmas.{source_is}
 use Rattle.volume_model.proofs.OneWorkerLemmas.{same_after}
@@ -42,13 +43,21 @@ use Rattle.stream_turns.proofs.Groups.{IsGroup, served_group, commanded_group, g
 
 -- ---- the answer of a frame's call
 
-no_replica_reply : (r : Reply) → says_no_replica r ≡ true → r ≡ reply.Refused refusal.NoReplica
+no_replica_reply : (r : Reply) → subject_of r ≡ OfReplicas → r ≡ reply.Refused refusal.NoReplica
 no_replica_reply (reply.Read bytes) says = absurd cc
 no_replica_reply reply.Done says = absurd cc
 no_replica_reply (reply.Status layers modes) says = absurd cc
 no_replica_reply (reply.Aborted place) says = absurd cc
 no_replica_reply (reply.Refused refusal.NoReplica) says = refl
 no_replica_reply (reply.Refused why) says = absurd cc
+
+-- a frame asks nothing of the store of backups
+frame_apart : (c : Call) → IsFrameCall c → asks_store c ≡ false
+frame_apart (call.Read offset n) frame = refl
+frame_apart (call.Write offset bytes) frame = refl
+frame_apart call.Ping frame = refl
+frame_apart (call.Other kind) frame = refl
+frame_apart (call.Command c) frame = absurd frame
 
 none_is : (modes : List Mode) → HasNoSource modes → source_of modes ≡ None
 none_is modes none = go (source_of modes) refl
@@ -95,11 +104,13 @@ module _ (spot : Spot) (a : Answer) (is : IsAnswered spot.state spot.modes a)
 
   -- it is answered as one worker answers it there
   pub frame_reply : IsFrameCall a.call → a.reply ≡ reply_for (refused_at spot a.call) spot a.call
-  frame_reply frame = elim (cases_Bool (says_no_replica a.reply)) [
-    | inl says ↦ let no = is.none says in
-        no_replica_reply a.reply says ∙ ap (λ x. reply_for x spot a.call) (sym (wanting no.none no.refused no.asks))
-    | inr says ↦ as_refused frame (refusal_of spot.modes spot.state a.call) refl (is.reply says)
-  ]
+  frame_reply frame = by (subject_of a.reply) refl
+    where
+      by : (about : Subject) → subject_of a.reply ≡ about → a.reply ≡ reply_for (refused_at spot a.call) spot a.call
+      by OfVolume says = as_refused frame (refusal_of spot.modes spot.state a.call) refl (is.reply says)
+      by OfReplicas says = let no = is.none says in
+          no_replica_reply a.reply says ∙ ap (λ x. reply_for x spot a.call) (sym (wanting no.none no.refused no.asks))
+      by OfStore says = absurd (true≢false (sym (is.store says).asks ∙ frame_apart a.call frame))
 
 -- a frame's call makes no marks
 frame_unmarked : (why : Option Refusal) (spot : Spot) (c : Call) → IsFrameCall c → marks_unless why spot c ≡ []
@@ -146,7 +157,7 @@ longer_at opening before es = λ i. Some (record { spot = sym (behind-append ope
 
 -- what one worker makes of calls behind that journal
 abbrev pub served_behind : Spot → List Entry → ℕ → ℕ → List Call → List Entry
-served_behind opening before w index cs = served_from (behind_entries opening before) w (length before) index cs
+served_behind opening before w index cs = served_from no_store (behind_entries opening before) w (length before) index cs
 
 served_more : (opening : Spot) (before first more : List Entry) (w index : ℕ) (c : Call) (cs : List Call)
     → first ≡ entries_at (behind_entries opening before) w (length before) index c
@@ -158,14 +169,14 @@ served_more opening before first more w index c cs e f = λ i. e i ++ (f ∙ the
     spot = behind_entries opening before
 
     stands : behind_entries opening (before ++ first) ≡ after_done spot c
-    stands = behind-append opening before first ∙ ap (behind_entries spot) e ∙ same_after spot w (length before) index c
+    stands = behind-append opening before first ∙ ap (behind_entries spot) e ∙ same_after None spot w (length before) index c
 
     place : length (before ++ first) ≡ behind (length before) (entries_at spot w (length before) index c)
     place = length-append before first ∙ ap (λ l. behind (length before) l) e
 
     there : served_behind opening (before ++ first) w (suc index) cs
-        ≡ served_from (after_done spot c) w (behind (length before) (entries_at spot w (length before) index c)) (suc index) cs
-    there = λ i. served_from (stands i) w (place i) (suc index) cs
+        ≡ served_from no_store (after_done spot c) w (behind (length before) (entries_at spot w (length before) index c)) (suc index) cs
+    there = λ i. served_from no_store (stands i) w (place i) (suc index) cs
 
 -- ---- the order of answers
 

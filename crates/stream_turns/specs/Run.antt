@@ -4,7 +4,7 @@ use Rattle.volume_model.specs.declared.entry.Entry.{Entry}
 use Rattle.volume_model.specs.declared.entry.Entry.TheVariants as entry
 use Rattle.volume_model.specs.declared.mark.Mark.TheVariants as mark
 use Rattle.volume_model.specs.History.{Spot, IsHistory}
-use Rattle.volume_model.specs.OneWorker.{served, stream_of}
+use Rattle.volume_model.specs.OneWorker.{no_store, served, stream_of}
 use Rattle.client_worker.specs.Exchanges.{ExchangesShown}
 use Rattle.frame_wire.specs.Spelling.{IsFrame}
 use Rattle.script_text.specs.declared.script.Script.{Script}
@@ -39,4 +39,4 @@ HaveNotFailed counted script = (w r : ℕ) → w < length script.streams → r <
 -- the spot where it began. Of streams that are served side by side nothing of the kind is so.
 pub record IsOneWorkersRun (counted : ℕ → ℕ → ℕ) (script : Script) (spot : Spot) (journal : List Entry) : Type 0 where
   pub order : StandInTurn 0 journal
-  pub is : HaveNotFailed counted script → journal ≡ served spot (calls_in script)
+  pub is : HaveNotFailed counted script → journal ≡ served no_store spot (calls_in script)

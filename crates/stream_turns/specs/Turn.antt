@@ -30,7 +30,7 @@ pub record IsBetween (w : World) : Type 0 where
 
 -- the stream has no entry yet
 abbrev pub HasNoEntry : ℕ → World → Type 0
-HasNoEntry n w = own_entries n w.journal.opening.modes w.journal.entries ≡ []
+HasNoEntry n w = own_entries n (opening_of (state_of w)) w.journal.entries ≡ []
 
 -- the volume began as it did, with as many replicas and streams
 abbrev pub KeepsOrigin : World → World → Type 0

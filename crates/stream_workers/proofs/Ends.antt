@@ -10,7 +10,7 @@ use Rattle.volume_model.specs.declared.call.Call.{Call}
 use Rattle.volume_model.specs.declared.call.Call.TheVariants as call
 use Rattle.volume_model.specs.Faults.{last_count}
 use Rattle.volume_model.specs.History.{calls_of}
-use Rattle.volume_core.specs.State.{State, gave_up_at}
+use Rattle.volume_core.specs.State.{State, opening_of, gave_up_at}
 use Rattle.volume_core.specs.Sound.{IsSound}
 use Rattle.volume_core.specs.Streams.{turning}
 use Rattle.stream_steps.specs.Mine.{Mine, Placed, entries_in}
@@ -33,11 +33,11 @@ use Rattle.stream_workers.proofs.Own.{own_asked, answered}
 
 module _ (n : ℕ) (s s2 : State) (counts : List ℕ) (told : List (Option (List (List ℕ)))) (gave_up : gave_up_at s2.gave_up n ≡ false) where
   abbrev own : List Placed
-  own = own_entries n s2.book.opening.modes s2.book.entries
+  own = own_entries n (opening_of s2) s2.book.entries
 
   counted : ((r : ℕ) → last_count n r (entries_in own) ≤ slice_index_or counts r 0) → (r : ℕ)
       → last_count n r s2.book.entries ≤ slice_index_or counts r 0
-  counted shown r = subst (λ k. k ≤ slice_index_or counts r 0) (own_last n r s2.book.opening.modes s2.book.entries) (shown r)
+  counted shown r = subst (λ k. k ≤ slice_index_or counts r 0) (own_last n r (opening_of s2) s2.book.entries) (shown r)
 
   pub frames_ended : (cs : List Call) → turning s2 n ≡ [] → (view false n s).entries ≡ []
       → IsShown (view false n s2) counts told → Grew cs (view false n s) (view false n s2)
@@ -48,7 +48,7 @@ module _ (n : ℕ) (s s2 : State) (counts : List ℕ) (told : List (Option (List
         turns = turns;
         calls = (has_none n s2 (ap (λ (m : Mine). m.running) grew.is)).calls;
         gave_up = gave_up;
-        asked = sym (own_asked n s2.book.opening.modes s2.book.entries) ∙ ap (λ ps. calls_of n (entries_in ps)) is
+        asked = sym (own_asked n (opening_of s2) s2.book.entries) ∙ ap (λ ps. calls_of n (entries_in ps)) is
             ∙ groups_calls n 0 cs (entries_in grew.added) (served_groups n None cs (entries_in grew.added) grew.served);
         counted = counted shown.counted;
         carried = shown.answered;
@@ -65,7 +65,7 @@ module _ (n : ℕ) (s s2 : State) (counts : List ℕ) (told : List (Option (List
         turns = idle.turns;
         calls = idle.calls;
         gave_up = gave_up;
-        asked = sym (own_asked n s2.book.opening.modes s2.book.entries) ∙ ap (λ ps. calls_of n (entries_in ps)) is
+        asked = sym (own_asked n (opening_of s2) s2.book.entries) ∙ ap (λ ps. calls_of n (entries_in ps)) is
             ∙ answered n (entries_in grew.own) cs (own_streams cs (view false n s) (view false n s2) grew)
             ∙ own_calls cs (view false n s) (view false n s2) grew;
         counted = counted shown.counted;
@@ -83,11 +83,11 @@ ended_later n cs counts told s t found ended = record {
   turns = found.later.turns ∙ ended.turns;
   calls = found.later.calls ∙ ended.calls;
   gave_up = found.later.gave_up ∙ ended.gave_up;
-  asked = sym (own_asked n t.book.opening.modes t.book.entries) ∙ ap (λ ps. calls_of n (entries_in ps)) own
-      ∙ own_asked n s.book.opening.modes s.book.entries ∙ ended.asked;
+  asked = sym (own_asked n (opening_of t) t.book.entries) ∙ ap (λ ps. calls_of n (entries_in ps)) own
+      ∙ own_asked n (opening_of s) s.book.entries ∙ ended.asked;
   counted = λ r. subst (λ k. k ≤ counts r)
-      (sym (sym (own_last n r t.book.opening.modes t.book.entries) ∙ ap (λ ps. last_count n r (entries_in ps)) own
-      ∙ own_last n r s.book.opening.modes s.book.entries)) (ended.counted r);
+      (sym (sym (own_last n r (opening_of t) t.book.entries) ∙ ap (λ ps. last_count n r (entries_in ps)) own
+      ∙ own_last n r (opening_of s) s.book.entries)) (ended.counted r);
   carried = subst (λ (m : Mine). AreCarried m.replicas told m.entries) (sym same) ended.carried;
   framed = λ r low. ended.framed r (omega (arith, low, ap (λ (m : Mine). m.replicas) same));
 }
@@ -95,7 +95,7 @@ ended_later n cs counts told s t found ended = record {
     same : view false n t ≡ view false n s
     same = found_same false n s t found
 
-    own : own_entries n t.book.opening.modes t.book.entries ≡ own_entries n s.book.opening.modes s.book.entries
+    own : own_entries n (opening_of t) t.book.entries ≡ own_entries n (opening_of s) s.book.entries
     own = ap (λ (m : Mine). m.entries) same
 
 -- and by what the lines told when they were taken back
@@ -113,6 +113,6 @@ ended_noted n k cs ns ts counts told t sound many as_many same_counts same_told 
     | inr high ↦ omega (arith, ended.counted r, get_or_past ns r 0 (omega (arith, high, as_many)))
   ];
   carried = told_carried (length t.nodes) n (told_in ts) told (λ r low. same_told r (omega (arith, low, many)))
-      t.book.opening.modes t.book.entries (modes_many t sound) ended.carried;
+      (opening_of t) t.book.entries (modes_many t sound) ended.carried;
   framed = λ r low. subst (λ x. IfSome x (All IsFrame)) (sym (same_told r (omega (arith, low, many)))) (ended.framed r low);
 }

@@ -27,6 +27,7 @@ use Rattle.stream_turns.specs.Volume.{stream_calls, heads_of}
 use Rattle.stream_turns.proofs.SoFar.{served_is}
 use Rattle.stream_workers.specs.Ended.{HaveEnded}
 use Rattle.world_holder.proofs.Entries.{own_last}
+use Rattle.world_holder.proofs.Grow.{began_at}
 use Rattle.stream_workers.proofs.Own.{own_asked}
 
 module _ (css : List (List Call)) (counts : ℕ → ℕ → ℕ) (told : ℕ → ℕ → Option (List (List ℕ))) (w w2 : World)
@@ -34,16 +35,16 @@ module _ (css : List (List Call)) (counts : ℕ → ℕ → ℕ) (told : ℕ →
   abbrev entries : List Entry
   entries = w2.journal.entries
 
-  none_past : (v : ℕ) → length css ≤ v → own_entries v w2.journal.opening.modes entries ≡ []
+  none_past : (v : ℕ) → length css ≤ v → own_entries v (opening_of (state_of w2)) entries ≡ []
   none_past v past = ended.none v past
 
-  each_none : (v : ℕ) → length css ≤ v → own_entries v (opening_of (state_of w)).modes entries ≡ []
-  each_none v past = subst (λ (o : Origin). own_entries v o.opening.modes entries ≡ []) origin (none_past v past)
+  each_none : (v : ℕ) → length css ≤ v → own_entries v (opening_of (state_of w)) entries ≡ []
+  each_none v past = subst (λ (o : Origin). own_entries v (began_at o) entries ≡ []) origin (none_past v past)
 
   each_asked : (v : ℕ) → calls_of v entries ≡ stream_of css v
   each_asked v = elim (cases_lt v (length css)) [
     | inl low ↦ (ended.each v low).asked
-    | inr past ↦ sym (own_asked v w2.journal.opening.modes entries)
+    | inr past ↦ sym (own_asked v (opening_of (state_of w2)) entries)
         ∙ ap (λ ps. calls_of v (entries_in ps)) (none_past v past) ∙ sym (get_or_past css v [] past)
   ]
 
@@ -51,19 +52,19 @@ module _ (css : List (List Call)) (counts : ℕ → ℕ → ℕ) (told : ℕ →
   each_counted v r = elim (cases_lt v (length css)) [
     | inl low ↦ (ended.each v low).counted r
     | inr past ↦ subst (λ k. k ≤ counts v r)
-        (sym (sym (own_last v r w2.journal.opening.modes entries) ∙ ap (λ ps. last_count v r (entries_in ps)) (none_past v past)))
+        (sym (sym (own_last v r (opening_of (state_of w2)) entries) ∙ ap (λ ps. last_count v r (entries_in ps)) (none_past v past)))
         (omega arith)
   ]
 
-  each_here : (v : ℕ) → AreCarried (length w2.nodes.items) (told v) (own_entries v w2.journal.opening.modes entries)
+  each_here : (v : ℕ) → AreCarried (length w2.nodes.items) (told v) (own_entries v (opening_of (state_of w2)) entries)
   each_here v = elim (cases_lt v (length css)) [
     | inl low ↦ (ended.each v low).carried
     | inr past ↦ subst (AreCarried (length w2.nodes.items) (told v)) (sym (none_past v past))
-        (All-nil (λ (p : Placed). IsCarried (length w2.nodes.items) (told v) p.modes p.entry))
+        (All-nil (λ (p : Placed). IsCarried (length w2.nodes.items) (told v) p.spot.modes p.entry))
   ]
 
-  each_carried : (v : ℕ) → AreCarried (length w.nodes.items) (told v) (own_entries v (opening_of (state_of w)).modes entries)
-  each_carried v = subst (λ (o : Origin). AreCarried o.replicas (told v) (own_entries v o.opening.modes entries)) origin (each_here v)
+  each_carried : (v : ℕ) → AreCarried (length w.nodes.items) (told v) (own_entries v (opening_of (state_of w)) entries)
+  each_carried v = subst (λ (o : Origin). AreCarried o.replicas (told v) (own_entries v (began_at o) entries)) origin (each_here v)
 
   each_framed : (v r : ℕ) → v < length css → r < length w.nodes.items → IfSome (told v r) (All IsFrame)
   each_framed v r low there = (ended.each v low).framed r (omega (arith, there, ap (λ (o : Origin). o.replicas) origin))
