@@ -5,8 +5,7 @@ use Rattle.std.proofs.Math.Seq.{take-append_seam}
 use Rattle.std.proofs.lemmas.Bool.{cases_eq}
 use Rattle.target_traits.specs.Objects.{Objects, OtherObjectsStay}
 use Rattle.digest.specs.Digest.{digest_text}
-use Rattle.backup_units.specs.Names.{block_name, cfg_name}
-use Rattle.backup_units.proofs.NameLemmas.{block_no_cfg}
+use Rattle.backup_units.specs.Names.{block_name}
 use Rattle.backup_units.specs.Backups.{page_at, listed_of, HoldsPage, IsKept, IsBackup}
 use Rattle.backup_units.specs.Blocks.{is_zeros, KeepsBlocks}
 use Rattle.backup_make.specs.Giving.{Copies, IsNotFrom, Stays}
@@ -71,7 +70,7 @@ backup_stays tells objects after volume disk listed keeps is = record {
 pub adds_then : (volume : List ℕ) (a b c : Objects) → AddsBlocks volume a b → AddsBlocks volume b c → AddsBlocks volume a c
 adds_then volume a b c p q = record {
   blocks = λ sum bytes held. q.blocks sum bytes (p.blocks sum bytes held);
-  cfgs = λ backup. q.cfgs backup ∙ p.cfgs backup;
+  others = λ name none. q.others name none ∙ p.others name none;
 }
 
 pub stays_then : (f g h : Copies) (a b c : List ℕ) → Stays f g a b → Stays g h b c → Stays f h a c
@@ -103,5 +102,5 @@ pub adds_from : (volume c : List ℕ) (old new : Objects) → KeepsBlocks volume
     → OtherObjectsStay (block_name volume c) old new → AddsBlocks volume old new
 adds_from volume c old new keeps others = record {
   blocks = keeps;
-  cfgs = λ backup. others (cfg_name volume backup) (λ e. block_no_cfg volume c backup (sym e));
+  others = λ name none. others name (none c);
 }

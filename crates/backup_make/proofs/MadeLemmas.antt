@@ -1,6 +1,6 @@
 -- What stays of other backups while one is made.
 use Rattle.std.proofs.Common.{◌≡◌, ℕ, ◌+◌, ◌≤◌, Bool, true, List, length, codes, decimal, Option, Some}
-use Rattle.std.proofs.Common.{⊎_elim, sym, ap, subst, ◌∙◌, arith, length-append}
+use Rattle.std.proofs.Common.{inr, ⊎_elim, sym, ap, subst, ◌∙◌, arith, length-append}
 use Rattle.std.specs.Prelude.{Result, Ok, Err, OnOk}
 use Rattle.serde_json.specs.Written.{compact_text}
 use Rattle.std.proofs.lemmas.Fmt.{length-decimal-le}
@@ -15,10 +15,10 @@ use Rattle.backup_config.specs.VolumeCfgs.{volume_data, SaysVolume}
 use Rattle.backup_config.specs.Lists.{Listing}
 use Rattle.backup_config.specs.declared.backup_cfg.BackupCfg.{BackupCfg}
 use Rattle.backup_config.specs.declared.volume_cfg.VolumeCfg.{VolumeCfg}
-use Rattle.backup_make.specs.Made.{OnlyCfgs, IsMade, IsMadeDisk, HasCfgs, volume_cfg_of}
+use Rattle.backup_make.specs.Made.{OnlyBackup, OnlyCfgs, IsMade, IsMadeDisk, HasBlocksIfSeen, HoldsCopy, HasCfgs, volume_cfg_of}
 use Rattle.backup_make.specs.Making.{AddsBlocks}
 use Rattle.backup_make.proofs.DiskLemmas.{is_disk}
-use Rattle.backup_make.proofs.KeptLemmas.{backup_stays}
+use Rattle.backup_make.proofs.KeptLemmas.{adds_then, backup_stays}
 
 -- where two cfgs change, blocks stay
 pub cfgs_keep : (volume backup : List ℕ) (old new : Objects) → OnlyCfgs volume backup old new → KeepsBlocks volume old new
@@ -27,13 +27,46 @@ cfgs_keep volume backup old new only c bytes held = record {
   block = held.block;
 }
 
+-- where blocks come the cfg of each backup stays
+pub cfg_stays : (volume backup : List ℕ) (old new : Objects) → AddsBlocks volume old new
+    → new (cfg_name volume backup) ≡ old (cfg_name volume backup)
+cfg_stays volume backup old new adds = adds.others (cfg_name volume backup) (λ c e. block_no_cfg volume c backup (sym e))
+
+-- so no backup changes
+pub adds_keep : (volume backup : List ℕ) (old new : Objects) → AddsBlocks volume old new → KeepsBackups volume backup old new
+adds_keep volume backup old new adds = record {
+  blocks = adds.blocks;
+  cfgs = λ other apart. cfg_stays volume other old new adds;
+}
+
 pub keeps_then : (volume backup : List ℕ) (old mid new : Objects) → AddsBlocks volume old mid
     → OnlyCfgs volume backup mid new → KeepsBackups volume backup old new
 keeps_then volume backup old mid new adds only = record {
   blocks = λ c bytes held. cfgs_keep volume backup mid new only c bytes (adds.blocks c bytes held);
   cfgs = λ other apart. only (cfg_name volume other) (λ e. apart (one_cfg volume other backup e)) (cfg_no_volume volume other)
-      ∙ adds.cfgs other;
+      ∙ cfg_stays volume other old mid adds;
 }
+
+-- all else stays too
+pub only_backup : (volume backup : List ℕ) (old mid new : Objects) → AddsBlocks volume old mid
+    → OnlyCfgs volume backup mid new → OnlyBackup volume backup old new
+only_backup volume backup old mid new adds only name no_block no_cfg no_volume =
+    only name no_cfg no_volume ∙ adds.others name no_block
+
+-- where no cfg is put
+pub adds_only : (volume backup : List ℕ) (old new : Objects) → AddsBlocks volume old new → OnlyBackup volume backup old new
+adds_only volume backup old new adds name no_block no_cfg no_volume = adds.others name no_block
+
+-- once the blocks are held the cfgs may come
+pub seen_then : (tells : Bool) (volume backup : List ℕ) (copy : Option (List ℕ)) (blocks : List (Option (List ℕ)))
+    (old mid new : Objects) → tells ≡ true → ((disk : List ℕ) → copy ≡ Some disk → IsBackup tells mid volume disk blocks)
+    → OnlyCfgs volume backup mid new → HasBlocksIfSeen volume backup copy old new
+seen_then tells volume backup copy blocks old mid new t is only = inr held
+  where
+    held : HoldsCopy new volume copy
+    held disk there page low some =
+        let whole = is disk there in
+        cfgs_keep volume backup mid new only _ _ ((whole.pages page (omega (arith, whole.size, low))).held t some)
 
 -- where nothing changes
 pub same_adds : (volume : List ℕ) (old new : Objects) → new ≡ old → AddsBlocks volume old new
@@ -42,8 +75,11 @@ same_adds volume old new same = record {
     there = ap (λ (o : Objects). o (block_name volume c)) same ∙ held.there;
     block = held.block;
   };
-  cfgs = λ backup. ap (λ (o : Objects). o (cfg_name volume backup)) same;
+  others = λ name none. ap (λ (o : Objects). o name) same;
 }
+
+pub adds_since : (volume : List ℕ) (old mid new : Objects) → mid ≡ old → AddsBlocks volume mid new → AddsBlocks volume old new
+adds_since volume old mid new same adds = adds_then volume old mid new (same_adds volume old mid same) adds
 
 -- ---- the name of a layer is short
 

@@ -1,9 +1,11 @@
 -- What a backup that was made has left, and what each answer tells of the target.
-use Rattle.std.specs.Prelude.{◌≡◌, ◌≢◌, ⊤, ℕ, Bool, true, false, List, Option, None, Some, IsSome, Result, Ok, Err}
+use Rattle.std.specs.Prelude.{◌≡◌, ◌≢◌, ◌⊎◌, ⊤, ℕ, ◌*◌, ◌<◌, Bool, true, false, List, length}
+use Rattle.std.specs.Prelude.{Option, None, Some, IsSome, Result, Ok, Err}
 use Rattle.serde_json.specs.Written.{compact_text}
 use Rattle.target_traits.specs.Objects.{Objects}
-use Rattle.backup_units.specs.Backups.{IsBackup, AreWhole, disk_of}
-use Rattle.backup_units.specs.Names.{cfg_name, volume_name}
+use Rattle.backup_units.specs.Backups.{IsBackup, AreWhole, HoldsPage, disk_of, page_at}
+use Rattle.backup_units.specs.Blocks.{page_bytes}
+use Rattle.backup_units.specs.Names.{block_name, cfg_name, volume_name}
 use Rattle.backup_config.specs.BackupCfgs.{backup_data, SaysBackup}
 use Rattle.backup_config.specs.VolumeCfgs.{volume_data, SaysVolume}
 use Rattle.backup_config.specs.Lists.{Listing}
@@ -49,9 +51,22 @@ abbrev pub OnlyCfgs : List ℕ → List ℕ → Objects → Objects → Type 0
 OnlyCfgs volume backup old new =
     (other : List ℕ) → other ≢ cfg_name volume backup → other ≢ volume_name volume → new other ≡ old other
 
--- the cfg of the backup is as it was
-abbrev pub LeavesCfg : List ℕ → List ℕ → Objects → Objects → Type 0
-LeavesCfg volume backup old new = new (cfg_name volume backup) ≡ old (cfg_name volume backup)
+-- all objects but the blocks of the volume and these two hold what they held
+abbrev pub OnlyBackup : List ℕ → List ℕ → Objects → Objects → Type 0
+OnlyBackup volume backup old new =
+    (name : List ℕ) → ((checksum : List ℕ) → name ≢ block_name volume checksum)
+    → name ≢ cfg_name volume backup → name ≢ volume_name volume → new name ≡ old name
+
+-- the block of each page of a copy is held
+abbrev pub HoldsCopy : Objects → List ℕ → Option (List ℕ) → Type 0
+HoldsCopy objects volume copy =
+    (disk : List ℕ) → copy ≡ Some disk
+    → (page : ℕ) → page * page_bytes < length disk → HoldsPage objects volume (page_at disk page)
+
+-- what can be seen of a backup has its blocks: its cfg is as it was, or each page of the copy is held
+abbrev pub HasBlocksIfSeen : List ℕ → List ℕ → Option (List ℕ) → Objects → Objects → Type 0
+HasBlocksIfSeen volume backup copy old new =
+    (new (cfg_name volume backup) ≡ old (cfg_name volume backup)) ⊎ HoldsCopy new volume copy
 
 -- ---- answers
 

@@ -7,7 +7,7 @@ use Rattle.block_store.specs.declared.error.StoreError.{StoreError}
 use Rattle.block_store.specs.declared.error.StoreError.TheVariants as store_error
 use Rattle.backup_units.specs.Backups.{IsBackup, IsKept, listed_at, listed_of, page_at}
 use Rattle.backup_units.specs.Blocks.{HoldsBlock, KeepsBlocks, page_bytes}
-use Rattle.backup_units.specs.Names.{cfg_name}
+use Rattle.backup_units.specs.Names.{block_name}
 use Rattle.backup_make.specs.Giving.{Copies, IsNotFrom}
 use Rattle.backup_make.specs.declared.giver.Pages.{Pages}
 use Rattle.backup_make.specs.declared.giver.Pages.TheVariants as found
@@ -58,10 +58,15 @@ tells_exists make_error.NoMemory = false
 
 -- ---- blocks
 
--- blocks come, and every block that is held and every cfg stays
+-- all objects but the blocks of the volume hold what they held
+abbrev pub OnlyBlocks : List ℕ → Objects → Objects → Type 0
+OnlyBlocks volume old new =
+    (name : List ℕ) → ((checksum : List ℕ) → name ≢ block_name volume checksum) → new name ≡ old name
+
+-- blocks come, every block that is held stays, and so does all else
 pub record AddsBlocks (volume : List ℕ) (old new : Objects) : Type 0 where
   pub blocks : KeepsBlocks volume old new
-  pub cfgs : (backup : List ℕ) → new (cfg_name volume backup) ≡ old (cfg_name volume backup)
+  pub others : OnlyBlocks volume old new
 
 -- every page that does not stand in the list, from that place on, is kept
 abbrev pub KeptElse : Bool → Objects → List ℕ → List ℕ → List (Option (List ℕ)) → ℕ → List ℕ → Type 0

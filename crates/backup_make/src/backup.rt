@@ -5,8 +5,10 @@ ghost use Rattle.backup_units.specs.Blocks.{page_bytes};
 ghost use Rattle.backup_units.specs.Faults.{HasFault};
 ghost use Rattle.backup_units.specs.Names.{cfg_name};
 ghost use Rattle.backup_make.specs.Giving.{Stays, HasCopy};
-ghost use Rattle.backup_make.specs.Made.{IsMade, IsMadeDisk, HasCfgs, AnswersMake, LeavesCfg, cfg_of, is_refusal};
-ghost use Rattle.backup_make.specs.Making.{AddsBlocks, IsBase, HoldsAnotherPage, IfDiffers, is_make_fault, lacks_replica, tells_exists};
+ghost use Rattle.backup_make.specs.Made.{IsMade, IsMadeDisk, HasCfgs, cfg_of, AnswersMake, is_refusal};
+ghost use Rattle.backup_make.specs.Made.{OnlyBackup, HasBlocksIfSeen};
+ghost use Rattle.backup_make.specs.Making.{AddsBlocks, OnlyBlocks, IsBase, HoldsAnotherPage, IfDiffers};
+ghost use Rattle.backup_make.specs.Making.{is_make_fault, lacks_replica, tells_exists};
 
 use crate::cfgs::{has_cfg, put_cfgs, same_time, text_of};
 use crate::error::MakeError;
@@ -49,8 +51,11 @@ pub fn make<R: Wait, T: Target, P: PageGiver>(
 
     // After any answer, that of a target that failed too.
     ensures keeps { T.tells ≡ true → KeepsBackups volume.now backup.now (T.holds target.old) (T.holds target.new) }
+    ensures others { T.tells ≡ true → OnlyBackup volume.now backup.now (T.holds target.old) (T.holds target.new) }
+    ensures seen { T.tells ≡ true → HasBlocksIfSeen volume.now backup.now
+        (P.copies pages.old (P.asked pages.old)) (T.holds target.old) (T.holds target.new) }
     ensures unmade { T.tells ≡ true → IfErr result (λ e. is_refusal e ≡ true
-        → LeavesCfg volume.now backup.now (T.holds target.old) (T.holds target.new)) }
+        → OnlyBlocks volume.now (T.holds target.old) (T.holds target.new)) }
     ensures none { IfErr result (λ e. lacks_replica e ≡ true → P.has_none pages.new) }
 
     // For a page that is not all zeros the target holds another block of its checksum.

@@ -22,3 +22,7 @@ loop-page-preserved g c =
           (λ t. subst (HoldsPage after volume) (sym page) (search rules))
           (so_far.kept disk is start);
     }
+
+pub returns-in_err-listed-clause-adds : goal.returns-in_err-listed-clause-adds
+returns-in_err-listed-clause-adds g c tells =
+    adds_then c.args.volume.now _ _ _ (c.loop-page.invariant.adds tells) (c.keep_page.ensures.adds tells)
