@@ -8,7 +8,7 @@ use Rattle.digest.specs.Digest.{digest_text}
 use Rattle.backup_units.specs.Names.{block_name}
 use Rattle.backup_units.specs.Backups.{page_at, listed_of, HoldsPage, IsKept, IsBackup}
 use Rattle.backup_units.specs.Blocks.{is_zeros, KeepsBlocks}
-use Rattle.backup_make.specs.Giving.{Copies, IsNotFrom, Stays}
+use Rattle.backup_make.specs.Giving.{Copies, KeepsGiver, IsNotFrom, Stays}
 use Rattle.backup_make.specs.Making.{AddsBlocks, KeptElse}
 
 abbrev Listed : Type 0
@@ -71,6 +71,15 @@ pub adds_then : (volume : List ℕ) (a b c : Objects) → AddsBlocks volume a b 
 adds_then volume a b c p q = record {
   blocks = λ sum bytes held. q.blocks sum bytes (p.blocks sum bytes held);
   others = λ name none. q.others name none ∙ p.others name none;
+}
+
+-- two calls of a giver, one after the other
+pub giver_then : {S Home Fact : Type 0} (can : S → Type 0) (at : S → Home) (true_of : S → Fact → Type 0) (s s2 s3 : S)
+    → KeepsGiver can at true_of s s2 → KeepsGiver can at true_of s2 s3 → KeepsGiver can at true_of s s3
+giver_then can at true_of s s2 s3 first next = record {
+  ready = next.ready;
+  home = next.home ∙ first.home;
+  facts = λ fact is. next.facts fact (first.facts fact is);
 }
 
 pub stays_then : (f g h : Copies) (a b c : List ℕ) → Stays f g a b → Stays g h b c → Stays f h a c

@@ -1,6 +1,7 @@
-mod KeptLemmas
+pub mod KeptLemmas
+pub mod BackupLemmas
 mod DiffersLemmas
 mod StartLemmas
 mod GatherLemmas
 mod DiskLemmas
-mod MadeLemmas
+pub mod MadeLemmas

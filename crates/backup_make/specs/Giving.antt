@@ -18,6 +18,13 @@ pub record Stays (old new : Copies) (asked_old asked_new : List ℕ) : Type 0 wh
   pub name : asked_new ≡ asked_old
   pub copy : new asked_old ≡ old asked_old
 
+-- the next call can be made, what no call changes is as it was, and what else is true for good is true still
+pub record KeepsGiver {S Home Fact : Type 0} (can : S → Type 0) (at : S → Home) (true_of : S → Fact → Type 0) (s s2 : S)
+    : Type 0 where
+  pub ready : can s2
+  pub home : at s2 ≡ at s
+  pub facts : (fact : Fact) → true_of s fact → true_of s2 fact
+
 -- the base has the copy that it had, or is live no longer
 abbrev pub Drops : Option (List ℕ) → Copies → Copies → Type 0
 Drops None old new = ⊤

@@ -46,6 +46,22 @@ pub record HasCfgs (objects : Objects) (cfg : BackupCfg) (size : ℕ) : Type 0 w
   pub volume : objects (volume_name cfg.volume) ≡ Some (compact_text (volume_data (volume_cfg_of cfg size)))
   pub says_volume : SaysVolume cfg.volume (compact_text (volume_data (volume_cfg_of cfg size))) (Ok (volume_cfg_of cfg size))
 
+-- ---- a backup that is there
+
+-- The store has a backup of that disk: its cfg is there and is read, each block that it lists is whole, and these are the
+-- disk. The cfg of its volume is not asked for.
+pub record HasBackup (objects : Objects) (volume backup disk : List ℕ) : Type 0 where
+  pub cfg : BackupCfg
+  pub there : objects (cfg_name volume backup) ≡ Some (compact_text (backup_data cfg))
+  pub says : (told : Option ℕ) → SaysBackup volume backup told (compact_text (backup_data cfg)) (Ok cfg)
+  pub list : IsDisk objects volume disk cfg.list.blocks
+
+-- the same of a copy, if there is one
+abbrev pub HasCopyOf : Objects → List ℕ → List ℕ → Option (List ℕ) → Type 0
+HasCopyOf objects volume backup copy = (disk : List ℕ) → copy ≡ Some disk → HasBackup objects volume backup disk
+
+-- ---- what else changes
+
 -- all objects but these two hold what they held
 abbrev pub OnlyCfgs : List ℕ → List ℕ → Objects → Objects → Type 0
 OnlyCfgs volume backup old new =

@@ -1,11 +1,11 @@
-ghost use Rattle.std.specs.Prelude.{◌≡◌, ◌*◌, true, false, List, ℕ, Some, length, IfOk, IfErr, IfSome, option_map};
+ghost use Rattle.std.specs.Prelude.{◌≡◌, ◌*◌, true, false, List, ℕ, Some, length, IsSome, IfOk, IfErr, IfSome, option_map};
 ghost use Rattle.vol_units.specs.Size.{IsVolumeSize};
 ghost use Rattle.backup_units.specs.Backups.{IsBackup, KeepsBackups};
 ghost use Rattle.backup_units.specs.Blocks.{page_bytes};
 ghost use Rattle.backup_units.specs.Faults.{HasFault};
 ghost use Rattle.backup_units.specs.Names.{cfg_name};
-ghost use Rattle.backup_make.specs.Giving.{Stays, HasCopy};
-ghost use Rattle.backup_make.specs.Made.{IsMade, IsMadeDisk, HasCfgs, cfg_of, AnswersMake, is_refusal};
+ghost use Rattle.backup_make.specs.Giving.{KeepsGiver, Stays, HasCopy};
+ghost use Rattle.backup_make.specs.Made.{IsMade, IsMadeDisk, HasCopyOf, HasCfgs, cfg_of, AnswersMake, is_refusal};
 ghost use Rattle.backup_make.specs.Made.{OnlyBackup, HasBlocksIfSeen};
 ghost use Rattle.backup_make.specs.Making.{AddsBlocks, OnlyBlocks, IsBase, HoldsAnotherPage, IfDiffers};
 ghost use Rattle.backup_make.specs.Making.{is_make_fault, lacks_replica, tells_exists};
@@ -35,6 +35,7 @@ pub fn make<R: Wait, T: Target, P: PageGiver>(
     pages: &mut P,
     base: Option<&BackupList>,
 ) -> Result<BackupList, MakeError>
+    requires ready { P.ready pages.old }
     requires asked { P.asked pages.old ≡ snapshot.now }
     requires copy { HasCopy (P.copies pages.old (P.asked pages.old)) size }
     requires base { IfSome (option_map (λ b. b.now) base)
@@ -47,7 +48,13 @@ pub fn make<R: Wait, T: Target, P: PageGiver>(
         (P.copies pages.old (P.asked pages.old))) }
     ensures cfgs { T.tells ≡ true → IfOk result
         (λ list. HasCfgs (T.holds target.new) (cfg_of volume.now backup.now now.now list) size) }
+    ensures has { T.tells ≡ true → IfOk result (λ _. HasCopyOf (T.holds target.new) volume.now backup.now
+        (P.copies pages.old (P.asked pages.old))) }
     ensures answer { T.tells ≡ true → AnswersMake (T.holds target.old (cfg_name volume.now backup.now)) result }
+
+    // Where there is such a backup, nothing changes.
+    ensures there { T.tells ≡ true → IsSome (T.holds target.old (cfg_name volume.now backup.now))
+        → T.holds target.new ≡ T.holds target.old }
 
     // After any answer, that of a target that failed too.
     ensures keeps { T.tells ≡ true → KeepsBackups volume.now backup.now (T.holds target.old) (T.holds target.new) }
@@ -61,6 +68,7 @@ pub fn make<R: Wait, T: Target, P: PageGiver>(
     // For a page that is not all zeros the target holds another block of its checksum.
     ensures differs { T.tells ≡ true → IfErr result (IfDiffers
         (HoldsAnotherPage (T.holds target.new) volume.now (P.copies pages.old (P.asked pages.old)))) }
+    ensures giver { KeepsGiver P.ready P.home P.lasts pages.old pages.new }
     ensures stays { Stays (P.copies pages.old) (P.copies pages.new) (P.asked pages.old) (P.asked pages.new) }
     ensures cause { HasFault is_make_fault (T.faults target.old) (T.faults target.new) result }
 {
@@ -90,6 +98,7 @@ fn gather_over<R: Wait, T: Target, P: PageGiver>(
     pages: &mut P,
     base: Option<&BackupList>,
 ) -> Result<Vec<Option<Checksum>>, MakeError>
+    requires ready { P.ready pages.old }
     requires copy { HasCopy (P.copies pages.old (P.asked pages.old)) size }
     requires base { IfSome (option_map (λ b. b.now) base)
         (λ b. IsBase T.tells (T.holds target.old) volume.now (P.copies pages.old) b.snapshot b.blocks) }
@@ -97,6 +106,7 @@ fn gather_over<R: Wait, T: Target, P: PageGiver>(
         → IsBackup T.tells (T.holds target.new) volume.now disk blocks.items) }
     ensures size { IfOk result (λ blocks. length blocks.items * page_bytes ≡ size) }
     ensures volume { IfOk result (λ _. IsVolumeSize size) }
+    ensures giver { KeepsGiver P.ready P.home P.lasts pages.old pages.new }
     ensures stays { Stays (P.copies pages.old) (P.copies pages.new) (P.asked pages.old) (P.asked pages.new) }
     ensures adds { T.tells ≡ true → AddsBlocks volume.now (T.holds target.old) (T.holds target.new) }
     ensures cause { HasFault is_make_fault (T.faults target.old) (T.faults target.new) result }

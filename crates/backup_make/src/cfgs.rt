@@ -11,7 +11,7 @@ use target_traits::{Outer, Target};
 use vol_units::{LayerName, PlainName, TimeText, VolumeSize};
 
 /// Whether the target has the cfg of that backup.
-pub(crate) fn has_cfg<T: Target>(
+pub fn has_cfg<T: Target>(
     alloc: Global,
     target: &mut T,
     volume: &PlainName,

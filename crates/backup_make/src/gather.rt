@@ -2,7 +2,7 @@ ghost use Rattle.std.specs.Prelude.{◌≡◌, ◌*◌, ◌<◌, ◌≤◌, ℕ,
 ghost use Rattle.backup_units.specs.Backups.{listed_at, IsBackup};
 ghost use Rattle.backup_units.specs.Blocks.{page_bytes};
 ghost use Rattle.backup_units.specs.Faults.{HasFault};
-ghost use Rattle.backup_make.specs.Giving.{Stays, HasCopy};
+ghost use Rattle.backup_make.specs.Giving.{KeepsGiver, Stays, HasCopy};
 ghost use Rattle.backup_make.specs.Making.{AddsBlocks, IsBaseIf, KeptElse, IsStart, listed_in};
 ghost use Rattle.backup_make.specs.Making.{HoldsAnotherPage, IfDiffers, is_make_fault, lacks_replica, tells_exists};
 
@@ -27,6 +27,7 @@ pub(crate) fn gather_blocks<R: Wait, T: Target, P: PageGiver>(
     base_name: Option<&LayerName>,
     base: Option<&[Option<Checksum>]>,
 ) -> Result<Vec<Option<Checksum>>, MakeError>
+    requires ready { P.ready pages.old }
     requires count { count ≤ 512 }
     requires copy { HasCopy (P.copies pages.old (P.asked pages.old)) (count * page_bytes) }
     requires base { IsBaseIf T.tells (T.holds target.old) volume.now (P.copies pages.old)
@@ -34,6 +35,7 @@ pub(crate) fn gather_blocks<R: Wait, T: Target, P: PageGiver>(
     ensures backup { IfOk result (λ blocks. (disk : List ℕ) → P.copies pages.old (P.asked pages.old) ≡ Some disk
         → IsBackup T.tells (T.holds target.new) volume.now disk blocks.items) }
     ensures size { IfOk result (λ blocks. length blocks.items ≡ count) }
+    ensures giver { KeepsGiver P.ready P.home P.lasts pages.old pages.new }
     ensures stays { Stays (P.copies pages.old) (P.copies pages.new) (P.asked pages.old) (P.asked pages.new) }
     ensures adds { T.tells ≡ true → AddsBlocks volume.now (T.holds target.old) (T.holds target.new) }
     ensures cause { HasFault is_make_fault (T.faults target.old) (T.faults target.new) result }
@@ -57,12 +59,14 @@ fn keep_found<R: Wait, T: Target, P: PageGiver>(
     wanted: &[u32],
     blocks: Vec<Option<Checksum>>,
 ) -> Result<Vec<Option<Checksum>>, MakeError>
+    requires ready { P.ready pages.old }
     requires copy { IfSome (P.copies pages.old (P.asked pages.old)) (λ disk. length disk ≡ length blocks.items * page_bytes) }
     requires within { (i : ℕ) → i < length wanted.now → slice_index wanted.now i < length blocks.items }
     ensures kept { IfOk result (λ after. (disk : List ℕ) → P.copies pages.old (P.asked pages.old) ≡ Some disk
         → KeptElse T.tells (T.holds target.old) volume.now disk blocks.items 0 wanted.now
         → IsBackup T.tells (T.holds target.new) volume.now disk after.items) }
     ensures size { IfOk result (λ after. length after.items ≡ length blocks.items) }
+    ensures giver { KeepsGiver P.ready P.home P.lasts pages.old pages.new }
     ensures stays { Stays (P.copies pages.old) (P.copies pages.new) (P.asked pages.old) (P.asked pages.new) }
     ensures adds { T.tells ≡ true → AddsBlocks volume.now (T.holds target.old) (T.holds target.new) }
     ensures cause { HasFault is_make_fault (T.faults target.old) (T.faults target.new) result }

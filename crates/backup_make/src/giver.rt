@@ -1,7 +1,7 @@
 ghost use Rattle.std.specs.Prelude.{◌≡◌, true, Some, IfOk, IfErr, OnOk, length, option_map};
 ghost use Rattle.backup_units.specs.Backups.{page_at};
 ghost use Rattle.backup_units.specs.Blocks.{page_bytes};
-ghost use Rattle.backup_make.specs.Giving.{Stays, Drops, Covers, HasPage, finds_none};
+ghost use Rattle.backup_make.specs.Giving.{Stays, KeepsGiver, Drops, Covers, HasPage, finds_none};
 
 use std::alloc::{AllocError, Global};
 use std::sync::Wait;
@@ -39,6 +39,19 @@ pub trait PageGiver {
     // No replica is left that could be read.
     ghost has_none: { Self → Type 0 };
 
+    // What else is true of the giver for good, once it is.
+    ghost Fact: { Type 0 };
+
+    ghost lasts: { Self → Fact → Type 0 };
+
+    // What no call changes.
+    ghost Home: { Type 0 };
+
+    ghost home: { Self → Home };
+
+    // That the next call can be made.
+    ghost ready: { Self → Type 0 };
+
     /// The pages that have to be read. The base keeps its copy, or is live no longer.
     fn pages<R: Wait>(
         &mut self,
@@ -46,6 +59,8 @@ pub trait PageGiver {
         alloc: Global,
         base: Option<&LayerName>,
     ) -> Result<Pages, AllocError>
+        requires ready { ready self.old }
+        ensures keeps { KeepsGiver ready home lasts self.old self.new }
         ensures stays { Stays (copies self.old) (copies self.new) (asked self.old) (asked self.new) }
         ensures base { Drops (option_map (λ n. n.now) base.entry) (copies self.old) (copies self.new) }
         ensures ok { IfOk result (Covers (copies self.new) (asked self.new) (option_map (λ n. n.now) base.entry)) };
@@ -58,8 +73,10 @@ pub trait PageGiver {
         page: u32,
         into: &mut [u8],
     ) -> Result<(), GiveError>
+        requires ready { ready self.old }
         requires page { HasPage (copies self.old) (asked self.old) page }
         requires size { length into.old ≡ page_bytes }
+        ensures keeps { KeepsGiver ready home lasts self.old self.new }
         ensures stays { Stays (copies self.old) (copies self.new) (asked self.old) (asked self.new) }
         ensures ok { OnOk result
             (option_map (λ disk. page_at disk page) (copies self.new (asked self.new)) ≡ Some into.new) }

@@ -2,7 +2,7 @@ ghost use Rattle.std.specs.Prelude.{◌≡◌, ◌*◌, ◌<◌, ℕ, true, fals
 ghost use Rattle.backup_units.specs.Backups.{listed_of, HoldsPage, IsBackup};
 ghost use Rattle.backup_units.specs.Blocks.{page_bytes};
 ghost use Rattle.backup_units.specs.Faults.{HasFault};
-ghost use Rattle.backup_make.specs.Giving.{Stays};
+ghost use Rattle.backup_make.specs.Giving.{KeepsGiver, Stays};
 ghost use Rattle.backup_make.specs.Making.{AddsBlocks, KeptElse, HoldsAnother, HoldsAnotherPage, IfDiffers};
 ghost use Rattle.backup_make.specs.Making.{is_make_fault, lacks_replica, tells_exists};
 
@@ -26,6 +26,7 @@ pub(crate) fn keep_pages<R: Wait, T: Target, P: PageGiver>(
     blocks: &mut [Option<Checksum>],
     room: &mut [u8],
 ) -> Result<(), MakeError>
+    requires ready { P.ready pages.old }
     requires room { length room.old ≡ page_bytes }
     requires copy { IfSome (P.copies pages.old (P.asked pages.old)) (λ disk. length disk ≡ length blocks.old * page_bytes) }
     requires within { (i : ℕ) → i < length wanted.now → slice_index wanted.now i < length blocks.old }
@@ -33,6 +34,7 @@ pub(crate) fn keep_pages<R: Wait, T: Target, P: PageGiver>(
         → KeptElse T.tells (T.holds target.old) volume.now disk blocks.old 0 wanted.now
         → IsBackup T.tells (T.holds target.new) volume.now disk blocks.new) }
     ensures size { length blocks.new ≡ length blocks.old }
+    ensures giver { KeepsGiver P.ready P.home P.lasts pages.old pages.new }
     ensures stays { Stays (P.copies pages.old) (P.copies pages.new) (P.asked pages.old) (P.asked pages.new) }
     ensures adds { T.tells ≡ true → AddsBlocks volume.now (T.holds target.old) (T.holds target.new) }
     ensures cause { HasFault is_make_fault (T.faults target.old) (T.faults target.new) result }

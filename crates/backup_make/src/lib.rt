@@ -11,5 +11,6 @@ mod keep;
 pub use backup::make;
 pub use backup_config::BackupList;
 pub use backup_units::Checksum;
+pub use cfgs::has_cfg;
 pub use error::MakeError;
 pub use giver::{GiveError, PageGiver, Pages};

@@ -111,6 +111,16 @@ impl PageGiver for Copies {
 
     ghost has_none = { λ g. g.has_none ≡ true };
 
+    ghost Fact = { Unit {0} };
+
+    ghost lasts = { λ g fact. Unit {0} };
+
+    ghost Home = { Unit {0} };
+
+    ghost home = { λ g. tt };
+
+    ghost ready = { λ g. Unit {0} };
+
     fn pages<R: Wait>(
         &mut self,
         _rt: &R,

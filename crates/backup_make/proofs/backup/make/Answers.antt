@@ -3,6 +3,7 @@ use Rattle.std.specs.Prelude.{string_bytes}
 use Rattle.backup_config.specs.Lists.{Listing}
 use Rattle.backup_make.proofs.MadeLemmas.{is_made, is_made_disk, adds_keep, adds_since, cfg_stays, keeps_then, only_backup}
 use Rattle.backup_make.proofs.MadeLemmas.{name_short, seen_then}
+use Rattle.backup_make.proofs.BackupLemmas.{backup_of}
 use Rattle.backup_make.proofs.backup.make.Goals as goal
 
 pub put_cfgs-requires : goal.put_cfgs-requires
@@ -88,3 +89,11 @@ returns-clause-seen g c tells =
     seen_then g.T.Target.tells c.args.volume.now c.args.backup.now _ c.in_ok-blocks.blocks.items
     (g.T.Target.holds c.args.target.now) (g.T.Target.holds c.gather_over.new.target) _ tells c.in_ok-blocks.ensures.backup
     c.put_cfgs.ensures.others
+
+pub returns-clause-cfgs : goal.returns-clause-cfgs
+returns-clause-cfgs g c tells = search rules
+
+pub returns-clause-has : goal.returns-clause-has
+returns-clause-has g c tells =
+    backup_of (g.T.Target.holds c.put_cfgs.new.target) c.args.volume.now c.args.backup.now c.args.now.now _ c.new.result c.args.size
+    (returns-clause-disk g c tells) (returns-clause-cfgs g c tells)

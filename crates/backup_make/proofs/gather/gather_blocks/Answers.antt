@@ -1,5 +1,5 @@
 use Rattle.std.proofs.Common.{option_map}
-use Rattle.backup_make.proofs.KeptLemmas.{stays_then}
+use Rattle.backup_make.proofs.KeptLemmas.{giver_then, stays_then}
 use Rattle.backup_make.proofs.GatherLemmas.{copy_stays, pages_within, gathered, live, weaker}
 use Rattle.backup_make.proofs.gather.gather_blocks.Goals as goal
 
@@ -12,6 +12,7 @@ keep_found-requires g c =
     let name = option_map (λ n. n.now) c.args.base_name in
     let blocks = c.in_ok-blocks.blocks.items in
     record {
+      ready = c.pages.ensures.keeps.ready;
       copy = copy_stays (copies old) (copies new) (asked old) (asked new) c.args.count blocks
           c.pages.ensures.stays c.requires.copy c.in_ok-blocks.ensures.size;
       within = pages_within (copies old) (copies new) (asked old) (asked new) name c.in_ok-found.found c.args.count

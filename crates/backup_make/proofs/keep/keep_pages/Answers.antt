@@ -1,6 +1,6 @@
 use Rattle.std.proofs.Common.{◌≡◌, rules, sym, subst, get_or, refl}
 use Rattle.backup_units.specs.Backups.{page_at, HoldsPage}
-use Rattle.backup_make.proofs.KeptLemmas.{stays_then, adds_then, kept_step, given}
+use Rattle.backup_make.proofs.KeptLemmas.{giver_then, stays_then, adds_then, kept_step, given}
 use Rattle.backup_make.proofs.keep.keep_pages.Goals as goal
 
 pub loop-page-preserved : goal.loop-page-preserved
@@ -12,6 +12,7 @@ loop-page-preserved g c =
     let after = g.T.Target.holds c.keep_page.new.target in
     let stays = stays_then _ _ _ _ _ _ so_far.stays c.page.ensures.stays in
     record {
+      giver = giver_then _ _ _ _ _ _ so_far.giver c.page.ensures.keeps;
       stays = stays;
       adds = λ t. adds_then volume _ _ _ (so_far.adds t) (c.keep_page.ensures.adds t);
       faults = search rules;
@@ -26,3 +27,9 @@ loop-page-preserved g c =
 pub returns-in_err-listed-clause-adds : goal.returns-in_err-listed-clause-adds
 returns-in_err-listed-clause-adds g c tells =
     adds_then c.args.volume.now _ _ _ (c.loop-page.invariant.adds tells) (c.keep_page.ensures.adds tells)
+
+pub returns-in_err-page-clause-giver : goal.returns-in_err-page-clause-giver
+returns-in_err-page-clause-giver g c = giver_then _ _ _ _ _ _ c.loop-page.invariant.giver c.page.ensures.keeps
+
+pub returns-in_err-listed-clause-giver : goal.returns-in_err-listed-clause-giver
+returns-in_err-listed-clause-giver g c = giver_then _ _ _ _ _ _ c.loop-page.invariant.giver c.page.ensures.keeps
