@@ -5,3 +5,4 @@ pub mod Steps
 pub mod Maint
 pub mod Seen
 pub mod Add
+pub mod Backup

@@ -42,6 +42,7 @@ IsMaint (command.Remove name) = Unit {0}
 IsMaint (command.Revert name) = Unit {0}
 IsMaint command.Purge = Unit {0}
 IsMaint (command.Add r) = Unit {0}
+IsMaint (command.Backup backup snapshot) = Unit {0}
 IsMaint c = ⊥
 
 -- one that rebuilds no replica

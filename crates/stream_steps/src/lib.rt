@@ -2,11 +2,14 @@
 #![tactic(auto)]
 
 mod add;
+mod backup;
 mod client;
 mod command;
 mod on_replica;
 
 pub use add::{AddSteps, Added, AdmitBarrier, NextPage, PageIn, PageOut};
+pub use backup::BackupSteps;
+pub use backup_make::Pages;
 pub use client::ClientSteps;
 pub use command::CommandSteps;
 pub use on_replica::OnReplica;
