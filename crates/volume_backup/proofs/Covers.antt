@@ -20,12 +20,12 @@ use Rattle.volume_core.specs.State.{State, told_of, modes_in}
 use Rattle.volume_core.specs.Sound.{IsSound}
 use Rattle.volume_core.proofs.Copies.{told_copies}
 use Rattle.volume_backup.specs.Copies.{live_copies, IsLive, NoneUnderTurn}
-use Rattle.volume_backup.specs.Answers.{base_of, AsksAll, AsksAbove}
+use Rattle.volume_backup.specs.Answers.{base_of, AsksEach, AsksAbove}
 use Rattle.volume_backup.proofs.Tells.{Tells}
 use Rattle.volume_backup.proofs.Worlds.{long_on, tells}
 
 -- a name that has a copy is live, and it is that copy
-has_live : (v : Volume) (name disk : List ℕ) → live_copies v name ≡ Some disk
+pub has_live : (v : Volume) (name disk : List ℕ) → live_copies v name ≡ Some disk
     → (is_live v.snapshots.tree name ≡ true) × (disk ≡ copy_of v.copies name)
 has_live v name disk has = by (is_live v.snapshots.tree name) refl has
   where
@@ -36,7 +36,7 @@ has_live v name disk has = by (is_live v.snapshots.tree name) refl has
 
 -- where each page is listed, none is left out
 pub covers_all : (v : Volume) (size : ℕ) (name : List ℕ) (base : Option (List ℕ)) (pages : Pages) → HasCopies size v
-    → AsksAll size pages → Covers (live_copies v) name base pages
+    → AsksEach size pages → Covers (live_copies v) name base pages
 covers_all v size name base (found.Above pages) whole asks disk has = absurd asks
 covers_all v size name base (found.All pages) whole asks disk has =
     let live = has_live v name disk has in

@@ -1,3 +1,4 @@
 pub mod Tells
 pub mod Worlds
 pub mod Covers
+pub mod Kept

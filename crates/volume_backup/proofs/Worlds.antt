@@ -34,7 +34,7 @@ use Rattle.volume_backup.specs.Copies.{IsLive, IsBesideTurn, NoneUnderTurn}
 use Rattle.volume_backup.proofs.Tells.{Tells, tells_same, of_snapped_volume, of_snapped_node}
 
 -- a name that is none of the snapshots is not live
-not_live : (tree : List Snapshot) (name : List ℕ) → has_name tree name ≡ false → is_live tree name ≡ false
+pub not_live : (tree : List Snapshot) (name : List ℕ) → has_name tree name ≡ false → is_live tree name ≡ false
 not_live [] name none = refl
 not_live (s ∷ ss) name none = by (bytes_eq name s.name) none (not_live ss name)
   where

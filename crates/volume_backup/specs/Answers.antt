@@ -59,9 +59,9 @@ pub record AreAllPages (size : ℕ) (pages : List ℕ) : Type 0 where
   pub each : (i : ℕ) → i < length pages → slice_index pages i ≡ i
 
 -- all of them, and of no base
-abbrev pub AsksAll : ℕ → Pages → Type 0
-AsksAll size (found.All pages) = AreAllPages size pages.items
-AsksAll size (found.Above pages) = ⊥
+abbrev pub AsksEach : ℕ → Pages → Type 0
+AsksEach size (found.All pages) = AreAllPages size pages.items
+AsksEach size (found.Above pages) = ⊥
 
 -- those of which a layer of the replica has a block, above the base where there is one
 abbrev pub AsksAbove : Node → List ℕ → Option (List ℕ) → Pages → Type 0
@@ -72,6 +72,6 @@ AsksAbove node name base pages = ⊥
 
 -- While no replica is read, each page, as none tells which layers have blocks. Else what the lowest that is read tells.
 abbrev pub AsksPages : State → List ℕ → Option (List ℕ) → Pages → Type 0
-AsksPages s name base pages = (HasNoSource (modes_in s) × AsksAll s.size pages)
+AsksPages s name base pages = (HasNoSource (modes_in s) × AsksEach s.size pages)
     ⊎ ((source : ℕ) × IsSource (modes_in s) source
     × AsksAbove (node_at s.nodes source) name (base_of (told_of s).volume name base) pages)
