@@ -38,3 +38,6 @@ pub mod AddTurns
 pub mod PageTurns
 pub mod EndTurns
 pub mod BarrierTurns
+pub mod ToldCopies
+pub mod BackupEnds
+pub mod BackupTurns

@@ -51,7 +51,7 @@ use Rattle.world_steps.specs.Rebuild.{IsUnbegun}
 use Rattle.world_steps.specs.Seen.{seen_of}
 
 -- what a step owes that leaves the operation on the whole volume as it is
-owes_still : (n : ℕ) (x y : State) → MayGo n x y → KeepsWhole x y → AreOthersCounted n x y → Owes n x y
+pub owes_still : (n : ℕ) (x y : State) → MayGo n x y → KeepsWhole x y → AreOthersCounted n x y → Owes n x y
 owes_still n x y may still counted = record { may = may; parts = parts_stay n x y may still.whole; counted = counted }
 
 -- where neither a rebuild nor a replica changes
@@ -240,10 +240,10 @@ module _ (a : Bool) (n t : ℕ) (c : Command) (s x y : State) (found : IsFound a
   found_turn : IsInTurn t c (view a n x)
   found_turn = found_in a n s x found (IsInTurn t c) h
 
-  turn_go : ForAsker x t (λ m. MayGo m x y) → MayGo n x y
+  pub turn_go : ForAsker x t (λ m. MayGo m x y) → MayGo n x y
   turn_go may = let f = found_turn in turn_owner a n t x found.sound c f.0 f.1 (λ m. MayGo m x y) may
 
-  turn_counted : AreOthersCounted n x y
+  pub turn_counted : AreOthersCounted n x y
   turn_counted = let f = found_turn in own_turn n x y found.sound (turn_stream a n t x found.sound c f.0 f.1)
 
 module _ (a : Bool) (n t : ℕ) (r : Reply) (s x y : State) (found : IsFound a n s x) (res : Result ℕ NotThis)

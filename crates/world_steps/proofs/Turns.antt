@@ -54,7 +54,7 @@ wants_maint command.Status w = absurd w
 wants_maint (command.Snapshot name) w = absurd w
 wants_maint (command.Fail r) w = absurd w
 wants_maint (command.Add r) w = tt
-wants_maint (command.Backup backup snapshot) w = absurd w
+wants_maint (command.Backup backup snapshot) w = tt
 
 -- a command that is asked for now
 abbrev pub asked : ℕ → Command → State → MaintCall
@@ -248,24 +248,31 @@ module _ (a : Bool) where
     gone_runs c o h turns calls = let one = turn_one n t s ok c o h in
         runs_as n s2 [] [] s2.whole (turns ∙ none_left n t s ok o one h.number (its_first n t s ok c o h)) (calls ∙ one.calls) refl
 
-    pub ended_mine : (y : Reply) (c : Command) (o : OwnCall) → HasTurn t c o (view a n s) → s2 ≡ turn_ended s y
-        → AnswersWhole o y (view a n s) (view a n s2)
-    ended_mine y c o h e =
+    -- and the answer stands there
+    pub ended_at : (y : Reply) (c : Command) (o : OwnCall) → HasTurn t c o (view a n s) → s2 ≡ turn_ended s y
+        → (w : AnswersWhole o y (view a n s) (view a n s2)) × (w.spot ≡ spot_of s)
+    ended_at y c o h e =
         let one = turn_one n t s ok c o h in
         let is = turn_here n t s ok c o h in
-        let by = turn_stream n t s ok c o h in
-        record {
-          spot = spot_of s;
-          answer = ended_answer s y;
-          is = grown n s s2 may a (answer_placed (spot_of s) (ended_answer s y) ∷ []) [] (entry.Answer (ended_answer s y) ∷ [])
-              (ap (λ (x : State). x.book.entries) e) (own_answer n (spot_of s) (ended_answer s y) by) refl
-              (gone_runs c o h (ap (λ (x : State). turning x n) e) (ap (λ (x : State). running x n) e));
-          here = here_known a;
-          call = ap (λ (x : MaintCall). call.Command x.command) is ∙ ap (λ (x : OwnCall). x.call) one.is;
-          by = by;
-          saw = ap (λ (x : MaintCall). x.saw) is ∙ ap (λ (x : OwnCall). x.saw) one.is;
-          reply = refl;
-        }
+        let by = turn_stream n t s ok c o h in (
+          record {
+            spot = spot_of s;
+            answer = ended_answer s y;
+            is = grown n s s2 may a (answer_placed (spot_of s) (ended_answer s y) ∷ []) [] (entry.Answer (ended_answer s y) ∷ [])
+                (ap (λ (x : State). x.book.entries) e) (own_answer n (spot_of s) (ended_answer s y) by) refl
+                (gone_runs c o h (ap (λ (x : State). turning x n) e) (ap (λ (x : State). running x n) e));
+            here = here_known a;
+            call = ap (λ (x : MaintCall). call.Command x.command) is ∙ ap (λ (x : OwnCall). x.call) one.is;
+            by = by;
+            saw = ap (λ (x : MaintCall). x.saw) is ∙ ap (λ (x : OwnCall). x.saw) one.is;
+            reply = refl;
+          },
+          refl,
+        )
+
+    pub ended_mine : (y : Reply) (c : Command) (o : OwnCall) → HasTurn t c o (view a n s) → s2 ≡ turn_ended s y
+        → AnswersWhole o y (view a n s) (view a n s2)
+    ended_mine y c o h e = (ended_at y c o h e).0
 
     pub ends : {E : Type 0} (y : Reply) (res : Result ℕ E) → OnOk res (world.EndsTurn s t y s2)
         → OnOk res ((o : OwnCall) → HasTurn t command.Purge o (view a n s) → AnswersWhole o y (view a n s) (view a n s2))

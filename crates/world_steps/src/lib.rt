@@ -2,6 +2,8 @@
 #![tactic(auto)]
 
 mod adds;
+mod backup;
+mod backups;
 mod commands;
 mod frames;
 mod gates;
