@@ -2,6 +2,7 @@
 use Rattle.std.proofs.Common.{◌≡◌, ◌≢◌, ◌⊎◌, ◌∙◌, ℕ, ◌<◌, ◌^◌, Bool, false, List, [], ◌∷◌, ◌++◌, length, codes}
 use Rattle.std.proofs.Common.{Option, Some, None, is_some, decimal, inl, inr, refl, sym, ap, eqb}
 use Rattle.std.specs.Str.{is_utf8}
+use Rattle.std.specs.Prelude.{count_by}
 use Rattle.std.specs.List.{position}
 use Rattle.std.proofs.lemmas.Bool.{cases_eq}
 use Rattle.std.proofs.lemmas.Str.{IsUtf8-from_is_utf8, is_utf8-from_IsUtf8}
@@ -28,12 +29,12 @@ use Rattle.script_head.specs.declared.member.Member.TheVariants as member_of
 use Rattle.script_head.specs.Limits.{most_input, most_replicas, most_streams, most_calls, most_failures, largest_carry}
 use Rattle.script_head.specs.LinePlans.{RisesAbove, AreApart, NoPairTwice}
 use Rattle.script_head.specs.Values.{whole, member, member_or}
-use Rattle.script_head.specs.Members.{IsCommandItem, IsServed, IsStreamItem, HasReplicas, HasFlag, HasStreams, IsCarryItem}
+use Rattle.script_head.specs.Members.{IsCommandItem, IsStreamItem, backs_up, HasReplicas, HasFlag, HasStreams, IsCarryItem}
 use Rattle.script_head.specs.Members.{HasFail, HasNumberBelow, IsLinePlan, ArePlans, IsGood, IsFirstBadOf, in_order}
 use Rattle.script_head.specs.Head.{IsObject, IsScriptHead, Says, RefusesLine}
 use Rattle.script_head.proofs.Known.{Known, known_along, known_both, known_either, known_not, known_less, known_most, known_true}
 use Rattle.script_head.proofs.Known.{known_false, known_text, known_none, known_held, known_of_one, known_below, known_behind}
-use Rattle.script_head.proofs.Known.{known_all, known_list, known_test, known_two, known_three}
+use Rattle.script_head.proofs.Known.{known_all, known_list, known_test, known_two, known_three, known_four}
 use Rattle.script_head.proofs.OneValue.{same_value, same_list, same_streams, one_command, one_carry, one_plan}
 use Rattle.script_head.proofs.OneAnswer.{AreGood}
 
@@ -149,22 +150,11 @@ known_replica replicas command.Purge = inl tt
 known_replica replicas command.Status = inl tt
 known_replica replicas (command.Backup backup snapshot) = inl tt
 
-known_served : (c : Command) → Known (IsServed c)
-known_served (command.Backup backup snapshot) = inr (λ served. served)
-known_served (command.Snapshot name) = inl tt
-known_served (command.Remove name) = inl tt
-known_served (command.Revert name) = inl tt
-known_served command.Purge = inl tt
-known_served command.Status = inl tt
-known_served (command.Fail r) = inl tt
-known_served (command.Add r) = inl tt
-
 known_command_item : (replicas : ℕ) (d : Data) → Known ((c : Command) × IsCommandItem replicas d c)
 known_command_item replicas d =
-    known_along (λ found. (found.2.0, (found.0, found.1, found.2.1, found.2.2.0, found.2.2.1)))
-    (λ found. (found.1.0, found.1.1, (found.0, found.1.2, (found.1.3, found.1.4))))
-    (known_held (as_str d) (λ text. known_of_one (same_text text) (known_command text)
-    (λ c. known_both (known_replica replicas c) (known_served c))))
+    known_along (λ found. (found.2.0, (found.0, found.1, found.2.1, found.2.2)))
+    (λ found. (found.1.0, found.1.1, (found.0, found.1.2, found.1.3)))
+    (known_held (as_str d) (λ text. known_of_one (same_text text) (known_command text) (known_replica replicas)))
 
 -- ---- streams
 
@@ -196,9 +186,10 @@ known_stream replicas d = known_along to back (known_either (known_frames replic
 
 known_streams : (d : Data) (replicas : ℕ) → Known ((ss : List StreamHead) × HasStreams d replicas ss)
 known_streams d replicas =
-    known_three (known_of_one (same_streams replicas (get (codes "streams") d))
+    known_four (known_of_one (same_streams replicas (get (codes "streams") d))
     (known_list (IsStreamItem replicas) (known_stream replicas) (get (codes "streams") d))
-    (λ ss. known_both (known_most 1 (length ss)) (known_most (length ss) most_streams)))
+    (λ ss. known_both (known_most 1 (length ss)) (known_both (known_most (length ss) most_streams)
+    (known_most (count_by backs_up ss) 1))))
 
 -- ---- plans of lines
 

@@ -88,6 +88,12 @@ pub known_three : {A : Type 0} {P Q R : A → Type 0} → Known ((a : A) × P a 
 known_three =
     known_along (λ found. (found.0, (found.1, found.2.0, found.2.1))) (λ found. (found.0, found.1.0, (found.1.1, found.1.2)))
 
+pub known_four : {A : Type 0} {P Q R S : A → Type 0} → Known ((a : A) × P a × (Q a × (R a × S a)))
+    → Known ((a : A) × (P a × Q a × R a × S a))
+known_four =
+    known_along (λ found. (found.0, (found.1, found.2.0, found.2.1.0, found.2.1.1)))
+    (λ found. (found.0, found.1.0, (found.1.1, (found.1.2, found.1.3))))
+
 -- one thing at most is so, and more is asked of it
 pub known_of_one : {A : Type 0} {P Q : A → Type 0} → ((a b : A) → P a → P b → a ≡ b) → Known ((a : A) × P a) → ((a : A) → Known (Q a))
     → Known ((a : A) × P a × Q a)

@@ -41,7 +41,7 @@ same_list IsItem one found xs ys (ds, there, are) (es, here, also) =
     one_list IsItem one ds xs ys are (subst (λ items. AreItems IsItem items ys) (same_value _ here there) also)
 
 pub one_command : (replicas : ℕ) (d : Data) (a b : Command) → IsCommandItem replicas d a → IsCommandItem replicas d b → a ≡ b
-one_command replicas d a b (text, there, is, names, served) (other, here, too, also, here_too) =
+one_command replicas d a b (text, there, is, names) (other, here, too, also) =
     same_text text a b is (subst (λ t. IsCommand t b) (same_value _ here there) too)
 
 pub one_stream : (replicas : ℕ) (d : Data) (a b : StreamHead) → IsStreamItem replicas d a → IsStreamItem replicas d b → a ≡ b

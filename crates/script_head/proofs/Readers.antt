@@ -10,7 +10,7 @@ use Rattle.script_head.specs.declared.error.HeadError.TheVariants.{Json, BadMemb
 use Rattle.script_head.specs.declared.member.Member.{Member}
 use Rattle.script_head.specs.declared.member.Member.TheVariants.{Volume, Size, Open, Save, Now, Streams, Lines}
 use Rattle.script_head.specs.Refusals.{Reads, AnswersObject}
-use Rattle.script_head.specs.Members.{IsCommandItem, IsServed, IsGood, HasReplicas, HasStreams, HasLines}
+use Rattle.script_head.specs.Members.{IsCommandItem, IsGood, HasReplicas, HasStreams, HasLines}
 use Rattle.script_head.specs.declared.head.StreamHead.{StreamHead}
 use Rattle.script_head.specs.declared.line_plan.LinePlan.{LinePlan}
 use Rattle.script_head.proofs.OneValue.{same_value, same_streams}
@@ -35,14 +35,14 @@ Reads-along m Has Is (Err NoMemory) to back free = free
 
 pub no_text : (replicas : ℕ) (d : Data) (text : List ℕ) → as_str d ≡ Some text → IsNoCommand text → (b : Command)
     → IsCommandItem replicas d b → ⊥
-no_text replicas d text there none b (other, here, is, names, served) = none b (subst (λ t. IsCommand t b) (same_value _ here there) is)
+no_text replicas d text there none b (other, here, is, names) = none b (subst (λ t. IsCommand t b) (same_value _ here there) is)
 
 pub no_other : (replicas : ℕ) (d : Data) (text : List ℕ) (c : Command) → as_str d ≡ Some text → IsCommand text c
-    → (NamesReplica replicas c × IsServed c → ⊥)
+    → (NamesReplica replicas c → ⊥)
     → (b : Command) → IsCommandItem replicas d b → ⊥
-no_other replicas d text c there is none b (other, here, too, names, served) =
+no_other replicas d text c there is none b (other, here, too, names) =
     let same = same_text text b c (subst (λ t. IsCommand t b) (same_value _ here there) too) is in
-    none (subst (λ k. NamesReplica replicas k × IsServed k) same (names, served))
+    none (subst (NamesReplica replicas) same names)
 
 -- ---- refusals of members, where those before are good
 

@@ -1,13 +1,15 @@
 -- The members of a script's first line, each with the values that it may have. Other members say nothing.
 -- The format is this project's own.
-use Rattle.std.specs.Prelude.{◌≡◌, ◌⊎◌, ℕ, ◌<◌, ◌≤◌, List, [], ◌∷◌, length, Bool, false, codes, Option, Some, None}
+use Rattle.std.specs.Prelude.{◌≡◌, ◌⊎◌, ℕ, ◌<◌, ◌≤◌, List, [], ◌∷◌, length, count_by, Bool, false, codes, Option, Some, None}
+use Rattle.std.specs.List.{list_any}
 use Rattle.serde_json.specs.Data.{Data}
 use Rattle.serde_json.specs.Find.{get, as_bool, as_str}
 use Rattle.vol_units.specs.Name.{IsPlainName}
 use Rattle.vol_units.specs.Size.{IsVolumeSize}
 use Rattle.volume_model.specs.Commands.{IsCommand, NamesReplica}
+use Rattle.volume_model.specs.Modes.{asks_store}
+use Rattle.volume_model.specs.declared.call.Call.TheVariants as call
 use Rattle.volume_model.specs.declared.command.Command.{Command}
-use Rattle.volume_model.specs.declared.command.Command.TheVariants.{Backup}
 use Rattle.script_head.specs.declared.head.StreamHead.{StreamHead}
 use Rattle.script_head.specs.declared.head.StreamHead.TheVariants as stream
 use Rattle.script_head.specs.declared.line_plan.LinePlan.{LinePlan}
@@ -39,15 +41,10 @@ HasFlag line name flag = member_or false as_bool name line ≡ Some flag
 abbrev pub HasNow : Data → List ℕ → Type 0
 HasNow line text = (member_or [] as_str (codes "now") line ≡ Some text) × IsTimeText text
 
--- there is a worker that serves the command: none makes a backup yet
-abbrev pub IsServed : Command → Type 0
-IsServed (Backup backup snapshot) = ⊥
-IsServed c = Unit {0}
-
 -- an item of `control`: the text of a command
 abbrev pub IsCommandItem : ℕ → Data → Command → Type 0
 IsCommandItem replicas d c = (text : List ℕ) × (as_str d ≡ Some text)
-    × IsCommand text c × NamesReplica replicas c × IsServed c
+    × IsCommand text c × NamesReplica replicas c
 
 -- An item of `streams`: a number of bytes under `frames`, or a list of commands under `control`, and one of them alone.
 abbrev pub IsStreamItem : ℕ → Data → StreamHead → Type 0
@@ -57,10 +54,19 @@ IsStreamItem replicas d (stream.Control commands) =
     HasItems (IsCommandItem replicas) (get (codes "control") d) commands
     × (length commands ≤ most_calls) × (get (codes "frames") d ≡ None)
 
--- `streams`: what each of them is, where there are so many replicas
+-- whether a backup is among the commands
+abbrev pub has_backup : List Command → Bool
+has_backup commands = list_any (λ c. asks_store (call.Command c)) commands
+
+-- whether it is a stream with backups
+abbrev pub backs_up : StreamHead → Bool
+backs_up (stream.Frames count) = false
+backs_up (stream.Control commands) = has_backup commands
+
+-- `streams`: what each of them is, where there are so many replicas; one of them at most has backups
 abbrev pub HasStreams : Data → ℕ → List StreamHead → Type 0
 HasStreams line replicas streams = HasItems (IsStreamItem replicas) (get (codes "streams") line) streams
-    × (1 ≤ length streams) × (length streams ≤ most_streams)
+    × (1 ≤ length streams) × (length streams ≤ most_streams) × (count_by backs_up streams ≤ 1)
 
 -- `worker` and `replica`: whole numbers below how many there are
 abbrev pub HasNumberBelow : ℕ → List ℕ → Data → ℕ → Type 0

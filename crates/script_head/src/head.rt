@@ -2,6 +2,7 @@ ghost use Rattle.std.specs.Prelude.{◌≡◌, IfOk, IfErr};
 ghost use Rattle.serde_json.specs.View.{view};
 ghost use Rattle.script_head.specs.Answers.{IsOnlyAnswer};
 ghost use Rattle.script_head.specs.Head.{byte_count, command_count, Says, RefusesLine, AnswersLine};
+ghost use Rattle.script_head.specs.Members.{backs_up};
 ghost use Rattle.script_head.specs.Refusals.{AnswersObject};
 
 use crate::error::HeadError;
@@ -9,6 +10,7 @@ use crate::line_plan::LinePlan;
 use crate::lines::lines_in;
 use crate::member::Member;
 use crate::members;
+use crate::streams::has_backup;
 use serde_json::Value;
 use std::alloc::Global;
 use vol_units::{PlainName, TimeText, VolumeSize};
@@ -41,6 +43,16 @@ impl StreamHead {
         match self {
             StreamHead::Frames(_) => 0,
             StreamHead::Control(commands) => commands.len() as u64,
+        }
+    }
+
+    /// Whether a backup is among its commands.
+    pub fn backs_up(&self) -> bool
+        ensures { result ≡ backs_up self.now }
+    {
+        match self {
+            StreamHead::Frames(_) => false,
+            StreamHead::Control(commands) => has_backup(commands.as_slice()),
         }
     }
 }

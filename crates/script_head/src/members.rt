@@ -6,7 +6,7 @@ use crate::error::HeadError;
 use crate::head::StreamHead;
 use crate::limits::{MOST_REPLICAS, MOST_STREAMS};
 use crate::member::Member;
-use crate::streams::streams_from;
+use crate::streams::{backup_count, streams_from};
 use serde_json::Value;
 use std::alloc::Global;
 use vol_units::{PlainName, TimeText, VolumeSize};
@@ -57,7 +57,7 @@ pub(crate) fn now_in(alloc: Global, line: &Value) -> Result<TimeText, HeadError>
     TimeText::read(alloc, text)?.ok_or(HeadError::BadMember(Member::Now))
 }
 
-/// The streams, where there are so many replicas.
+/// The streams, where there are so many replicas. One of them at most has backups.
 pub(crate) fn streams_in(
     alloc: Global,
     line: &Value,
@@ -70,5 +70,9 @@ pub(crate) fn streams_in(
     if items.is_empty() || items.len() > MOST_STREAMS {
         return Err(bad);
     }
-    streams_from(alloc, items, replicas)
+    let streams = streams_from(alloc, items, replicas)?;
+    if backup_count(streams.as_slice()) > 1 {
+        return Err(bad);
+    }
+    Ok(streams)
 }

@@ -1,11 +1,13 @@
 //! The items of `streams`. One that is no stream makes the member a bad one.
 
-ghost use Rattle.std.specs.Prelude.{◌≡◌, ◌↔◌, ◌≤◌, IsTrue, Some, length};
+ghost use Rattle.std.specs.Prelude.{◌≡◌, ◌↔◌, ◌≤◌, IsTrue, Some, length, count_by};
 ghost use Rattle.serde_json.specs.View.{view, items_view};
 ghost use Rattle.script_head.specs.Refusals.{Reads};
 ghost use Rattle.script_head.specs.Limits.{most_calls, most_input};
-ghost use Rattle.script_head.specs.Members.{IsCommandItem, IsServed, IsStreamItem};
+ghost use Rattle.script_head.specs.Members.{IsCommandItem, IsStreamItem, backs_up, has_backup};
 ghost use Rattle.volume_model.specs.Commands.{NamesReplica};
+ghost use Rattle.volume_model.specs.Modes.{asks_store};
+ghost use Rattle.volume_model.specs.declared.call.Call.TheVariants as call;
 ghost use Rattle.script_head.specs.Values.{whole, AreItems, HasItems};
 
 use crate::error::HeadError;
@@ -85,7 +87,7 @@ fn command_of(item: &Value, replicas: u8) -> Result<Command, HeadError>
 {
     let text = item.as_str().ok_or(BAD)?;
     match Command::read(text.as_bytes()) {
-        Ok(command) if names_replica(&command, replicas) && is_served(&command) => Ok(command),
+        Ok(command) if names_replica(&command, replicas) => Ok(command),
         _ => Err(BAD),
     }
 }
@@ -100,9 +102,22 @@ fn names_replica(command: &Command, replicas: u8) -> bool
     }
 }
 
-/// Whether there is a worker that serves the command.
-fn is_served(command: &Command) -> bool
-    ensures { IsTrue result ↔ IsServed command.now }
+/// How many of the streams have backups.
+pub(crate) fn backup_count(streams: &[StreamHead]) -> usize
+    ensures { result ≡ count_by backs_up streams.now }
 {
-    !matches!(command, Command::Backup { .. })
+    streams.iter().filter(|stream| stream.backs_up()).count()
+}
+
+/// Whether a backup is among the commands.
+pub(crate) fn has_backup(commands: &[Command]) -> bool
+    ensures { result ≡ has_backup commands.now }
+{
+    commands.iter().any(|command| is_backup(command))
+}
+
+fn is_backup(command: &Command) -> bool
+    ensures { result ≡ asks_store (call.Command command.now) }
+{
+    matches!(command, Command::Backup { .. })
 }

@@ -5,7 +5,6 @@ use Rattle.volume_model.specs.Commands.{IsCommand, IsNoCommand}
 use Rattle.script_head.proofs.Readers.{no_text, no_other}
 use Rattle.script_head.proofs.streams.command_of.Goals as goal
 use Rattle.script_head.proofs.streams.command_of.Goals.{in_default-via-in-Ok+else-names_replica, in_default-via-in_default}
-use Rattle.script_head.proofs.streams.command_of.Goals.{in_default-via-in-Ok+then-names_replica+else-is_served}
 
 not_both : (b : Bool) → b ≡ false → IsTrue b → ⊥
 not_both b failed is = cc
@@ -21,14 +20,7 @@ returns-in_default c =
           w.in-Ok.ensures.found in (
             refl,
             no_other c.args.replicas d text w.in-Ok.command there is
-                (λ fits. not_both _ w.if-names_replica.false (w.names_replica.ensures.1 fits.0)),
-          )
-      | in_default-via-in-Ok+then-names_replica+else-is_served w ↦
-          let is : IsCommand text w.in-Ok.command = subst (λ t. IsCommand t w.in-Ok.command) c.as_bytes.ensures.value
-          w.in-Ok.ensures.found in (
-            refl,
-            no_other c.args.replicas d text w.in-Ok.command there is
-                (λ fits. not_both _ w.if-is_served.false (w.is_served.ensures.1 fits.1)),
+                (λ fits. not_both _ w.if-names_replica.false (w.names_replica.ensures.1 fits)),
           )
       | in_default-via-in_default w ↦
           let none : IsNoCommand text = subst IsNoCommand c.as_bytes.ensures.value w.in_default.ensures.refused in
