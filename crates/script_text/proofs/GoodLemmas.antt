@@ -1,12 +1,14 @@
 -- What is good in each script.
-use Rattle.std.proofs.Common.{◌≡◌, ℕ, suc, ◌≤◌, ◌==◌, ◌&&◌, Bool, true, false, cond, List, [], ◌∷◌, length, All}
-use Rattle.std.proofs.Common.{Option, Some, None, refl, ap, subst, sym, arith}
+use Rattle.std.proofs.Common.{◌≡◌, ◌∙◌, ℕ, suc, ◌+◌, ◌≤◌, ◌==◌, ◌&&◌, Bool, true, false, cond, List, [], ◌∷◌, length, All}
+use Rattle.std.proofs.Common.{Option, Some, None, refl, ap, ap₂, subst, sym, arith}
+use Rattle.std.specs.Prelude.{count_by}
+use Rattle.std.proofs.lemmas.List.Sums.{sum_by-cons}
 use Rattle.std.proofs.lemmas.List.Elements.{All-nil, All-cons, All-head, All-tail}
 use Rattle.volume_model.specs.declared.command.Command.{Command}
 use Rattle.serde_json.specs.Data.{Data, Items, no_items, item}
 use Rattle.script_head.specs.Limits.{largest_carry}
 use Rattle.script_head.specs.LinePlans.{NoPairTwice, planned}
-use Rattle.script_head.specs.Members.{IsCommandItem, IsStreamItem, IsCarryItem, IsLinePlan, ArePlans}
+use Rattle.script_head.specs.Members.{IsCommandItem, IsStreamItem, IsCarryItem, IsLinePlan, ArePlans, has_backup, backs_up as head_backs_up}
 use Rattle.script_head.specs.Values.{AreItems}
 use Rattle.script_head.specs.declared.head.StreamHead.{StreamHead}
 use Rattle.script_head.specs.declared.head.StreamHead.TheVariants as head
@@ -14,7 +16,7 @@ use Rattle.script_head.specs.declared.line_plan.LinePlan.{LinePlan}
 use Rattle.script_text.specs.declared.script.Script.{Script}
 use Rattle.script_text.specs.declared.script.Stream.{Stream}
 use Rattle.script_text.specs.declared.script.Stream.TheVariants as stream
-use Rattle.script_text.specs.Good.{IsGoodCommand, IsGoodStream, AreCarries, IsGoodPlan}
+use Rattle.script_text.specs.Good.{backs_up, IsGoodCommand, IsGoodStream, AreCarries, IsGoodPlan}
 use Rattle.script_text.specs.Script.{IsScript}
 use Rattle.script_text.specs.Streams.{AreStreams, IsStreamOf}
 use Rattle.script_text.proofs.StreamLemmas.{All-asked}
@@ -51,7 +53,7 @@ few_streams input script is =
 -- ---- streams
 
 good_command : (replicas : ℕ) (d : Data) (c : Command) → IsCommandItem replicas d c → IsGoodCommand replicas c
-good_command replicas d c (text, there, is, names, served) = record { named = is.named; there = names; served = served }
+good_command replicas d c (text, there, is, names) = record { named = is.named; there = names }
 
 good_stream : (replicas : ℕ) (d : Data) (h : StreamHead) (bytes : List ℕ) (s : Stream) → IsStreamItem replicas d h
     → IsStreamOf h bytes s → IsGoodStream replicas s
@@ -77,6 +79,28 @@ good_streams input script is =
     let streams = is.headed.says.2.streams.0 in
     subst (λ n. All (IsGoodStream n) script.streams) (sym is.replicas)
     (good_streams_of is.head.replicas streams.0 is.head.streams is.body script.streams streams.2 is.streams)
+
+-- a stream has backups where its head has
+same_backs : (h : StreamHead) (bytes : List ℕ) (s : Stream) → IsStreamOf h bytes s → backs_up s ≡ head_backs_up h
+same_backs (head.Frames count) bytes (stream.Frames frames) is = refl
+same_backs (head.Frames count) bytes (stream.Control commands) is = absurd is
+same_backs (head.Control commands) bytes (stream.Frames frames) is = absurd is
+same_backs (head.Control commands) bytes (stream.Control others) is = ap has_backup is
+
+same_count : (heads : List StreamHead) (bytes : List ℕ) (streams : List Stream) → AreStreams heads bytes streams
+    → count_by backs_up streams ≡ count_by head_backs_up heads
+same_count [] bytes [] are = refl
+same_count [] bytes (s ∷ ss) are = absurd are
+same_count (h ∷ hs) bytes [] are = absurd are
+same_count (h ∷ hs) bytes (s ∷ ss) are =
+    sum_by-cons (λ x. cond (backs_up x) 1 0) s ss
+    ∙ ap₂ (λ (b : Bool) (n : ℕ). cond b 1 0 + n) (same_backs h _ s are.0) (same_count hs _ ss are.1)
+    ∙ sym (sum_by-cons (λ x. cond (head_backs_up x) 1 0) h hs)
+
+-- one stream at most has backups
+pub one_backs_up : (input : List ℕ) (script : Script) → IsScript input script → count_by backs_up script.streams ≤ 1
+one_backs_up input script is =
+    subst (λ n. n ≤ 1) (sym (same_count is.head.streams is.body script.streams is.streams)) is.headed.says.2.streams.3
 
 -- ---- plans of lines
 

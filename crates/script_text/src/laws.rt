@@ -1,9 +1,9 @@
 //! What follows from the definitions alone. Each law is a contract.
 
-ghost use Rattle.std.specs.Prelude.{◌≡◌, ◌⊎◌, ◌≤◌, List, ℕ, length, All};
+ghost use Rattle.std.specs.Prelude.{◌≡◌, ◌⊎◌, ◌≤◌, List, ℕ, length, count_by, All};
 ghost use Rattle.frame_stream.specs.Asked.{asked_of, call_of};
 ghost use Rattle.script_head.specs.LinePlans.{NoPairTwice, planned};
-ghost use Rattle.script_text.specs.Good.{IsGoodStream, AreCarries, IsGoodPlan};
+ghost use Rattle.script_text.specs.Good.{IsGoodStream, AreCarries, IsGoodPlan, backs_up};
 ghost use Rattle.script_text.specs.Script.{IsScript, IsNoScript};
 ghost use Rattle.script_text.specs.Streams.{IsStream};
 ghost use Rattle.frame_stream.specs.declared.asked.Asked.TheVariants as asked;
@@ -40,10 +40,16 @@ pub fn a_script_has_few_streams()
         → (1 ≤ length script.streams) × (length script.streams ≤ 16) }
 {}
 
-/// Its frames ask calls, and its commands are such as it may have: of replicas that are there, and none that no worker serves.
+/// Its frames ask calls, and its commands are such as it may have, of replicas that are there.
 pub fn a_script_has_good_streams()
     ensures { (input : List ℕ) (script : Script)
         → IsScript input script → All (IsGoodStream script.replicas) script.streams }
+{}
+
+/// One of its streams at most has backups.
+pub fn a_script_backs_up_in_one_stream()
+    ensures { (input : List ℕ) (script : Script)
+        → IsScript input script → count_by backs_up script.streams ≤ 1 }
 {}
 
 /// Its plans are of lines that are there.
