@@ -19,12 +19,14 @@ use Rattle.step_answers.specs.declared.whole_op.WholeOp.{WholeOp}
 use Rattle.step_answers.specs.declared.whole_op.WholeOp.TheVariants as whole
 use Rattle.step_answers.specs.Asked.{command_of}
 use Rattle.volume_model.specs.declared.command.Command.{Command}
+use Rattle.volume_model.specs.declared.command.Command.TheVariants as command
 use Rattle.stream_steps.specs.Mine.{Mine, OwnCall, Log, with_entries, with_more, with_running, longer, length_of, log_length, answer_placed}
-use Rattle.stream_steps.specs.Steps.{AreMarks, IsCommandAt, CommandsTo}
+use Rattle.stream_steps.specs.Steps.{AreMarks, IsAtOnce, IsCommandAt, CommandsTo}
 use Rattle.stream_steps.specs.Maint.{HasWhole, StartsWhole, EndsWhole, WholeEnds, IsWholeReply}
 use Rattle.stream_steps.proofs.MineLemmas.{entries_twice, longer_none}
 use Rattle.control_worker.specs.Purges.{MayComeBefore, AreFalls}
-use Rattle.control_worker.specs.Serving.{GrewByCommand}
+use Rattle.control_worker.specs.Serving.{GrewByCommand, IsCommandBy}
+use Rattle.control_worker.specs.Store.{IsNoBackup}
 use Rattle.control_worker.specs.Whole.{RefusedWhole, EndsBehind, AnswersCall, IsNoPart, reply_at}
 use Rattle.control_worker.proofs.Goes.{comes, falls_none, none_come}
 use Rattle.control_worker.proofs.OwnAnswers.{has_both, has_last}
@@ -167,15 +169,45 @@ pub known : (log : Option Log) (k n : ℕ) → n ≡ k → IfSome (option_map le
 known None k n e h = tt
 known (Some l) k n e h = e ∙ h
 
+-- a command that is no backup has the entries that one worker makes of it, whatever a store tells
+pub by_at : (stream : ℕ) (c : Command) (es : List Entry) (a : Answer) (l : Log) → IsNoBackup c → IsCommandAt stream c es a l
+    → IsCommandBy stream c es a l
+by_at stream (command.Snapshot name) es a l none at = at
+by_at stream (command.Remove name) es a l none at = at
+by_at stream (command.Revert name) es a l none at = at
+by_at stream command.Purge es a l none at = at
+by_at stream command.Status es a l none at = at
+by_at stream (command.Fail r) es a l none at = at
+by_at stream (command.Add r) es a l none at = at
+by_at stream (command.Backup backup snapshot) es a l none at = absurd none
+
+whole_no_backup : (op : WholeOp) → IsNoBackup (command_of op)
+whole_no_backup (whole.Snapshot name) = tt
+whole_no_backup (whole.Remove name) = tt
+whole_no_backup (whole.Revert name) = tt
+whole_no_backup (whole.Purge f) = tt
+whole_no_backup (whole.Barrier r) = tt
+
+at_once_no_backup : (c : Command) → IsAtOnce c → IsNoBackup c
+at_once_no_backup (command.Fail r) is = tt
+at_once_no_backup command.Status is = tt
+at_once_no_backup (command.Backup backup snapshot) is = absurd is
+at_once_no_backup (command.Snapshot name) is = absurd is
+at_once_no_backup (command.Remove name) is = absurd is
+at_once_no_backup (command.Revert name) is = absurd is
+at_once_no_backup command.Purge is = absurd is
+at_once_no_backup (command.Add r) is = absurd is
+
 turn_of : (stream : ℕ) (op : WholeOp) (n : IsNoPart op) (oc : Call) (marks : List Entry) (a : Answer) (log : Option Log)
     → AreFalls stream marks → oc ≡ call.Command (command_of op) → a.call ≡ oc → a.stream ≡ stream
     → IfSome log (λ l. a.saw ≡ length_of l) → IfSome log (λ l. AreMarks marks → a.reply ≡ reply_at l.spot oc)
-    → IfSome log (λ l. AreMarks marks → IsCommandAt stream (command_of op) (marks ++ entry.Answer a ∷ []) a l)
+    → IfSome log (λ l. AreMarks marks → IsCommandBy stream (command_of op) (marks ++ entry.Answer a ∷ []) a l)
 turn_of stream op n oc marks a None falls same is by saw right = tt
 turn_of stream op n oc marks a (Some l) falls same is by saw right = λ are.
     let c = call.Command (command_of op) in
-    command_at l.spot stream (length_of l) c marks a (no_marks_of op n (refused_at l.spot c) l.spot ∙ sym (falls.none are)) (is ∙ same)
-    (right are ∙ ap (reply_at l.spot) same) saw by
+    by_at stream (command_of op) (marks ++ entry.Answer a ∷ []) a l (whole_no_backup op)
+    (command_at l.spot stream (length_of l) c marks a (no_marks_of op n (refused_at l.spot c) l.spot ∙ sym (falls.none are)) (is ∙ same)
+    (right are ∙ ap (reply_at l.spot) same) saw by)
 
 -- an enrolled call that is answered, with these calls open before
 pub grew_call : (op : WholeOp) → IsNoPart op → (p : OwnCall) (os : List OwnCall) (a b c : Mine) → b ≡ with_running a os
@@ -208,8 +240,8 @@ grew_call op n p os a b c e is saw s =
     }
 
 -- one that is answered at once
-pub grew_now : (c : Command) (a b : Mine) → CommandsTo c a b → GrewByCommand c a b
-grew_now c a b s = record {
+pub grew_now : (c : Command) (a b : Mine) → IsAtOnce c → CommandsTo c a b → GrewByCommand c a b
+grew_now c a b once s = record {
   own = answer_placed s.spot s.answer ∷ [];
   all = s.marks ++ entry.Answer s.answer ∷ [];
   is = s.is;
@@ -227,6 +259,6 @@ grew_now c a b s = record {
 }
   where
     at : (log : Option Log) → IfSome log (IsCommandAt a.stream c (s.marks ++ entry.Answer s.answer ∷ []) s.answer)
-        → IfSome log (λ l. AreMarks s.marks → IsCommandAt a.stream c (s.marks ++ entry.Answer s.answer ∷ []) s.answer l)
+        → IfSome log (λ l. AreMarks s.marks → IsCommandBy a.stream c (s.marks ++ entry.Answer s.answer ∷ []) s.answer l)
     at None h = tt
-    at (Some l) h = λ are. h
+    at (Some l) h = λ are. by_at a.stream c (s.marks ++ entry.Answer s.answer ∷ []) s.answer l (at_once_no_backup c once) h

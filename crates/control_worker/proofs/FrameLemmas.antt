@@ -9,7 +9,8 @@ use Rattle.rebuild_worker.specs.Copying.{numbered}
 use Rattle.client_worker.proofs.Told.{header_alone, is_framed}
 use Rattle.step_answers.specs.declared.whole_op.WholeOp.{WholeOp}
 use Rattle.step_answers.specs.declared.whole_op.WholeOp.TheVariants as whole
-use Rattle.control_worker.specs.Frames.{ask_head, ask_request, done_head, done_reply, pair_text, part_text, AsksBy, IsPartText}
+use Rattle.client_worker.specs.Frames.{read_reply, read_reply_head}
+use Rattle.control_worker.specs.Frames.{page_head, ask_head, ask_request, done_head, done_reply, pair_text, part_text, AsksBy, IsPartText}
 
 -- a request's header is put before its text
 pub asks_now : (seq : ℕ) (offset : ℤ) (text before request : List ℕ) (h : Head) → AsksBy text before
@@ -63,3 +64,19 @@ pair_asks word first second before request asks long few_word few_first few_seco
           ∙ ap (λ t. t ++ (codes " " ++ second)) asks.tells
           ∙ append_assoc word first (codes " " ++ second);
     }
+
+-- the header of a page's request is put before the name
+pub page_request_is : (offset : ℤ) (size : ℕ) (name before request : List ℕ) (h : Head) → drop 26 before ≡ name
+    → h ≡ page_head 0 offset size (length name) → request ≡ frame h (drop 26 before)
+    → request ≡ frame (page_head 0 offset size (length name)) name
+page_request_is offset size name before request h tells is made = made ∙ (λ i. frame (is i) (tells i))
+
+-- and that of a page's reply before the page
+pub page_reply_is : (offset : ℤ) (page before reply : List ℕ) (h : Head) → drop 26 before ≡ page
+    → h ≡ read_reply_head 0 offset (length page) → reply ≡ frame h (drop 26 before) → reply ≡ read_reply 0 offset page
+page_reply_is offset page before reply h tells is made = made ∙ (λ i. frame (is i) (tells i))
+
+-- each is a whole frame
+pub page_whole : (h : Head) (bytes before made : List ℕ) → drop 26 before ≡ bytes → IsHead h → h.len ≡ length bytes
+    → made ≡ frame h (drop 26 before) → IsFrame made
+page_whole h bytes before made tells fits len is = is_framed h (drop 26 before) made fits (ap length tells ∙ sym len) is

@@ -82,6 +82,11 @@ goes_on a b c f k =
     let same : b.running ≡ a.running = goes_running a.running a b f in
     goes_then a.running a.running a b c f (subst (λ os. Goes os b c) same k)
 
+-- where no line failed over both, none failed over the first
+pub goes_first : (a b c : Mine) (f : GoesOn a b) (k : GoesOn b c) → AreMarks (goes_on a b c f k).marks → AreMarks f.marks
+unfolding goes_on goes_then
+goes_first a b c f k are = are_first f.marks _ are
+
 pub goes_fall : (r count : ℕ) (a b : Mine) → FallsTo r count a b → GoesOn a b
 goes_fall r count a b f = record {
   own = fault_placed f.spot a.stream r count ∷ [];

@@ -12,3 +12,7 @@ pub mod InTurn
 mod AddLemmas
 mod BarrierLemmas
 mod CopierLemmas
+pub mod GiverLemmas
+pub mod BackupLemmas
+pub mod StoreLemmas
+pub mod TurnLemmas

@@ -4,7 +4,7 @@ use Rattle.std.specs.Prelude.{◌≡◌, ℕ, ◌+◌, ◌≤◌, ℤ, pos, List
 use Rattle.volume_model.specs.declared.mark.FoldOrDrop.TheVariants as part
 use Rattle.step_answers.specs.declared.whole_op.WholeOp.{WholeOp}
 use Rattle.step_answers.specs.declared.whole_op.WholeOp.TheVariants as whole
-use Rattle.frame_stream.specs.Asked.{ping_kind}
+use Rattle.frame_stream.specs.Asked.{ping_kind, read_kind}
 use Rattle.frame_wire.specs.declared.head.Head.{Head}
 use Rattle.frame_wire.specs.Spelling.{header_length, frame}
 use Rattle.client_worker.specs.Frames.{response_kind}
@@ -62,6 +62,10 @@ part_request seq text = ask_request seq (pos 0) text
 
 abbrev pub part_reply : ℕ → List ℕ
 part_reply seq = done_reply seq (pos 0)
+
+-- asks for so many bytes of a snapshot's copy, from that place on, by its name
+abbrev pub page_head : ℕ → ℤ → ℕ → ℕ → Head
+page_head seq offset size n = record { seq = seq; kind = read_kind; offset = offset; size = size; len = n }
 
 -- ---- on a line
 

@@ -1,4 +1,5 @@
 pub mod OwnAnswers
+pub mod Store
 pub mod Serving
 pub mod Frames
 pub mod Rooms
@@ -7,3 +8,5 @@ pub mod Whole
 pub mod Purges
 pub mod Adding
 pub mod Copier
+pub mod Giver
+pub mod Backups

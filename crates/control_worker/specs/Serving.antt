@@ -12,15 +12,23 @@ use Rattle.volume_model.specs.declared.entry.Entry.TheVariants as entry
 use Rattle.volume_model.specs.Commands.{NamesReplica}
 use Rattle.stream_steps.specs.Mine.{Mine, Placed, Log, with_entries, longer, length_of}
 use Rattle.stream_steps.specs.Steps.{AreMarks, IsCommandAt}
+use Rattle.volume_model.specs.OneWorker.{entries_by}
 use Rattle.control_worker.specs.OwnAnswers.{HasAnswers}
+use Rattle.control_worker.specs.Store.{told_by}
 use Rattle.control_worker.specs.Purges.{MayComeBefore}
 
--- A command that a worker of so many lines takes: a snapshot has a name that a user may give, one that names a replica
--- names a line, and it is no backup: none carries one yet.
+-- A command that a worker of so many lines takes: a snapshot has a name that a user may give, and one that names a replica
+-- names a line.
 abbrev pub IsForWorker : ℕ → Command → Type 0
 IsForWorker lines (command.Snapshot name) = begins_sys name ≡ false
-IsForWorker lines (command.Backup backup snapshot) = ⊥
 IsForWorker lines c = NamesReplica lines c
+
+-- The entries are those that one worker makes of the command there, as its stream's call of the answer's index, where the
+-- store has against a backup what the answer tells.
+abbrev pub IsCommandBy : ℕ → Command → List Entry → Answer → Log → Type 0
+IsCommandBy stream (command.Backup backup snapshot) all answer log = all ≡ entries_by (told_by answer.reply) log.spot stream
+    (length_of log) answer.index (call.Command (command.Backup backup snapshot))
+IsCommandBy stream c all answer log = IsCommandAt stream c all answer log
 
 -- The entries are marks, and then the answer of a command that was taken up behind that journal. Where no line failed,
 -- they are those that one worker makes of it there.
@@ -32,7 +40,7 @@ pub record Commands (stream : ℕ) (log : Option Log) (c : Command) (es : List E
   pub call : answer.call ≡ call.Command c
   pub by : answer.stream ≡ stream
   pub saw : IfSome log (λ l. answer.saw ≡ length_of l)
-  pub turn : IfSome log (λ l. AreMarks marks → IsCommandAt stream c es answer l)
+  pub turn : IfSome log (λ l. AreMarks marks → IsCommandBy stream c es answer l)
 
 -- the same of these commands, each taken up behind the entries of the one before
 abbrev pub AreCommanded : ℕ → Option Log → List Command → List Entry → Type 0

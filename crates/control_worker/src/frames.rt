@@ -1,12 +1,15 @@
 //! The frames on a line that ask a replica for its part of a command, and its replies.
 
-ghost use Rattle.std.specs.Prelude.{◌≡◌, ◌*◌, ◌+◌, ◌≤◌, ◌++◌, length, pos, vec_capacity, vec_len, codes};
+ghost use Rattle.std.specs.Prelude.{◌≡◌, ◌*◌, ◌+◌, ◌≤◌, ◌++◌, length, drop, pos, vec_capacity, vec_len, codes, OnOk};
 ghost use Rattle.vol_units.specs.declared.size.TheConstants.{PAGE_BYTES};
-ghost use Rattle.frame_wire.specs.Spelling.{header_length, IsHead};
-ghost use Rattle.control_worker.specs.Frames.{AsksBy, ask_head, done_head, fold_text, longest_text, pair_text, part_text};
+ghost use Rattle.frame_wire.specs.Spelling.{header_length, frame, IsFrame, IsHead};
+ghost use Rattle.client_worker.specs.Frames.{read_reply, read_reply_head};
+ghost use Rattle.control_worker.specs.Frames.{AsksBy, ask_head, done_head, fold_text, longest_text, page_head, pair_text, part_text};
 
-use frame_stream::PING;
+use client_worker::put_header;
+use frame_stream::{PING, READ};
 use frame_wire::{HEADER_LENGTH, Head};
+use std::alloc::AllocError;
 use step_answers::WholeOp;
 use vol_units::{LayerName, PAGE_BYTES};
 use volume_model::FoldOrDrop;
@@ -84,6 +87,80 @@ pub(crate) fn fill_fold(request: &mut Vec<u8>, parent: &LayerName, child: &Layer
     ensures room { vec_capacity request.old ≤ vec_capacity request.new }
 {
     fill_pair(request, b"fold ", parent, child);
+}
+
+/// Makes the request for a page of a snapshot's copy, from that offset on: the data is the snapshot's name.
+pub(crate) fn fill_page_request(
+    request: &mut Vec<u8>,
+    snapshot: &LayerName,
+    offset: i64,
+) -> Result<(), AllocError>
+    ensures frame { OnOk result (request.new.items ≡ frame
+        (page_head 0 offset PAGE_BYTES (length snapshot.now)) snapshot.now) }
+    ensures whole { OnOk result (IsFrame request.new.items) }
+{
+    let name = bytes_of(snapshot);
+    make_room(request, name)?;
+    put_header(
+        request,
+        &page_head(offset, PAGE_BYTES as u32, name.len() as u32),
+    );
+    Ok(())
+}
+
+/// Asks for so many bytes of a snapshot's copy, by a name that is so long.
+fn page_head(offset: i64, size: u32, len: u32) -> Head
+    ensures value { result ≡ page_head 0 offset size len }
+    ensures fits { IsHead result }
+{
+    Head {
+        seq: 0,
+        kind: READ,
+        offset,
+        size,
+        len,
+    }
+}
+
+/// Makes the reply that gives a page, from that offset on.
+pub(crate) fn fill_page_reply(
+    reply: &mut Vec<u8>,
+    offset: i64,
+    page: &[u8],
+) -> Result<(), AllocError>
+    requires few { length page.now ≤ PAGE_BYTES }
+    ensures frame { OnOk result (reply.new.items ≡ read_reply 0 offset page.now) }
+    ensures whole { OnOk result (IsFrame reply.new.items) }
+{
+    make_room(reply, page)?;
+    put_header(reply, &page_reply_head(offset, page.len() as u32));
+    Ok(())
+}
+
+/// Gives so many bytes.
+fn page_reply_head(offset: i64, count: u32) -> Head
+    ensures value { result ≡ read_reply_head 0 offset count }
+    ensures fits { IsHead result }
+{
+    Head {
+        seq: 0,
+        kind: RESPONSE,
+        offset,
+        size: count,
+        len: count,
+    }
+}
+
+/// A place for the header, and these bytes.
+fn make_room(frame: &mut Vec<u8>, bytes: &[u8]) -> Result<(), AllocError>
+    requires few { length bytes.now ≤ PAGE_BYTES }
+    ensures long { OnOk result (length frame.new.items ≡ header_length + length bytes.now) }
+    ensures tells { OnOk result (drop header_length frame.new.items ≡ bytes.now) }
+{
+    frame.clear();
+    frame.reserve(HEADER_LENGTH + bytes.len())?;
+    frame.extend_from_slice(&[0; HEADER_LENGTH])?;
+    frame.extend_from_slice(bytes)
 }
 
 /// A place for the header, a word, and a name.

@@ -3,12 +3,14 @@
 #![tactic(auto)]
 
 mod add;
+mod backup;
 mod barrier;
 mod carrier;
 mod commands;
 mod control;
 mod copier;
 mod frames;
+mod giver;
 mod line;
 mod parts;
 mod purge;
@@ -17,5 +19,7 @@ mod worker;
 
 pub use client_worker::{Channel, Line};
 pub use control::Served;
-pub use stream_steps::{AddSteps, Command};
+pub use stream_steps::{BackupSteps, Command};
+pub use target_traits::Target;
+pub use vol_units::{PlainName, TimeText};
 pub use worker::ControlWorker;

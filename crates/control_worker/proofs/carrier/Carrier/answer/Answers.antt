@@ -1,4 +1,4 @@
-use Rattle.std.proofs.Common.{◌∷◌, [], ◌++◌}
+use Rattle.std.proofs.Common.{rules, ◌∷◌, [], ◌++◌}
 use Rattle.volume_model.specs.declared.entry.Entry.TheVariants as entry
 use Rattle.control_worker.proofs.AnswerLemmas.{grew_now}
 use Rattle.control_worker.proofs.CarrierLemmas.{serves_step}
@@ -22,7 +22,7 @@ invariant_of-self-in-Fail g c =
 
 pub returns-in_ok-answer_at_once-in-Fail-clause-ok : goal.returns-in_ok-answer_at_once-in-Fail-clause-ok
 returns-in_ok-answer_at_once-in-Fail-clause-ok g c =
-    rw (← c.self.view_is) (grew_now c.args.command.now _ _ c.in_ok-answer_at_once-in-Fail.ensures.ok)
+    rw (← c.self.view_is) (grew_now c.args.command.now _ _ (search rules) c.in_ok-answer_at_once-in-Fail.ensures.ok)
 
 pub returns-in-Snapshot-clause-err : goal.returns-in-Snapshot-clause-err
 returns-in-Snapshot-clause-err g c =

@@ -1,0 +1,57 @@
+use Rattle.std.proofs.Common.{refl, map, length}
+use Rattle.control_worker.specs.Giver.{GivesOn}
+use Rattle.control_worker.proofs.CarrierLemmas.{serves_step}
+use Rattle.control_worker.proofs.ShownLemmas.{stays_same}
+use Rattle.control_worker.proofs.GiverLemmas.{can_goes, covers_of, drops_none, gives_step, known_goes, same_copies, weaker}
+use Rattle.control_worker.proofs.giver.GiverPageGiver.pages.Given.{Over}
+use Rattle.control_worker.proofs.giver.GiverPageGiver.pages.Goals as goal
+use Rattle.control_worker.proofs.giver.GiverPageGiver.pages.Goals.{After-backup_pages}
+
+-- the step changes nothing for the stream
+asked : (g : Over) (c : After-backup_pages g) → GivesOn g.C.CommandSteps.home g.C.CommandSteps.mine g.C.BackupSteps.copies g.L.Line.ends
+    (record { steps = c.args.self.now.steps.now; channels = c.args.self.now.channels.now })
+    (record { steps = c.backup_pages.new.self; channels = c.args.self.now.channels.now })
+asked g c = gives_step (record { steps = c.args.self.now.steps.now; channels = c.args.self.now.channels.now }) c.backup_pages.new.self
+    c.backup_pages.ensures.stands.home c.backup_pages.ensures.stands.same c.backup_pages.ensures.kept
+
+pub returns-clause-keeps : goal.returns-clause-keeps
+returns-clause-keeps g c =
+    let k = asked g (goal.at.returns-clause-keeps g c).After-backup_pages in
+    let s = c.args.self.now in
+    record {
+      ready = (
+        serves_step g.C.CommandSteps.mine (record { steps = s.steps.now; channels = s.channels.now }) c.backup_pages.new.self
+            c.backup_pages.ensures.stands.ready (stays_same _ _ c.backup_pages.ensures.stands.same) c.requires.ready.0,
+        can_goes s.turn s.snapshot s.base _ _ _ _ k.goes k.kept c.requires.ready.1,
+      );
+      home = λ j. (
+        k.stays.home j,
+        s.steps.ghost_name,
+        s.channels.ghost_name,
+        length s.channels.now,
+        map (λ x. g.L.Line.ends x.line) s.channels.now,
+        s.turn,
+        s.snapshot,
+        s.base,
+      );
+      facts = λ known h. known_goes known _ _ _ _ k.goes k.kept h;
+    }
+
+pub returns-clause-stays : goal.returns-clause-stays
+returns-clause-stays g c =
+    let s = c.args.self.now in
+    let can = c.requires.ready.1 in
+    record { name = refl; copy = same_copies _ _ s.snapshot s.base c.backup_pages.ensures.kept can.live can.base s.snapshot }
+
+pub returns-clause-base : goal.returns-clause-base
+returns-clause-base g c =
+    let s = c.args.self.now in
+    let can = c.requires.ready.1 in
+    drops_none _ _ _ (same_copies _ _ s.snapshot s.base c.backup_pages.ensures.kept can.live can.base)
+
+pub returns-clause-ok : goal.returns-clause-ok
+returns-clause-ok g c =
+    let s = c.args.self.now in
+    weaker _ _ c.backup_pages.result
+    (λ pages covers. covers_of (g.C.BackupSteps.copies c.backup_pages.new.self) s.snapshot s.base c.same_base-known.result _ pages
+    c.same_base-known.ensures covers) c.backup_pages.ensures.covers
