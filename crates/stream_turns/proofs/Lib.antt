@@ -14,3 +14,5 @@ pub mod Parts
 pub mod ScriptLemmas
 pub mod Begun
 pub mod SoFar
+pub mod StoreLemmas
+pub mod Backups

@@ -30,6 +30,7 @@ use Rattle.client_worker.specs.Exchanges.{CarriedOf, IsCarried, AreCarried, HasR
 use Rattle.client_worker.specs.Serving.{AreServed}
 use Rattle.control_worker.specs.Serving.{AreCommanded}
 use Rattle.world_holder.specs.View.{is_own, own_entries}
+use Rattle.stream_turns.specs.Run.{store_in}
 use Rattle.stream_turns.specs.Turns.{AreWell, IsTurn}
 use Rattle.world_holder.proofs.Entries.{own_counts}
 use Rattle.stream_turns.proofs.Counted.{none_counted}
@@ -157,7 +158,7 @@ module _ (opening : Spot) (replicas w : ℕ) (before added after : List Entry) (
       counted = shown;
       carried = carried;
       framed = framed;
-      turn = λ well. frames_turn opening w 0 0 cs before added frames served (unfaulted well) legal_added order_added;
+      turn = λ well. frames_turn (store_in after) opening w 0 0 cs before added frames served (unfaulted well) legal_added order_added;
     }
 
     pub commands_are : (cs : List Command) → AreCommanded w (Some (log_at opening before)) cs added
@@ -170,7 +171,7 @@ module _ (opening : Spot) (replicas w : ℕ) (before added after : List Entry) (
       counted = shown;
       carried = carried;
       framed = framed;
-      turn = λ well. commands_turn opening w 0 0 cs before added done (unfaulted well) order_added;
+      turn = λ well. commands_turn after opening w 0 0 cs before added is done (unfaulted well) order_added;
     }
 
 -- ---- the lines are taken back

@@ -26,7 +26,7 @@ for_commands replicas command.Purge good = tt
 for_commands replicas command.Status good = tt
 for_commands replicas (command.Fail r) good = good.there
 for_commands replicas (command.Add r) good = good.there
-for_commands replicas (command.Backup backup snapshot) good = good.served
+for_commands replicas (command.Backup backup snapshot) good = tt
 
 stream_taken : (replicas : ℕ) (h : StreamHead) (bytes : List ℕ) (s : Stream) → IsStreamOf h bytes s → IsGoodStream replicas s
     → IsTaken replicas s

@@ -10,7 +10,7 @@ use Rattle.volume_model.specs.Replay.{replay}
 use Rattle.volume_model.specs.declared.entry.Entry.{Entry}
 use Rattle.volume_model.specs.Faults.{last_count}
 use Rattle.volume_model.specs.History.{Spot, IsLegal, calls_of}
-use Rattle.volume_model.specs.OneWorker.{no_store, served, stream_of}
+use Rattle.volume_model.specs.OneWorker.{served, stream_of}
 use Rattle.volume_model.proofs.OneWorkerLemmas.{length-modes_after}
 use Rattle.volume_core.specs.declared.world.World.{World}
 use Rattle.volume_core.specs.State.{state_of, opening_of}
@@ -25,7 +25,7 @@ use Rattle.world_holder.specs.View.{own_entries}
 use Rattle.world_holder.proofs.Grow.{same_opening}
 use Rattle.stream_turns.specs.declared.serving.ServedStreams.{ServedStreams}
 use Rattle.stream_turns.specs.Turn.{IsTaken, IsBetween, HasNoEntry, KeepsOrigin, HasTurn, HaveTurns}
-use Rattle.stream_turns.specs.Run.{NamesLine}
+use Rattle.stream_turns.specs.Run.{NamesLine, store_in}
 use Rattle.stream_turns.specs.Serving.{IsBegun, IsServed, IsServedInTurn}
 use Rattle.stream_turns.specs.Turns.{IsTurn, AreTurns, TellsOthers}
 use Rattle.stream_turns.specs.Volume.{stream_calls, heads_of}
@@ -199,7 +199,7 @@ module _ (script : Script) (spot : Spot) (w : World) (s : ServedStreams) (stream
     is = λ well.
         turns.turns (λ v low r here. well v r (omega (arith, low, length-map streams stream_calls, ap length same))
         (omega (arith, here, begun.replicas)))
-        ∙ (λ i. served no_store (begun.opening i) (map stream_calls (same i)));
+        ∙ (λ i. served (store_in entries) (begun.opening i) (map stream_calls (same i)));
   }
 
 pub each_served : {E : Type 0} (script : Script) (spot : Spot) (w : World) (res : Result ServedStreams E) (streams : List Stream)

@@ -6,19 +6,21 @@ use Rattle.std.specs.List.{All}
 use Rattle.std.proofs.lemmas.Bool.Decides.{eqb_tells}
 use Rattle.std.proofs.lemmas.List.{append-nil, length-append, map-append, get_or_past}
 use Rattle.volume_model.specs.declared.call.Call.{Call}
+use Rattle.volume_model.specs.declared.call.Refusal.{Refusal}
 use Rattle.volume_model.specs.declared.entry.Answer.{Answer}
 use Rattle.volume_model.specs.declared.entry.Entry.{Entry}
 use Rattle.volume_model.specs.declared.entry.Entry.TheVariants as entry
 use Rattle.volume_model.specs.Faults.{last_in, last_count}
 use Rattle.volume_model.specs.History.{Spot, answers_from, calls_of}
-use Rattle.volume_model.specs.OneWorker.{no_store, behind_entries, behind, served_from, after_streams, served_streams, served, stream_of}
+use Rattle.volume_model.specs.OneWorker.{Store, behind_entries, behind, served_from, after_streams, served_streams, served, stream_of}
+use Rattle.volume_model.specs.OneWorker.{answer_for, entries_by, marks_unless, refused_by, after_done, after_calls}
 use Rattle.volume_model.proofs.FaultLemmas.{last_count-append}
 use Rattle.volume_model.proofs.LegalLemmas.{answers_from-append}
 use Rattle.volume_model.proofs.ServedLemmas.{behind-streams, served_streams-push}
 use Rattle.frame_wire.specs.Spelling.{IsFrame}
 use Rattle.client_worker.specs.Exchanges.{AreCarried}
 use Rattle.world_holder.specs.View.{own_entries}
-use Rattle.stream_turns.specs.Run.{StandInTurn}
+use Rattle.stream_turns.specs.Run.{StandInTurn, store_in}
 use Rattle.stream_turns.specs.Turns.{AreWell, IsTurn, AreTurns}
 use Rattle.world_holder.proofs.Entries.{own-append}
 use Rattle.stream_turns.proofs.Own.{no_faults, no_answers, none_own}
@@ -60,6 +62,84 @@ calls_of-append w xs ys =
     ap (map (λ (p : ℕ × Answer). p.1.call)) (answers_from-append w 0 xs ys)
     ∙ map-append (λ (p : ℕ × Answer). p.1.call) (answers_from w 0 xs) (answers_from w (0 + length xs) ys)
     ∙ ap (λ l. calls_of w xs ++ l) (anywhere w (0 + length xs) 0 ys)
+
+-- ---- two stores that tell the same
+
+-- a call has an entry
+some_entry : (xs : List Entry) (x : Entry) (ys : List Entry) → 0 < length ((xs ++ x ∷ []) ++ ys)
+some_entry [] x ys = omega arith
+some_entry (y ∷ xs) x ys = omega arith
+
+-- A store is asked only at places from where the entries begin to where they end.
+module _ (store store2 : Store) where
+  abbrev SameIn : ℕ → ℕ → Type 0
+  SameIn place count = (p : ℕ) → place ≤ p → p < place + count → store p ≡ store2 p
+
+  pub same_from : (spot : Spot) (w place index : ℕ) (cs : List Call)
+      → SameIn place (length (served_from store spot w place index cs))
+      → served_from store spot w place index cs ≡ served_from store2 spot w place index cs
+  same_from spot w place index [] same = refl
+  same_from spot w place index (c ∷ cs) same =
+      let more = same_from (after_done spot c) w (behind place here) (suc index) cs
+      (λ p low high. same p (omega (arith, low)) (omega (arith, high, long))) in
+      λ i. first i ++ (more ∙ there) i
+    where
+      here : List Entry
+      here = entries_by (store place) spot w place index c
+
+      why : Option Refusal
+      why = refused_by (store place) spot c
+
+      here2 : List Entry
+      here2 = entries_by (store2 place) spot w place index c
+
+      rest : List Entry
+      rest = served_from store (after_done spot c) w (behind place here) (suc index) cs
+
+      long : length (here ++ rest) ≡ length here + length rest
+      long = length-append here rest
+
+      first : here ≡ here2
+      first = ap (λ told. entries_by told spot w place index c) (same place (omega arith)
+          (omega (arith, some_entry (marks_unless why spot c) (answer_for why spot w place index c) rest)))
+
+      there : served_from store2 (after_done spot c) w (behind place here) (suc index) cs
+          ≡ served_from store2 (after_done spot c) w (behind place here2) (suc index) cs
+      there = ap (λ l. served_from store2 (after_done spot c) w (behind place l) (suc index) cs) first
+
+  pub same_streams : (spot : Spot) (w place : ℕ) (css : List (List Call))
+      → SameIn place (length (served_streams store spot w place css))
+      → served_streams store spot w place css ≡ served_streams store2 spot w place css
+  same_streams spot w place [] same = refl
+  same_streams spot w place (cs ∷ css) same =
+      let more = same_streams (after_calls spot cs) (suc w) (behind place here) css
+      (λ p low high. same p (omega (arith, low)) (omega (arith, high, long))) in
+      λ i. first i ++ (more ∙ there) i
+    where
+      here : List Entry
+      here = served_from store spot w place 0 cs
+
+      here2 : List Entry
+      here2 = served_from store2 spot w place 0 cs
+
+      rest : List Entry
+      rest = served_streams store (after_calls spot cs) (suc w) (behind place here) css
+
+      long : length (here ++ rest) ≡ length here + length rest
+      long = length-append here rest
+
+      first : here ≡ here2
+      first = same_from spot w place 0 cs (λ p low high. same p low (omega (arith, high, long)))
+
+      there : served_streams store2 (after_calls spot cs) (suc w) (behind place here) css
+          ≡ served_streams store2 (after_calls spot cs) (suc w) (behind place here2) css
+      there = ap (λ l. served_streams store2 (after_calls spot cs) (suc w) (behind place l) css) first
+
+-- what a journal tells of the store stays while more comes
+pub same_store : (before added : List Entry) (p : ℕ) → p < length before → store_in before p ≡ store_in (before ++ added) p
+same_store [] added p low = absurd (omega (arith, low))
+same_store (e ∷ before) added zero low = refl
+same_store (e ∷ before) added (suc p) low = same_store before added p (omega (arith, low))
 
 -- ---- no stream
 
@@ -111,24 +191,28 @@ module _ (opening : Spot) (replicas : ℕ) (css : List (List Call)) (cs : List C
   many : length (css ++ cs ∷ []) ≡ suc (length css)
   many = omega (arith, length-append css (cs ∷ []))
 
-  all_turns : ((w : ℕ) → w < length (css ++ cs ∷ []) → AreWell replicas (counts' w)) → after ≡ served no_store opening (css ++ cs ∷ [])
+  all_turns : ((w : ℕ) → w < length (css ++ cs ∷ []) → AreWell replicas (counts' w)) → after ≡ served (store_in after) opening (css ++ cs ∷ [])
   all_turns well =
       one.is ∙ (λ i. first i ++ (one.turn (well (length css) (omega (arith, many))) ∙ second) i)
-      ∙ sym (served_streams-push no_store opening 0 0 css cs)
+      ∙ sym (served_streams-push (store_in after) opening 0 0 css cs)
     where
-      first : before ≡ served no_store opening css
-      first = turns.turns (λ w low r there. sym (same_counts w r (omega (arith, low))) ∙ well w (omega (arith, low, many)) r there)
+      told : before ≡ served (store_in before) opening css
+      told = turns.turns (λ w low r there. sym (same_counts w r (omega (arith, low))) ∙ well w (omega (arith, low, many)) r there)
+
+      first : before ≡ served (store_in after) opening css
+      first = told ∙ same_streams (store_in before) (store_in after) opening 0 0 css (λ p low high.
+          same_store before one.added p (omega (arith, high, ap length told)) ∙ ap (λ l. store_in l p) (sym one.is))
 
       stands : behind_entries opening before ≡ after_streams opening css
-      stands = ap (behind_entries opening) first ∙ behind-streams no_store opening 0 0 css
+      stands = ap (behind_entries opening) first ∙ behind-streams (store_in after) opening 0 0 css
 
       zero_more : (n : ℕ) → n ≡ 0 + n
       zero_more n = omega arith
 
-      second : served_from no_store (behind_entries opening before) (length css) (length before) 0 cs
-          ≡ served_from no_store (after_streams opening css) (0 + length css) (behind 0 (served_streams no_store opening 0 0 css)) 0 cs
-      second = λ i. served_from no_store (stands i) (zero_more (length css) i)
-          ((ap length first ∙ zero_more (length (served no_store opening css))) i) 0 cs
+      second : served_from (store_in after) (behind_entries opening before) (length css) (length before) 0 cs
+          ≡ served_from (store_in after) (after_streams opening css) (0 + length css) (behind 0 (served_streams (store_in after) opening 0 0 css)) 0 cs
+      second = λ i. served_from (store_in after) (stands i) (zero_more (length css) i)
+          ((ap length first ∙ zero_more (length (served (store_in after) opening css))) i) 0 cs
 
   pub more_turns : AreTurns opening replicas (css ++ cs ∷ []) after counts' carried'
   more_turns = record {

@@ -19,7 +19,7 @@ use Rattle.volume_core.specs.declared.world.World.{World}
 use Rattle.volume_core.specs.State.{State, state_of, opening_of}
 use Rattle.volume_core.specs.Sound.{IsSound, NoneGaveUp}
 use Rattle.volume_core.specs.Streams.{Origin, origin_of}
-use Rattle.stream_steps.specs.Mine.{Mine, Log, entries_in}
+use Rattle.stream_steps.specs.Mine.{Mine, Log, Placed, entries_in}
 use Rattle.stream_steps.specs.Steps.{IsFrameCall}
 use Rattle.client_worker.specs.Exchanges.{told_in, AreCarried}
 use Rattle.client_worker.specs.Serving.{IsShown, Grew}
@@ -169,3 +169,14 @@ module _ (n : ℕ) (w after out : World) (st : Stream) (counts : List ℕ) (told
       subst (λ z. Turned (stream_calls z) out) (sym (is ∙ ap stream.Control (sym as_asked)))
       (subst (Turned (map call.Command asked)) (sym same)
       (commands_turned n m w after sound same_origin own counts told none many asked shown_back grew_back))
+
+  -- what is so of what the stream knows of its entries, before and behind, is so of none and of its entries in the World
+  pub stream_of_entries : (P : List Placed → List Placed → Type 0) → P (view true n x).entries (view true m x2).entries
+      → P [] (own_entries n (opening_of (state_of w)) out.journal.entries)
+  stream_of_entries P p =
+      subst (λ (z : World). P [] (own_entries n (opening_of (state_of w)) z.journal.entries)) (sym same)
+      (subst (λ o. P [] (own_entries n o after.journal.entries)) (same_opening (state_of w) (state_of after) same_origin)
+      (subst (λ k. P [] (own_entries k (opening_of (state_of after)) after.journal.entries)) own
+      (subst (λ (z : State). P [] (own_entries m (opening_of z) z.book.entries)) (sym back)
+      (subst (λ ps. P ps (view true m x2).entries)
+      (ap (λ (z : State). own_entries n (opening_of z) z.book.entries) given ∙ none) p))))

@@ -1,6 +1,6 @@
 -- Where none of its lines failed, a stream's entries are those that one worker makes of its calls there.
 use Rattle.std.proofs.Common.{◌≡◌, ℕ, suc, ◌+◌, ◌&&◌, inl, inr, ⊎_elim, eqb, Bool, true, false, cond, List, [], ◌∷◌}
-use Rattle.std.proofs.Common.{◌++◌, length, map, sym, refl, ap, subst, ◌∙◌, eq-eqb}
+use Rattle.std.proofs.Common.{◌++◌, length, map, sym, refl, ap, subst, ◌∙◌, eq-eqb, append_assoc}
 use Rattle.std.specs.Prelude.{Option, None, Some}
 use Rattle.std.specs.Option.{option_or}
 use Rattle.std.specs.List.{All}
@@ -8,6 +8,7 @@ use Rattle.std.proofs.lemmas.Bool.{cases_Bool, true≢false}
 use Rattle.std.proofs.lemmas.List.{length-append}
 use Rattle.std.proofs.lemmas.List.Elements.{All-head, All-tail}
 use Rattle.volume_model.specs.declared.command.Command.{Command}
+use Rattle.volume_model.specs.declared.command.Command.TheVariants as command
 use Rattle.volume_model.specs.declared.call.Call.{Call}
 use Rattle.volume_model.specs.declared.call.Call.TheVariants as call
 use Rattle.volume_model.specs.declared.call.Refusal.{Refusal}
@@ -28,17 +29,20 @@ use Rattle.volume_model.specs.Rebuilds.{added_by}
 use Rattle.volume_model.specs.History.{Spot, Subject, OfVolume, OfReplicas, OfStore, subject_of, IsAnswered, IsEnded}
 use Rattle.volume_model.specs.History.{LegalAfter, answers_from, InOrderFrom}
 use Rattle.volume_model.specs.OneWorker.{behind_entries, want_of_replica, refused_at, marks_unless, reply_for}
-use Rattle.volume_model.specs.OneWorker.{no_store, answer_for, entries_at, after_done, behind, served_from}
+use Rattle.volume_model.specs.OneWorker.{Against, Store, answer_for, entries_for, entries_by, entries_at, refused_by}
+use Rattle.volume_model.specs.OneWorker.{after_done, behind, served_from}
 use Rattle.volume_model.proofs.FaultLemmas.{fault_counts-append}
-use Rattle.volume_model.proofs.SpotLemmas.{source_is}
+use Rattle.volume_model.proofs.SpotLemmas.{source_is, asks_none}
 use Rattle.volume_model.proofs.OneWorkerLemmas.{same_after}
 use Rattle.volume_model.proofs.ServedLemmas.{behind-append}
 use Rattle.volume_model.proofs.OnlyServed.{with_source}
-use Rattle.stream_steps.specs.Mine.{Log, longer}
+use Rattle.stream_steps.specs.Mine.{Log, longer, length_of}
 use Rattle.stream_steps.specs.Steps.{IsFrameCall, IsNoFault, AreMarks}
 use Rattle.client_worker.specs.Serving.{IsFaultMark, IsOwnFault, Serves, AreServed}
 use Rattle.control_worker.specs.Purges.{MayComeBefore}
-use Rattle.control_worker.specs.Serving.{AreCommanded}
+use Rattle.control_worker.specs.Serving.{AreCommanded, IsCommandBy}
+use Rattle.control_worker.specs.Store.{told_by}
+use Rattle.stream_turns.specs.Run.{told_at, store_in}
 use Rattle.stream_turns.proofs.Groups.{IsGroup, served_group, commanded_group, group_answers}
 
 -- ---- the answer of a frame's call
@@ -52,7 +56,7 @@ no_replica_reply (reply.Refused refusal.NoReplica) says = refl
 no_replica_reply (reply.Refused why) says = absurd cc
 
 -- a frame asks nothing of the store of backups
-frame_apart : (c : Call) → IsFrameCall c → asks_store c ≡ false
+pub frame_apart : (c : Call) → IsFrameCall c → asks_store c ≡ false
 frame_apart (call.Read offset n) frame = refl
 frame_apart (call.Write offset bytes) frame = refl
 frame_apart call.Ping frame = refl
@@ -155,28 +159,37 @@ log_at opening before = record { spot = behind_entries opening before; entries =
 pub longer_at : (opening : Spot) (before es : List Entry) → longer (Some (log_at opening before)) es ≡ Some (log_at opening (before ++ es))
 longer_at opening before es = λ i. Some (record { spot = sym (behind-append opening before es) i; entries = before ++ es })
 
--- what one worker makes of calls behind that journal
-abbrev pub served_behind : Spot → List Entry → ℕ → ℕ → List Call → List Entry
-served_behind opening before w index cs = served_from no_store (behind_entries opening before) w (length before) index cs
+-- what one worker makes of calls behind that journal, where the store tells so
+abbrev pub served_behind : Store → Spot → List Entry → ℕ → ℕ → List Call → List Entry
+served_behind store opening before w index cs = served_from store (behind_entries opening before) w (length before) index cs
 
-served_more : (opening : Spot) (before first more : List Entry) (w index : ℕ) (c : Call) (cs : List Call)
-    → first ≡ entries_at (behind_entries opening before) w (length before) index c
-    → more ≡ served_behind opening (before ++ first) w (suc index) cs
-    → first ++ more ≡ served_behind opening before w index (c ∷ cs)
-served_more opening before first more w index c cs e f = λ i. e i ++ (f ∙ there) i
+served_more : (store : Store) (opening : Spot) (before first more : List Entry) (w index : ℕ) (c : Call) (cs : List Call)
+    → first ≡ entries_by (store (length before)) (behind_entries opening before) w (length before) index c
+    → more ≡ served_behind store opening (before ++ first) w (suc index) cs
+    → first ++ more ≡ served_behind store opening before w index (c ∷ cs)
+served_more store opening before first more w index c cs e f = λ i. e i ++ (f ∙ there) i
   where
     spot : Spot
     spot = behind_entries opening before
 
     stands : behind_entries opening (before ++ first) ≡ after_done spot c
-    stands = behind-append opening before first ∙ ap (behind_entries spot) e ∙ same_after None spot w (length before) index c
+    stands = behind-append opening before first ∙ ap (behind_entries spot) e
+        ∙ same_after (store (length before)) spot w (length before) index c
 
-    place : length (before ++ first) ≡ behind (length before) (entries_at spot w (length before) index c)
+    here : List Entry
+    here = entries_by (store (length before)) spot w (length before) index c
+
+    place : length (before ++ first) ≡ behind (length before) here
     place = length-append before first ∙ ap (λ l. behind (length before) l) e
 
-    there : served_behind opening (before ++ first) w (suc index) cs
-        ≡ served_from no_store (after_done spot c) w (behind (length before) (entries_at spot w (length before) index c)) (suc index) cs
-    there = λ i. served_from no_store (stands i) w (place i) (suc index) cs
+    there : served_behind store opening (before ++ first) w (suc index) cs
+        ≡ served_from store (after_done spot c) w (behind (length before) here) (suc index) cs
+    there = λ i. served_from store (stands i) w (place i) (suc index) cs
+
+-- of a call that asks nothing of it the store tells nothing
+same_by : (told : Option Against) (spot : Spot) (w place index : ℕ) (c : Call) → asks_store c ≡ false
+    → entries_at spot w place index c ≡ entries_by told spot w place index c
+same_by told spot w place index c apart = ap (λ why. entries_for why spot w place index c) (sym (asks_none told spot c apart))
 
 -- ---- the order of answers
 
@@ -249,12 +262,12 @@ frame_turn opening w index c before es more s frame none at legal =
       subst (λ l. LegalAfter opening (before ++ l) more) (sym only) stands.1,
     )
 
-pub frames_turn : (opening : Spot) (w index least : ℕ) (cs : List Call) (before es : List Entry) → All IsFrameCall cs
+pub frames_turn : (store : Store) (opening : Spot) (w index least : ℕ) (cs : List Call) (before es : List Entry) → All IsFrameCall cs
     → AreServed w (Some (log_at opening before)) cs es
     → ((r : ℕ) → fault_counts w r es ≡ []) → LegalAfter opening before es → InOrderFrom index least (answers_from w (length before) es)
-    → es ≡ served_behind opening before w index cs
-frames_turn opening w index least [] before es frames done none legal order = done
-frames_turn opening w index least (c ∷ cs) before es frames done none legal order =
+    → es ≡ served_behind store opening before w index cs
+frames_turn store opening w index least [] before es frames done none legal order = done
+frames_turn store opening w index least (c ∷ cs) before es frames done none legal order =
     let first = done.0 in
     let more = done.1 in
     let s = done.3 in
@@ -265,11 +278,13 @@ frames_turn opening w index least (c ∷ cs) before es frames done none legal or
     let here = frame_turn opening w index c before first more s (All-head IsFrameCall c cs frames)
     (alone w (log_at opening before) c first s (λ r. (parts r).0)) next.0
     (subst (LegalAfter opening before) done.2 legal) in
-    let rest = frames_turn opening w (suc index) (suc (length before + length group.marks)) cs (before ++ first) more
+    let rest = frames_turn store opening w (suc index) (suc (length before + length group.marks)) cs (before ++ first) more
     (All-tail IsFrameCall c cs frames)
     (subst (λ l. AreServed w l cs more) (longer_at opening before first) done.4)
     (λ r. (parts r).1) here.1 next.1 in
-    done.2 ∙ served_more opening before first more w index c cs here.0 rest
+    done.2 ∙ served_more store opening before first more w index c cs
+    (here.0 ∙ same_by (store (length before)) (behind_entries opening before) w (length before) index c
+    (frame_apart c (All-head IsFrameCall c cs frames))) rest
 
 -- ---- commands
 
@@ -290,23 +305,88 @@ unfaulted w (entry.Mark m ∷ marks) all none = ⊎_elim
     unshown (mark.Promoted q) not r = refl
     unshown (mark.Aborted q) not r = refl
 
-pub commands_turn : (opening : Spot) (w index least : ℕ) (cs : List Command) (before es : List Entry)
-    → AreCommanded w (Some (log_at opening before)) cs es
+-- what the journal tells of the store there
+store_behind : (before : List Entry) (e : Entry) (more : List Entry) → store_in (before ++ e ∷ more) (length before) ≡ told_at e
+store_behind [] e more = refl
+store_behind (b ∷ before) e more = store_behind before e more
+
+only_one : (marks : List Entry) (x y : Entry) → marks ++ x ∷ [] ≡ y ∷ [] → marks ≡ []
+only_one [] x y e = refl
+only_one (m ∷ marks) x y e = absurd (some_none x (back_none marks (x ∷ []) (tail_is e)))
+  where
+    tail_is : {m y : Entry} {ms : List Entry} → m ∷ ms ≡ y ∷ [] → ms ≡ []
+    tail_is {m} {y} {ms} e = cc
+
+    some_none : (x : Entry) → x ∷ [] ≡ [] → ⊥
+    some_none x e = cc
+
+-- a backup makes no marks
+backup_unmarked : (why : Option Refusal) (spot : Spot) (backup snapshot : List ℕ)
+    → marks_unless why spot (call.Command (command.Backup backup snapshot)) ≡ []
+backup_unmarked (Some why) spot backup snapshot = refl
+backup_unmarked None spot backup snapshot = refl
+
+-- So a command's entries are those that one worker makes of it where the store tells what its answer tells, or of any store
+-- where it asks none.
+command_entries : (w : ℕ) (log : Log) (c : Command) (told : Option Against) (es marks : List Entry) (a : Answer)
+    → es ≡ marks ++ entry.Answer a ∷ [] → (marks ≡ [] → told ≡ told_by a.reply) → IsCommandBy w c es a log
+    → es ≡ entries_by told log.spot w (length_of log) a.index (call.Command c)
+command_entries w log (command.Backup backup snapshot) told es marks a is tells turn =
+    turn ∙ ap (λ t. entries_by t log.spot w (length_of log) a.index asked) (sym (tells unmarked))
+  where
+    asked : Call
+    asked = call.Command (command.Backup backup snapshot)
+
+    why : Option Refusal
+    why = refused_by (told_by a.reply) log.spot asked
+
+    unmarked : marks ≡ []
+    unmarked = only_one marks (entry.Answer a) (answer_for why log.spot w (length_of log) a.index asked)
+        (sym is ∙ turn ∙ ap (λ ms. ms ++ answer_for why log.spot w (length_of log) a.index asked ∷ [])
+        (backup_unmarked why log.spot backup snapshot))
+command_entries w log (command.Snapshot name) told es marks a is tells turn =
+    turn ∙ same_by told log.spot w (length_of log) a.index (call.Command (command.Snapshot name)) refl
+command_entries w log (command.Remove name) told es marks a is tells turn =
+    turn ∙ same_by told log.spot w (length_of log) a.index (call.Command (command.Remove name)) refl
+command_entries w log (command.Revert name) told es marks a is tells turn =
+    turn ∙ same_by told log.spot w (length_of log) a.index (call.Command (command.Revert name)) refl
+command_entries w log command.Purge told es marks a is tells turn =
+    turn ∙ same_by told log.spot w (length_of log) a.index (call.Command command.Purge) refl
+command_entries w log command.Status told es marks a is tells turn =
+    turn ∙ same_by told log.spot w (length_of log) a.index (call.Command command.Status) refl
+command_entries w log (command.Fail r) told es marks a is tells turn =
+    turn ∙ same_by told log.spot w (length_of log) a.index (call.Command (command.Fail r)) refl
+command_entries w log (command.Add r) told es marks a is tells turn =
+    turn ∙ same_by told log.spot w (length_of log) a.index (call.Command (command.Add r)) refl
+
+pub commands_turn : (journal : List Entry) (opening : Spot) (w index least : ℕ) (cs : List Command) (before es : List Entry)
+    → journal ≡ before ++ es → AreCommanded w (Some (log_at opening before)) cs es
     → ((r : ℕ) → fault_counts w r es ≡ []) → InOrderFrom index least (answers_from w (length before) es)
-    → es ≡ served_behind opening before w index (map call.Command cs)
-commands_turn opening w index least [] before es done none order = done
-commands_turn opening w index least (c ∷ cs) before es done none order =
+    → es ≡ served_behind (store_in journal) opening before w index (map call.Command cs)
+commands_turn journal opening w index least [] before es whole done none order = done
+commands_turn journal opening w index least (c ∷ cs) before es whole done none order =
     let first = done.0 in
     let more = done.1 in
     let s = done.3 in
-    let group = commanded_group w (Some (log_at opening before)) c first s in
+    let log = log_at opening before in
+    let group = commanded_group w (Some log) c first s in
     let next = first_index w index least (length before) (length (before ++ first)) (call.Command c) first more group
     (sym (length-append before first))
     (subst (λ l. InOrderFrom index least (answers_from w (length before) l)) done.2 order) in
     let parts = both_none w first more (λ r. ap (fault_counts w r) (sym done.2) ∙ none r) in
     let marks = unfaulted w s.marks s.are
     (λ r. (both_none w s.marks (entry.Answer s.answer ∷ []) (λ q. ap (fault_counts w q) (sym s.is) ∙ (parts q).0) r).0) in
-    let rest = commands_turn opening w (suc index) (suc (length before + length group.marks)) cs (before ++ first) more
+    let cut = whole ∙ ap (λ l. before ++ l) done.2 in
+    let rest = commands_turn journal opening w (suc index) (suc (length before + length group.marks)) cs (before ++ first) more
+    (cut ∙ sym (append_assoc before first more))
     (subst (λ l. AreCommanded w l cs more) (longer_at opening before first) done.4) (λ r. (parts r).1) next.1 in
-    done.2 ∙ served_more opening before first more w index (call.Command c) (map call.Command cs)
-    (s.turn marks ∙ ap (λ n. entries_at (behind_entries opening before) w (length before) n (call.Command c)) next.0) rest
+    let told = store_in journal (length before) in
+    done.2 ∙ served_more (store_in journal) opening before first more w index (call.Command c) (map call.Command cs)
+    (command_entries w log c told first s.marks s.answer s.is (told_first journal before first more s.marks s.answer cut s.is)
+    (s.turn marks) ∙ ap (λ n. entries_by told (behind_entries opening before) w (length before) n (call.Command c)) next.0) rest
+  where
+    told_first : (journal before first more marks : List Entry) (a : Answer) → journal ≡ before ++ (first ++ more)
+        → first ≡ marks ++ entry.Answer a ∷ [] → marks ≡ [] → store_in journal (length before) ≡ told_by a.reply
+    told_first journal before first more marks a cut is unmarked =
+        ap (λ l. store_in l (length before)) (cut ∙ ap (λ l. before ++ (l ++ more))
+        (is ∙ ap (λ l. l ++ entry.Answer a ∷ []) unmarked)) ∙ store_behind before (entry.Answer a) more

@@ -3,3 +3,4 @@ pub mod Volume
 pub mod Run
 pub mod Turn
 pub mod Serving
+pub mod Store

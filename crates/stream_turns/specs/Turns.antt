@@ -4,12 +4,12 @@ use Rattle.volume_model.specs.declared.call.Call.{Call}
 use Rattle.volume_model.specs.declared.entry.Entry.{Entry}
 use Rattle.volume_model.specs.Faults.{last_count}
 use Rattle.volume_model.specs.History.{Spot, calls_of}
-use Rattle.volume_model.specs.OneWorker.{behind_entries, no_store, served_from, served, stream_of}
+use Rattle.volume_model.specs.OneWorker.{behind_entries, served_from, served, stream_of}
 use Rattle.volume_core.specs.Streams.{MayAppend}
 use Rattle.frame_wire.specs.Spelling.{IsFrame}
 use Rattle.client_worker.specs.Exchanges.{AreCarried}
 use Rattle.world_holder.specs.View.{own_entries}
-use Rattle.stream_turns.specs.Run.{StandInTurn}
+use Rattle.stream_turns.specs.Run.{StandInTurn, store_in}
 
 -- the stream's lines to the replicas have not failed
 abbrev pub AreWell : ℕ → (ℕ → ℕ) → Type 0
@@ -28,7 +28,7 @@ pub record IsTurn (opening : Spot) (replicas w : ℕ) (asked : List Call) (befor
   pub carried : AreCarried replicas told (own_entries w opening after)
   pub framed : (r : ℕ) → r < replicas → IfSome (told r) (All IsFrame)
   pub turn : AreWell replicas counts
-      → added ≡ served_from no_store (behind_entries opening before) w (length before) 0 asked
+      → added ≡ served_from (store_in after) (behind_entries opening before) w (length before) 0 asked
 
 -- The journal has the calls of these streams, the first of which has the number 0, in that order, and nothing of other
 -- streams. Each stream's lines tell what they tell of its turn.
@@ -40,7 +40,8 @@ pub record AreTurns (opening : Spot) (replicas : ℕ) (streams : List (List Call
   pub carried : (w : ℕ) → AreCarried replicas (told w) (own_entries w opening entries)
   pub framed : (w r : ℕ) → w < length streams → r < replicas → IfSome (told w r) (All IsFrame)
   pub order : StandInTurn 0 entries
-  pub turns : ((w : ℕ) → w < length streams → AreWell replicas (counts w)) → entries ≡ served no_store opening streams
+  pub turns : ((w : ℕ) → w < length streams → AreWell replicas (counts w))
+      → entries ≡ served (store_in entries) opening streams
 
 -- of each other stream's lines the same is told as before
 abbrev pub TellsOthers : {T : Type 0} → ℕ → (ℕ → ℕ → T) → (ℕ → ℕ → T) → Type 0

@@ -1,7 +1,10 @@
-use Rattle.std.proofs.Common.{◌≤◌, length, sym, ap, subst, ◌∙◌, List, All}
+use Rattle.std.proofs.Common.{◌≡◌, ◌≤◌, false, length, sym, ap, subst, ◌∙◌, List, All}
 use Rattle.script_text.specs.declared.script.Stream.{Stream}
 use Rattle.script_text.proofs.GoodLemmas.{few_streams}
+use Rattle.script_text.specs.Good.{backs_up}
+use Rattle.stream_turns.specs.Store.{StoreOfRun}
 use Rattle.stream_turns.specs.Turn.{IsTaken}
+use Rattle.stream_turns.proofs.Turned.{each_ok}
 use Rattle.stream_turns.proofs.Asks.{asked_in}
 use Rattle.stream_turns.proofs.ScriptLemmas.{all_taken}
 use Rattle.stream_turns.proofs.SoFar.{each_served, each_in_turn, each_opening}
@@ -46,3 +49,13 @@ pub returns-clause-asked : goal.returns-clause-asked
 returns-clause-asked g c =
     asked_in c.serve_streams.result c.args.script c.as_slice.result.now _ c.into_vec.result.items _ _ c.serve_streams.ensures.asked
     c.as_slice.ensures c.requires.begun.1.replicas c.into_vec.ensures
+
+pub returns-clause-store : goal.returns-clause-store
+returns-clause-store g c spot begun = each_ok c.serve_streams.result (λ s store tells.
+    subst (λ o. StoreOfRun (g.T.Target.holds c.args.target.now) (g.T.Target.faults c.args.target.now)
+    (g.T.Target.holds c.serve_streams.new.target) (g.T.Target.faults c.serve_streams.new.target) c.args.script.volume o
+    s.world.journal.entries) begun.opening (store tells)) c.serve_streams.ensures.store
+
+pub returns-clause-unasked : goal.returns-clause-unasked
+returns-clause-unasked g c none =
+    c.serve_streams.ensures.unasked (subst (All (λ s. backs_up s ≡ false)) (sym c.into_vec.ensures) none)

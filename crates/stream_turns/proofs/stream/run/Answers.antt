@@ -1,4 +1,4 @@
-use Rattle.std.proofs.Common.{ℕ, Bool, length, map, ap, sym, ◌∙◌, arith, rules}
+use Rattle.std.proofs.Common.{ℕ, Bool, List, length, map, ap, sym, ◌∙◌, arith, rules}
 use Rattle.std.proofs.lemmas.List.{length-map}
 use Rattle.volume_core.specs.State.{State, state_of, gave_up_at}
 use Rattle.volume_core.specs.Streams.{Origin, origin_of}
@@ -11,7 +11,11 @@ use Rattle.client_worker.proofs.Told.{frames_none}
 use Rattle.control_worker.specs.Serving.{Commanded}
 use Rattle.stream_turns.proofs.Channels.{many_told}
 use Rattle.stream_turns.proofs.Parts.{stays_of, lines_of, home_of, idle_of, mine_of}
-use Rattle.stream_turns.proofs.Turned.{told_ok, between_again, stream_of_frames, stream_of_commands}
+use Rattle.control_worker.specs.Store.{StoreSoFar}
+use Rattle.stream_steps.specs.Mine.{Mine, Placed}
+use Rattle.stream_turns.proofs.Backups.{none_backed}
+use Rattle.stream_turns.proofs.StoreLemmas.{far_none}
+use Rattle.stream_turns.proofs.Turned.{told_ok, between_again, stream_of_frames, stream_of_commands, stream_of_entries}
 use Rattle.stream_turns.proofs.stream.run.Goals as goal
 
 -- what the steps call home
@@ -108,3 +112,38 @@ returns-in-Ok-served-clause-turn g c =
     (ap (λ p. p.0) home) (ap (λ p. p.1) home) idle.shown
     c.in-Control.commands c.as_slice.result.now c.in-Control.is c.as_slice.ensures
     (mine_of made back c.into_parts-steps-in-Control.ensures.idle (Commanded c.as_slice.result.now) done)
+
+pub returns-in-Ok-served-clause-store : goal.returns-in-Ok-served-clause-store
+returns-in-Ok-served-clause-store g c some tells =
+    let world = c.into_world-held-in-Ok-served.ensures in
+    let made = c.new-worker-in-Control.ensures in
+    let back = c.into_parts-steps-in-Control.ensures.parts in
+    let lines = lines_of made back c.run_control-served.ensures.lines in
+    let home = home_of made back home_at (told_ok c.in-Ok-served.is c.run_control-served.ensures.home) in
+    let idle = idle_of made back c.into_parts-steps-in-Control.ensures.idle in
+    let first = g.T.Target.holds c.args.target.now in
+    let from = g.T.Target.faults c.args.target.now in
+    let far = told_ok c.in-Ok-served.is c.run_control-served.ensures.store tells first from in
+    stream_of_entries c.args.number c.args.held.value _ c.into_inner-in-Ok-served.result c.args.stream.now _ _
+    c.into_inner-in-Ok-served.ensures c.requires.first
+    (many_told (λ c. c.line) g.L.Line.ends g.L.Line.count _ _ _ lines.count c.requires.new.many)
+    world.sound _ _ _ c.of.ensures.seen world.world
+    (ap (λ p. p.0) home) (ap (λ p. p.1) home) idle.shown
+    (λ (ps qs : List Placed). StoreSoFar first from first from c.args.volume.now ps
+    → StoreSoFar first from (g.T.Target.holds c.run_control-served.new.target) (g.T.Target.faults c.run_control-served.new.target)
+    c.args.volume.now qs)
+    (mine_of made back c.into_parts-steps-in-Control.ensures.idle
+    (λ (m m2 : Mine). StoreSoFar first from first from c.args.volume.now m.entries
+    → StoreSoFar first from (g.T.Target.holds c.run_control-served.new.target) (g.T.Target.faults c.run_control-served.new.target)
+    c.args.volume.now m2.entries) far)
+    (far_none first from c.args.volume.now)
+
+pub returns-in-Ok-served-clause-unasked : goal.returns-in-Ok-served-clause-unasked
+returns-in-Ok-served-clause-unasked g c none =
+    c.run_control-served.ensures.unasked
+    (none_backed c.args.stream.now c.in-Control.commands c.as_slice.result.now c.in-Control.is c.as_slice.ensures none)
+
+pub returns-in-Err-served-clause-unasked : goal.returns-in-Err-served-clause-unasked
+returns-in-Err-served-clause-unasked g c none =
+    c.run_control-served.ensures.unasked
+    (none_backed c.args.stream.now c.in-Control.commands c.as_slice.result.now c.in-Control.is c.as_slice.ensures none)
