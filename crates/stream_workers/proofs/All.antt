@@ -1,5 +1,5 @@
 -- Once all seats are back, each stream has ended in the World that is taken up, and nothing is open of it.
-use Rattle.std.proofs.Common.{◌≡◌, ℕ, false, ◌<◌, ◌≤◌, List, [], ◌∷◌, length, map, Option, Some, None, inl, inr, sym, ap}
+use Rattle.std.proofs.Common.{◌≡◌, ℕ, Bool, true, false, ◌<◌, ◌≤◌, List, [], ◌∷◌, length, map, Option, Some, None, inl, inr, sym, ap}
 use Rattle.std.proofs.Common.{subst, ◌∙◌, arith, get_or, slice_index_or}
 use Rattle.std.proofs.lemmas.List.{length-map}
 use Rattle.std.specs.List.{All}
@@ -7,7 +7,11 @@ use Rattle.std.proofs.lemmas.Bool.{false≢true}
 use Rattle.volume_model.specs.declared.call.Call.{Call}
 use Rattle.volume_model.specs.OneWorker.{stream_of}
 use Rattle.volume_core.specs.declared.world.World.{World}
-use Rattle.volume_core.specs.State.{state_of}
+use Rattle.target_traits.specs.Objects.{Objects}
+use Rattle.control_worker.specs.Store.{StoreSoFar}
+use Rattle.script_text.specs.Good.{backs_up}
+use Rattle.stream_steps.specs.Mine.{Mine}
+use Rattle.volume_core.specs.State.{state_of, opening_of}
 use Rattle.volume_core.specs.Sound.{IsSound}
 use Rattle.volume_core.specs.Streams.{Origin}
 use Rattle.client_worker.specs.Exchanges.{told_in}
@@ -21,14 +25,15 @@ use Rattle.outer_traits.specs.declared.ends.Ends.{Ends}
 use Rattle.script_text.specs.declared.script.Stream.{Stream}
 use Rattle.world_holder.specs.declared.kept.WorldOnDesk.{WorldOnDesk}
 use Rattle.world_holder.specs.Laid.{laid, world_account}
-use Rattle.world_holder.specs.View.{IsFound}
+use Rattle.world_holder.specs.View.{IsFound, own_entries}
+use Rattle.world_holder.proofs.Grow.{found_same}
 use Rattle.world_holder.proofs.Found.{found_later}
 use Rattle.world_holder.proofs.Rests.{seat_none}
 use Rattle.stream_turns.specs.Volume.{stream_calls}
 use Rattle.stream_turns.specs.Turn.{IsBetween}
 use Rattle.stream_workers.specs.declared.task.Task.{Task}
 use Rattle.stream_workers.specs.Ended.{HasEnded, HaveEnded}
-use Rattle.stream_workers.specs.Tasks.{HasPair, IsBack, IsIn, AreNumbered, counts_in, carried_in}
+use Rattle.stream_workers.specs.Tasks.{HasPair, IsBack, IsIn, IsLent, AreNumbered, own_at, counts_in, carried_in}
 use Rattle.stream_workers.proofs.Lists.{element, map_at}
 use Rattle.stream_workers.proofs.Ends.{ended_later, ended_noted}
 use Rattle.stream_workers.proofs.Rest.{rest_is, turns_are, none_gave_up}
@@ -83,6 +88,22 @@ module _ {L : Type 0} (ends : L → Ends) (count : L → ℕ) (told : L → Opti
       (ended_later j.number (stream_calls j.stream) (λ r. slice_index_or (counts_in count j.channels.items) r 0)
       (told_in (carried_in told j.channels.items)) (laid (last_of b.seat)) (laid w) found ended)
 
+  -- and its own entries are those that its seat saw last
+  own_later : (j : Task L) (seat : Seat WorldOnDesk) → j.seat ≡ Some seat → IsIn count told v.joined counts carried j
+      → j.number < length (laid w).indices
+      → own_entries j.number (opening_of (laid w)) (laid w).book.entries ≡ own_at j.number seat
+  own_later j seat has i there =
+      let same : i.seat ≡ seat = some_same i.seat seat j.seat i.has has in
+      let finds = pair_finds w v.joined j.number (last_of seat) fits.joined
+      (subst (λ (x : Seat WorldOnDesk). HasPair j.number (last_of x) v.joined) same i.pair) in
+      let found : IsFound false j.number (laid (last_of seat)) (laid w) = record {
+        sound = fits.sound;
+        there = there;
+        later = found_later j.number w (last_of seat) finds;
+        same = λ e. absurd (false≢true e);
+      } in
+      ap (λ (m : Mine). m.entries) (found_same false j.number (laid (last_of seat)) (laid w) found)
+
   module _ (streams : List Stream) (are : map (λ (j : Task L). j.stream) tasks ≡ streams) (made : v.made ≡ length streams)
       (many : length (laid w).indices ≡ length streams) where
     as_many : length tasks ≡ length streams
@@ -109,6 +130,27 @@ module _ {L : Type 0} (ends : L → Ends) (count : L → ℕ) (told : L → Opti
       each = each_ended;
       none = λ n past. seat_none n w (fits.rest first n (omega (arith, past, made, length-map streams stream_calls)));
     }
+
+    -- what the stream at p tells of the target that was lent to it
+    pub lent_tells : {T : Type 0} (tells : Bool) (holds : T → Objects) (faults : T → ℕ) (volume : List ℕ) (old now : T) (fault : Bool)
+        (p : ℕ) → p < length streams → ((j : Task L) → IsLent tells holds faults volume old now fault (get_or tasks p j))
+        → All (λ (j : Task L). j.served ≡ true) tasks → ((s : Stream) → backs_up (get_or streams p s) ≡ true) → tells ≡ true
+        → StoreSoFar (holds old) (faults old) (holds now) (faults now) volume
+        (own_entries p (opening_of (laid w)) (laid w).book.entries)
+    lent_tells tells holds faults volume old now fault p low lent served backs tell =
+        let there : p < length tasks = omega (arith, low, as_many) in
+        let x = element tasks p there in
+        let j = get_or tasks p x in
+        let at : j.number ≡ p = numbered p x there in
+        let b = back p x there in
+        let here : get_or streams p j.stream ≡ j.stream =
+        ap (λ l. get_or l p j.stream) (sym are) ∙ map_at (λ (j : Task L). j.stream) tasks p x j.stream there in
+        let inside : j.number < length (laid w).indices = omega (arith, at, low, many) in
+        subst (λ n. StoreSoFar (holds old) (faults old) (holds now) (faults now) volume
+        (own_entries n (opening_of (laid w)) (laid w).book.entries)) at
+        (subst (StoreSoFar (holds old) (faults old) (holds now) (faults now) volume)
+        (sym (own_later j b.seat b.has (joined p x there) inside))
+        ((lent x).store (served p x there) (ap backs_up (sym here) ∙ backs j.stream) tell b.seat b.has))
 
 -- ---- nothing is open
 

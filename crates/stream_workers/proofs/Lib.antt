@@ -8,3 +8,7 @@ pub mod Taking
 pub mod Dealing
 pub mod All
 pub mod Outcome
+pub mod OnlyOne
+pub mod Beside
+pub mod Backed
+pub mod Lent

@@ -41,7 +41,7 @@ module _ (css : List (List Call)) (counts : ℕ → ℕ → ℕ) (told : ℕ →
   each_none : (v : ℕ) → length css ≤ v → own_entries v (opening_of (state_of w)) entries ≡ []
   each_none v past = subst (λ (o : Origin). own_entries v (began_at o) entries ≡ []) origin (none_past v past)
 
-  each_asked : (v : ℕ) → calls_of v entries ≡ stream_of css v
+  pub each_asked : (v : ℕ) → calls_of v entries ≡ stream_of css v
   each_asked v = elim (cases_lt v (length css)) [
     | inl low ↦ (ended.each v low).asked
     | inr past ↦ sym (own_asked v (opening_of (state_of w2)) entries)

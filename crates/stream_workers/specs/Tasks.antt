@@ -1,5 +1,5 @@
 -- What a worker is given, what it leaves, and what is taken in of it.
-use Rattle.std.specs.Prelude.{◌≡◌, ◌⊎◌, ℕ, ◌<◌, ◌≤◌, true, false, List, [], ◌∷◌, length, map, slice_index_or, Option, Some}
+use Rattle.std.specs.Prelude.{◌≡◌, ◌⊎◌, ℕ, ◌<◌, ◌≤◌, Bool, true, false, List, [], ◌∷◌, length, map, slice_index_or, Option, Some}
 use Rattle.desk_lock.specs.declared.seats.Desk.{Desk}
 use Rattle.desk_lock.specs.declared.seats.Seat.{Seat}
 use Rattle.desk_lock.specs.declared.views.Known.{Known}
@@ -11,7 +11,12 @@ use Rattle.client_worker.specs.declared.channel.Channel.{Channel}
 use Rattle.client_worker.specs.Exchanges.{told_in}
 use Rattle.world_holder.specs.declared.kept.WorldOnDesk.{WorldOnDesk}
 use Rattle.world_holder.specs.Laid.{laid}
-use Rattle.world_holder.specs.View.{view, IsFree}
+use Rattle.target_traits.specs.Objects.{Objects}
+use Rattle.control_worker.specs.Store.{StoreSoFar, TellsFault}
+use Rattle.script_text.specs.Good.{backs_up}
+use Rattle.stream_steps.specs.Mine.{Placed}
+use Rattle.volume_core.specs.State.{opening_of}
+use Rattle.world_holder.specs.View.{view, own_entries, IsFree}
 use Rattle.world_holder.specs.Rests.{IsSeated}
 use Rattle.stream_turns.specs.Turn.{IsTaken, AreNewLines}
 use Rattle.stream_turns.specs.Volume.{stream_calls}
@@ -24,6 +29,10 @@ pub record Begins (d : Desk WorldOnDesk) (s : Seat WorldOnDesk) (n : ℕ) : Type
   pub free : IsFree n (laid (last_of s))
   pub idle : (view false n (laid (last_of s))).running ≡ []
   pub none : (view false n (laid (last_of s))).entries ≡ []
+
+-- the stream's own entries of what the seat saw last
+abbrev pub own_at : ℕ → Seat WorldOnDesk → List Placed
+own_at n s = own_entries n (opening_of (laid (last_of s))) (laid (last_of s)).book.entries
 
 -- the number was joined with that state
 abbrev pub HasPair : ℕ → WorldOnDesk → List (ℕ × WorldOnDesk) → Type 0
@@ -97,3 +106,13 @@ module _ {L : Type 0} (count : L → ℕ) (told : L → Option (List (List ℕ))
         → counts j.number r ≡ slice_index_or (counts_in count j.channels.items) r 0
     pub noted : (r : ℕ) → r < length j.channels.items
         → carried j.number r ≡ told_in (carried_in told j.channels.items) r
+
+-- Of a target of backups of that volume: what it tells of what it holds, and how often it has failed.
+module _ {L T : Type 0} (tells : Bool) (holds : T → Objects) (faults : T → ℕ) (volume : List ℕ) where
+  -- It was lent to the stream, which had backups if any has. The stream says whether the target has failed since, and what
+  -- it holds now is what the stream's entries tell, where it tells that.
+  pub record IsLent (old now : T) (fault : Bool) (j : Task L) : Type 0 where
+    pub later : faults old ≤ faults now
+    pub told : j.served ≡ true → TellsFault fault (faults old) (faults now)
+    pub store : j.served ≡ true → backs_up j.stream ≡ true → tells ≡ true → (seat : Seat WorldOnDesk) → j.seat ≡ Some seat
+        → StoreSoFar (holds old) (faults old) (holds now) (faults now) volume (own_at j.number seat)

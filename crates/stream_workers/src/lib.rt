@@ -3,9 +3,11 @@
 
 mod gated;
 mod lines;
+mod nowhere;
 mod serving;
 mod task;
 mod tasks;
+mod which;
 
 pub use outer_traits::{Gate, Point, Wiring};
 pub use script_text::Script;

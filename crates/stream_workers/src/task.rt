@@ -1,25 +1,29 @@
 //! A worker of a stream: what it is given, and how it serves the stream.
 
-ghost use Rattle.std.specs.Prelude.{◌≡◌, ◌≤◌, true, length, map, Some, All, slice_index_or};
+ghost use Rattle.std.specs.Prelude.{◌≡◌, ◌≤◌, true, length, map, Some, All, IfOk, slice_index_or};
 ghost use Rattle.desk_lock.specs.Seats.{number_of, last_of, IsSeatOf};
 ghost use Rattle.world_holder.specs.Laid.{laid};
 ghost use Rattle.client_worker.specs.Asks.{IsAsked};
 ghost use Rattle.client_worker.specs.Exchanges.{told_in};
 ghost use Rattle.control_worker.specs.Serving.{IsForWorker};
+ghost use Rattle.control_worker.specs.Store.{StoreSoFar, TellsFault};
 ghost use Rattle.frame_stream.specs.Asked.{call_of};
 ghost use Rattle.volume_model.specs.declared.call.Call.TheVariants as call;
+ghost use Rattle.script_text.specs.Good.{backs_up};
 ghost use Rattle.stream_turns.specs.Turn.{IsTaken, AreNewLines};
 ghost use Rattle.stream_turns.specs.Volume.{stream_calls};
 ghost use Rattle.stream_workers.specs.Ended.{HasEnded};
-ghost use Rattle.stream_workers.specs.Tasks.{Begins, IsTask, IsDone};
+ghost use Rattle.stream_workers.specs.Tasks.{Begins, IsTask, IsDone, IsLent, own_at};
 
 use client_worker::{Channel, Frames, Worker};
-use control_worker::ControlWorker;
+use control_worker::{ControlWorker, Served};
 use outer_traits::{Gate, Line};
 use script_text::{Command, Stream};
-use std::alloc::Global;
+use std::alloc::{AllocError, Global};
 use std::mem;
 use std::sync::Wait;
+use target_traits::Target;
+use vol_units::{PlainName, TimeText};
 use world_holder::{AtSeat, Desk, Seat, WorldOnDesk};
 use world_steps::{SharedGate, Steps};
 
@@ -36,46 +40,58 @@ pub(crate) struct Task<L: Drop> {
     pub(crate) served: bool,
 }
 
-/// Serves the stream to its end, unless memory runs out.
-pub(crate) fn work<R: Wait, L: Line + Drop, G: Gate>(
+/// Serves the stream to its end, unless memory runs out. Its backups are of that volume, and go to the target, made at that
+/// time. Says whether the target has failed.
+pub(crate) fn work<R: Wait, L: Line + Drop, G: Gate, T: Target>(
     rt: &R,
     alloc: Global,
     desk: &Desk<WorldOnDesk>,
     gate: &G,
+    volume: &PlainName,
+    now: &TimeText,
     task: &mut Task<L>,
-)
+    target: &mut T,
+) -> bool
     requires { IsTask L.ends L.count L.carried desk.now task.old }
-    ensures { IsDone L.ends L.count L.carried desk.now task.old task.new }
+    ensures done { IsDone L.ends L.count L.carried desk.now task.old task.new }
+    ensures lent { IsLent T.tells T.holds T.faults volume.now target.old target.new result task.new }
 {
     let seat = task.seat.take().unwrap();
     let channels = mem::replace(&mut task.channels, Vec::new(alloc));
-    let (seat, channels, served) = serve_stream(
+    let (seat, channels, served, target_fault) = serve_stream(
         rt,
         alloc,
         desk,
         gate,
+        volume,
+        now,
         task.number,
         seat,
         &task.stream,
         channels,
+        target,
     );
     task.seat = Some(seat);
     task.channels = channels;
     task.served = served;
+    target_fault
 }
 
-/// Serves a stream at a seat on these lines, gives both back, and says whether memory sufficed. Where it did not, no
-/// clause tells of the seat.
-fn serve_stream<R: Wait, L: Line + Drop, G: Gate>(
+/// Serves a stream at a seat on these lines, gives both back, and says whether memory sufficed, and whether the target has
+/// failed. Where memory did not suffice, no clause tells of the seat.
+fn serve_stream<R: Wait, L: Line + Drop, G: Gate, T: Target>(
     rt: &R,
     alloc: Global,
     desk: &Desk<WorldOnDesk>,
     gate: &G,
+    volume: &PlainName,
+    now: &TimeText,
     number: u8,
     seat: Seat<WorldOnDesk>,
     stream: &Stream,
     channels: Vec<Channel<L>>,
-) -> (Seat<WorldOnDesk>, Vec<Channel<L>>, bool)
+    target: &mut T,
+) -> (Seat<WorldOnDesk>, Vec<Channel<L>>, bool, bool)
     requires begins { Begins desk.now seat number }
     requires taken { IsTaken (length (laid (last_of seat)).nodes) stream.now }
     requires few { length (laid (last_of seat)).nodes ≤ 8 }
@@ -90,23 +106,32 @@ fn serve_stream<R: Wait, L: Line + Drop, G: Gate>(
     ensures served { result.2 ≡ true → HasEnded number (stream_calls stream.now)
         (λ r. slice_index_or (map (λ c. L.count c.line) result.1.items) r 0)
         (told_in (map (λ c. L.carried c.line) result.1.items)) (laid (last_of result.0)) }
+    ensures later { T.faults target.old ≤ T.faults target.new }
+    ensures told { result.2 ≡ true → TellsFault result.3 (T.faults target.old) (T.faults target.new) }
+    ensures store { result.2 ≡ true → backs_up stream.now ≡ true → T.tells ≡ true
+        → StoreSoFar (T.holds target.old) (T.faults target.old) (T.holds target.new) (T.faults target.new)
+        volume.now (own_at number result.0) }
 {
     match stream {
-        Stream::Frames(frames) => serve_frames(
-            rt, alloc, desk, gate, number, seat, frames, channels,
-        ),
-        Stream::Control(commands) => {
-            serve_commands(
-                rt,
-                alloc,
-                desk,
-                gate,
-                number,
-                seat,
-                commands.as_slice(),
-                channels,
-            )
+        Stream::Frames(frames) => {
+            let (seat, channels, served) = serve_frames(
+                rt, alloc, desk, gate, number, seat, frames, channels,
+            );
+            (seat, channels, served, false)
         }
+        Stream::Control(commands) => serve_commands(
+            rt,
+            alloc,
+            desk,
+            gate,
+            volume,
+            now,
+            number,
+            seat,
+            commands.as_slice(),
+            channels,
+            target,
+        ),
     }
 }
 
@@ -149,16 +174,19 @@ fn serve_frames<R: Wait, L: Line + Drop, G: Gate>(
 }
 
 /// The same of a stream of commands.
-fn serve_commands<R: Wait, L: Line + Drop, G: Gate>(
+fn serve_commands<R: Wait, L: Line + Drop, G: Gate, T: Target>(
     rt: &R,
     alloc: Global,
     desk: &Desk<WorldOnDesk>,
     gate: &G,
+    volume: &PlainName,
+    now: &TimeText,
     number: u8,
     seat: Seat<WorldOnDesk>,
     commands: &[Command],
     channels: Vec<Channel<L>>,
-) -> (Seat<WorldOnDesk>, Vec<Channel<L>>, bool)
+    target: &mut T,
+) -> (Seat<WorldOnDesk>, Vec<Channel<L>>, bool, bool)
     requires begins { Begins desk.now seat number }
     requires taken { All (IsForWorker (length (laid (last_of seat)).nodes)) commands.now }
     requires few { length (laid (last_of seat)).nodes ≤ 8 }
@@ -173,6 +201,11 @@ fn serve_commands<R: Wait, L: Line + Drop, G: Gate>(
     ensures served { result.2 ≡ true → HasEnded number (map call.Command commands.now)
         (λ r. slice_index_or (map (λ c. L.count c.line) result.1.items) r 0)
         (told_in (map (λ c. L.carried c.line) result.1.items)) (laid (last_of result.0)) }
+    ensures later { T.faults target.old ≤ T.faults target.new }
+    ensures told { result.2 ≡ true → TellsFault result.3 (T.faults target.old) (T.faults target.new) }
+    ensures store { result.2 ≡ true → T.tells ≡ true
+        → StoreSoFar (T.holds target.old) (T.faults target.old) (T.holds target.new) (T.faults target.new)
+        volume.now (own_at number result.0) }
 {
     let steps = Steps {
         holder: AtSeat { desk, seat },
@@ -181,7 +214,22 @@ fn serve_commands<R: Wait, L: Line + Drop, G: Gate>(
         ended: 0,
     };
     let mut worker = ControlWorker::new(steps, channels);
-    let served = worker.run_control(rt, alloc, commands).is_ok();
+    let served = worker.run_control(rt, alloc, commands, volume, now, target);
     let (steps, channels) = worker.into_parts();
-    (steps.holder.seat, channels, served)
+    (
+        steps.holder.seat,
+        channels,
+        served.is_ok(),
+        tells_fault(&served),
+    )
+}
+
+/// Whether the commands say that the target has failed.
+fn tells_fault(served: &Result<Served, AllocError>) -> bool
+    ensures { IfOk served.now (λ s. result ≡ s.target_fault) }
+{
+    match served {
+        Ok(served) => served.target_fault,
+        Err(_) => false,
+    }
 }

@@ -1,16 +1,18 @@
 //! The tasks of all streams: they are dealt out, done side by side, and taken in.
 
-ghost use Rattle.std.specs.Prelude.{◌≡◌, ◌≤◌, ℕ, ◌<◌, ◌++◌, ◌∷◌, [], true, length, map, slice_index_or, All, Some, None, OnOk};
+ghost use Rattle.std.specs.Prelude.{◌≡◌, ◌≤◌, ℕ, ◌<◌, ◌++◌, ◌∷◌, [], true, false, length, map, slice_index_or, All, Some, None, OnOk};
+ghost use Rattle.std.specs.Thread.{IsSync, IsSend};
 ghost use Rattle.desk_lock.specs.Known.{keeping};
 ghost use Rattle.desk_lock.specs.Seats.{known, number_of, made_of, last_of, seats_of, IsSeatOf};
 ghost use Rattle.outer_traits.specs.Lines.{RecordsOf, TellsMore};
 ghost use Rattle.stream_turns.specs.Turn.{IsTaken};
 ghost use Rattle.stream_turns.specs.Volume.{asks_from, heads_of};
 ghost use Rattle.world_holder.specs.Laid.{laid};
-ghost use Rattle.stream_workers.specs.Tasks.{IsTask, IsBack, IsDone, IsIn, IsJoinedIn, AreNumbered, AreDone};
+ghost use Rattle.stream_workers.specs.Tasks.{IsTask, IsBack, IsDone, IsLent, IsIn, IsJoinedIn, AreNumbered, AreDone};
 
 use crate::gated::Wrapping;
 use crate::lines::{give_lines_back, wrapped_channels};
+use crate::nowhere::Nowhere;
 use crate::task::{Task, work};
 use outer_traits::{Gate, Line, Wiring};
 use script_text::{LinePlan, Stream};
@@ -19,6 +21,8 @@ use std::sync::Wait;
 use std::thread;
 use std::thread::Threads;
 use stream_turns::{Head, Sequence, heads_in};
+use target_traits::Target;
+use vol_units::{PlainName, TimeText};
 use world_holder::{AtSeat, Desk, Seat, WorldOnDesk};
 
 /// Gives each stream its seat, and its lines. Out of memory leaves the tasks of the streams before.
@@ -68,12 +72,14 @@ pub(crate) fn deal<W: Wiring, V: Wrapping<W>, G: Gate>(
     Ok(())
 }
 
-/// A thread for each task does it; where none can be made, its caller does it.
-fn do_all<R: Threads + Wait + Sync, L: Line + Send + Drop, G: Gate + Sync>(
+/// A thread for each task does it, with a target that keeps nothing; where none can be made, its caller does it.
+fn do_others<R: Threads + Wait + Sync, L: Line + Send + Drop, G: Gate + Sync>(
     rt: &R,
     alloc: Global,
     desk: &Desk<WorldOnDesk>,
     gate: &G,
+    volume: &PlainName,
+    now: &TimeText,
     tasks: &mut [Task<L>],
 )
     requires { All (IsTask L.ends L.count L.carried desk.now) tasks.old }
@@ -87,24 +93,161 @@ fn do_all<R: Threads + Wait + Sync, L: Line + Send + Drop, G: Gate + Sync>(
         &|_, task: &mut Task<L>|
             requires { IsTask L.ends L.count L.carried desk.now task.now }
             ensures { IsDone L.ends L.count L.carried desk.entry.now task.entry.now task.exit.now }
-        { work(rt, alloc, desk, gate, task) },
+        {
+            work(
+                rt,
+                alloc,
+                desk,
+                gate,
+                volume,
+                now,
+                task,
+                &mut Nowhere { alloc },
+            );
+        },
     );
 }
 
-/// The same of tasks in a vector.
-pub(crate) fn do_tasks<R: Threads + Wait + Sync, L: Line + Send + Drop, G: Gate + Sync>(
+/// One task is done with the target, and those behind it beside it. Says whether the target has failed.
+fn do_with_target<
+    R: Threads + Wait + Sync,
+    L: Line + Send + Drop,
+    G: Gate + Sync,
+    T: Target + Send,
+>(
     rt: &R,
     alloc: Global,
     desk: &Desk<WorldOnDesk>,
     gate: &G,
+    volume: &PlainName,
+    now: &TimeText,
+    one: &mut Task<L>,
+    behind: &mut [Task<L>],
+    target: &mut T,
+) -> bool
+    requires one { IsTask L.ends L.count L.carried desk.now one.old }
+    requires behind { All (IsTask L.ends L.count L.carried desk.now) behind.old }
+    ensures one { IsDone L.ends L.count L.carried desk.now one.old one.new }
+    ensures lent { IsLent T.tells T.holds T.faults volume.now target.old target.new result one.new }
+    ensures behind { AreDone L.ends L.count L.carried desk.now behind.old behind.new }
+{
+    let mut lent = || -> bool
+        requires { IsTask L.ends L.count L.carried desk.now one.now }
+        ensures { IsDone L.ends L.count L.carried desk.entry.now one.entry.now one.exit.now
+            × IsLent T.tells T.holds T.faults volume.entry.now target.entry.now target.exit.now result one.exit.now }
+    { work(rt, alloc, desk, gate, volume, now, one, target) };
+    let mut others = ||
+        requires { IsSync R.row × IsSync G.row × IsSend L.row
+            × All (IsTask L.ends L.count L.carried desk.now) behind.now }
+        ensures { AreDone L.ends L.count L.carried desk.entry.now behind.entry.now behind.exit.now }
+    { do_others(rt, alloc, desk, gate, volume, now, behind) };
+    thread::join_mut(rt, &mut lent, &mut others).0
+}
+
+/// The same, with those before it beside it too.
+fn do_beside<R: Threads + Wait + Sync, L: Line + Send + Drop, G: Gate + Sync, T: Target + Send>(
+    rt: &R,
+    alloc: Global,
+    desk: &Desk<WorldOnDesk>,
+    gate: &G,
+    volume: &PlainName,
+    now: &TimeText,
+    before: &mut [Task<L>],
+    one: &mut Task<L>,
+    behind: &mut [Task<L>],
+    target: &mut T,
+) -> bool
+    requires before { All (IsTask L.ends L.count L.carried desk.now) before.old }
+    requires one { IsTask L.ends L.count L.carried desk.now one.old }
+    requires behind { All (IsTask L.ends L.count L.carried desk.now) behind.old }
+    ensures before { AreDone L.ends L.count L.carried desk.now before.old before.new }
+    ensures one { IsDone L.ends L.count L.carried desk.now one.old one.new }
+    ensures lent { IsLent T.tells T.holds T.faults volume.now target.old target.new result one.new }
+    ensures behind { AreDone L.ends L.count L.carried desk.now behind.old behind.new }
+{
+    let mut others = ||
+        requires { IsSync R.row × IsSync G.row × IsSend L.row
+            × All (IsTask L.ends L.count L.carried desk.now) before.now }
+        ensures { AreDone L.ends L.count L.carried desk.entry.now before.entry.now before.exit.now }
+    { do_others(rt, alloc, desk, gate, volume, now, before) };
+    let mut lent = || -> bool
+        requires { IsSync R.row × IsSync G.row × IsSend L.row × IsSend T.row
+            × IsTask L.ends L.count L.carried desk.now one.now
+            × All (IsTask L.ends L.count L.carried desk.now) behind.now }
+        ensures { IsDone L.ends L.count L.carried desk.entry.now one.entry.now one.exit.now
+            × IsLent T.tells T.holds T.faults volume.entry.now target.entry.now target.exit.now result one.exit.now
+            × AreDone L.ends L.count L.carried desk.entry.now behind.entry.now behind.exit.now }
+    { do_with_target(rt, alloc, desk, gate, volume, now, one, behind, target) };
+    thread::join_mut(rt, &mut others, &mut lent).1
+}
+
+/// All are done side by side, the one at that place with the target, if there is one. Says whether the target has failed.
+fn do_all<R: Threads + Wait + Sync, L: Line + Send + Drop, G: Gate + Sync, T: Target + Send>(
+    rt: &R,
+    alloc: Global,
+    desk: &Desk<WorldOnDesk>,
+    gate: &G,
+    volume: &PlainName,
+    now: &TimeText,
+    place: usize,
+    tasks: &mut [Task<L>],
+    target: &mut T,
+) -> bool
+    requires { All (IsTask L.ends L.count L.carried desk.now) tasks.old }
+    ensures done { AreDone L.ends L.count L.carried desk.now tasks.old tasks.new }
+    ensures lent { place < length tasks.old → (d : _) → IsLent T.tells T.holds T.faults volume.now
+        target.old target.new result (slice_index_or tasks.new place d) }
+    ensures unlent { length tasks.old ≤ place → (target.new ≡ target.old) × (result ≡ false) }
+{
+    if place >= tasks.len() {
+        do_others(rt, alloc, desk, gate, volume, now, tasks);
+        return false;
+    }
+    let (before, rest) = tasks.split_at_mut(place);
+    match rest.split_first_mut() {
+        Some((one, behind)) => do_beside(
+            rt, alloc, desk, gate, volume, now, before, one, behind, target,
+        ),
+        None => false,
+    }
+}
+
+/// The same of tasks in a vector.
+pub(crate) fn do_tasks<
+    R: Threads + Wait + Sync,
+    L: Line + Send + Drop,
+    G: Gate + Sync,
+    T: Target + Send,
+>(
+    rt: &R,
+    alloc: Global,
+    desk: &Desk<WorldOnDesk>,
+    gate: &G,
+    volume: &PlainName,
+    now: &TimeText,
+    place: usize,
     tasks: Vec<Task<L>>,
-) -> Vec<Task<L>>
+    target: &mut T,
+) -> (Vec<Task<L>>, bool)
     requires { All (IsTask L.ends L.count L.carried desk.now) tasks.items }
-    ensures { AreDone L.ends L.count L.carried desk.now tasks.items result.items }
+    ensures done { AreDone L.ends L.count L.carried desk.now tasks.items result.0.items }
+    ensures lent { place < length tasks.items → (d : _) → IsLent T.tells T.holds T.faults volume.now
+        target.old target.new result.1 (slice_index_or result.0.items place d) }
+    ensures unlent { length tasks.items ≤ place → (target.new ≡ target.old) × (result.1 ≡ false) }
 {
     let mut tasks = tasks;
-    do_all(rt, alloc, desk, gate, tasks.as_mut_slice());
-    tasks
+    let fault = do_all(
+        rt,
+        alloc,
+        desk,
+        gate,
+        volume,
+        now,
+        place,
+        tasks.as_mut_slice(),
+        target,
+    );
+    (tasks, fault)
 }
 
 /// Whether each stream was served to its end.

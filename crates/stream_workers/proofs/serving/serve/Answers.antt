@@ -1,6 +1,8 @@
+use Rattle.std.specs.Prelude.{count_by}
+use Rattle.script_text.specs.Good.{backs_up}
 use Rattle.std.proofs.Common.{◌≤◌, length, refl, sym, ap, subst, ◌∙◌, List, All}
 use Rattle.script_text.specs.declared.script.Stream.{Stream}
-use Rattle.script_text.proofs.GoodLemmas.{few_streams}
+use Rattle.script_text.proofs.GoodLemmas.{few_streams, one_backs_up}
 use Rattle.stream_turns.specs.Turn.{IsTaken}
 use Rattle.stream_turns.proofs.Asks.{asked_in}
 use Rattle.stream_turns.proofs.ScriptLemmas.{all_taken}
@@ -30,6 +32,11 @@ serve_streams-requires-clause-between g c κs within = c.requires.begun.1.betwee
 
 pub serve_streams-requires-clause-begun : goal.serve_streams-requires-clause-begun
 serve_streams-requires-clause-begun g c κs within = c.requires.begun.1.none
+
+pub serve_streams-requires-clause-one : goal.serve_streams-requires-clause-one
+serve_streams-requires-clause-one g c κs within =
+    subst (λ (ss : List Stream). count_by backs_up ss ≤ 1) (sym c.into_vec.ensures)
+    (one_backs_up c.requires.read.0 c.args.script c.requires.read.1)
 
 pub returns-clause-served : goal.returns-clause-served
 returns-clause-served g c spot begun =

@@ -1,9 +1,11 @@
-use Rattle.std.proofs.Common.{rules, ◌≡◌, ◌∙◌, length, map, subst, sym, ap, refl, arith}
+use Rattle.std.proofs.Common.{rules, ◌≡◌, ◌∙◌, length, map, subst, sym, ap, refl, arith, Some}
 use Rattle.std.proofs.lemmas.List.{length-map}
 use Rattle.outer_traits.specs.Lines.{AreLinesOf}
 use Rattle.desk_lock.specs.Seats.{last_of}
 use Rattle.world_holder.specs.Laid.{laid}
 use Rattle.stream_turns.specs.Turn.{AreNewLines}
+use Rattle.control_worker.specs.Store.{StoreSoFar}
+use Rattle.stream_workers.specs.Tasks.{own_at}
 use Rattle.stream_workers.proofs.AtEnd.{some_same}
 use Rattle.stream_workers.proofs.task.work.Goals as goal
 
@@ -19,8 +21,8 @@ serve_stream-seat-requires-clause-lines g c =
     (map (λ x. g.L.Line.ends x.line) task.channels.items) (map (λ x. g.L.Line.count x.line) task.channels.items)
     (map (λ x. g.L.Line.carried x.line) task.channels.items)) (sym seat) c.requires.lines)
 
-pub returns : goal.returns
-returns g c =
+pub returns-clause-done : goal.returns-clause-done
+returns-clause-done g c =
     let task = c.args.task.now in
     let took : c.replace-channels.result ≡ task.channels = search rules in
     let done = c.serve_stream-seat.ensures in
@@ -46,4 +48,17 @@ returns g c =
       };
       number = refl;
       stream = refl;
+    }
+
+pub returns-clause-lent : goal.returns-clause-lent
+returns-clause-lent g c =
+    let done = c.serve_stream-seat.ensures in
+    record {
+      later = done.later;
+      told = done.told;
+      store = λ is some tells seat has.
+          let same = some_same c.serve_stream-seat.result.0 seat (Some c.serve_stream-seat.result.0) refl has in
+          subst (λ s. StoreSoFar (g.T.Target.holds c.args.target.now) (g.T.Target.faults c.args.target.now)
+          (g.T.Target.holds c.serve_stream-seat.new.target) (g.T.Target.faults c.serve_stream-seat.new.target) c.args.volume.now
+          (own_at c.args.task.now.number s)) same (done.store is some tells);
     }
