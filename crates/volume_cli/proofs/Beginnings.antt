@@ -40,7 +40,7 @@ began_not held script reasons none (inr (files, is, (r, there, clean))) =
 -- ---- of what the source had
 
 -- the source had one script
-one_had : (told : List ℕ) (script other : Script) → HadScript (Some told) script → IsScript told other → other ≡ script
+pub one_had : (told : List ℕ) (script other : Script) → HadScript (Some told) script → IsScript told other → other ≡ script
 one_had told script other (input, is, same) other_is =
     one_script input other script (subst (λ text. IsScript text other) same other_is) is
 

@@ -5,3 +5,4 @@ pub mod Input
 pub mod Folders
 pub mod Finishing
 pub mod StoreLemmas
+pub mod Restorable

@@ -59,7 +59,7 @@ store_refused_only words left held tells objects (status.Script place what) k l 
 store_refused_only words left held tells objects status.ReadFault k l m n asked is of c says = tt
 store_refused_only words left held tells objects status.WriteFault k l m n asked is of c says = tt
 store_refused_only words left held tells objects status.ShelfFault k l m n asked is of c says = tt
-store_refused_only words left held tells objects status.TargetFault k l m n asked is of c says = (asked, is, of)
+store_refused_only words left held tells objects status.TargetFault k l m n asked is of c says = inr (asked, is, of)
 store_refused_only words left held tells objects status.NoMemory k l m n asked is of c says = tt
 store_refused_only words left held tells objects (status.NoCleanShelf reasons) k l m n asked is of c says = absurd c
 store_refused_only words left held tells objects (status.Refused kind name) k l m n asked is of c says = (asked, is, of, says)

@@ -21,19 +21,20 @@ abbrev pub ended : {T : Type 0} → Result T Status → Status
 ended (Ok x) = status.Done
 ended (Err e) = e
 
--- What the counts of the source (s, then t), of the sink (k, then l) and of the shelves (h, then i) say of each status.
--- The first fault in time is told, unless memory runs out behind it.
-abbrev pub Counts : Status → ℕ → ℕ → ℕ → ℕ → ℕ → ℕ → Type 0
-Counts status.Done s t k l h i = (t ≡ s) × (l ≡ k) × (i ≡ h)
-Counts status.Usage s t k l h i = (t ≡ s) × (l ≡ k) × (i ≡ h)
-Counts (status.Script place what) s t k l h i = (t ≡ s) × (l ≡ k) × (i ≡ h)
-Counts status.ReadFault s t k l h i = Rose s t × (l ≡ k) × (i ≡ h)
-Counts status.WriteFault s t k l h i = (t ≡ s) × Rose k l × (Rose h i ⊎ (i ≡ h))
-Counts status.ShelfFault s t k l h i = (t ≡ s) × (l ≡ k) × Rose h i
-Counts status.TargetFault s t k l h i = (t ≡ s) × (l ≡ k) × (i ≡ h)
-Counts status.NoMemory s t k l h i = (t ≡ s) × (Rose k l ⊎ (l ≡ k)) × (i ≡ h)
-Counts (status.NoCleanShelf reasons) s t k l h i = (t ≡ s) × (l ≡ k) × (i ≡ h)
-Counts (status.Refused kind name) s t k l h i = (t ≡ s) × (l ≡ k) × (i ≡ h)
+-- What the counts of the source (s, then t), of the sink (k, then l), of the shelves (h, then i) and of the target (m, then
+-- n) say of each status. The first fault in time is told, unless memory runs out behind it: the target fails first of the
+-- last three, where it does, and the shelves last.
+abbrev pub Counts : Status → ℕ → ℕ → ℕ → ℕ → ℕ → ℕ → ℕ → ℕ → Type 0
+Counts status.Done s t k l h i m n = (t ≡ s) × (l ≡ k) × (i ≡ h) × (n ≡ m)
+Counts status.Usage s t k l h i m n = (t ≡ s) × (l ≡ k) × (i ≡ h) × (n ≡ m)
+Counts (status.Script place what) s t k l h i m n = (t ≡ s) × (l ≡ k) × (i ≡ h) × (n ≡ m)
+Counts status.ReadFault s t k l h i m n = Rose s t × (l ≡ k) × (i ≡ h) × (n ≡ m)
+Counts status.WriteFault s t k l h i m n = (t ≡ s) × Rose k l × (Rose h i ⊎ (i ≡ h)) × (n ≡ m)
+Counts status.ShelfFault s t k l h i m n = (t ≡ s) × (l ≡ k) × Rose h i × (n ≡ m)
+Counts status.TargetFault s t k l h i m n = (t ≡ s) × (Rose k l ⊎ (l ≡ k)) × (Rose h i ⊎ (i ≡ h)) × Rose m n
+Counts status.NoMemory s t k l h i m n = (t ≡ s) × (Rose k l ⊎ (l ≡ k)) × (i ≡ h) × (Rose m n ⊎ (n ≡ m))
+Counts (status.NoCleanShelf reasons) s t k l h i m n = (t ≡ s) × (l ≡ k) × (i ≡ h) × (n ≡ m)
+Counts (status.Refused kind name) s t k l h i m n = (t ≡ s) × (l ≡ k) × (i ≡ h) × (n ≡ m)
 
 -- The source had a script that opens folders of which none is clean, each for its reason.
 abbrev pub HadNoCleanShelf : Option (List ℕ) → Option Files → List Reason → Type 0
@@ -51,21 +52,23 @@ Found left held (status.Script place what) = HadNoScript left place what
 Found left held status.ReadFault = Unit {0}
 Found left held status.WriteFault = HadBegun left held
 Found left held status.ShelfFault = (script : Script) × HadScript left script
-Found left held status.TargetFault = ⊥
+Found left held status.TargetFault = HadBegun left held
 Found left held status.NoMemory = Unit {0}
 Found left held (status.NoCleanShelf reasons) = HadNoCleanShelf left held reasons
 Found left held (status.Refused kind name) = ⊥
 
--- What is left then: `same` says that the sink is as it was, `untouched` that the shelves are, and `still` that they hold
--- what they held.
-abbrev pub Leaves : RunFact → (same untouched still : Type 0) → (left old new : Option (List ℕ)) → Status → Type 0
-Leaves Runs same untouched still left old new status.Done = Prints Runs status.Done left old new
-Leaves Runs same untouched still left old new status.Usage = same × untouched
-Leaves Runs same untouched still left old new (status.Script place what) = same × untouched
-Leaves Runs same untouched still left old new status.ReadFault = same × untouched
-Leaves Runs same untouched still left old new status.WriteFault = PrintsPrefix Runs status.WriteFault left old new
-Leaves Runs same untouched still left old new status.ShelfFault = (same × still) ⊎ Prints Runs status.ShelfFault left old new
-Leaves Runs same untouched still left old new status.TargetFault = ⊥
-Leaves Runs same untouched still left old new status.NoMemory = (same × still) ⊎ PrintsPrefix Runs status.NoMemory left old new
-Leaves Runs same untouched still left old new (status.NoCleanShelf reasons) = same × still
-Leaves Runs same untouched still left old new (status.Refused kind name) = ⊥
+-- What is left then: `same` says that the sink is as it was, `untouched` that the shelves are, `still` that they hold what
+-- they held, `spared` that the target is as it was, and `fell` that the sink failed.
+module _ (Runs : RunFact) (same untouched still spared fell : Type 0) (left old new : Option (List ℕ)) where
+  abbrev pub Leaves : Status → Type 0
+  Leaves status.Done = Prints Runs status.Done left old new
+  Leaves status.Usage = same × untouched × spared
+  Leaves (status.Script place what) = same × untouched × spared
+  Leaves status.ReadFault = same × untouched × spared
+  Leaves status.WriteFault = PrintsPrefix Runs status.WriteFault left old new
+  Leaves status.ShelfFault = (same × still × spared) ⊎ Prints Runs status.ShelfFault left old new
+  Leaves status.TargetFault =
+      Prints Runs status.TargetFault left old new ⊎ (fell × PrintsPrefix Runs status.TargetFault left old new)
+  Leaves status.NoMemory = (same × still) ⊎ PrintsPrefix Runs status.NoMemory left old new
+  Leaves (status.NoCleanShelf reasons) = same × still × spared
+  Leaves (status.Refused kind name) = ⊥

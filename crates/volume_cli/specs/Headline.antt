@@ -10,7 +10,7 @@ use Rattle.volume_folders.specs.declared.reason.Reason.{Reason}
 use Rattle.volume_cli.specs.declared.status.Status.{Status}
 use Rattle.volume_cli.specs.declared.status.Status.TheVariants as status
 use Rattle.volume_cli.specs.Begun.{HadNoScript}
-use Rattle.volume_cli.specs.Ends.{HadNoCleanShelf}
+use Rattle.volume_cli.specs.Ends.{HadBegun, HadNoCleanShelf}
 use Rattle.volume_cli.specs.Stores.{IsOfStore, RefusesObject}
 
 -- what the words ask for, if they ask for anything that there is
@@ -42,8 +42,9 @@ abbrev pub TellsNoCleanShelf : Status → Type 0
 TellsNoCleanShelf answer = (reasons : List Reason) × IsStatus answer (status.NoCleanShelf reasons)
 
 -- A script is refused only where the words ask for a run, and the input is none, for this reason first, at this place.
--- That no folder is clean is told only where they ask for one, of a script that opens them, each for its reason. An object
--- is refused only where they ask for what is in a store, and it is the first that is not as it has to be.
+-- That no folder is clean is told only where they ask for one, of a script that opens them, each for its reason. A target
+-- fails only a run that has begun, or where they ask for what is in a store. An object is refused only where they ask for
+-- that, and it is the first that is not as it has to be.
 abbrev pub RefusedOnly : {A : Type 0} → List (String A) → Option (List ℕ) → Option Files → Bool → Objects → Status → Type 0
 RefusedOnly words left held tells objects status.Done = Unit {0}
 RefusedOnly words left held tells objects status.Usage = Unit {0}
@@ -51,7 +52,7 @@ RefusedOnly words left held tells objects (status.Script place what) = AskRun wo
 RefusedOnly words left held tells objects status.ReadFault = Unit {0}
 RefusedOnly words left held tells objects status.WriteFault = Unit {0}
 RefusedOnly words left held tells objects status.ShelfFault = Unit {0}
-RefusedOnly words left held tells objects status.TargetFault = AskStore words
+RefusedOnly words left held tells objects status.TargetFault = (AskRun words × HadBegun left held) ⊎ AskStore words
 RefusedOnly words left held tells objects status.NoMemory = Unit {0}
 RefusedOnly words left held tells objects (status.NoCleanShelf reasons) = AskRun words × HadNoCleanShelf left held reasons
 RefusedOnly words left held tells objects (status.Refused kind name) =

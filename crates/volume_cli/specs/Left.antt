@@ -1,5 +1,5 @@
--- What a run has printed, and the folders that it leaves.
-use Rattle.std.specs.Prelude.{◌≡◌, ◌≢◌, ℕ, ◌<◌, ◌≤◌, true, false, List, length, map, Option, Some, option_map}
+-- What a run has printed, and the folders and the store of backups that it leaves.
+use Rattle.std.specs.Prelude.{◌≡◌, ◌≢◌, ℕ, ◌<◌, ◌≤◌, true, false, List, length, map, All, Option, Some, option_map}
 use Rattle.std.specs.Io.KnownBytes.{Appends}
 use Rattle.outer_traits.specs.Lines.{Asked, TellsMore}
 use Rattle.outer_traits.specs.Passing.{WritesPrefix}
@@ -9,6 +9,7 @@ use Rattle.folder_checks.specs.Told.{Told}
 use Rattle.volume_model.specs.declared.entry.Entry.{Entry}
 use Rattle.volume_model.specs.declared.mode.Mode.{Mode}
 use Rattle.volume_model.specs.declared.mode.Mode.TheVariants.{Rw, Err}
+use Rattle.volume_model.specs.History.{Spot}
 use Rattle.volume_model.specs.Modes.{mode_of, modes_after}
 use Rattle.volume_model.specs.PlainState.{Volume}
 use Rattle.volume_model.specs.Replay.{replay}
@@ -18,6 +19,7 @@ use Rattle.program_words.specs.declared.words.Words.TheVariants.{Run}
 use Rattle.replica_shelf.specs.Folder.{Stamps}
 use Rattle.report_laws.specs.Fits.{AllFit}
 use Rattle.run_report.specs.Report.{report_of}
+use Rattle.script_text.specs.Good.{backs_up}
 use Rattle.script_text.specs.declared.script.Script.{Script}
 use Rattle.stream_turns.specs.Volume.{asks_in, heads_in}
 use Rattle.stream_turns.specs.Run.{IsRun, IsOneWorkersRun}
@@ -53,14 +55,19 @@ pub record AreFoldersOf (files : Files) (size : ℕ) (time : List ℕ) (begin : 
 
 -- ---- the run
 
+-- what may be so of a target, of the volume whose backups go there, and of a journal that begins at that spot
+abbrev pub StoreFact : Type 1
+StoreFact = List ℕ → Spot → List Entry → Type 0
+
 -- The run began on the folders that were handed in, or blank. The journal is that of a run of the script, over lines that
 -- counted these faults and told that they carried this. What its entries hold fits its type, so that no two such journals
 -- have one report. Where the wiring tells which lines it was asked for, before the run and now, in between these were the
 -- script's, each to fail as it plans. Where one worker was asked for, the journal is one worker's. Of a script that saves,
 -- the folders are those of the journal, unless the shelves failed or memory ran out; of one that does not they stay. No
--- other file changes.
+-- other file changes. The target of backups has come to what it is behind the journal, and where no stream backs up it is
+-- as it was (`spared`).
 pub record IsRunOf (asked : Option Words) (before now : Option (List Asked)) (counted : ℕ → ℕ → ℕ)
-    (told : ℕ → ℕ → Option (List (List ℕ))) (old new : Option Files) (well : Type 0)
+    (told : ℕ → ℕ → Option (List (List ℕ))) (old new : Option Files) (well : Type 0) (Stores : StoreFact) (spared : Type 0)
     (status : Status) (script : Script) (begin : Begin) (journal : List Entry) : Type 0 where
   pub begun : HasBegun old script begin
   pub run : IsRun counted told script begin.spot journal
@@ -71,6 +78,8 @@ pub record IsRunOf (asked : Option Words) (before now : Option (List Asked)) (co
       → Told new (λ files. AreFoldersOf files script.size script.now begin journal)
   pub kept : script.saves ≡ false → new ≡ old
   pub only : Both old new (OnlyFoldersChange script.replicas)
+  pub store : Stores script.volume begin.spot journal
+  pub unasked : All (λ s. backs_up s ≡ false) script.streams → spared
 
 -- what may be so of a script, of how its run began, and of its journal, where the run ends so
 abbrev pub RunFact : Type 1

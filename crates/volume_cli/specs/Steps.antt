@@ -1,5 +1,5 @@
 -- What the parts of a run say to each other.
-use Rattle.std.specs.Prelude.{◌≡◌, ◌⊎◌, ◌≤◌, ℕ, List, length, map, Option, Result, Ok, Err}
+use Rattle.std.specs.Prelude.{◌≡◌, ◌⊎◌, ◌≤◌, ℕ, Bool, true, false, List, length, map, Option, Result, Ok, Err}
 use Rattle.outer_traits.specs.Causes.{Rose}
 use Rattle.outer_traits.specs.declared.error.OuterError.{OuterError}
 use Rattle.outer_traits.specs.declared.error.OuterError.TheVariants as outer_error
@@ -83,38 +83,44 @@ abbrev pub AreSavedOf : Files → List ℕ → ServedRun → Type 0
 AreSavedOf files time run =
     AreSavedAs files time run.heads.items (modes_of run.served.world.journal) run.served.world.nodes.items
 
--- how a run ends that was written so, and then saved so
-abbrev pub end_status : {A B : Type 0} → Result A OuterError → Result B OuterError → Status
-end_status (Err outer_error.NoMemory) saved = status.NoMemory
-end_status (Ok x) (Err outer_error.NoMemory) = status.NoMemory
-end_status (Err outer_error.Failed) (Err outer_error.NoMemory) = status.NoMemory
-end_status (Err outer_error.Failed) (Err outer_error.Failed) = status.WriteFault
-end_status (Err outer_error.Failed) (Ok y) = status.WriteFault
-end_status (Ok x) (Err outer_error.Failed) = status.ShelfFault
-end_status (Ok x) (Ok y) = status.Done
+-- how a run ends whose target failed, or not, and that was written so, and then saved so
+abbrev pub end_status : {A B : Type 0} → Bool → Result A OuterError → Result B OuterError → Status
+end_status lost (Err outer_error.NoMemory) saved = status.NoMemory
+end_status lost (Ok x) (Err outer_error.NoMemory) = status.NoMemory
+end_status lost (Err outer_error.Failed) (Err outer_error.NoMemory) = status.NoMemory
+end_status true (Err outer_error.Failed) (Err outer_error.Failed) = status.TargetFault
+end_status true (Err outer_error.Failed) (Ok y) = status.TargetFault
+end_status true (Ok x) (Err outer_error.Failed) = status.TargetFault
+end_status true (Ok x) (Ok y) = status.TargetFault
+end_status false (Err outer_error.Failed) (Err outer_error.Failed) = status.WriteFault
+end_status false (Err outer_error.Failed) (Ok y) = status.WriteFault
+end_status false (Ok x) (Err outer_error.Failed) = status.ShelfFault
+end_status false (Ok x) (Ok y) = status.Done
 
--- the whole report is printed where the run ended so
-abbrev pub HasPrinted : Status → Type 0 → Type 0
-HasPrinted status.Done P = P
-HasPrinted status.Usage P = Unit {0}
-HasPrinted (status.Script place what) P = Unit {0}
-HasPrinted status.ReadFault P = Unit {0}
-HasPrinted status.WriteFault P = Unit {0}
-HasPrinted status.ShelfFault P = P
-HasPrinted status.TargetFault P = Unit {0}
-HasPrinted status.NoMemory P = Unit {0}
-HasPrinted (status.NoCleanShelf reasons) P = Unit {0}
-HasPrinted (status.Refused kind name) P = Unit {0}
+-- The whole report is printed where the run ended so; behind a fault of the target, unless the count of the sink (k, then l)
+-- rose.
+abbrev pub HasPrinted : Status → ℕ → ℕ → Type 0 → Type 0
+HasPrinted status.Done k l P = P
+HasPrinted status.Usage k l P = Unit {0}
+HasPrinted (status.Script place what) k l P = Unit {0}
+HasPrinted status.ReadFault k l P = Unit {0}
+HasPrinted status.WriteFault k l P = Unit {0}
+HasPrinted status.ShelfFault k l P = P
+HasPrinted status.TargetFault k l P = Rose k l ⊎ P
+HasPrinted status.NoMemory k l P = Unit {0}
+HasPrinted (status.NoCleanShelf reasons) k l P = Unit {0}
+HasPrinted (status.Refused kind name) k l P = Unit {0}
 
--- what the counts of the sink (k, then l) and of the shelves (h, then i) say of how a run ended that was served
-abbrev pub FinishCounts : Status → ℕ → ℕ → ℕ → ℕ → Type 0
-FinishCounts status.Done k l h i = (l ≡ k) × (i ≡ h)
-FinishCounts status.Usage k l h i = ⊥
-FinishCounts (status.Script place what) k l h i = ⊥
-FinishCounts status.ReadFault k l h i = ⊥
-FinishCounts status.WriteFault k l h i = Rose k l × (Rose h i ⊎ (i ≡ h))
-FinishCounts status.ShelfFault k l h i = (l ≡ k) × Rose h i
-FinishCounts status.TargetFault k l h i = ⊥
-FinishCounts status.NoMemory k l h i = (Rose k l ⊎ (l ≡ k)) × (i ≡ h)
-FinishCounts (status.NoCleanShelf reasons) k l h i = ⊥
-FinishCounts (status.Refused kind name) k l h i = ⊥
+-- What the counts of the sink (k, then l) and of the shelves (h, then i) say of how a run ended that was served, whose target
+-- failed, or not.
+abbrev pub FinishCounts : Status → Bool → ℕ → ℕ → ℕ → ℕ → Type 0
+FinishCounts status.Done lost k l h i = (lost ≡ false) × (l ≡ k) × (i ≡ h)
+FinishCounts status.Usage lost k l h i = ⊥
+FinishCounts (status.Script place what) lost k l h i = ⊥
+FinishCounts status.ReadFault lost k l h i = ⊥
+FinishCounts status.WriteFault lost k l h i = (lost ≡ false) × Rose k l × (Rose h i ⊎ (i ≡ h))
+FinishCounts status.ShelfFault lost k l h i = (lost ≡ false) × (l ≡ k) × Rose h i
+FinishCounts status.TargetFault lost k l h i = (lost ≡ true) × (Rose k l ⊎ (l ≡ k)) × (Rose h i ⊎ (i ≡ h))
+FinishCounts status.NoMemory lost k l h i = (Rose k l ⊎ (l ≡ k)) × (i ≡ h)
+FinishCounts (status.NoCleanShelf reasons) lost k l h i = ⊥
+FinishCounts (status.Refused kind name) lost k l h i = ⊥

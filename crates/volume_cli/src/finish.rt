@@ -38,7 +38,7 @@ pub struct ServedRun {
     pub saving: Option<TimeText>,
 }
 
-/// Prints the report of a run, and saves its replicas, also where the sink fails.
+/// Prints the report of a run, and saves its replicas, also where the sink fails, and behind a fault of the target.
 pub(crate) fn finish<K: Sink, H: Shelves>(
     alloc: Global,
     run: &ServedRun,
@@ -49,14 +49,15 @@ pub(crate) fn finish<K: Sink, H: Shelves>(
     requires each { length run.now.served.world.nodes.items ≡ length (modes_of run.now.served.world.journal) }
     requires reasons { length run.now.reasons.items < 256 }
     ensures fits { AllFit run.now.served.world.journal.entries }
-    ensures whole { HasPrinted (ended result) (Appends (K.contents sink.old) (K.contents sink.new) (text_of run.now)) }
+    ensures whole { HasPrinted (ended result) (K.faults sink.old) (K.faults sink.new)
+        (Appends (K.contents sink.old) (K.contents sink.new) (text_of run.now)) }
     ensures prefix { WritesPrefix (K.contents sink.old) (K.contents sink.new) (text_of run.now) }
     ensures saved { IfSome run.now.saving (λ time. (Rose (H.faults shelves.old) (H.faults shelves.new) → ⊥)
         → ended result ≢ NoMemory → Told (H.holds shelves.new) (λ files. AreSavedOf files time run.now)) }
     ensures kept { IfNone run.now.saving (H.holds shelves.new ≡ H.holds shelves.old) }
     ensures only { Both (H.holds shelves.old) (H.holds shelves.new)
         (OnlyFoldersChange (length run.now.served.world.nodes.items)) }
-    ensures counts { FinishCounts (ended result)
+    ensures counts { FinishCounts (ended result) run.now.served.target_fault
         (K.faults sink.old) (K.faults sink.new) (H.faults shelves.old) (H.faults shelves.new) }
 {
     let written = write_output(alloc, run, sink);
@@ -64,15 +65,17 @@ pub(crate) fn finish<K: Sink, H: Shelves>(
         return Err(Status::NoMemory);
     }
     let saved = save_output(alloc, run, shelves);
-    end_of(&written, &saved)
+    end_of(run.served.target_fault, &written, &saved)
 }
 
-/// How a run ends that was printed so, and then saved so: the first fault is told, unless memory ran out.
-fn end_of(written: &Outer<()>, saved: &Outer<()>) -> Result<(), Status>
-    ensures { ended result ≡ end_status written.now saved.now }
+/// How a run ends whose target failed, or not, and that was printed so, and then saved so: the first fault is told,
+/// unless memory ran out.
+fn end_of(target_fault: bool, written: &Outer<()>, saved: &Outer<()>) -> Result<(), Status>
+    ensures { ended result ≡ end_status target_fault written.now saved.now }
 {
     match (written, saved) {
         (Err(OuterError::NoMemory), _) | (_, Err(OuterError::NoMemory)) => Err(Status::NoMemory),
+        _ if target_fault => Err(Status::TargetFault),
         (Err(OuterError::Failed), _) => Err(Status::WriteFault),
         (Ok(()), Err(OuterError::Failed)) => Err(Status::ShelfFault),
         (Ok(()), Ok(())) => Ok(()),

@@ -5,6 +5,7 @@
 mod begin;
 mod edge;
 mod finish;
+mod laws;
 mod standard;
 mod status;
 mod stores;

@@ -1,3 +1,4 @@
+mod backups;
 mod calls;
 mod each;
 mod falls;

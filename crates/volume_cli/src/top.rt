@@ -1,8 +1,10 @@
-ghost use Rattle.std.specs.Prelude.{◌≡◌, ◌<◌, ◌-◌, ◌^◌, ◌↔◌, true, false, ℕ, List, Some, None, IfOk, IfSome, OnOk};
+ghost use Rattle.std.specs.Prelude.{◌≡◌, ◌<◌, ◌≤◌, ◌-◌, ◌^◌, ◌↔◌, true, false, ℕ, List, All, Some, None, IfOk, IfSome, OnOk};
 ghost use Rattle.std.specs.Io.KnownBytes.{IsAtEnd};
 ghost use Rattle.outer_traits.specs.Causes.{Rose};
 ghost use Rattle.outer_traits.specs.Lines.{TellsMore};
 ghost use Rattle.outer_traits.specs.Passing.{GivesAtMost};
+ghost use Rattle.control_worker.specs.Store.{TellsFault};
+ghost use Rattle.script_text.specs.Good.{backs_up};
 ghost use Rattle.script_text.specs.Script.{IsScript, IsNoScript};
 ghost use Rattle.script_text.specs.declared.script.Script.{Script};
 ghost use Rattle.script_text.specs.declared.what.What.{What};
@@ -11,6 +13,7 @@ ghost use Rattle.program_words.specs.declared.words.Words.{Words};
 ghost use Rattle.program_words.specs.declared.words.Words.TheVariants.{Run};
 ghost use Rattle.volume_model.specs.History.{Spot};
 ghost use Rattle.stream_turns.specs.Serving.{IsRead, IsBegun, IsServed, IsServedInTurn};
+ghost use Rattle.stream_turns.specs.Store.{StoreOfRun};
 ghost use Rattle.stream_turns.specs.Volume.{asks_in};
 ghost use Rattle.volume_cli.specs.Begun.{CanBegin, CannotBegin};
 ghost use Rattle.volume_cli.specs.Left.{IsRunOf};
@@ -38,17 +41,18 @@ use vol_units::TimeText;
 
 /// Does what the words of the command line ask: `run` reads a script from the source and serves its streams on a
 /// replicated volume, over lines that the wiring makes, and writes the opening, the journal, the replies and the
-/// replicas' last lines to the sink. The replicas are those of the shelves, where the script opens them, and else zeros;
-/// where it saves them, they are on the shelves at the end. The streams are served side by side, a worker for each, which
-/// passes the gate on its way; or one after another, by one worker, which passes none. `restore` writes the disk of a
-/// backup to the sink, and `backups` a line for each backup of a volume, by what the target holds; neither changes it.
+/// replicas' last lines to the sink. The replicas are those of the shelves, where the script opens them, and else
+/// zeros; where it saves them, they are on the shelves at the end. Backups that it makes go to the target. The
+/// streams are served side by side, a worker for each, which passes the gate on its way; or one after another, by one
+/// worker, which passes none. `restore` writes the disk of a backup to the sink, and `backups` a line for each backup
+/// of a volume, by what the target holds; neither changes it.
 pub fn longhorn<
     R: Threads + Wait + Sync,
     S: Source,
     K: Sink,
     W: Wiring,
     H: Shelves,
-    T: Target,
+    T: Target + Send,
     G: Gate + Sync,
 >(
     rt: &R,
@@ -66,14 +70,19 @@ pub fn longhorn<
     requires shelf_count { H.faults shelves.old < 2 ^ 64 - 1 }
     requires target_count { T.faults target.old < 2 ^ 64 - 1 }
 
-    // When each status comes. Out of memory alone is free: but a fault of the source, of the shelves or of the target is
-    // told in any case, unless a fault of the sink came before, and so is that, unless memory runs out behind it.
+    // When each status comes. Out of memory alone is free: but a fault of the source is told in any case, one of the
+    // target unless memory runs out behind it, one of the sink unless the target failed before or memory runs out
+    // behind it, and one of the shelves unless one of these came before. Of what is in a store a fault of the target
+    // is told in any case.
     ensures usage { ExactlyWhere result Status.Usage (IsUsageError words.now) }
     ensures read_fault { result ≡ Status.ReadFault ↔ S.faults source.old < S.faults source.new }
-    ensures write_fault { ExactlyWhere result Status.WriteFault (K.faults sink.old < K.faults sink.new) }
+    ensures write_fault { ExactlyWhere result Status.WriteFault
+        ((K.faults sink.old < K.faults sink.new) × (T.faults target.new ≡ T.faults target.old)) }
     ensures shelf_fault { result ≡ Status.ShelfFault
-        ↔ (H.faults shelves.old < H.faults shelves.new) × (K.faults sink.new ≡ K.faults sink.old) }
-    ensures target_fault { result ≡ Status.TargetFault ↔ T.faults target.old < T.faults target.new }
+        ↔ (H.faults shelves.old < H.faults shelves.new) × (K.faults sink.new ≡ K.faults sink.old)
+        × (T.faults target.new ≡ T.faults target.old) }
+    ensures target_fault { ExactlyWhere result Status.TargetFault (T.faults target.old < T.faults target.new) }
+    ensures store_fault { AskStore words.now → T.faults target.old < T.faults target.new → result ≡ Status.TargetFault }
     ensures refused_only { RefusedOnly words.now (S.left source.old) (H.holds shelves.old)
         T.tells (T.holds target.old) result }
     ensures script { AskRun words.now → S.faults source.new ≡ S.faults source.old
@@ -92,9 +101,10 @@ pub fn longhorn<
         × (T.faults target.new ≡ T.faults target.old) × (AskRun words.now → IsAtEnd (S.left source.new)) }
 
     // Where a run is asked for, the input is a script, some folder is clean where folders are opened, and neither
-    // source nor sink nor shelves fail, the run is done, whichever lines fail.
+    // source nor sink nor shelves nor target fail, the run is done, whichever lines fail.
     ensures complete { AskRun words.now → S.faults source.new ≡ S.faults source.old
         → K.faults sink.new ≡ K.faults sink.old → H.faults shelves.new ≡ H.faults shelves.old
+        → T.faults target.new ≡ T.faults target.old
         → IfSome (S.left source.old) (λ input. (script : Script)
         → IsScript input script → CanBegin (H.holds shelves.old) script → IsStatus result Status.Done) }
 
@@ -103,34 +113,45 @@ pub fn longhorn<
         → (asked : Words) → asked_for words.now ≡ Some asked → HasAnswer (T.holds target.old) asked
         → IsStatus result Status.Done }
 
-    // Only a run reads the source, asks for lines and uses the shelves, and at most one byte more is read than an input
-    // may have. Only where what is in a store is asked for the target is asked, which holds what it held.
+    // Only a run reads the source, asks for lines and uses the shelves, and at most one byte more is read than an
+    // input may have. The target is used only where what is in a store is asked for, and by a run of a script in
+    // which a stream backs up; and what it holds only such a run changes.
     ensures unread { (AskRun words.now → ⊥) → source.new ≡ source.old }
     ensures unasked { (AskRun words.now → ⊥) → (wiring.new ≡ wiring.old) × (shelves.new ≡ shelves.old) }
-    ensures untouched { (AskStore words.now → ⊥) → target.new ≡ target.old }
-    ensures held { T.holds target.new ≡ T.holds target.old }
+    ensures untouched { IsUsageError words.now → target.new ≡ target.old }
+    ensures spared { AskRun words.now → IfSome (S.left source.old) (λ input. (script : Script)
+        → IsScript input script → All (λ s. backs_up s ≡ false) script.streams → target.new ≡ target.old) }
+    ensures held { (AskRun words.now → ⊥) → T.holds target.new ≡ T.holds target.old }
     ensures most { GivesAtMost (S.left source.old) (S.left source.new) 268435457 }
 
     // However the workers' steps interleave, at Done the sink has the report of one journal. It begins on the folders
-    // that the script opens, of which the lowest clean one is the disk, or blank. It is one legal history of
-    // the script's calls, and its fault marks are faults that the run's own lines counted. What it holds fits its types,
-    // so that no two such journals have one report. Where the wiring tells which lines it was asked for, these were one
-    // of each stream to each replica, to fail as the script plans it, and no other. Where the lines tell what they
-    // carried, it was whole frames alone; each write that was done was carried whole to each replica that is read and
-    // written there, and the bytes of each read from one. One worker, where it was asked for, answers stream after
-    // stream, by their numbers, and while no line has failed the journal is a function of the script and of the folders.
-    // Of a script that saves, the folder of each replica that is read and written at the end is clean and reads as the
-    // journal's replay, and that of each in ERR says so; of another the folders stay. After a write fault the sink has a
+    // that the script opens, of which the lowest clean one is the disk, or blank. It is one legal history of the
+    // script's calls, and its fault marks are faults that the run's own lines counted. What it holds fits its types,
+    // so that no two such journals have one report. Where the wiring tells which lines it was asked for, these were
+    // one of each stream to each replica, to fail as the script plans it, and no other. Where the lines tell what
+    // they carried, it was whole frames alone; each write that was done was carried whole to each replica that is
+    // read and written there, and the bytes of each read from one. One worker, where it was asked for, answers stream
+    // after stream, by their numbers, and while no line has failed the journal is a function of the script, of the
+    // folders, and of what the store has against its backups. Of a script that saves, the folder of each replica that
+    // is read and written at the end is clean and reads as the journal's replay, and that of each in ERR says so; of
+    // another the folders stay. Where the target tells what it holds, each backup that is answered `ok` is there at
+    // the end, of the copy that its snapshot had where it was answered, so a later restore writes just that copy
+    // (`a_backup_that_is_there_is_restored`); while the target has not failed, a backup exists exactly where it was
+    // there at first or was made; and each that was there stays, and each block, and all that is none of the volume's.
+    // After a fault of the target the rest is printed and saved all the same. After a write fault the sink has a
     // prefix of the report, and the folders are saved all the same; after a refusal and a read fault all is as it was.
     ensures printed { (AskStore words.now → ⊥) → Leaves (IsRunOf (asked_for words.now) (W.asked wiring.old) (W.asked wiring.new)
         (W.counts wiring.new) (W.carried wiring.new) (H.holds shelves.old) (H.holds shelves.new)
-        (Rose (H.faults shelves.old) (H.faults shelves.new) → ⊥))
+        (Rose (H.faults shelves.old) (H.faults shelves.new) → ⊥)
+        (λ volume spot journal. T.tells ≡ true → StoreOfRun (T.holds target.old) (T.faults target.old)
+        (T.holds target.new) (T.faults target.new) volume spot journal) (target.new ≡ target.old))
         (sink.new ≡ sink.old) (shelves.new ≡ shelves.old) (H.holds shelves.new ≡ H.holds shelves.old)
+        (target.new ≡ target.old) (Rose (K.faults sink.old) (K.faults sink.new))
         (S.left source.old) (K.contents sink.old) (K.contents sink.new) result }
 
-    // What is in a store is written whole at Done: the disk of a backup, or the lines of a volume's backups. After a fault
-    // of the sink or of the target, and where memory runs out, the sink has a prefix of it; where an object is refused it
-    // is as it was.
+    // What is in a store is written whole at Done: the disk of a backup, or the lines of a volume's backups. After a
+    // fault of the sink or of the target, and where memory runs out, the sink has a prefix of it; where an object is
+    // refused it is as it was.
     ensures restored { T.tells ≡ true → (asked : Words) → asked_for words.now ≡ Some asked → IsOfStore asked
         → LeavesAnswer (T.holds target.old) asked (sink.new ≡ sink.old) (K.contents sink.old) (K.contents sink.new) result }
 {
@@ -141,14 +162,22 @@ pub fn longhorn<
     };
     match &asked {
         Words::Run { workers } => how_ended(run(
-            rt, alloc, *workers, source, sink, wiring, shelves, gate,
+            rt, alloc, *workers, source, sink, wiring, shelves, target, gate,
         )),
         Words::Restore { backup, volume } => restore_backup(alloc, target, volume, backup, sink),
         Words::Backups { volume } => print_backups(alloc, target, volume, sink),
     }
 }
 
-fn run<R: Threads + Wait + Sync, S: Source, K: Sink, W: Wiring, H: Shelves, G: Gate + Sync>(
+fn run<
+    R: Threads + Wait + Sync,
+    S: Source,
+    K: Sink,
+    W: Wiring,
+    H: Shelves,
+    T: Target + Send,
+    G: Gate + Sync,
+>(
     rt: &R,
     alloc: Global,
     workers: Workers,
@@ -156,17 +185,24 @@ fn run<R: Threads + Wait + Sync, S: Source, K: Sink, W: Wiring, H: Shelves, G: G
     sink: &mut K,
     wiring: &mut W,
     shelves: &mut H,
+    target: &mut T,
     gate: &G,
 ) -> Result<(), Status>
     ensures counts { Counts (ended result) (S.faults source.old) (S.faults source.new)
-        (K.faults sink.old) (K.faults sink.new) (H.faults shelves.old) (H.faults shelves.new) }
+        (K.faults sink.old) (K.faults sink.new) (H.faults shelves.old) (H.faults shelves.new)
+        (T.faults target.old) (T.faults target.new) }
     ensures whole { ended result ≡ Status.Done → IsAtEnd (S.left source.new) }
     ensures most { GivesAtMost (S.left source.old) (S.left source.new) 268435457 }
     ensures found { Found (S.left source.old) (H.holds shelves.old) (ended result) }
+    ensures spared { IfSome (S.left source.old) (λ input. (script : Script)
+        → IsScript input script → All (λ s. backs_up s ≡ false) script.streams → target.new ≡ target.old) }
     ensures printed { Leaves (IsRunOf (Some (Run workers)) (W.asked wiring.old) (W.asked wiring.new)
         (W.counts wiring.new) (W.carried wiring.new) (H.holds shelves.old) (H.holds shelves.new)
-        (Rose (H.faults shelves.old) (H.faults shelves.new) → ⊥))
+        (Rose (H.faults shelves.old) (H.faults shelves.new) → ⊥)
+        (λ volume spot journal. T.tells ≡ true → StoreOfRun (T.holds target.old) (T.faults target.old)
+        (T.holds target.new) (T.faults target.new) volume spot journal) (target.new ≡ target.old))
         (sink.new ≡ sink.old) (shelves.new ≡ shelves.old) (H.holds shelves.new ≡ H.holds shelves.old)
+        (target.new ≡ target.old) (Rose (K.faults sink.old) (K.faults sink.new))
         (S.left source.old) (K.contents sink.old) (K.contents sink.new) (ended result) }
 {
     let input = read_input(alloc, source)?;
@@ -177,7 +213,7 @@ fn run<R: Threads + Wait + Sync, S: Source, K: Sink, W: Wiring, H: Shelves, G: G
         heads,
     } = begin(alloc, &script, shelves)?;
     let saving = saving_time(alloc, &script)?;
-    let served = serve_by(rt, alloc, workers, script, world, wiring, gate)?;
+    let served = serve_by(rt, alloc, workers, script, world, wiring, target, gate)?;
     let run = ServedRun {
         served,
         reasons,
@@ -220,13 +256,14 @@ fn same_time(alloc: Global, time: &TimeText) -> Result<TimeText, AllocError>
 }
 
 /// Serves the streams of a script by these workers.
-fn serve_by<R: Threads + Wait + Sync, W: Wiring, G: Gate + Sync>(
+fn serve_by<R: Threads + Wait + Sync, W: Wiring, T: Target + Send, G: Gate + Sync>(
     rt: &R,
     alloc: Global,
     workers: Workers,
     script: Script,
     world: World,
     wiring: &mut W,
+    target: &mut T,
     gate: &G,
 ) -> Result<ServedStreams, AllocError>
     requires read { IsRead script }
@@ -236,9 +273,16 @@ fn serve_by<R: Threads + Wait + Sync, W: Wiring, G: Gate + Sync>(
     ensures turns { (spot : Spot) → IsBegun script spot world → workers ≡ Workers.One
         → IfOk result (IsServedInTurn script spot (W.counts wiring.new)) }
     ensures asked { OnOk result (TellsMore (W.asked wiring.old) (W.asked wiring.new) (asks_in script)) }
+    ensures store { (spot : Spot) → IsBegun script spot world → IfOk result (λ served. T.tells ≡ true
+        → StoreOfRun (T.holds target.old) (T.faults target.old) (T.holds target.new) (T.faults target.new)
+        script.volume spot served.world.journal.entries) }
+    ensures fault { IfOk result (λ served. TellsFault served.target_fault
+        (T.faults target.old) (T.faults target.new)) }
+    ensures later { T.faults target.old ≤ T.faults target.new }
+    ensures unasked { All (λ s. backs_up s ≡ false) script.streams → target.new ≡ target.old }
 {
     match workers {
-        Workers::One => stream_turns::serve(rt, alloc, script, world, wiring),
-        Workers::Each => stream_workers::serve(rt, alloc, script, world, wiring, gate),
+        Workers::One => stream_turns::serve(rt, alloc, script, world, wiring, target),
+        Workers::Each => stream_workers::serve(rt, alloc, script, world, wiring, target, gate),
     }
 }

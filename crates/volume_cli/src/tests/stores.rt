@@ -1,5 +1,5 @@
 //! What is asked of a store of backups.
-ghost use Rattle.std.specs.Prelude.{◌<◌, ◌-◌, ◌^◌};
+ghost use Rattle.std.specs.Prelude.{◌≡◌, ◌<◌, ◌-◌, ◌^◌, IfOk};
 
 use super::runs::owned;
 use crate::status::Status;
@@ -51,7 +51,7 @@ const B3: &str = "backupstore/volumes/7b/07/v/backups/backup_b3.cfg";
 const VOLUME: &str = "backupstore/volumes/7b/07/v/volume.cfg";
 
 /// A page whose first 4,096 bytes are these.
-fn page_of(alloc: Global, byte: u8) -> Result<Vec<u8>, AllocError> {
+pub(crate) fn page_of(alloc: Global, byte: u8) -> Result<Vec<u8>, AllocError> {
     let mut page = Vec::with_capacity(alloc, 2_097_152)?;
     page.resize(4_096, byte)?;
     page.resize(2_097_152, 0)?;
@@ -68,12 +68,14 @@ fn store(alloc: Global) -> Result<NoFaultTarget, AllocError> {
 }
 
 /// How the words end over a target, and the sink then.
-fn answer<T: Target>(
+pub(crate) fn answer<T: Target + Send>(
     rt: &(impl AllocGlobal + Threads + Wait + Sync),
     words: &[&str],
     target: &mut T,
 ) -> Result<(Status, NoFaultSink), AllocError>
     requires { T.faults target.old < 2 ^ 64 - 1 }
+    ensures { IfOk result (λ ended. ended.0 ≡ Status.Done
+        → T.faults target.new ≡ T.faults target.old) }
 {
     let words = owned(rt.alloc(), words)?;
     let mut source = NoFaultSource::new(Vec::new(rt.alloc()), 1);
@@ -95,7 +97,7 @@ fn answer<T: Target>(
 }
 
 /// Compares the note and the code of how the words end.
-fn is_told<T: Target>(
+pub(crate) fn is_told<T: Target + Send>(
     rt: &(impl AllocGlobal + Abort + Threads + Wait + Sync),
     words: &[&str],
     target: &mut T,

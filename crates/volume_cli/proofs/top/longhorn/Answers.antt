@@ -1,5 +1,5 @@
 use Rattle.std.proofs.Common.{subst}
-use Rattle.program_words.specs.declared.words.Words.TheVariants.{Restore, Backups}
+use Rattle.program_words.specs.declared.words.Words.TheVariants.{Run, Restore, Backups}
 use Rattle.volume_cli.specs.Ends.{ended}
 use Rattle.volume_cli.specs.Stores.{AnswersStore}
 use Rattle.volume_cli.proofs.Asked.{asks_that, one_words}
@@ -12,7 +12,8 @@ returns-in-Run-clause-script g c =
     rw c.how_ended.ensures (λ asked. script_clause (g.S.Source.faults c.args.source.now) (g.S.Source.faults c.run.new.source)
     (g.K.Sink.faults c.args.sink.now) (g.K.Sink.faults c.run.new.sink)
     (g.H.Shelves.faults c.args.shelves.now) (g.H.Shelves.faults c.run.new.shelves)
-    c.requires.source_count c.requires.sink_count c.requires.shelf_count (g.S.Source.left c.args.source.now)
+    (g.T.Target.faults c.args.target.now) (g.T.Target.faults c.run.new.target)
+    c.requires.source_count c.requires.sink_count c.requires.shelf_count c.requires.target_count (g.S.Source.left c.args.source.now)
     (g.H.Shelves.holds c.args.shelves.now) (ended c.run.result) c.run.ensures.counts c.run.ensures.found)
 
 pub returns-in-Run-clause-no_clean : goal.returns-in-Run-clause-no_clean
@@ -20,7 +21,8 @@ returns-in-Run-clause-no_clean g c =
     rw c.how_ended.ensures (λ asked. no_clean_clause (g.S.Source.faults c.args.source.now) (g.S.Source.faults c.run.new.source)
     (g.K.Sink.faults c.args.sink.now) (g.K.Sink.faults c.run.new.sink)
     (g.H.Shelves.faults c.args.shelves.now) (g.H.Shelves.faults c.run.new.shelves)
-    c.requires.source_count c.requires.sink_count c.requires.shelf_count (g.S.Source.left c.args.source.now)
+    (g.T.Target.faults c.args.target.now) (g.T.Target.faults c.run.new.target)
+    c.requires.source_count c.requires.sink_count c.requires.shelf_count c.requires.target_count (g.S.Source.left c.args.source.now)
     (g.H.Shelves.holds c.args.shelves.now) (ended c.run.result) c.run.ensures.counts c.run.ensures.found)
 
 pub returns-in-Run-clause-complete : goal.returns-in-Run-clause-complete
@@ -28,8 +30,15 @@ returns-in-Run-clause-complete g c =
     rw c.how_ended.ensures (λ asked. complete_clause (g.S.Source.faults c.args.source.now) (g.S.Source.faults c.run.new.source)
     (g.K.Sink.faults c.args.sink.now) (g.K.Sink.faults c.run.new.sink)
     (g.H.Shelves.faults c.args.shelves.now) (g.H.Shelves.faults c.run.new.shelves)
-    c.requires.source_count c.requires.sink_count c.requires.shelf_count (g.S.Source.left c.args.source.now)
+    (g.T.Target.faults c.args.target.now) (g.T.Target.faults c.run.new.target)
+    c.requires.source_count c.requires.sink_count c.requires.shelf_count c.requires.target_count (g.S.Source.left c.args.source.now)
     (g.H.Shelves.holds c.args.shelves.now) (ended c.run.result) c.run.ensures.counts c.run.ensures.found)
+
+pub returns-in-Run-clause-printed : goal.returns-in-Run-clause-printed
+returns-in-Run-clause-printed g c =
+    let read = asks_that _ c.read_words.result c.in-Ok.asked (Run c.in-Run.workers) c.in-Ok.is c.in-Run.is
+    c.read_words.ensures.found in
+    rw c.how_ended.ensures (rw read (λ other. c.run.ensures.printed))
 
 pub returns-in-Restore-clause-refused_only : goal.returns-in-Restore-clause-refused_only
 returns-in-Restore-clause-refused_only g c =

@@ -1,17 +1,19 @@
-use Rattle.std.proofs.Common.{◌≢◌, Some, IfSome, refl, subst, inl, inr}
+use Rattle.std.proofs.Common.{◌≡◌, ◌≢◌, true, false, All, Some, IfSome, refl, subst, inl, inr}
 use Rattle.std.specs.Io.KnownBytes.{Appends}
 use Rattle.outer_traits.specs.Causes.{Rose}
 use Rattle.outer_traits.specs.Passing.{WritesPrefix}
 use Rattle.folder_checks.specs.Told.{Told}
 use Rattle.program_words.specs.declared.words.Workers.TheVariants.{One}
 use Rattle.program_words.specs.declared.words.Words.TheVariants.{Run}
+use Rattle.script_text.specs.Good.{backs_up}
+use Rattle.stream_turns.specs.Store.{StoreOfRun}
 use Rattle.volume_cli.specs.declared.finish.ServedRun.{ServedRun}
 use Rattle.volume_cli.specs.declared.status.Status.TheVariants.{NoMemory}
 use Rattle.volume_cli.specs.Ends.{ended, status_of}
 use Rattle.volume_cli.specs.Left.{IsRunOf}
 use Rattle.volume_cli.specs.Steps.{begin_of, AreSavedOf, FinishCounts, HasPrinted}
 use Rattle.volume_cli.proofs.Asked.{same_workers}
-use Rattle.volume_cli.proofs.Input.{ended_err, refused_found, had_script, begin_found}
+use Rattle.volume_cli.proofs.Input.{ended_err, refused_found, had_script, begin_found, rose_or_same, of_each}
 use Rattle.volume_cli.proofs.Finishing.{run_counts, run_found, run_leaves}
 use Rattle.volume_cli.proofs.Folders.{written_is, saved_of, kept_of, only_of}
 use Rattle.volume_cli.proofs.top.run.Goals as goal
@@ -34,7 +36,7 @@ returns-in_err-world-clause-found g c =
 pub returns-in_err-saving-clause-counts : goal.returns-in_err-saving-clause-counts
 returns-in_err-saving-clause-counts g c =
     rw (ended_err c.from_residual-in_err-saving.result NoMemory c.from_residual-in_err-saving.ensures.1)
-    (c.in_ok-input.ensures.counts, inr refl, c.in_ok-world.ensures.end)
+    (c.in_ok-input.ensures.counts, inr refl, c.in_ok-world.ensures.end, inr refl)
 
 pub returns-in_err-saving-clause-found : goal.returns-in_err-saving-clause-found
 returns-in_err-saving-clause-found g c =
@@ -45,6 +47,18 @@ returns-in_err-saving-clause-printed g c =
     rw (ended_err c.from_residual-in_err-saving.result NoMemory c.from_residual-in_err-saving.ensures.1)
     (inl (refl, c.in_ok-world.ensures.still))
 
+pub returns-in_err-served-clause-counts : goal.returns-in_err-served-clause-counts
+returns-in_err-served-clause-counts g c =
+    rw (ended_err c.from_residual-in_err-served.result NoMemory c.from_residual-in_err-served.ensures.1)
+    (c.in_ok-input.ensures.counts, inr refl, c.in_ok-world.ensures.end, rose_or_same _ _ c.in_err-served.ensures.later)
+
+pub returns-in_err-served-clause-spared : goal.returns-in_err-served-clause-spared
+returns-in_err-served-clause-spared g c =
+    of_each (g.S.Source.left c.args.source.now) c.in_ok-script.script
+    (λ s. All (λ x. backs_up x ≡ false) s.streams → c.serve_by.new.target ≡ c.args.target.now)
+    (had_script _ _ c.in_ok-input.input c.in_ok-script.script c.in_ok-input.ensures.bytes c.in_ok-input.ensures.whole
+    c.in_ok-script.ensures.found) c.in_err-served.ensures.unasked
+
 pub finish-requires-clause-each : goal.finish-requires-clause-each
 finish-requires-clause-each g c =
     let begin = begin_of c.in_ok-world.field-0 in
@@ -52,19 +66,33 @@ finish-requires-clause-each g c =
 
 pub returns-clause-counts : goal.returns-clause-counts
 returns-clause-counts g c =
-    run_counts (ended c.finish.result) (g.S.Source.faults c.args.source.now) (g.S.Source.faults c.read_input.new.source)
+    run_counts (ended c.finish.result) c.in_ok-served.served.target_fault
+    (g.S.Source.faults c.args.source.now) (g.S.Source.faults c.read_input.new.source)
     (g.K.Sink.faults c.args.sink.now) (g.K.Sink.faults c.finish.new.sink)
-    (g.H.Shelves.faults c.args.shelves.now) (g.H.Shelves.faults c.finish.new.shelves) c.in_ok-input.ensures.counts
-    (subst (λ h. FinishCounts (ended c.finish.result) (g.K.Sink.faults c.args.sink.now) (g.K.Sink.faults c.finish.new.sink)
+    (g.H.Shelves.faults c.args.shelves.now) (g.H.Shelves.faults c.finish.new.shelves)
+    (g.T.Target.faults c.args.target.now) (g.T.Target.faults c.serve_by.new.target) c.in_ok-input.ensures.counts
+    (subst (λ h. FinishCounts (ended c.finish.result) c.in_ok-served.served.target_fault
+    (g.K.Sink.faults c.args.sink.now) (g.K.Sink.faults c.finish.new.sink)
     h (g.H.Shelves.faults c.finish.new.shelves)) c.in_ok-world.ensures.end c.finish.ensures.counts)
+    c.in_ok-served.ensures.fault
 
 pub returns-clause-found : goal.returns-clause-found
 returns-clause-found g c =
     run_found _ _ c.in_ok-script.script (begin_of c.in_ok-world.field-0) (ended c.finish.result)
-    (g.K.Sink.faults c.args.sink.now) (g.K.Sink.faults c.finish.new.sink)
+    c.in_ok-served.served.target_fault (g.K.Sink.faults c.args.sink.now) (g.K.Sink.faults c.finish.new.sink)
     (g.H.Shelves.faults c.begin.new.shelves) (g.H.Shelves.faults c.finish.new.shelves)
     (had_script _ _ c.in_ok-input.input c.in_ok-script.script c.in_ok-input.ensures.bytes c.in_ok-input.ensures.whole
     c.in_ok-script.ensures.found) c.in_ok-world.ensures.begun c.finish.ensures.counts
+
+pub returns-clause-whole : goal.returns-clause-whole
+returns-clause-whole g c = λ done. c.in_ok-input.ensures.whole c.in_ok-script.ensures.found.headed.cut.most
+
+pub returns-clause-spared : goal.returns-clause-spared
+returns-clause-spared g c =
+    of_each (g.S.Source.left c.args.source.now) c.in_ok-script.script
+    (λ s. All (λ x. backs_up x ≡ false) s.streams → c.serve_by.new.target ≡ c.args.target.now)
+    (had_script _ _ c.in_ok-input.input c.in_ok-script.script c.in_ok-input.ensures.bytes c.in_ok-input.ensures.whole
+    c.in_ok-script.ensures.found) c.in_ok-served.ensures.unasked
 
 pub returns-clause-printed : goal.returns-clause-printed
 returns-clause-printed g c =
@@ -86,10 +114,13 @@ returns-clause-printed g c =
     let same = written_is script begin counts carried run sized served refl in
     run_leaves (IsRunOf (Some (Run c.args.workers)) (g.W.Wiring.asked c.args.wiring.now) (g.W.Wiring.asked c.serve_by.new.wiring)
     counts carried (g.H.Shelves.holds c.args.shelves.now) (g.H.Shelves.holds c.finish.new.shelves)
-    (Rose (g.H.Shelves.faults c.args.shelves.now) (g.H.Shelves.faults c.finish.new.shelves) → ⊥)) _ _ _ _ _ _
+    (Rose (g.H.Shelves.faults c.args.shelves.now) (g.H.Shelves.faults c.finish.new.shelves) → ⊥)
+    (λ volume spot entries. g.T.Target.tells ≡ true → StoreOfRun (g.T.Target.holds c.args.target.now)
+    (g.T.Target.faults c.args.target.now) (g.T.Target.holds c.serve_by.new.target) (g.T.Target.faults c.serve_by.new.target)
+    volume spot entries) (c.serve_by.new.target ≡ c.args.target.now)) _ _ _ _ _ _ _
     script begin journal
     (had_script _ _ c.in_ok-input.input script c.in_ok-input.ensures.bytes c.in_ok-input.ensures.whole c.in_ok-script.ensures.found)
-    ends (g.K.Sink.faults c.args.sink.now) (g.K.Sink.faults c.finish.new.sink)
+    ends c.in_ok-served.served.target_fault (g.K.Sink.faults c.args.sink.now) (g.K.Sink.faults c.finish.new.sink)
     (g.H.Shelves.faults c.begin.new.shelves) (g.H.Shelves.faults c.finish.new.shelves)
     (record {
       begun = c.in_ok-world.ensures.begun;
@@ -106,8 +137,11 @@ returns-clause-printed g c =
           c.finish.ensures.kept c.in_ok-saving.ensures.none c.in_ok-world.ensures.still;
       only = only_of script begin counts carried run sized served _ (g.H.Shelves.holds c.begin.new.shelves) _
           c.finish.ensures.only c.in_ok-world.ensures.still;
+      store = c.in_ok-served.ensures.store begin.spot begun;
+      unasked = c.in_ok-served.ensures.unasked;
     })
-    (subst (λ text. HasPrinted ends (Appends (g.K.Sink.contents c.args.sink.now) (g.K.Sink.contents c.finish.new.sink) text)) same
+    (subst (λ text. HasPrinted ends (g.K.Sink.faults c.args.sink.now) (g.K.Sink.faults c.finish.new.sink)
+    (Appends (g.K.Sink.contents c.args.sink.now) (g.K.Sink.contents c.finish.new.sink) text)) same
     c.finish.ensures.whole)
     (subst (WritesPrefix (g.K.Sink.contents c.args.sink.now) (g.K.Sink.contents c.finish.new.sink)) same c.finish.ensures.prefix)
     c.finish.ensures.counts
