@@ -1,12 +1,13 @@
 #!/usr/bin/env python3
 """backups.py PROGRAM PEER [REPEATS]
 
-Times restores of a built longhorn against the peer, a fast plain Rust program of the same work, by the clock, from a store in
-memory where there is /dev/shm. The peer makes the stores, since the program has no command that does: F is 64 MiB, all written, of
-which an eighth was written anew between two backups, and the second one is restored; S is 1 GiB with one block. What both write has
-to be the same, and it is thrown away while they are timed. By turns: medians with the least and the greatest, the ratio of the
-medians, and that of neighbours. Time and memory of a run are taken by PEER-meter, a small program that stands beside the peer: what
-this script itself has would else be counted.
+Times backups and restores of a built longhorn against the peer, a fast plain Rust program of the same work, by the clock, with
+stores in memory where there is /dev/shm. F is 64 MiB, all written, of which an eighth is written anew between two backups, and the
+second one is restored; S is 1 GiB with one block. Both have to leave and to write the same; what is written is thrown away while
+they are timed. Runs that make backups end with a replica that fails, so that no head is digested. Of an incremental backup alone, of
+1 GiB of which two pages were written since, the time is what a run takes longer that has it at its end than one that has not.
+By turns: medians with the least and the greatest, the ratio of the medians, and that of neighbours. Time and memory of a run are
+taken by PEER-meter, a small program that stands beside the peer: what this script itself has would else be counted.
 
 Each block is digested twice, in the look before and when it is written. So F is also set against twice the time of the digest alone,
 which is what a run on the same 64 MiB takes longer where its replica does not fail at the end: its head is then digested once.
@@ -45,6 +46,29 @@ def a_block():
     yield write(1, GIB - 4096, filled(1))
 
 
+def two_pages():
+    """The frames that write two pages of 1 GiB."""
+    return (write(place, place * (GIB // 2), megabyte(place, 2)) for place in range(2))
+
+
+def tree(room):
+    """A digest of all files below a folder."""
+    digest = hashlib.sha256()
+    for folder, names, files in os.walk(room):
+        names.sort()
+        for file in sorted(files):
+            with open(os.path.join(folder, file), 'rb') as source:
+                digest.update(('%s %s ' % (os.path.relpath(source.name, room), hashlib.file_digest(source, 'sha256').hexdigest())).encode())
+    return digest.hexdigest()
+
+
+# What F is made by.
+FULL = [all_of_it, ['snapshot a'], an_eighth, ['snapshot b', 'backup b1 a', 'backup b2 b']]
+# An incremental backup at the end of a run, and the same run without it.
+WITH = [a_block, ['snapshot a'], two_pages, ['snapshot b', 'backup b1 a', 'backup b2 b'], ['fail r0']]
+WITHOUT = [*WITH[:3], ['snapshot b', 'backup b1 a'], ['fail r0']]
+
+
 class Race:
     """Runs of programs in rooms of their own below one folder."""
 
@@ -81,6 +105,25 @@ class Race:
         os.remove(given)
         return room
 
+    def made(self, program, given):
+        """What a run takes that makes a store, and a digest of that."""
+        room = os.path.join(self.top, 'made')
+        os.mkdir(room)
+        figures = self.ran(program, RUN, room, given)
+        left = tree(room)
+        shutil.rmtree(room)
+        return figures, left
+
+    def made_by_turns(self, programs, given, repeats):
+        """What each program takes, turn by turn. All have to leave the same."""
+        for number in range(repeats):
+            turn = [None] * len(programs)
+            for which in range(len(programs))[::1 if number % 2 else -1]:
+                turn[which] = self.made(programs[which], given)
+            if len({left for _, left in turn}) > 1:
+                sys.exit('the two do not leave the same store')
+            yield [figures for figures, _ in turn]
+
     def turns(self, programs, words, room, repeats):
         """What each program takes, turn by turn. They take turns in going first."""
         for number in range(repeats):
@@ -115,10 +158,10 @@ def digest_alone(runs, program, streams, repeats):
 def main():
     program, peer = map(os.path.abspath, sys.argv[1:3])
     repeats = int(sys.argv[3]) if len(sys.argv) > 3 else 7
-    whole = [all_of_it, ['snapshot a'], an_eighth]
+    whole = FULL[:3]
     with tempfile.TemporaryDirectory(dir=MEMORY if os.access(MEMORY, os.W_OK) else None) as top:
         runs = Race(top, peer + '-meter')
-        stores = [('F', runs.store(peer, 'F', 64 * MIB, [*whole, ['snapshot b', 'backup b1 a', 'backup b2 b']])),
+        stores = [('F', runs.store(peer, 'F', 64 * MIB, FULL)),
                   ('S', runs.store(peer, 'S', GIB, [a_block, ['snapshot b', 'backup b2 b']]))]
         for name, room in stores:
             for words in (['backups', 'v'], ['restore', 'b2', 'v']):
@@ -126,10 +169,19 @@ def main():
                     sys.exit('%s: the two do not write the same for `%s`' % (name, ' '.join(words)))
             seconds = tell(name, list(runs.turns((program, peer), ['restore', 'b2', 'v'], room, repeats)))
             if name == 'F':
+                made = keep(os.path.join(top, 'made-script'), 64 * MIB, 1, {}, [*FULL, ['fail r0']])
+                tell('F made', list(runs.made_by_turns((program, peer), made, repeats)))
                 digests = digest_alone(runs, program, whole, repeats)
                 print('F: the digest alone takes %s s; the restore takes %.2f of twice that'
                       % (spread(digests, '%.4f'), seconds / 2 / statistics.median(digests)))
             shutil.rmtree(room)
+        given = [keep(os.path.join(top, 'increment-%d' % number), GIB, 1, {}, streams) for number, streams in enumerate((WITH, WITHOUT))]
+        differences = [[], []]
+        for _ in range(repeats):
+            for which, each in enumerate((program, peer)):
+                differences[which].append(runs.made(each, given[0])[0][0] - runs.made(each, given[1])[0][0])
+        for which in (0, 1):
+            print('an increment of two pages of 1 GiB, %s: %s s' % (WHOSE[which], spread(differences[which], '%.4f')))
 
 
 if __name__ == '__main__':

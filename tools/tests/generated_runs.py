@@ -59,6 +59,31 @@ def additions(random, replicas, others):
         yield from ('add r%d' % replica for replica in random.sample(range(replicas), random.randint(1, replicas)))
 
 
+def backed_text(random):
+    """One text of four streams: two write all pages, one takes snapshots away and rebuilds, and one takes snapshots and backs them up."""
+    replicas, pages = random.choice([1, 2, 3]), random.choice([1, 2, 3, 4])
+    lines = ['volume v %dM' % (2 * pages), 'replicas %d' % replicas, 'now "a run"']
+    for replica in range(1, replicas):
+        carries = sorted(random.sample(range(1, 60), random.randint(1, 4)))
+        lines.append(' '.join(['fault worker 3 replica %d carries' % replica, *map(str, carries)]))
+    for stream in 0, 1:
+        lines += ['stream %d frames' % stream, *('  ' + text for text in frames(random, stream, pages, 60))]
+    lines += ['stream 2 commands', *('  ' + text for text in additions(random, replicas, list(range(1, replicas)) or [0]) if text != 'fail r0')]
+    return '\n'.join(lines + ['stream 3 commands', *('  ' + text for text in backups(random, replicas))]) + '\n'
+
+
+def backups(random, replicas):
+    """The lines of a stream of commands that backs snapshots up, mostly its own, and has replicas rebuilt between."""
+    for number in range(random.randint(4, 8)):
+        own, other = 'x%d' % number, random.choice([*NAMES, 'sys-0', 'sys-1', 'x%d' % random.randrange(8)])
+        yield 'snapshot ' + own
+        yield from random.choice([['backup b%d %s' % (number, own)], ['backup b%d %s' % (number, other)],
+                                  ['backup b%d %s' % (number, own), 'backup c%d %s' % (number, other)],
+                                  ['backup b%d %s' % (number, own), 'backup b%d %s' % (number, own)],
+                                  ['backup b%d %s' % (number, own), 'remove ' + own, 'purge']])
+        yield from random.choice([[], [], ['add r%d' % random.randrange(replicas)], ['revert ' + own]])
+
+
 def frames(random, stream, pages, most_calls):
     """The lines of a stream of frames. Its number is in each byte that it writes, so that what a read gives tells who wrote."""
     for number in range(random.randint(min(4, most_calls), most_calls)):

@@ -226,13 +226,14 @@ class Backups(ProgramTest):
             self.assertTrue((zeros, run.stdout.read()) == ((1 << 30) - PAGE, B))
         self.assertEqual(run.returncode, 0)
 
-    @unittest.skipUnless(shutil.which('sha512sum'), 'there is no sha512sum here')
     def test_the_readme_shows_what_its_commands_print(self):
         with open(os.path.join(TOP, 'README.md'), encoding='utf-8') as file:
             text = file.read()
-        commands = r'^    (examples/make_store|\./longhorn (?:backups|restore) .*?) +# (.*)$'
-        made, listed, restored = re.findall(commands, text, re.MULTILINE)
-        subprocess.run([os.path.join(TOP, made[0])], cwd=self.room, check=True)
+        commands = r'^    (\./longhorn (?:run --workers one|backups|restore) .*?) +# (.*)$'
+        made, listed, restored = [found for found in re.findall(commands, text, re.MULTILINE) if 'saved' not in found[0]]
+        words, _, given = made[0].partition(' < ')
+        with open(os.path.join(TOP, given), 'rb') as file:
+            subprocess.run([LAUNCHER, *words.split(' ')[1:]], cwd=self.room, stdin=file, stdout=subprocess.DEVNULL, check=True)
         self.assertEqual(re.findall('`(backup .*?)`', listed[1]), self.compare(*listed[0].split(' ')[1:]).decode().splitlines())
         disk = self.compare(*restored[0].partition(' >')[0].split(' ')[1:])
         self.assertIn('%d MiB' % (len(disk) >> 20), restored[1])

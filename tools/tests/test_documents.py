@@ -264,16 +264,18 @@ class Texts(unittest.TestCase):
         for report in reports:
             self.assertEqual(journal.check(read_report(report)), '', report)
 
-    def test_the_picture_is_that_of_a_run_side_by_side(self):
+    def test_each_picture_is_that_of_a_run_side_by_side(self):
         import asked
         import journal
         import picture
         from report import read_report
-        with open(os.path.join(TOP, 'examples/side_by_side.script'), 'rb') as given:
-            its = asked.read_script(given.read())
-        report = read_report(read(TOP, 'docs/side_by_side.output'))
-        self.assertEqual(journal.check(report, its), '')
-        self.assertEqual(read(TOP, 'docs/side_by_side.svg'), picture.draw(report))
+        for name in 'side_by_side', 'backup_beside_writes':
+            with open(os.path.join(TOP, 'examples/%s.script' % name), 'rb') as given:
+                its = asked.read_script(given.read())
+            report = read_report(read(TOP, 'docs/%s.output' % name))
+            self.assertEqual(journal.check(report, its), '', name)
+            self.assertTrue(any(line.saw < line.place for line in report.journal if hasattr(line, 'saw')), name)
+            self.assertEqual(read(TOP, 'docs/%s.svg' % name), picture.draw(report), name)
 
 
 if __name__ == '__main__':

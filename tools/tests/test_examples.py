@@ -16,7 +16,7 @@ from report import read_report
 EXAMPLES = os.path.join(os.path.dirname(os.path.dirname(os.path.abspath(script.__file__))), 'examples')
 TEXT = '.script.txt'
 # The examples that are stored as scripts under their own names, since documents run them.
-STORED = ('a_rebuild', 'saved', 'saved_2', 'side_by_side')
+STORED = ('a_rebuild', 'backed_up', 'backup_beside_writes', 'saved', 'saved_2', 'side_by_side')
 NAMES = sorted(name[:-len(TEXT)] for name in os.listdir(EXAMPLES) if name.endswith(TEXT))
 # Prints what stands beside the example whose script it gets, with `ok` changed where it is told to.
 STAND_IN = '''#!%s

@@ -22,7 +22,7 @@ BAD_MEMBERS = [
 ]
 
 # Commands that are none in a script of eight replicas.
-NO_COMMANDS = [b'stop', b'fail r8', b'fail r10', b'fail r01', b'add r8', b'add r10', b'backup b1 s']
+NO_COMMANDS = [b'stop', b'fail r8', b'fail r10', b'fail r01', b'add r8', b'add r10', b'backup b1', b'backup -b s']
 
 # Plans that are none in a script of two replicas and one stream.
 BAD_PLANS = [
@@ -97,14 +97,15 @@ class Program(ProgramTest):
     def test_the_readme_shows_what_its_second_command_prints(self):
         with open(os.path.join(TOP, 'README.md'), encoding='utf-8') as file:
             text = file.read()
-        commands = re.findall(r'^    \./longhorn (run --workers one) < (\S+)', text, re.MULTILINE)
+        example = text[text.index('## An example'):]
+        commands = re.findall(r'^    \./longhorn (run --workers one) < (\S+)', example, re.MULTILINE)
         self.assertEqual(len(commands), 2)
         with tempfile.TemporaryDirectory() as room:
             for words, path in commands:
                 with open(os.path.join(TOP, path), 'rb') as given:
                     ended = subprocess.run([LAUNCHER, *words.split(' ')], stdin=given, cwd=room, capture_output=True, text=True)
                 self.assertEqual((ended.returncode, ended.stderr), (0, ''), path)
-        shown = re.search(r'the second prints\n\n((?:    .+\n)+)', text)[1]
+        shown = re.search(r'the second prints\n\n((?:    .+\n)+)', example)[1]
         self.assertEqual(ended.stdout, re.sub('^    ', '', shown, flags=re.MULTILINE))
 
     def test_the_examples_print_what_stands_beside_them(self):
