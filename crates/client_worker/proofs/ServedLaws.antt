@@ -12,7 +12,7 @@ use Rattle.volume_model.specs.History.{answers_from}
 use Rattle.frame_stream.specs.declared.asked.Asked.TheVariants as asked
 use Rattle.frame_stream.specs.declared.frame.Frame.{Frame}
 use Rattle.frame_stream.specs.Asked.{call_of, close_kind}
-use Rattle.script_text.specs.Frames.{IsCall}
+use Rattle.frame_stream.specs.Frames.{IsCall}
 use Rattle.stream_steps.specs.Mine.{Log, longer}
 use Rattle.client_worker.specs.Asks.{IsAsked}
 use Rattle.client_worker.specs.Serving.{IsOwnFault, AreServed}

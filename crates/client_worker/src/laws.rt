@@ -5,7 +5,7 @@ ghost use Rattle.volume_model.specs.declared.call.Call.{Call};
 ghost use Rattle.volume_model.specs.declared.entry.Entry.{Entry};
 ghost use Rattle.volume_model.specs.History.{calls_of};
 ghost use Rattle.frame_stream.specs.declared.frame.Frame.{Frame};
-ghost use Rattle.script_text.specs.Frames.{IsCall};
+ghost use Rattle.frame_stream.specs.Frames.{IsCall};
 ghost use Rattle.stream_steps.specs.Mine.{Log};
 ghost use Rattle.client_worker.specs.Asks.{IsAsked};
 ghost use Rattle.client_worker.specs.Serving.{AreServed};

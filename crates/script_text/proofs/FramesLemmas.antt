@@ -7,7 +7,7 @@ use Rattle.std.proofs.lemmas.List.Concat.{flat_map-append}
 use Rattle.frame_wire.specs.declared.head.Head.{Head}
 use Rattle.frame_wire.proofs.OneSpelling.{one_spelling}
 use Rattle.frame_stream.specs.declared.frame.Frame.{Frame}
-use Rattle.script_text.specs.Frames.{spelled, spellings, IsClose, IsCall, BeginsWithFrame, BeginWithCalls}
+use Rattle.frame_stream.specs.Frames.{spelled, spellings, IsClose, IsCall, BeginsWithFrame, BeginWithCalls}
 
 -- no bytes begin with no frame
 pub no_frame_in_none : (bytes : List ℕ) (f : Frame) (rest : List ℕ) → bytes ≡ [] → BeginsWithFrame bytes f rest → ⊥

@@ -8,8 +8,8 @@ use Rattle.frame_wire.specs.Spelling.{header_length, header}
 use Rattle.frame_wire.specs.Decoding.{HoldsFrame}
 use Rattle.volume_model.specs.PlainStep.{longest_call}
 use Rattle.frame_stream.specs.declared.frame.Frame.{Frame}
-use Rattle.script_text.specs.Frames.{IsClose, BeginsWithFrame, BeginWithCalls}
-use Rattle.script_text.specs.Kept.{span, frame_under, frames_under, behind_frames, HoldFrames}
+use Rattle.frame_stream.specs.Frames.{IsClose, BeginsWithFrame, BeginWithCalls, span, frame_under}
+use Rattle.script_text.specs.Kept.{frames_under, behind_frames, HoldFrames}
 use Rattle.script_text.proofs.FramesLemmas.{one_call_more}
 
 -- one more header takes the frame that stands behind those before

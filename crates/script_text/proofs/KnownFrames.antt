@@ -24,8 +24,7 @@ use Rattle.script_text.specs.declared.script.Stream.{Stream}
 use Rattle.script_text.specs.declared.script.Stream.TheVariants as stream
 use Rattle.script_text.specs.declared.what.What.{What}
 use Rattle.script_text.specs.declared.what.What.TheVariants as what
-use Rattle.script_text.specs.Frames.{spelled, IsClose, IsCall, BeginsWithFrame, BeginWithCalls}
-use Rattle.script_text.specs.Kept.{span, frame_under}
+use Rattle.frame_stream.specs.Frames.{spelled, IsClose, IsCall, BeginsWithFrame, BeginWithCalls, span, frame_under}
 use Rattle.script_text.specs.Streams.{IsStream, IsNoStream, IsStreamOf, IsNoStreamOf, AreStreams, AreNoStreams, frame_count}
 use Rattle.script_text.proofs.FramesLemmas.{one_call_more}
 use Rattle.script_text.proofs.KeptLemmas.{front_frame}

@@ -9,7 +9,7 @@ use Rattle.script_text.specs.declared.script.Stream.{Stream}
 use Rattle.script_text.specs.declared.script.Stream.TheVariants as stream
 use Rattle.script_text.specs.declared.what.What.{What}
 use Rattle.script_text.specs.declared.what.What.TheVariants as what
-use Rattle.script_text.specs.Frames.{spelled, spellings}
+use Rattle.frame_stream.specs.Frames.{spelled, spellings}
 use Rattle.script_text.specs.Streams.{IsEnd, IsStream, IsBadAt, IsNoStream, frame_count, IsStreamOf, IsNoStreamOf, AreStreams, AreNoStreams}
 use Rattle.script_text.proofs.FramesLemmas.{no_frame_in_none, one_front, no_close_and_call, AreAll, one_run}
 

@@ -7,7 +7,7 @@ use Rattle.std.proofs.lemmas.List.Elements.{All-weaker}
 use Rattle.frame_stream.specs.declared.asked.Asked.TheVariants.{Call, End}
 use Rattle.frame_stream.specs.declared.frame.Frame.{Frame}
 use Rattle.script_text.specs.declared.what.What.TheVariants as what
-use Rattle.script_text.specs.Frames.{spelled, spellings, IsClose, IsCall, BeginsWithFrame, HasNoFrame, BeginWithCalls}
+use Rattle.frame_stream.specs.Frames.{spelled, spellings, IsClose, IsCall, BeginsWithFrame, HasNoFrame, BeginWithCalls}
 use Rattle.frame_stream.specs.Asked.{close_kind, asked_of, call_of}
 use Rattle.script_text.specs.Streams.{IsNoStream}
 

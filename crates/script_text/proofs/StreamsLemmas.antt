@@ -13,7 +13,7 @@ use Rattle.script_text.specs.declared.script.Stream.{Stream}
 use Rattle.script_text.specs.declared.script.Stream.TheVariants as stream
 use Rattle.script_text.specs.declared.what.What.{What}
 use Rattle.script_text.specs.declared.what.What.TheVariants as what
-use Rattle.script_text.specs.Frames.{spellings}
+use Rattle.frame_stream.specs.Frames.{spellings}
 use Rattle.script_text.specs.Streams.{stream_length, frame_count, IsBadAt, IsStreamOf, AreStreams, AreNoStreams}
 use Rattle.script_text.specs.Refusals.{AnswersStreams, AnswersBody}
 

@@ -1,16 +1,8 @@
 -- How the frames of a stream are kept: their headers, and the bytes that they begin.
-use Rattle.std.specs.Prelude.{ℕ, ◌+◌, ◌≤◌, List, [], ◌∷◌, length, take, drop}
+use Rattle.std.specs.Prelude.{ℕ, ◌≤◌, List, [], ◌∷◌, length, drop}
 use Rattle.frame_wire.specs.declared.head.Head.{Head}
-use Rattle.frame_wire.specs.Spelling.{header_length}
 use Rattle.frame_stream.specs.declared.frame.Frame.{Frame}
-
--- how many bytes the frame of a header takes
-abbrev pub span : Head → ℕ
-span h = header_length + h.len
-
--- the frame of a header that stands at the front of the bytes
-abbrev pub frame_under : Head → List ℕ → Frame
-frame_under h bytes = record { head = h; body = take h.len (drop header_length bytes) }
+use Rattle.frame_stream.specs.Frames.{span, frame_under}
 
 -- the frames of these headers, one after another from the front of the bytes
 abbrev pub frames_under : List Head → List ℕ → List Frame

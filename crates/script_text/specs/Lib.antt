@@ -1,5 +1,4 @@
 pub mod Words
-pub mod Frames
 pub mod Line
 pub mod Streams
 pub mod Script

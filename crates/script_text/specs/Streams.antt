@@ -8,7 +8,7 @@ use Rattle.script_text.specs.declared.script.Stream.{Stream}
 use Rattle.script_text.specs.declared.script.Stream.TheVariants as stream
 use Rattle.script_text.specs.declared.what.What.{What}
 use Rattle.script_text.specs.declared.what.What.TheVariants as what
-use Rattle.script_text.specs.Frames.{spelled, spellings, IsClose, BeginsWithFrame, HasNoFrame, BeginWithCalls}
+use Rattle.frame_stream.specs.Frames.{spelled, spellings, IsClose, BeginsWithFrame, HasNoFrame, BeginWithCalls}
 
 -- ---- one stream
 

@@ -1,6 +1,6 @@
 ghost use Rattle.std.specs.Prelude.{◌≡◌, ◌≤◌, ◌∷◌, ◌+◌, ◌++◌, [], length, drop, map, IfOk, IfSome, IfNone};
-ghost use Rattle.script_text.specs.Frames.{BeginsWithFrame, HasNoFrame};
-ghost use Rattle.script_text.specs.Kept.{span, frame_under, frames_under, HoldFrames};
+ghost use Rattle.frame_stream.specs.Frames.{BeginsWithFrame, HasNoFrame, span, frame_under};
+ghost use Rattle.script_text.specs.Kept.{frames_under, HoldFrames};
 
 use frame_stream::{Bytes, Frame};
 use frame_wire::{Decoded, HEADER_LENGTH, Head, decode};

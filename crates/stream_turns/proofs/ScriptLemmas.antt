@@ -8,7 +8,7 @@ use Rattle.script_head.specs.declared.head.StreamHead.TheVariants as head
 use Rattle.script_text.specs.declared.script.Script.{Script}
 use Rattle.script_text.specs.declared.script.Stream.{Stream}
 use Rattle.script_text.specs.declared.script.Stream.TheVariants as stream
-use Rattle.script_text.specs.Frames.{IsCall}
+use Rattle.frame_stream.specs.Frames.{IsCall}
 use Rattle.script_text.specs.Good.{IsGoodCommand, IsGoodStream}
 use Rattle.script_text.specs.Script.{IsScript}
 use Rattle.script_text.specs.Streams.{AreStreams, IsStreamOf}

@@ -2,8 +2,8 @@ use Rattle.std.proofs.Common.{◌≡◌, ◌∙◌, ◌+◌, ◌-◌, ◌≤◌,
 use Rattle.std.proofs.lemmas.List.{length_push}
 use Rattle.frame_stream.specs.declared.frame.Frame.{Frame}
 use Rattle.script_text.specs.declared.what.What.TheVariants as what
-use Rattle.script_text.specs.Frames.{BeginWithCalls, BeginsWithFrame}
-use Rattle.script_text.specs.Kept.{span, frame_under, frames_under, behind_frames, HoldFrames}
+use Rattle.frame_stream.specs.Frames.{BeginWithCalls, BeginsWithFrame, span, frame_under}
+use Rattle.script_text.specs.Kept.{frames_under, behind_frames, HoldFrames}
 use Rattle.script_text.specs.Streams.{IsEnd, IsNoStream}
 use Rattle.script_text.proofs.KeptLemmas.{length-frames, one_frame_more}
 use Rattle.script_text.proofs.StreamLemmas.{some_bytes, no_bytes, bad_here, bad_behind_close, call_too_many}

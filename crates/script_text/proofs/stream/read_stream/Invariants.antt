@@ -1,5 +1,5 @@
 use Rattle.std.proofs.Common.{◌≡◌, ◌+◌, ◌≤◌, length}
-use Rattle.script_text.specs.Frames.{BeginWithCalls}
+use Rattle.frame_stream.specs.Frames.{BeginWithCalls}
 use Rattle.script_text.specs.Kept.{frames_under, behind_frames, HoldFrames}
 use Rattle.script_text.proofs.stream.read_stream.Given as goal
 

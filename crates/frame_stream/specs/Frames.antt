@@ -1,7 +1,8 @@
 -- The frames of a stream, as bytes.
-use Rattle.std.specs.Prelude.{◌≡◌, ℕ, ◌≤◌, List, ◌++◌, length, All}
+use Rattle.std.specs.Prelude.{◌≡◌, ℕ, ◌+◌, ◌≤◌, List, ◌++◌, length, take, drop, All}
 use Rattle.std.specs.List.{flat_map}
-use Rattle.frame_wire.specs.Spelling.{frame, IsHead}
+use Rattle.frame_wire.specs.declared.head.Head.{Head}
+use Rattle.frame_wire.specs.Spelling.{header_length, frame, IsHead}
 use Rattle.frame_stream.specs.declared.frame.Frame.{Frame}
 use Rattle.frame_stream.specs.Asked.{close_kind}
 use Rattle.volume_model.specs.PlainStep.{longest_call}
@@ -41,3 +42,11 @@ HasNoFrame bytes = (f : Frame) (rest : List ℕ) → BeginsWithFrame bytes f res
 pub record BeginWithCalls (bytes : List ℕ) (frames : List Frame) (rest : List ℕ) : Type 0 where
   pub calls : All IsCall frames
   pub text : bytes ≡ spellings frames ++ rest
+
+-- how many bytes the frame of a header takes
+abbrev pub span : Head → ℕ
+span h = header_length + h.len
+
+-- the frame of a header that stands at the front of the bytes
+abbrev pub frame_under : Head → List ℕ → Frame
+frame_under h bytes = record { head = h; body = take h.len (drop header_length bytes) }
