@@ -1,10 +1,12 @@
-//! What a frame of a stream asks: a call of the volume, or the end of its stream.
+//! The frames of a stream: what each asks, and how they are read from pieces of bytes.
 #![tactic(auto)]
 
 mod asked;
 mod frame;
+mod reader;
 
 pub use asked::{Asked, of_frame};
 pub use frame::{CLOSE, Frame, PING, READ, WRITE};
 pub use frame_wire::Head;
+pub use reader::{FrameReader, Next};
 pub use volume_model::{Bytes, Call};
