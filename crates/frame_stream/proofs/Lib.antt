@@ -1,1 +1,3 @@
+pub mod FramesLemmas
 pub mod ReadingLemmas
+pub mod ReadingLaws

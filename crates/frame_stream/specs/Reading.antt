@@ -2,11 +2,12 @@
 use Rattle.std.specs.Prelude.{◌≡◌, ℕ, ◌+◌, ◌%◌, ◌^◌, ◌≤◌, List, [], ◌∷◌, ◌++◌, length, drop}
 use Rattle.frame_wire.specs.declared.decoded.Decoded.{Decoded}
 use Rattle.frame_wire.specs.declared.decoded.Decoded.TheVariants.{Short, BadMagic, TooLong, Frame}
-use Rattle.frame_wire.specs.Spelling.{header_length}
+use Rattle.frame_wire.specs.Spelling.{header_length, IsHead}
 use Rattle.frame_wire.specs.Decoding.{Decodes}
+use Rattle.frame_stream.specs.declared.frame.Frame.{Frame as Item}
 use Rattle.frame_stream.specs.declared.reader.Next.{Next}
 use Rattle.frame_stream.specs.declared.reader.Next.TheVariants as next
-use Rattle.frame_stream.specs.Frames.{frame_under}
+use Rattle.frame_stream.specs.Frames.{spelled, frame_under}
 
 -- what was fed and not given yet, the place of its first byte among all bytes that were fed, counted modulo 2^64, and
 -- the most data that a frame may have
@@ -37,6 +38,15 @@ pub record GivesNext (old new : Fed) (given : Next) : Type 0 where
   pub decodes : Decodes old.left old.most found
   pub gives : given ≡ next_by old found
   pub leaves : new ≡ fed_after old found
+
+-- a whole frame within the limit stands before what is left then, and the place is counted on by its length
+pub record StandsFirst (old new : Fed) (f : Item) : Type 0 where
+  pub head : IsHead f.head
+  pub body : length f.body ≡ f.head.len
+  pub fits : f.head.len ≤ old.most
+  pub bytes : old.left ≡ spelled f ++ new.left
+  pub place : new.place ≡ (old.place + length (spelled f)) % 2 ^ 64
+  pub most : new.most ≡ old.most
 
 -- ---- where it is looked for
 

@@ -3,6 +3,7 @@
 
 mod asked;
 mod frame;
+pub mod laws;
 mod reader;
 
 pub use asked::{Asked, of_frame};
