@@ -7,6 +7,12 @@ pub const READ: u32 = 0;
 /// The type of a frame that writes.
 pub const WRITE: u32 = 1;
 
+/// The type of a frame that answers a call.
+pub const RESPONSE: u32 = 2;
+
+/// The type of a frame that refuses a call.
+pub const ERROR: u32 = 3;
+
 /// The type of a frame that ends its stream.
 pub const CLOSE: u32 = 5;
 

@@ -7,7 +7,7 @@ pub mod laws;
 mod reader;
 
 pub use asked::{Asked, of_frame};
-pub use frame::{CLOSE, Frame, PING, READ, WRITE};
+pub use frame::{CLOSE, ERROR, Frame, PING, READ, RESPONSE, WRITE};
 pub use frame_wire::Head;
 pub use reader::{FrameReader, Next};
 pub use volume_model::{Bytes, Call};

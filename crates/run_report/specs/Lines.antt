@@ -19,8 +19,7 @@ use Rattle.volume_model.specs.declared.mark.Mark.{Mark}
 use Rattle.volume_model.specs.declared.mark.Mark.TheVariants as mark
 use Rattle.volume_model.specs.declared.mode.Mode.{Mode}
 use Rattle.volume_model.specs.declared.mode.Mode.TheVariants as mode
-use Rattle.volume_model.specs.Replay.{is_refusal}
-use Rattle.volume_model.specs.Texts.{refusal_text}
+use Rattle.frame_stream.specs.Replies.{error_text, reply_kind, reply_body, reply_size}
 use Rattle.run_report.specs.declared.reason.Reason.{Reason}
 use Rattle.run_report.specs.declared.reason.Reason.TheVariants as reason
 
@@ -72,12 +71,6 @@ call_text call.Ping = codes "ping"
 call_text (call.Other kind) = codes "other " ++ decimal kind
 call_text (call.Command c) = command_text c
 
--- why a call was not done, and nothing where it was: of an aborted rebuild the place of the mark that ended it
-abbrev pub error_text : Reply → List ℕ
-error_text (reply.Refused why) = refusal_text why
-error_text (reply.Aborted place) = codes "aborted " ++ decimal place
-error_text r = []
-
 -- what is answered
 abbrev pub reply_text : Reply → List ℕ
 reply_text reply.Done = codes "ok"
@@ -117,20 +110,6 @@ mark_line place m = word (decimal place) ++ codes "mark " ++ mark_text m ++ 10 �
 abbrev pub entry_line : ℕ → Entry → List ℕ
 entry_line place (entry.Answer a) = answer_line place a
 entry_line place (entry.Mark m) = mark_line place m
-
--- the type of the frame that replies: 2 is a response, 3 an error
-abbrev pub reply_kind : Reply → ℕ
-reply_kind r = if is_refusal r then 3 else 2
-
--- the data of that frame
-abbrev pub reply_body : Reply → List ℕ
-reply_body (reply.Read bytes) = bytes
-reply_body r = error_text r
-
--- what the size of that frame says: the bytes put by a write, and else the length of its data
-abbrev pub reply_size : Call → Reply → ℕ
-reply_size (call.Write offset bytes) reply.Done = length bytes
-reply_size asked r = length (reply_body r)
 
 -- the header of the frame that replies: seq and offset of the frame that asked, its own type and size
 abbrev pub header_words : Head → Answer → List ℕ

@@ -1,17 +1,13 @@
 ghost use Rattle.std.specs.Prelude.{◌≡◌, ◌++◌, OnOk, OnErr, take, length};
-ghost use Rattle.run_report.specs.Lines.{reply_line, header_words, reply_kind, reply_size, reply_body, error_text};
+ghost use Rattle.frame_stream.specs.Replies.{reply_kind, reply_size, reply_body, error_text};
+ghost use Rattle.run_report.specs.Lines.{reply_line, header_words};
 
 use crate::words::{append_error, append_number, append_offset, whole_or_none};
+use frame_stream::{ERROR, RESPONSE};
 use frame_wire::Head;
 use image_runs::print_runs;
 use std::alloc::AllocError;
 use volume_model::{Answer, Call, Reply};
-
-/// The type of the frame that answers a call.
-const RESPONSE: u64 = 2;
-
-/// The type of the frame that refuses a call.
-const ERROR: u64 = 3;
 
 /// Appends the line of the reply to a frame with this header, which asked what was answered.
 pub fn print_reply(asked: &Head, answer: &Answer, into: &mut Vec<u8>) -> Result<(), AllocError>
@@ -60,8 +56,8 @@ fn kind_of(reply: &Reply) -> u64
     ensures { result ≡ reply_kind reply.now }
 {
     match reply {
-        Reply::Done | Reply::Read(_) | Reply::Status { .. } => RESPONSE,
-        Reply::Refused(_) | Reply::Aborted(_) => ERROR,
+        Reply::Done | Reply::Read(_) | Reply::Status { .. } => u64::from(RESPONSE),
+        Reply::Refused(_) | Reply::Aborted(_) => u64::from(ERROR),
     }
 }
 

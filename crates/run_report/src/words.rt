@@ -1,6 +1,7 @@
 ghost use Rattle.std.specs.Prelude.{◌≡◌, ◌++◌, ◌∷◌, OnOk, OnErr, take, length, flat_map};
 ghost use Rattle.std.specs.Fmt.{decimal, signed_decimal};
-ghost use Rattle.run_report.specs.Lines.{word, replica_text, mode_text, modes_text, error_text};
+ghost use Rattle.frame_stream.specs.Replies.{error_text};
+ghost use Rattle.run_report.specs.Lines.{word, replica_text, mode_text, modes_text};
 
 use itoa::Buffer;
 use std::alloc::AllocError;
