@@ -1,14 +1,12 @@
 -- Lemmas on specs/Kept.antt.
-use Rattle.std.proofs.Common.{◌≡◌, ◌∙◌, ℕ, suc, ◌+◌, ◌≤◌, List, [], ◌∷◌, ◌++◌, length, map, take, drop, refl, sym, ap}
-use Rattle.std.proofs.Common.{subst, arith, append_assoc}
-use Rattle.std.proofs.Math.Seq.{drop-append_seam, drop-append-add}
-use Rattle.std.proofs.lemmas.List.{take-append-drop, length-take-le}
+use Rattle.std.proofs.Common.{◌≡◌, ◌∙◌, ℕ, suc, ◌≤◌, List, [], ◌∷◌, ◌++◌, length, map, drop, refl, sym, ap}
+use Rattle.std.proofs.Common.{subst}
 use Rattle.frame_wire.specs.declared.head.Head.{Head}
-use Rattle.frame_wire.specs.Spelling.{header_length, header}
 use Rattle.frame_wire.specs.Decoding.{HoldsFrame}
 use Rattle.volume_model.specs.PlainStep.{longest_call}
 use Rattle.frame_stream.specs.declared.frame.Frame.{Frame}
 use Rattle.frame_stream.specs.Frames.{IsClose, BeginsWithFrame, BeginWithCalls, span, frame_under}
+use Rattle.frame_stream.proofs.FramesLemmas.{data_of_frame, frame_and_rest}
 use Rattle.script_text.specs.Kept.{frames_under, behind_frames, HoldFrames}
 use Rattle.script_text.proofs.FramesLemmas.{one_call_more}
 
@@ -40,26 +38,10 @@ heads-frames (h ∷ hs) bytes = ap (λ l. h ∷ l) (heads-frames hs (drop (span 
 -- bytes that hold a frame begin with the one of its header
 pub front_frame : (bytes : List ℕ) (h : Head) → HoldsFrame bytes longest_call h
     → BeginsWithFrame bytes (frame_under h bytes) (drop (span h) bytes)
-front_frame bytes h (rest, begin, long, most) =
-    let n : length (header h) ≡ header_length = omega arith in
-    let after : drop header_length bytes ≡ rest =
-    subst (λ k. drop k bytes ≡ rest) n (ap (drop (length (header h))) begin.whole ∙ drop-append_seam (header h) rest) in
-    let more : drop (span h) bytes ≡ drop h.len rest =
-    subst (λ k. drop (k + h.len) bytes ≡ drop h.len rest) n
-    (ap (drop (length (header h) + h.len)) begin.whole ∙ drop-append-add (header h) rest h.len) in
-    record {
-      whole = record {
-        head = begin.head;
-        body = length-take-le h.len (drop header_length bytes)
-            (omega (arith, ap length after, long));
-        most = most;
-      };
-      text =
-          begin.whole ∙ ap (λ l. header h ++ l) (sym (take-append-drop h.len rest))
-          ∙ sym (append_assoc (header h) (take h.len rest) (drop h.len rest))
-          ∙ ap (λ l. (header h ++ take h.len l) ++ drop h.len rest) (sym after)
-          ∙ ap (λ l. (header h ++ take h.len (drop header_length bytes)) ++ l) (sym more);
-    }
+front_frame bytes h holds = record {
+  whole = record { head = holds.1.head; body = data_of_frame bytes longest_call h holds; most = holds.3 };
+  text = frame_and_rest bytes longest_call h holds;
+}
 
 -- one call more is kept by its header
 pub one_frame_more : (bytes : List ℕ) (hs : List Head) (h : Head) (rest : List ℕ)

@@ -43,11 +43,11 @@ impl Frames {
         self.heads.len()
     }
 
-    /// The frames, one after another from the first. Their data shares the stream's bytes.
-    pub fn reader(&self) -> Result<FrameReader<'_>, AllocError>
-        ensures { IfOk result (λ reader. reader ≡ self.now) }
+    /// The frames, to be taken one after another from the first. Their data shares the stream's bytes.
+    pub fn left(&self) -> Result<FramesLeft<'_>, AllocError>
+        ensures { IfOk result (λ left. left ≡ self.now) }
     {
-        Ok(FrameReader {
+        Ok(FramesLeft {
             heads: &self.heads,
             bytes: self.bytes.slice(..)?,
         })
@@ -62,14 +62,14 @@ impl Frames {
     }
 }
 
-/// Reads frames one after another. A contract sees it as the list of those that are left.
+/// The frames of a stream that are left. A contract sees it as their list.
 #[derive(Drop)]
-pub struct FrameReader<'a> {
+pub struct FramesLeft<'a> {
     heads: &'a [Head],
     bytes: Bytes,
 }
 
-impl<'a> Model for FrameReader<'a> {
+impl<'a> Model for FramesLeft<'a> {
     ghost use Rattle.std.specs.Prelude.{List};
     ghost use Rattle.frame_stream.specs.declared.frame.Frame.{Frame as Item};
     ghost use Rattle.script_text.specs.Kept.{frames_under, HoldFrames};
@@ -81,8 +81,8 @@ impl<'a> Model for FrameReader<'a> {
     ghost invariant = { λ r. HoldFrames r.heads.now r.bytes };
 }
 
-impl<'a> FrameReader<'a> {
-    /// The next frame, which is then no longer left.
+impl<'a> FramesLeft<'a> {
+    /// The first of them, which is then no longer left.
     pub fn next(&mut self) -> Result<Option<Frame>, AllocError>
         ensures some { IfOk result (λ next. IfSome next (λ frame. self.old ≡ frame ∷ self.new)) }
         ensures none { IfOk result (λ next. IfNone next (self.old ≡ [])) }

@@ -12,7 +12,7 @@ mod what;
 
 pub use error::ScriptError;
 pub use frame_stream::{Asked, Bytes, Call, Frame, Head, of_frame};
-pub use frames::{FrameReader, Frames};
+pub use frames::{Frames, FramesLeft};
 pub use script::{Script, Stream, read_script};
 pub use script_head::limits::{MOST_CALLS, MOST_INPUT};
 pub use script_head::{Command, LinePlan, Member, Sequence, TimeText, plan_of};
