@@ -1,0 +1,13 @@
+pub mod Phases
+pub mod Calls
+pub mod Frames
+pub mod Controls
+pub mod MarkSteps
+pub mod PurgedMarks
+pub mod Marks
+pub mod Runs
+pub mod Slices
+pub mod Alone
+pub mod NoFaults
+pub mod OneWorker
+pub mod Outcome
