@@ -16,10 +16,9 @@ use Rattle.script_head.specs.declared.line_plan.LinePlan.{LinePlan}
 use Rattle.script_text.specs.declared.script.Script.{Script}
 use Rattle.script_text.specs.declared.script.Stream.{Stream}
 use Rattle.script_text.specs.declared.script.Stream.TheVariants as stream
-use Rattle.script_text.specs.Good.{backs_up, IsGoodCommand, IsGoodStream, AreCarries, IsGoodPlan}
+use Rattle.script_text.specs.Good.{backs_up, IsGoodCommand, IsGoodStream, AreCarries, IsGoodPlan, IsGood}
 use Rattle.script_text.specs.Script.{IsScript}
 use Rattle.script_text.specs.Streams.{AreStreams, IsStreamOf}
-use Rattle.script_text.proofs.StreamLemmas.{All-asked}
 
 -- each of the items is an item, and so each of the list is good
 all_good : {A : Type 0} (IsItem : Data → A → Type 0) (IsGood : A → Type 0) → ((d : Data) (a : A) → IsItem d a → IsGood a)
@@ -57,7 +56,7 @@ good_command replicas d c (text, there, is, names) = record { named = is.named; 
 
 good_stream : (replicas : ℕ) (d : Data) (h : StreamHead) (bytes : List ℕ) (s : Stream) → IsStreamItem replicas d h
     → IsStreamOf h bytes s → IsGoodStream replicas s
-good_stream replicas d (head.Frames count) bytes (stream.Frames frames) says is = All-asked frames is.1.calls
+good_stream replicas d (head.Frames count) bytes (stream.Frames frames) says is = is.1.calls
 good_stream replicas d (head.Frames count) bytes (stream.Control commands) says is = absurd is
 good_stream replicas d (head.Control commands) bytes (stream.Frames frames) says is = absurd is
 good_stream replicas d (head.Control commands) bytes (stream.Control others) says is =
@@ -155,3 +154,22 @@ pub rising_carries : (input : List ℕ) (script : Script) (worker replica : ℕ)
     → AreCarries (planned script.lines worker replica)
 rising_carries input script worker replica is =
     planned_of (length script.streams) script.replicas script.lines worker replica (good_plans input script is).0
+
+-- ---- all of it
+
+pub good_script : (input : List ℕ) (script : Script) → IsScript input script → IsGood script
+good_script input script is =
+    let replicas = few_replicas input script is in
+    let streams = few_streams input script is in
+    let plans = good_plans input script is in
+    record {
+      some_replicas = replicas.0;
+      few_replicas = replicas.1;
+      some_streams = streams.0;
+      few_streams = streams.1;
+      streams = good_streams input script is;
+      calls = is.calls;
+      backups = one_backs_up input script is;
+      plans = plans.0;
+      once = plans.1;
+    }

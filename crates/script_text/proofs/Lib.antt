@@ -8,3 +8,5 @@ pub mod KeptLemmas
 pub mod GoodLemmas
 pub mod KnownFrames
 pub mod EachInput
+pub mod GeneratedLemmas
+pub mod GeneratedGood

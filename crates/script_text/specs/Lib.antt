@@ -5,3 +5,4 @@ pub mod Script
 pub mod Refusals
 pub mod Kept
 pub mod Good
+pub mod Generated

@@ -1,14 +1,16 @@
 //! What follows from the definitions alone. Each law is a contract.
 
-ghost use Rattle.std.specs.Prelude.{◌≡◌, ◌⊎◌, ◌≤◌, List, ℕ, length, count_by, All};
+ghost use Rattle.std.specs.Prelude.{◌≡◌, ◌⊎◌, ◌+◌, ◌<◌, ◌≤◌, List, ℕ, length, slice_get, count_by, All, Some, false};
 ghost use Rattle.frame_stream.specs.Asked.{asked_of, call_of};
 ghost use Rattle.script_head.specs.LinePlans.{NoPairTwice, planned};
-ghost use Rattle.script_text.specs.Good.{IsGoodStream, AreCarries, IsGoodPlan, backs_up};
+ghost use Rattle.script_text.specs.Generated.{CanGenerate, KeepsToPage, frames_of, control_commands, generated};
+ghost use Rattle.script_text.specs.Good.{IsGoodStream, AreCarries, IsGoodPlan, IsGood, backs_up};
 ghost use Rattle.script_text.specs.Script.{IsScript, IsNoScript};
 ghost use Rattle.script_text.specs.Streams.{IsStream};
 ghost use Rattle.frame_stream.specs.declared.asked.Asked.TheVariants as asked;
 ghost use Rattle.frame_stream.specs.declared.frame.Frame.{Frame};
 ghost use Rattle.script_text.specs.declared.script.Script.{Script};
+ghost use Rattle.script_text.specs.declared.script.Stream.TheVariants as stream;
 ghost use Rattle.script_text.specs.declared.what.What.{What};
 
 /// An input is one script, or is none for one reason at one place, and never both.
@@ -68,4 +70,36 @@ pub fn a_script_plans_a_line_once()
 pub fn a_script_plans_rising_carries()
     ensures { (input : List ℕ) (script : Script) (worker replica : ℕ)
         → IsScript input script → AreCarries (planned script.lines worker replica) }
+{}
+
+/// So it is good.
+pub fn a_script_is_good()
+    ensures { (input : List ℕ) (script : Script) → IsScript input script → IsGood script }
+{}
+
+/// So is each generated script.
+pub fn a_generated_script_is_good()
+    ensures { (number streams calls : ℕ)
+        → CanGenerate streams calls → IsGood (generated number streams calls) }
+{}
+
+/// Its streams are so many of frames, each with a page of its own, and then the control stream. None has backups.
+pub fn a_generated_script_has_these_streams()
+    ensures count { (number streams calls : ℕ)
+        → length (generated number streams calls).streams ≡ streams + 1 }
+    ensures frames { (number streams calls page : ℕ) → page < streams
+        → slice_get (generated number streams calls).streams page
+        ≡ Some (stream.Frames (frames_of number calls page)) }
+    ensures control { (number streams calls : ℕ)
+        → slice_get (generated number streams calls).streams streams
+        ≡ Some (stream.Control control_commands) }
+    ensures backups { (number streams calls : ℕ)
+        → All (λ s. backs_up s ≡ false) (generated number streams calls).streams }
+{}
+
+/// The frames of each are so many, and they read and write within its page alone.
+pub fn a_generated_stream_keeps_to_its_page()
+    ensures count { (number calls page : ℕ) → length (frames_of number calls page) ≡ calls }
+    ensures page { (number calls page : ℕ)
+        → All (λ f. KeepsToPage page (call_of f)) (frames_of number calls page) }
 {}

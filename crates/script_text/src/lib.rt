@@ -3,8 +3,10 @@
 
 mod error;
 mod frames;
+mod generated;
 pub mod laws;
 mod line;
+pub mod rows;
 mod script;
 mod stream;
 mod streams;
@@ -13,6 +15,7 @@ mod what;
 pub use error::ScriptError;
 pub use frame_stream::{Asked, Bytes, Call, Frame, Head, of_frame};
 pub use frames::{Frames, FramesLeft};
+pub use generated::make_script;
 pub use script::{Script, Stream, read_script};
 pub use script_head::limits::{MOST_CALLS, MOST_INPUT};
 pub use script_head::{Command, LinePlan, Member, Sequence, TimeText, plan_of};
