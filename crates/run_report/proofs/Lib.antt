@@ -1,3 +1,3 @@
 pub mod Appends
 pub mod ReportLemmas
-mod ModeWords
+mod PartedWords

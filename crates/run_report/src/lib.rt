@@ -8,6 +8,7 @@ mod opening_line;
 mod reason;
 mod reply_line;
 pub mod rows;
+mod summary_lines;
 mod words;
 
 pub use end_lines::{print_chain, print_head, print_mode};
@@ -15,3 +16,4 @@ pub use entry_line::print_entry;
 pub use opening_line::print_opening;
 pub use reason::Reason;
 pub use reply_line::print_reply;
+pub use summary_lines::{print_control, print_disk, print_modes, print_stream};

@@ -5,7 +5,7 @@ ghost use Rattle.std.specs.Prelude.{◌≡◌, ◌∷◌, [], map, codes, pos, t
 ghost use Rattle.volume_model.specs.declared.command.Command.TheVariants as command;
 ghost use Rattle.volume_model.specs.declared.call.Call.TheVariants as call;
 ghost use Rattle.volume_model.specs.declared.call.Reply.TheVariants as reply;
-ghost use Rattle.volume_model.specs.declared.call.Refusal.TheVariants.{BackupExists, BlockDiffers, TargetFault};
+ghost use Rattle.volume_model.specs.declared.call.Refusal.TheVariants.{NoReplica, BackupExists, BlockDiffers, TargetFault};
 ghost use Rattle.volume_model.specs.PlainState.{state_of};
 ghost use Rattle.volume_model.specs.Replay.{replay};
 ghost use Rattle.volume_model.specs.Snapshots.{chain_of};
@@ -17,6 +17,7 @@ ghost use Rattle.volume_model.specs.declared.mode.Mode.TheVariants as mode;
 ghost use Rattle.run_report.specs.declared.reason.Reason.TheVariants as reason;
 ghost use Rattle.run_report.specs.Lines.{reason_text, opening_line, call_text, reply_text, reply_line, mode_line, chain_line};
 ghost use Rattle.run_report.specs.Report.{opening_lines, journal_lines, call_lines};
+ghost use Rattle.run_report.specs.Summary.{stream_line, control_line, modes_line, disk_line, summary_of};
 
 use crate::reason::Reason;
 
@@ -116,4 +117,18 @@ pub fn the_end_reads()
         ∷ command.Snapshot (codes "c") ∷ command.Remove (codes "a") ∷ []) ∷ []))).volume.snapshots)
         ≡ codes "chain r0 head c a*\n" }
     ensures unsaid { chain_line None [] ≡ codes "chain head\n" }
+{}
+
+/// What is printed of a generated load: of a stream, of the commands, of the replicas, and of a disk.
+pub fn the_summary_reads()
+    ensures stream { stream_line 14 (codes "0f") ≡ codes "stream 14 0f\n" }
+    ensures done { control_line
+        (reply.Done ∷ reply.Done ∷ reply.Done ∷ reply.Done ∷ reply.Done ∷ [])
+        ≡ codes "control ok,ok,ok,ok,ok\n" }
+    ensures refused { control_line (reply.Done ∷ reply.Refused NoReplica ∷ [])
+        ≡ codes "control ok,error no replica\n" }
+    ensures modes { modes_line (mode.Rw ∷ mode.Rw ∷ []) ≡ codes "modes RW,RW\n" }
+    ensures disk { disk_line (codes "0f") ≡ codes "disk 0f\n" }
+    ensures failed { summary_of [] (reply.Done ∷ reply.Aborted 7 ∷ []) (mode.Err ∷ mode.Err ∷ [])
+        None ≡ codes "control ok,error aborted 7\nmodes ERR,ERR\n" }
 {}

@@ -1,0 +1,6 @@
+use Rattle.std.proofs.Common.{◌≡◌, ◌∷◌, ◌++◌, take, flat_map}
+use Rattle.run_report.specs.Lines.{reply_text}
+use Rattle.run_report.proofs.summary_lines.append_more_replies.Given as goal
+
+abbrev pub invariant-loop-reply : goal.invariant-loop-reply
+invariant-loop-reply l = l.into.items ≡ l.fn.into.items ++ flat_map (λ r. 44 ∷ reply_text r) (take l.reply-index l.replies)
