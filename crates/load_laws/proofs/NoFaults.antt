@@ -5,8 +5,7 @@ use Rattle.volume_model.specs.declared.entry.Entry.{Entry}
 use Rattle.volume_model.specs.declared.entry.Entry.TheVariants as entry
 use Rattle.volume_model.specs.declared.mark.Mark.{Mark}
 use Rattle.volume_model.specs.declared.mark.Mark.TheVariants as mark
-use Rattle.volume_model.specs.Faults.{count_first, fault_counts, RisesTo, FaultsShown}
-use Rattle.load_laws.specs.Load.{NamesLine}
+use Rattle.volume_model.specs.Faults.{NamesLine, count_first, fault_counts, RisesTo, FaultsShown}
 use Rattle.load_laws.proofs.Marks.{IsNoFault}
 use Rattle.load_laws.proofs.Runs.{HasNoFault}
 

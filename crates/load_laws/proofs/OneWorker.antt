@@ -9,10 +9,10 @@ use Rattle.volume_model.specs.declared.entry.Entry.{Entry}
 use Rattle.volume_model.specs.declared.entry.Entry.TheVariants as entry
 use Rattle.volume_model.specs.declared.mark.Mark.{Mark}
 use Rattle.volume_model.specs.declared.mark.Mark.TheVariants as mark
-use Rattle.volume_model.specs.Faults.{fault_counts}
+use Rattle.volume_model.specs.Faults.{NamesLine, fault_counts}
 use Rattle.volume_model.specs.OneWorker.{Store, AllProper, AreProper, IsProper, call_count, served, stream_of}
 use Rattle.volume_model.proofs.OneWorkerLemmas.{served_is_history}
-use Rattle.load_laws.specs.Load.{blank_disk, fresh, NamesLine, IsFrameIn, control_calls, IsLoad, IsRunOfLoad}
+use Rattle.load_laws.specs.Load.{blank_disk, fresh, IsFrameIn, control_calls, IsLoad, IsRunOfLoad}
 use Rattle.load_laws.proofs.NoFaults.{none_rises, none_later, fault_counted}
 
 -- ---- the calls are as a script may have them

@@ -4,12 +4,11 @@ use Rattle.volume_model.specs.declared.command.Command.TheVariants as command
 use Rattle.volume_model.specs.declared.call.Call.{Call}
 use Rattle.volume_model.specs.declared.call.Call.TheVariants as call
 use Rattle.volume_model.specs.declared.entry.Entry.{Entry}
-use Rattle.volume_model.specs.declared.entry.Entry.TheVariants as entry
-use Rattle.volume_model.specs.declared.mark.Mark.TheVariants as mark
 use Rattle.volume_model.specs.declared.mode.Mode.TheVariants.{Rw}
 use Rattle.volume_model.specs.Disk.{zeros}
 use Rattle.volume_model.specs.PlainState.{state_of}
 use Rattle.volume_model.specs.PlainStep.{longest_call}
+use Rattle.volume_model.specs.Faults.{NamesLine}
 use Rattle.volume_model.specs.History.{Spot, IsHistory}
 
 -- ---- the volume
@@ -60,11 +59,6 @@ pub record IsLoad (slices : ℕ) (calls : ℕ → List Call) : Type 0 where
   pub others : (stream : ℕ) → slices < stream → calls stream ≡ []
 
 -- ---- a run of it
-
--- a fault mark names a line from one of so many streams to one of so many replicas
-abbrev pub NamesLine : ℕ → ℕ → Entry → Type 0
-NamesLine streams replicas (entry.Mark (mark.Fault stream replica count)) = (stream < streams) × (replica < replicas)
-NamesLine streams replicas e = Unit {0}
 
 -- The journal is one legal history of the load on a fresh volume, over lines that counted these faults: none. What faults
 -- it shows are of these lines.

@@ -14,7 +14,8 @@ use Rattle.volume_model.specs.OneWorker.{behind_entries}
 use Rattle.volume_model.proofs.OneWorkerLemmas.{length-modes_after}
 use Rattle.volume_core.specs.Streams.{MayAppend}
 use Rattle.world_holder.specs.View.{own_entries}
-use Rattle.stream_turns.specs.Run.{NamesLine, StandInTurn}
+use Rattle.volume_model.specs.Faults.{NamesLine}
+use Rattle.stream_turns.specs.Run.{StandInTurn}
 use Rattle.stream_turns.proofs.Own.{none_first, none_behind}
 
 -- ---- faults

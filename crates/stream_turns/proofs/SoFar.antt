@@ -8,7 +8,7 @@ use Rattle.std.proofs.lemmas.List.{length-append, length-map, map-append}
 use Rattle.volume_model.specs.declared.call.Call.{Call}
 use Rattle.volume_model.specs.Replay.{replay}
 use Rattle.volume_model.specs.declared.entry.Entry.{Entry}
-use Rattle.volume_model.specs.Faults.{last_count}
+use Rattle.volume_model.specs.Faults.{NamesLine, last_count}
 use Rattle.volume_model.specs.History.{Spot, IsLegal, calls_of}
 use Rattle.volume_model.specs.OneWorker.{served, stream_of}
 use Rattle.volume_model.proofs.OneWorkerLemmas.{length-modes_after}
@@ -25,7 +25,7 @@ use Rattle.world_holder.specs.View.{own_entries}
 use Rattle.world_holder.proofs.Grow.{same_opening}
 use Rattle.stream_turns.specs.declared.serving.ServedStreams.{ServedStreams}
 use Rattle.stream_turns.specs.Turn.{IsTaken, IsBetween, HasNoEntry, KeepsOrigin, HasTurn, HaveTurns}
-use Rattle.stream_turns.specs.Run.{NamesLine, store_in}
+use Rattle.stream_turns.specs.Run.{store_in}
 use Rattle.stream_turns.specs.Serving.{IsBegun, IsServed, IsServedInTurn}
 use Rattle.stream_turns.specs.Turns.{IsTurn, AreTurns, TellsOthers}
 use Rattle.stream_turns.specs.Volume.{stream_calls, heads_of}

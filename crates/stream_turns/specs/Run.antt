@@ -2,7 +2,7 @@
 use Rattle.std.specs.Prelude.{◌≡◌, ℕ, zero, suc, ◌<◌, ◌≤◌, List, [], ◌∷◌, length, All, Option, None, IfSome}
 use Rattle.volume_model.specs.declared.entry.Entry.{Entry}
 use Rattle.volume_model.specs.declared.entry.Entry.TheVariants as entry
-use Rattle.volume_model.specs.declared.mark.Mark.TheVariants as mark
+use Rattle.volume_model.specs.Faults.{NamesLine}
 use Rattle.volume_model.specs.History.{Spot, IsHistory}
 use Rattle.volume_model.specs.OneWorker.{Against, Store, served, stream_of}
 use Rattle.client_worker.specs.Exchanges.{ExchangesShown}
@@ -10,11 +10,6 @@ use Rattle.frame_wire.specs.Spelling.{IsFrame}
 use Rattle.control_worker.specs.Store.{told_by}
 use Rattle.script_text.specs.declared.script.Script.{Script}
 use Rattle.stream_turns.specs.Volume.{calls_in}
-
--- a fault mark names a line from one of so many streams to one of so many replicas
-abbrev pub NamesLine : ℕ → ℕ → Entry → Type 0
-NamesLine streams replicas (entry.Mark (mark.Fault stream replica count)) = (stream < streams) × (replica < replicas)
-NamesLine streams replicas e = Unit {0}
 
 -- The journal is one legal history of the script's calls from that spot on, over lines that counted these faults and told
 -- that they carried this, by stream and replica. The faults that it shows are of the run's own lines, what it tells as

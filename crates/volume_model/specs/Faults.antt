@@ -5,6 +5,11 @@ use Rattle.volume_model.specs.declared.mark.Mark.TheVariants as mark
 use Rattle.volume_model.specs.declared.entry.Entry.{Entry}
 use Rattle.volume_model.specs.declared.entry.Entry.TheVariants as entry
 
+-- a fault mark names a line from one of so many streams to one of so many replicas
+abbrev pub NamesLine : ℕ → ℕ → Entry → Type 0
+NamesLine streams replicas (entry.Mark (mark.Fault stream replica count)) = (stream < streams) × (replica < replicas)
+NamesLine streams replicas e = Unit {0}
+
 -- the count before those of more marks, where the mark is one of the line
 abbrev pub count_first : ℕ → ℕ → Mark → List ℕ → List ℕ
 count_first stream replica (mark.Fault s r count) more = if s == stream && r == replica then count ∷ more else more
