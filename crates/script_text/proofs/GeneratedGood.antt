@@ -13,7 +13,7 @@ use Rattle.frame_stream.specs.Asked.{call_of}
 use Rattle.frame_stream.specs.declared.frame.Frame.{Frame}
 use Rattle.script_text.specs.declared.generated.Drawn.{Drawn}
 use Rattle.script_text.specs.declared.script.Stream.TheVariants as stream
-use Rattle.script_text.specs.Frames.{IsCall}
+use Rattle.frame_stream.specs.Frames.{IsCall}
 use Rattle.script_text.specs.Generated.{CanGenerate, drawn_behind, state_behind, page_bytes, read_frame, write_frame, frame_in}
 use Rattle.script_text.specs.Generated.{frames_behind, frames_of, control_commands, streams_from, generated, LieInPage, KeepsToPage}
 use Rattle.script_text.specs.Good.{backs_up, IsGoodCommand, IsGoodStream, IsGoodPlan, IsGood}

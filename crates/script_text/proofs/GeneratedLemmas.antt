@@ -9,9 +9,9 @@ use Rattle.frame_wire.specs.Spelling.{header_length, header}
 use Rattle.frame_stream.specs.declared.frame.Frame.{Frame}
 use Rattle.script_text.specs.declared.script.Stream.{Stream}
 use Rattle.script_text.specs.declared.script.Stream.TheVariants as stream
-use Rattle.script_text.specs.Frames.{spelled, spellings}
+use Rattle.frame_stream.specs.Frames.{spelled, spellings, span, frame_under}
 use Rattle.script_text.specs.Generated.{drawn_behind, state_behind, frame_in, frames_behind, frames_of, control_commands, streams_from}
-use Rattle.script_text.specs.Kept.{span, frame_under, frames_under, HoldFrames}
+use Rattle.script_text.specs.Kept.{frames_under, HoldFrames}
 
 -- ---- the bytes of a frame
 

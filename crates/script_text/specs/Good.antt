@@ -9,7 +9,7 @@ use Rattle.script_head.specs.declared.line_plan.LinePlan.{LinePlan}
 use Rattle.script_text.specs.declared.script.Script.{Script}
 use Rattle.script_text.specs.declared.script.Stream.{Stream}
 use Rattle.script_text.specs.declared.script.Stream.TheVariants as stream
-use Rattle.script_text.specs.Frames.{IsCall}
+use Rattle.frame_stream.specs.Frames.{IsCall}
 use Rattle.script_text.specs.Streams.{stream_length}
 
 -- a command that a script of so many replicas may have: it is of one that is there

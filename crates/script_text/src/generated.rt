@@ -1,5 +1,5 @@
 ghost use Rattle.std.specs.Prelude.{◌≡◌, ◌*◌, ◌<◌, ◌≤◌, ◌∷◌, ◌++◌, [], codes, replicate, IfOk, OnOk};
-ghost use Rattle.script_text.specs.Frames.{spelled};
+ghost use Rattle.frame_stream.specs.Frames.{spelled};
 ghost use Rattle.script_text.specs.Generated.{CanGenerate, next_state, drawn_in, drawn_behind, state_behind};
 ghost use Rattle.script_text.specs.Generated.{page_bytes, frame_in, frames_of, control_commands, streams_from, generated};
 
