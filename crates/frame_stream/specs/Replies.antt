@@ -2,7 +2,7 @@
 use Rattle.std.specs.Prelude.{ℕ, List, [], ◌++◌, length, codes, if◌then◌else◌}
 use Rattle.std.specs.Fmt.{decimal}
 use Rattle.frame_wire.specs.declared.head.Head.{Head}
-use Rattle.frame_wire.specs.Spelling.{frame}
+use Rattle.frame_wire.specs.Spelling.{header}
 use Rattle.volume_model.specs.declared.call.Call.{Call}
 use Rattle.volume_model.specs.declared.call.Call.TheVariants as call
 use Rattle.volume_model.specs.declared.call.Reply.{Reply}
@@ -40,6 +40,10 @@ reply_head asked c r = record {
   len = length (reply_body r);
 }
 
+-- a header, as bytes: it stays shut in what cites it
+unfoldable pub head_bytes : Head → List ℕ
+head_bytes h = header h
+
 -- the whole frame, as bytes
 abbrev pub reply_frame : Head → Call → Reply → List ℕ
-reply_frame asked c r = frame (reply_head asked c r) (reply_body r)
+reply_frame asked c r = head_bytes (reply_head asked c r) ++ reply_body r
