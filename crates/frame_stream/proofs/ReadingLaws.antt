@@ -69,7 +69,8 @@ kept_short fed (BadMagic n) e = refl
 kept_short fed (TooLong n) e = refl
 kept_short fed (Frame h used) e = cc
 
-kept_bad : (fed : Fed) (place : ℕ) (found : Decoded) → next.Bad place ≡ next_by fed found → (fed_after fed found ≡ fed) × (place ≡ fed.place)
+kept_bad : (fed : Fed) (place : ℕ) (found : Decoded) → next.Bad place ≡ next_by fed found
+    → (fed_after fed found ≡ fed) × (place ≡ fed.place)
 kept_bad fed place Short e = absurd cc
 kept_bad fed place (BadMagic n) e = (refl, cc)
 kept_bad fed place (TooLong n) e = (refl, cc)

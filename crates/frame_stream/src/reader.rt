@@ -94,8 +94,8 @@ impl FrameReader {
     }
 }
 
-/// What the bytes held and the piece behind them decode to. Bytes of the piece go behind those that are held, as many as
-/// their frame lacks.
+/// What the bytes held and the piece behind them decode to. Bytes of the piece go behind those that are held, as many
+/// as their frame lacks.
 fn find(held: &mut BytesMut, piece: &mut Bytes, most: u32) -> Result<Decoded, AllocError>
     ensures means { IfOk result (Decodes (held.old.items ++ piece.old) most) }
     ensures within { IfOk result (IsWithin (front_of held.new.items piece.new)) }
@@ -114,7 +114,7 @@ fn find(held: &mut BytesMut, piece: &mut Bytes, most: u32) -> Result<Decoded, Al
     Ok(found)
 }
 
-/// How many bytes more the frame takes that begins so, as far as they tell; one at least.
+/// How many bytes the frame lacks that begins with those held, as far as they tell; one at least.
 fn lacking(held: &[u8]) -> usize
     ensures { 0 < result }
 {
@@ -128,7 +128,7 @@ fn lacking(held: &[u8]) -> usize
         .max(1)
 }
 
-/// The data of the frame that stands first and takes so many bytes, which are then no longer there. No byte is copied.
+/// The data of the frame that stands first and takes so many bytes, which are then gone. No byte is copied.
 fn cut(held: &mut BytesMut, piece: &mut Bytes, used: usize) -> Result<Bytes, AllocError>
     requires header { header_length ≤ used }
     requires within { used ≤ length (front_of held.old.items piece.old) }
