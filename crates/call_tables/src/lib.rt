@@ -6,6 +6,8 @@ mod commands;
 #[cfg(test)]
 mod digests;
 #[cfg(test)]
+mod frames;
+#[cfg(test)]
 mod journal;
 #[cfg(test)]
 mod outside;
