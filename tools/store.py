@@ -1,5 +1,5 @@
 """A backup store, read from its files: the disk of a backup, the list of a volume's backups, or the object that is refused first;
-and written, since no command makes a backup."""
+and written, for tests that need other stores than a run makes."""
 import hashlib
 import json
 import os

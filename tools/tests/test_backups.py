@@ -226,6 +226,20 @@ class Backups(ProgramTest):
             self.assertTrue((zeros, run.stdout.read()) == ((1 << 30) - PAGE, B))
         self.assertEqual(run.returncode, 0)
 
+    def test_a_store_of_512_blocks(self):
+        blocks = {page: store.checksum(page_of(page)) for page in range(512)}
+        for page, digits in blocks.items():
+            name = store.block_name('abc', digits)
+            self.store.put(name, b'%04d' % page)
+            # The rest is a hole, which takes no room.
+            os.truncate(self.store.path(name), PAGE)
+        self.store.put(CFG, store.spell_backup(store.BackupCfg('abc', 'b', 's', 1 << 30, blocks)))
+        self.assertEqual(self.run_in('backups', 'abc'), (0, b'backup b s 512\n', ''))
+        with subprocess.Popen([LAUNCHER, 'restore', 'b', 'abc'], cwd=self.room, stdout=subprocess.PIPE) as run:
+            good = sum(run.stdout.read(PAGE) == page_of(page) for page in range(512))
+            self.assertEqual((good, run.stdout.read()), (512, b''))
+        self.assertEqual(run.returncode, 0)
+
     def test_the_readme_shows_what_its_commands_print(self):
         with open(os.path.join(TOP, 'README.md'), encoding='utf-8') as file:
             text = file.read()
@@ -276,6 +290,11 @@ class Backups(ProgramTest):
         self.store.put(BLOCKS[1], b'')
         with open(os.devnull, 'rb') as closed:
             self.assertEqual(self.run_in('restore', 'b', 'abc', stdout=closed), (10, None, 'refused damaged %s\n' % BLOCKS[1]))
+
+
+def page_of(number):
+    """A page that begins with its number, and has zeros behind."""
+    return b'%04d' % number + bytes(PAGE - 4)
 
 
 def what_came(words, printed):
