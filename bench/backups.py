@@ -11,6 +11,8 @@ taken by PEER-meter, a small program that stands beside the peer: what this scri
 
 Each block is digested twice, in the look before and when it is written. So F is also set against twice the time of the digest alone,
 which is what a run on the same 64 MiB takes longer where its replica does not fail at the end: its head is then digested once.
+Making the first backup of F, which is what a run takes longer that has it at its end, is set against that time too; and the increment
+against what the digest of two pages takes by it, with the time in which two pages are put as a folder's objects are.
 """
 import hashlib
 import os
@@ -19,6 +21,7 @@ import statistics
 import subprocess
 import sys
 import tempfile
+import time
 
 from folders import GIB, MEMORY, MIB, RUN, filled, keep, spread, write
 
@@ -67,6 +70,11 @@ FULL = [all_of_it, ['snapshot a'], an_eighth, ['snapshot b', 'backup b1 a', 'bac
 # An incremental backup at the end of a run, and the same run without it.
 WITH = [a_block, ['snapshot a'], two_pages, ['snapshot b', 'backup b1 a', 'backup b2 b'], ['fail r0']]
 WITHOUT = [*WITH[:3], ['snapshot b', 'backup b1 a'], ['fail r0']]
+
+
+# The first backup of F, and the same run without it.
+FIRST = [all_of_it, ['snapshot a'], ['backup b1 a'], ['fail r0']]
+NO_BACKUP = [*FIRST[:2], FIRST[3]]
 
 
 class Race:
@@ -132,6 +140,11 @@ class Race:
                 turn[which] = self.ran(programs[which], words, room)
             yield turn
 
+    def longer(self, program, given, repeats):
+        """The seconds that a run takes longer by the first input than by the second, turn by turn."""
+        takes = lambda path: self.made(program, path)[0][0]
+        return [takes(given[0]) - takes(given[1]) for _ in range(repeats)]
+
 
 def tell(name, turns):
     """Prints what each takes, and how they compare. The median time of the first is given back."""
@@ -143,6 +156,25 @@ def tell(name, turns):
     print('%s: %.2f of the peer\'s time by the medians, by neighbours %s; %.2f of its memory'
           % (name, medians[0] / medians[1], spread([own / other for own, other in zip(*seconds)], '%.2f'), most[0] / most[1]))
     return medians[0]
+
+
+def put_two_pages(top):
+    """The seconds in which two pages are put: each beside its place, flushed, and then renamed, with its folder flushed."""
+    room = os.path.join(top, 'put')
+    os.mkdir(room)
+    folder = os.open(room, os.O_RDONLY)
+    page = megabyte(0, 3) * 2
+    began = time.perf_counter()
+    for name in ('one', 'two'):
+        with open(os.path.join(room, name + '.tmp'), 'wb', buffering=0) as file:
+            file.write(page)
+            os.fsync(file.fileno())
+        os.rename(os.path.join(room, name + '.tmp'), os.path.join(room, name))
+        os.fsync(folder)
+    took = time.perf_counter() - began
+    os.close(folder)
+    shutil.rmtree(room)
+    return took
 
 
 def digest_alone(runs, program, streams, repeats):
@@ -172,16 +204,23 @@ def main():
                 made = keep(os.path.join(top, 'made-script'), 64 * MIB, 1, {}, [*FULL, ['fail r0']])
                 tell('F made', list(runs.made_by_turns((program, peer), made, repeats)))
                 digests = digest_alone(runs, program, whole, repeats)
+                digest = statistics.median(digests)
                 print('F: the digest alone takes %s s; the restore takes %.2f of twice that'
-                      % (spread(digests, '%.4f'), seconds / 2 / statistics.median(digests)))
+                      % (spread(digests, '%.4f'), seconds / 2 / digest))
+                given = [keep(os.path.join(top, 'first-%d' % number), 64 * MIB, 1, {}, streams)
+                         for number, streams in enumerate((FIRST, NO_BACKUP))]
+                first = runs.longer(program, given, repeats)
+                print('F: the first backup takes %s s, %.2f of the digest alone'
+                      % (spread(first, '%.4f'), statistics.median(first) / digest))
             shutil.rmtree(room)
         given = [keep(os.path.join(top, 'increment-%d' % number), GIB, 1, {}, streams) for number, streams in enumerate((WITH, WITHOUT))]
-        differences = [[], []]
-        for _ in range(repeats):
-            for which, each in enumerate((program, peer)):
-                differences[which].append(runs.made(each, given[0])[0][0] - runs.made(each, given[1])[0][0])
-        for which in (0, 1):
-            print('an increment of two pages of 1 GiB, %s: %s s' % (WHOSE[which], spread(differences[which], '%.4f')))
+        for whose, each in zip(WHOSE, (program, peer)):
+            takes = runs.longer(each, given, repeats)
+            print('an increment of two pages of 1 GiB, %s: %s s' % (whose, spread(takes, '%.4f')))
+            if whose == WHOSE[0]:
+                puts = [put_two_pages(top) for _ in range(repeats)]
+                print('.. and two pages are put in %s s: it takes %.2f of that with their digest'
+                      % (spread(puts, '%.4f'), statistics.median(takes) / (digest / 16 + statistics.median(puts))))
 
 
 if __name__ == '__main__':
