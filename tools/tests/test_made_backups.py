@@ -46,6 +46,22 @@ stream 4 commands
   backup b s
   backup c t
 '''
+# Two pages are backed up, and then the one that is another by then, over that. One replica has them all.
+OVER_A_BASE = '''volume v 6M
+fault worker 4 replica 0 carries %d
+stream 0 frames
+  write 0 fill 61 4096
+  write 2097152 fill 62 4096
+stream 1 commands
+  snapshot s
+stream 2 frames
+  write 2097152 fill 63 1
+stream 3 commands
+  snapshot t
+stream 4 commands
+  backup b s
+  backup c t
+'''
 
 
 class MadeBackups(ProgramTest):
@@ -124,6 +140,14 @@ class MadeBackups(ProgramTest):
                     break
             # Each worker carries to each replica, but that a page comes from one alone.
             self.assertEqual(carry > 1, (worker, replica) != (4, 1))
+
+    def test_a_page_has_a_request_and_a_reply_and_over_a_base_only_others_come(self):
+        lost = 'error no replica'
+        for carry, answers in enumerate([[lost, lost]] * 4 + [['ok', lost]] * 2 + [['ok', 'ok']], 1):
+            with self.subTest(carry=carry):
+                report = self.judge('v', OVER_A_BASE % carry, ('--workers', 'one'))
+                self.assertEqual([line.answer for line in report.journal if isinstance(line, Entry) and line.kind == 'backup'], answers)
+            shutil.rmtree(os.path.join(self.room, 'backupstore'), ignore_errors=True)
 
     def test_names_have_each_character(self):
         characters = string.ascii_letters + string.digits
