@@ -1,0 +1,5 @@
+pub mod PartLemmas
+pub mod FrameCalls
+pub mod Serving
+pub mod InputLemmas
+pub mod Ending
