@@ -10,7 +10,7 @@ use Rattle.client_worker.proofs.Told.{header_alone, is_framed}
 use Rattle.step_answers.specs.declared.whole_op.WholeOp.{WholeOp}
 use Rattle.step_answers.specs.declared.whole_op.WholeOp.TheVariants as whole
 use Rattle.client_worker.specs.Frames.{read_reply, read_reply_head}
-use Rattle.control_worker.specs.Frames.{page_head, ask_head, ask_request, done_head, done_reply, pair_text, part_text, AsksBy, IsPartText}
+use Rattle.control_worker.specs.Frames.{page_head, page_request, ask_head, ask_request, done_head, done_reply, pair_text, part_text, AsksBy, IsPartText}
 
 -- a request's header is put before its text
 pub asks_now : (seq : ℕ) (offset : ℤ) (text before request : List ℕ) (h : Head) → AsksBy text before
@@ -66,10 +66,9 @@ pair_asks word first second before request asks long few_word few_first few_seco
     }
 
 -- the header of a page's request is put before the name
-pub page_request_is : (offset : ℤ) (size : ℕ) (name before request : List ℕ) (h : Head) → drop 26 before ≡ name
-    → h ≡ page_head 0 offset size (length name) → request ≡ frame h (drop 26 before)
-    → request ≡ frame (page_head 0 offset size (length name)) name
-page_request_is offset size name before request h tells is made = made ∙ (λ i. frame (is i) (tells i))
+pub page_request_is : (offset : ℤ) (name before request : List ℕ) (h : Head) → drop 26 before ≡ name
+    → h ≡ page_head 0 offset 2097152 (length name) → request ≡ frame h (drop 26 before) → request ≡ page_request 0 offset name
+page_request_is offset name before request h tells is made = made ∙ (λ i. frame (is i) (tells i))
 
 -- and that of a page's reply before the page
 pub page_reply_is : (offset : ℤ) (page before reply : List ℕ) (h : Head) → drop 26 before ≡ page

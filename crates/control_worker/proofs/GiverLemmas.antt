@@ -1,5 +1,5 @@
 -- The pages of a backup go over the stream's lines.
-use Rattle.std.proofs.Common.{◌≡◌, ◌⊎◌, inl, inr, ℕ, Bool, true, false, List}
+use Rattle.std.proofs.Common.{◌≡◌, ◌⊎◌, inl, inr, ℕ, ◌*◌, ◌<◌, Bool, true, false, List, [], ◌∷◌, length, set, get_or, pos}
 use Rattle.std.proofs.Common.{Result, Ok, Err, IfOk, Option, Some, None, subst, sym, refl, ap, ◌∙◌}
 use Rattle.std.specs.Prelude.{IsSome, IfSome}
 use Rattle.outer_traits.specs.declared.ends.Ends.{Ends}
@@ -14,10 +14,21 @@ use Rattle.backup_make.specs.declared.giver.Pages.{Pages}
 use Rattle.backup_make.specs.declared.giver.Pages.TheVariants as found
 use Rattle.stream_steps.specs.Mine.{Mine, OwnCall}
 use Rattle.stream_steps.specs.Backup.{HasBackup, KeepsCopies}
+use Rattle.vol_units.specs.declared.size.TheConstants.{PAGE_BYTES}
+use Rattle.frame_wire.specs.Spelling.{frame, IsHead}
+use Rattle.rebuild_worker.specs.Copying.{CarriesOn, OnLine, number_after, numbered}
+use Rattle.rebuild_worker.proofs.CopyLemmas.{exchange}
+use Rattle.client_worker.specs.declared.channel.Channel.{Channel}
+use Rattle.client_worker.specs.Frames.{read_reply, read_reply_head}
 use Rattle.client_worker.specs.Working.{Work}
-use Rattle.control_worker.specs.Giver.{CanGive, GivesOn, IsPageOf, Known, KnownOf, copies_below, copies_of}
+use Rattle.client_worker.proofs.Counts.{at_map}
+use Rattle.client_worker.proofs.Told.{here_set}
+use Rattle.control_worker.specs.Copier.{on_line}
+use Rattle.control_worker.specs.Frames.{page_head, page_request}
+use Rattle.control_worker.specs.Giver.{CanGive, GivesOn, IsPageOf, Known, KnownOf, TellsPage, copies_below, copies_of, line_at, same_base}
 use Rattle.control_worker.specs.Whole.{GoesOn}
 use Rattle.control_worker.proofs.CarrierLemmas.{stays_both}
+use Rattle.control_worker.proofs.CopierLemmas.{count_here}
 use Rattle.control_worker.proofs.Goes.{goes_on, goes_same, goes_running}
 
 -- ---- step after step
@@ -173,6 +184,18 @@ covers_of f asked base known given pages (inr one) covers disk is =
       ),
     )
 
+-- the base that is known is asked for, or none
+pub base_cases : (base asked : Option (List ℕ))
+    → (same_base base asked ≡ None) ⊎ ((n : List ℕ) × (same_base base asked ≡ Some n) × (base ≡ Some n) × (asked ≡ Some n))
+base_cases None asked = inl refl
+base_cases (Some k) None = inl refl
+base_cases (Some k) (Some n) = at (bytes_eq k n) refl
+  where
+    at : (same : Bool) → bytes_eq k n ≡ same → ((if same then Some k else None) ≡ None)
+        ⊎ ((m : List ℕ) × ((if same then Some k else None) ≡ Some m) × (Some k ≡ Some m) × (Some n ≡ Some m))
+    at true e = inr (k, refl, refl, ap (λ (m : List ℕ). Some m) (sym ((bytes_eq-Decides k n).0 e)))
+    at false e = inl refl
+
 -- ---- what a giver keeps
 
 still_below : (f g : Copies) (base : Option (List ℕ)) → KeepsCopies f g → IfSome base (λ n. IsSome (f n)) → IfSome base (λ n. IsSome (g n))
@@ -212,3 +235,30 @@ pub page_told : {E : Type 0} (res : Result (Unit {0}) E) (f : Copies) (asked : L
 page_told (Ok u) f asked base page into some h =
     ap (option_map (λ disk. page_at disk page)) (copies_asked f asked base) ∙ page_is (f asked) page into some h
 page_told (Err e) f asked base page into some h = tt
+
+-- ---- on the lines
+
+-- a frame came through on one of the lines
+pub came_on : {L : Type 0} (told : L → Option (List (List ℕ))) (xs : List (Channel L)) (i : ℕ) (x d : Channel L)
+    (before after : List ℕ) → i < length xs → CarriesOn (on_line told (get_or xs i d)) (on_line told x) before after
+    → CarriesOn (line_at told xs i) (line_at told (set xs i x) i) before after
+came_on told xs i x d before after within c =
+    let was = at_map (λ y. y.seq) xs i d within in
+    let now = count_here (λ y. y.seq) xs i x within in
+    record {
+      told = here_set (λ y. told y.line) xs i x d (after ∷ []) within c.told;
+      spelled = λ h body e. c.spelled h body e ∙ ap (λ n. frame (numbered n h) body) (sym now);
+      number = λ h body fits e. now ∙ c.number h body fits e ∙ ap (λ n. number_after n h.kind) (sym was);
+    }
+
+-- a page was asked for, and came
+pub tells_page : (name : List ℕ) (page : ℕ) (bytes : List ℕ) (a b c : OnLine) (request asked reply replied : List ℕ)
+    → CarriesOn a b request asked → CarriesOn b c reply replied → request ≡ page_request 0 (pos (page * PAGE_BYTES)) name
+    → reply ≡ read_reply 0 (pos (page * PAGE_BYTES)) bytes → IsHead (read_reply_head 0 (pos (page * PAGE_BYTES)) (length bytes))
+    → TellsPage name page bytes a.told c.told
+tells_page name page bytes a b c request asked reply replied p q is_request is_reply fits =
+    let offset = pos (page * PAGE_BYTES) in (
+      b.seq,
+      exchange a b c request asked reply replied (page_head 0 offset PAGE_BYTES (length name))
+          (read_reply_head 0 offset (length bytes)) name bytes p q is_request is_reply fits refl,
+    )

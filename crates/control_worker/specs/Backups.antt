@@ -1,5 +1,6 @@
 -- How a backup goes, from its turn to its answer.
-use Rattle.std.specs.Prelude.{◌≡◌, ◌≢◌, ℕ, ◌≤◌, Bool, true, false, List, Contains, Option, Some, IsSome, IfSome, Result, Ok, Err, IfOk, IfErr}
+use Rattle.std.specs.Prelude.{◌≡◌, ◌≢◌, ℕ, ◌≤◌, Bool, true, false, List, Contains, Option, None, Some, IsSome, IfSome}
+use Rattle.std.specs.Prelude.{option_map, Result, Ok, Err, IfOk, IfErr}
 use Rattle.outer_traits.specs.Causes.{one_more}
 use Rattle.target_traits.specs.Objects.{Objects}
 use Rattle.backup_units.specs.Backups.{IsBackup, KeepsBackups}
@@ -32,6 +33,11 @@ pub record IsLast (tells : Bool) (objects : Objects) (volume : List ℕ) (entrie
   pub among : Contains entries at
   pub copy : IsCopyOf at.spot.state.volume list.snapshot disk
   pub backup : IsBackup tells objects volume disk list.blocks
+
+-- its snapshot, where that can be used
+abbrev pub base_in : (List ℕ → Option (List ℕ)) → Option Listing → Option (List ℕ)
+base_in copies None = None
+base_in copies (Some list) = option_map (λ copy. list.snapshot) (copies list.snapshot)
 
 -- ---- a try
 

@@ -1,6 +1,7 @@
 -- The frames of a command on a line to a replica: a request that tells what to do as a text, and the replica's reply
 -- with the same number. The texts are this project's own.
 use Rattle.std.specs.Prelude.{◌≡◌, ℕ, ◌+◌, ◌≤◌, ℤ, pos, List, [], ◌++◌, length, drop, codes}
+use Rattle.vol_units.specs.declared.size.TheConstants.{PAGE_BYTES}
 use Rattle.volume_model.specs.declared.mark.FoldOrDrop.TheVariants as part
 use Rattle.step_answers.specs.declared.whole_op.WholeOp.{WholeOp}
 use Rattle.step_answers.specs.declared.whole_op.WholeOp.TheVariants as whole
@@ -66,6 +67,9 @@ part_reply seq = done_reply seq (pos 0)
 -- asks for so many bytes of a snapshot's copy, from that place on, by its name
 abbrev pub page_head : ℕ → ℤ → ℕ → ℕ → Head
 page_head seq offset size n = record { seq = seq; kind = read_kind; offset = offset; size = size; len = n }
+
+abbrev pub page_request : ℕ → ℤ → List ℕ → List ℕ
+page_request seq offset name = frame (page_head seq offset PAGE_BYTES (length name)) name
 
 -- ---- on a line
 

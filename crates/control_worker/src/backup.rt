@@ -7,12 +7,13 @@ ghost use Rattle.backup_make.specs.Giving.{HasCopy, KeepsGiver};
 ghost use Rattle.backup_make.specs.Made.{IsMade};
 ghost use Rattle.backup_make.specs.Making.{IsBase, is_make_fault};
 ghost use Rattle.volume_model.specs.declared.command.Command.{Command};
+ghost use Rattle.vol_units.specs.Name.{IsLayerName};
 ghost use Rattle.volume_model.specs.Modes.{HasSource};
 ghost use Rattle.stream_steps.specs.Mine.{OwnCall, with_running};
 ghost use Rattle.stream_steps.specs.Does.{StandsStill};
 ghost use Rattle.stream_steps.specs.Backup.{HasBackup, KeepsCopies, KeepsTold};
 ghost use Rattle.client_worker.specs.Working.{IsServing, KeepsLines, Stays};
-ghost use Rattle.control_worker.specs.Backups.{BacksUp, IsLast, IsTriedOf, MakesOf, Tries, last_of, reply_of, tells_fault};
+ghost use Rattle.control_worker.specs.Backups.{BacksUp, IsLast, IsTriedOf, MakesOf, Tries, base_in, last_of, reply_of, tells_fault};
 ghost use Rattle.control_worker.specs.Giver.{GivesOn};
 ghost use Rattle.control_worker.specs.Serving.{GaveUp, GrewByCommand};
 ghost use Rattle.control_worker.specs.Store.{StoreSoFar, TellsFault};
@@ -341,6 +342,7 @@ fn base_of<R: Wait, C: BackupSteps>(
     ensures kept { KeepsCopies (C.copies steps.old) (C.copies steps.new) }
     ensures live { IfSome result (λ n. IsSome (C.copies steps.new n)) }
     ensures told { IfSome result (λ n. KeepsTold (C.mine steps.new) (C.copies steps.new)) }
+    ensures is { IfSome last.now (λ list. IsLayerName list.snapshot) → result ≡ base_in (C.copies steps.new) last.now }
 {
     let Some(list) = last else {
         return None;

@@ -4,7 +4,8 @@ ghost use Rattle.std.specs.Prelude.{◌≡◌, ◌*◌, ◌+◌, ◌≤◌, ◌+
 ghost use Rattle.vol_units.specs.declared.size.TheConstants.{PAGE_BYTES};
 ghost use Rattle.frame_wire.specs.Spelling.{header_length, frame, IsFrame, IsHead};
 ghost use Rattle.client_worker.specs.Frames.{read_reply, read_reply_head};
-ghost use Rattle.control_worker.specs.Frames.{AsksBy, ask_head, done_head, fold_text, longest_text, page_head, pair_text, part_text};
+ghost use Rattle.control_worker.specs.Frames.{AsksBy, ask_head, done_head, fold_text, longest_text, page_head, page_request};
+ghost use Rattle.control_worker.specs.Frames.{pair_text, part_text};
 
 use client_worker::put_header;
 use frame_stream::{PING, READ};
@@ -95,8 +96,7 @@ pub(crate) fn fill_page_request(
     snapshot: &LayerName,
     offset: i64,
 ) -> Result<(), AllocError>
-    ensures frame { OnOk result (request.new.items ≡ frame
-        (page_head 0 offset PAGE_BYTES (length snapshot.now)) snapshot.now) }
+    ensures frame { OnOk result (request.new.items ≡ page_request 0 offset snapshot.now) }
     ensures whole { OnOk result (IsFrame request.new.items) }
 {
     let name = bytes_of(snapshot);
@@ -130,6 +130,7 @@ pub(crate) fn fill_page_reply(
 ) -> Result<(), AllocError>
     requires few { length page.now ≤ PAGE_BYTES }
     ensures frame { OnOk result (reply.new.items ≡ read_reply 0 offset page.now) }
+    ensures head { OnOk result (IsHead (read_reply_head 0 offset (length page.now))) }
     ensures whole { OnOk result (IsFrame reply.new.items) }
 {
     make_room(reply, page)?;

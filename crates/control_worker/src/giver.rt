@@ -1,15 +1,17 @@
 //! The pages of a backup come over the stream's lines.
 
-ghost use Rattle.std.specs.Prelude.{◌≡◌, ◌⊎◌, ℕ, ◌*◌, ◌<◌, List, [], length, true, None, Some, IfOk, IfErr, OnOk, IsSome, IfSome, option_map};
+ghost use Rattle.std.specs.Prelude.{◌≡◌, ℕ, ◌*◌, ◌<◌, List, [], length, map, true, IfOk, IfErr, OnOk, IsSome, IfSome, option_map};
 ghost use Rattle.vol_units.specs.Bytes.{bytes_at};
 ghost use Rattle.vol_units.specs.declared.size.TheConstants.{PAGE_BYTES};
 ghost use Rattle.volume_model.specs.Modes.{HasNoSource};
-ghost use Rattle.backup_make.specs.Giving.{finds_none};
+ghost use Rattle.backup_make.specs.Giving.{Covers, finds_none};
 ghost use Rattle.stream_steps.specs.Mine.{OwnCall, with_running};
-ghost use Rattle.stream_steps.specs.Backup.{HasBackup};
+ghost use Rattle.stream_steps.specs.Backup.{HasBackup, KeepsCopies};
+ghost use Rattle.stream_steps.specs.Does.{StandsStill};
 ghost use Rattle.frame_wire.specs.Spelling.{IsFrame};
 ghost use Rattle.client_worker.specs.Working.{IsServing};
-ghost use Rattle.control_worker.specs.Giver.{GivesOn, IsPageOf};
+ghost use Rattle.rebuild_worker.specs.Copying.{CarriesOn};
+ghost use Rattle.control_worker.specs.Giver.{GavePage, GivesOn, IsPageOf, TellsPage, line_at, same_base};
 
 use crate::frames::{fill_page_reply, fill_page_request, offset_of};
 use crate::line::carry_on;
@@ -99,9 +101,15 @@ impl<'a, C: BackupSteps, L: Line + Drop> PageGiver for Giver<'a, C, L> {
         alloc: Global,
         base: Option<&LayerName>,
     ) -> Result<Pages, AllocError> {
-        let known = same_base(&self.base, base);
-        self.steps
-            .backup_pages(rt, alloc, self.turn, &self.snapshot, &known)
+        ask_pages(
+            rt,
+            alloc,
+            &mut *self.steps,
+            self.turn,
+            &self.snapshot,
+            &self.base,
+            base,
+        )
     }
 
     fn page<R: Wait>(
@@ -125,10 +133,34 @@ impl<'a, C: BackupSteps, L: Line + Drop> PageGiver for Giver<'a, C, L> {
     }
 }
 
+/// Which pages of the snapshot's copy have to be read: over the base that is asked for, where that is the one that can be
+/// used.
+fn ask_pages<R: Wait, C: BackupSteps>(
+    rt: &R,
+    alloc: Global,
+    steps: &mut C,
+    turn: TicketNumber,
+    snapshot: &LayerName,
+    base: &Option<LayerName>,
+    asked: Option<&LayerName>,
+) -> Result<Pages, AllocError>
+    requires ready { C.ready steps.old }
+    requires turn { (b s : List ℕ) × (o : OwnCall) × HasBackup turn b s o (C.mine steps.old) }
+    requires live { IsSome (C.copies steps.old snapshot.now) }
+    ensures stands { StandsStill C.ready C.home C.mine steps.old steps.new }
+    ensures kept { KeepsCopies (C.copies steps.old) (C.copies steps.new) }
+    ensures asks { IfOk result (C.asks steps.new snapshot.now
+        (same_base base.now (option_map (λ n. n.now) asked.entry))) }
+    ensures covers { IfOk result (Covers (C.copies steps.new) snapshot.now
+        (same_base base.now (option_map (λ n. n.now) asked.entry))) }
+{
+    let known = same_base(base, asked);
+    steps.backup_pages(rt, alloc, turn, snapshot, &known)
+}
+
 /// The base, where it is that one.
 fn same_base(base: &Option<LayerName>, asked: Option<&LayerName>) -> Option<LayerName>
-    ensures { (result ≡ None) ⊎ ((n : List ℕ) × (result ≡ Some n) × (base.now ≡ Some n)
-        × (option_map (λ n. n.now) asked.entry ≡ Some n)) }
+    ensures { result ≡ same_base base.now (option_map (λ n. n.now) asked.entry) }
 {
     match (base, asked) {
         (Some(known), Some(name)) if known == name => Some(*known),
@@ -159,6 +191,7 @@ fn give_page<R: Wait, C: BackupSteps, L: Line + Drop>(
     ensures keeps { GivesOn C.home C.mine C.copies L.ends (record { steps = steps.old; channels = channels.old })
         (record { steps = steps.new; channels = channels.new }) }
     ensures ok { OnOk result (IsPageOf (C.copies steps.new snapshot.now) page into.new) }
+    ensures gave { OnOk result (GavePage snapshot.now page into.new (map (λ c. L.carried c.line) channels.new)) }
     ensures none { IfErr result (λ e. finds_none e ≡ true → HasNoSource (C.modes steps.new)) }
 {
     for _ in rt.forever() {
@@ -201,6 +234,8 @@ fn page_from<R: Wait, C: BackupSteps, L: Line + Drop>(
     ensures keeps { GivesOn C.home C.mine C.copies L.ends (record { steps = steps.old; channels = channels.old })
         (record { steps = steps.new; channels = channels.new }) }
     ensures ok { IfOk result (λ came. came ≡ true → IsPageOf (C.copies steps.new snapshot.now) page into.new) }
+    ensures came { IfOk result (λ came. came ≡ true → TellsPage snapshot.now page into.new
+        (line_at L.carried channels.old replica).told (line_at L.carried channels.new replica).told) }
 {
     let offset = offset_of(page);
     fill_page_request(&mut rooms.request, snapshot, offset)?;
@@ -253,6 +288,8 @@ fn pass_on<R: Wait, C: BackupSteps, L: Line + Drop>(
         (record { steps = steps.new; channels = channels.new }) }
     ensures keeps { GivesOn C.home C.mine C.copies L.ends (record { steps = steps.old; channels = channels.old })
         (record { steps = steps.new; channels = channels.new }) }
+    ensures came { IfOk result (λ came. came ≡ true → CarriesOn (line_at L.carried channels.old replica)
+        (line_at L.carried channels.new replica) frame.old frame.new) }
 {
     room.clear();
     room.reserve(frame.len())?;

@@ -9,7 +9,7 @@ returns-clause-frame c =
     let before = c.deref_mut.result.now in
     let tells : drop 26 before ≡ name = ap (drop 26) c.deref_mut.ensures.value ∙ c.in_ok-make_room.ensures.tells ∙ c.bytes_of-name.ensures.value in
     with_items_is c.make_room.new.frame c.put_header.new.bytes (search (rules, places))
-    ∙ page_request_is c.args.offset 2097152 name before c.put_header.new.bytes c.page_head.result tells (search rules)
+    ∙ page_request_is c.args.offset name before c.put_header.new.bytes c.page_head.result tells (search rules)
     c.put_header.ensures
 
 pub returns-clause-whole : goal.returns-clause-whole

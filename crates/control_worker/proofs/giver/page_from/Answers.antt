@@ -1,9 +1,13 @@
-use Rattle.std.proofs.Common.{rules, ◌≡◌, is_ok, true, ◌*◌}
+use Rattle.std.proofs.Common.{rules, ◌≡◌, is_ok, true, ◌*◌, length, pos}
 use Rattle.vol_units.specs.Bytes.{bytes_at}
 use Rattle.vol_units.specs.declared.size.TheConstants.{PAGE_BYTES}
+use Rattle.frame_wire.specs.Spelling.{IsHead}
+use Rattle.client_worker.specs.Frames.{read_reply, read_reply_head}
+use Rattle.control_worker.specs.Frames.{page_request}
 use Rattle.control_worker.specs.Giver.{GivesOn}
 use Rattle.control_worker.proofs.CarrierLemmas.{serves_step}
-use Rattle.control_worker.proofs.GiverLemmas.{backup_goes, came_ok, gives_none, gives_step, gives_then, kept_of, still_live}
+use Rattle.control_worker.proofs.GiverLemmas.{backup_goes, came_ok, gives_none, gives_step, gives_then, kept_of}
+use Rattle.control_worker.proofs.GiverLemmas.{still_live, tells_page, weaker}
 use Rattle.control_worker.proofs.PartLemmas.{ok_of}
 use Rattle.control_worker.proofs.ShownLemmas.{stays_same}
 use Rattle.control_worker.proofs.giver.page_from.Given.{Over}
@@ -59,3 +63,13 @@ returns-clause-ok g c =
     (kept_of (g.C.BackupSteps.copies c.snap_page.new.self) (g.C.BackupSteps.copies c.pass_on-2.new.steps) c.args.snapshot.now
     (λ disk. c.snap_page.new.into ≡ bytes_at disk (c.args.page * PAGE_BYTES) PAGE_BYTES) c.pass_on-2.ensures.keeps.kept
     (still_live _ _ c.args.snapshot.now first.kept c.requires.live) gave.bytes)
+
+pub returns-clause-came : goal.returns-clause-came
+returns-clause-came g c =
+    let sent : c.in_ok-pass_on.field-0 ≡ true = search rules in
+    let asked : c.deref_mut.result.now ≡ page_request 0 (pos (c.args.page * PAGE_BYTES)) c.args.snapshot.now = search rules in
+    let given : c.deref_mut-2.result.now ≡ read_reply 0 (pos (c.args.page * PAGE_BYTES)) c.snap_page.new.into = search rules in
+    let fits : IsHead (read_reply_head 0 (pos (c.args.page * PAGE_BYTES)) (length c.snap_page.new.into)) = search rules in
+    weaker _ _ c.pass_on-2.result
+    (λ came carries is. tells_page c.args.snapshot.now c.args.page c.snap_page.new.into _ _ _ _ _ _ _
+    (c.in_ok-pass_on.ensures.came sent) (carries is) asked given fits) c.pass_on-2.ensures.came

@@ -6,7 +6,7 @@ use Rattle.client_worker.proofs.Counts.{later_set}
 use Rattle.client_worker.proofs.Told.{on_set}
 use Rattle.client_worker.proofs.Shown.{shown_later}
 use Rattle.control_worker.proofs.CopierLemmas.{count_here, serving_on}
-use Rattle.control_worker.proofs.GiverLemmas.{gives_none}
+use Rattle.control_worker.proofs.GiverLemmas.{came_on, gives_none}
 use Rattle.control_worker.proofs.Goes.{goes_same, goes_told}
 use Rattle.control_worker.proofs.ShownLemmas.{idle_told}
 use Rattle.control_worker.proofs.giver.pass_on.Given.{Over}
@@ -81,3 +81,8 @@ returns-clause-keeps g c =
       goes = goes_told c.backup_fault.result c.args.replica c.faults-count.result _ _ does.ok does.err;
       kept = c.backup_fault.ensures.kept;
     }
+
+pub returns-then-carry_on-clause-came : goal.returns-then-carry_on-clause-came
+returns-then-carry_on-clause-came g c = λ is.
+    came_on g.L.Line.carried c.args.channels.now c.args.replica c.carry_on.new.channel c.index-channels-replica.result
+    c.args.frame.now c.carry_on.new.bytes c.requires.line (c.carry_on.ensures.carries c.if-carry_on.true)
