@@ -1,15 +1,16 @@
--- How the lines of a report are printed from left to right.
+-- How the lines of a report are printed from left to right, and how frames that reply are digested so.
 use Rattle.std.proofs.Common.{◌≡◌, ℕ, suc, ◌+◌, ◌<◌, ◌≤◌, Bool, true, false, cond, eqb, List, [], ◌∷◌, ◌++◌, length}
 use Rattle.std.proofs.Common.{get_or, drop, refl, sym, ap, ◌∙◌, append_assoc, append-nil, add-one, drop-cons}
 use Rattle.std.proofs.Math.ListN.{drop_of_length-le}
 use Rattle.std.proofs.lemmas.Bool.{eq-eqb, ne_eqb}
+use Rattle.std.specs.List.{flat_map, zip}
 use Rattle.volume_model.specs.declared.entry.Entry.{Entry}
 use Rattle.volume_model.specs.declared.entry.Entry.TheVariants as entry
 use Rattle.volume_model.specs.declared.entry.Answer.{Answer}
 use Rattle.volume_model.specs.History.{answers_from, answers_of}
 use Rattle.volume_model.specs.Marks.{IsMark}
 use Rattle.frame_wire.specs.declared.head.Head.{Head}
-use Rattle.run_report.specs.Lines.{entry_line, reply_line}
+use Rattle.run_report.specs.Lines.{entry_line}
 use Rattle.run_report.specs.Report.{journal_lines, reply_lines, replies_from}
 
 cond_is_true : {A : Type 0} (b : Bool) (x y : A) → b ≡ true → cond b x y ≡ x
@@ -42,68 +43,86 @@ answers-cut stream place entries a inside is =
     ∙ ap (λ n. cond (eqb a.stream stream) ((place, a) ∷ answers_from stream n (drop n entries))
     (answers_from stream n (drop n entries))) (sym (add-one place))
 
--- The entry answers the next header.
-pub next_reply : (into whole : List ℕ) (stream next place : ℕ) (heads : List Head) (entries : List Entry) (h : Head) (a : Answer)
-    → place < length entries → get_or entries place (entry.Answer a) ≡ entry.Answer a → next < length heads
-    → get_or heads next h ≡ h → a.stream ≡ stream
-    → into ++ reply_lines (drop next heads) (answers_from stream place (drop place entries)) ≡ whole
-    → (into ++ reply_line h a) ++ reply_lines (drop (next + 1) heads) (answers_from stream (place + 1) (drop (place + 1) entries)) ≡ whole
-next_reply into whole stream next place heads entries h a inside is room at own text =
-    let rest = answers_from stream (place + 1) (drop (place + 1) entries) in
-    let cut : drop next heads ≡ h ∷ drop (next + 1) heads =
-    drop-cons heads next h room ∙ ap (λ x. x ∷ drop (suc next) heads) at ∙ ap (λ n. h ∷ drop n heads) (sym (add-one next)) in
-    let answers : answers_from stream place (drop place entries) ≡ (place, a) ∷ rest =
-    answers-cut stream place entries a inside is ∙ cond_is_true (eqb a.stream stream) _ _ (eq-eqb _ _ own) in
-    append_assoc into (reply_line h a) _ ∙ ap (λ l. into ++ l) (sym (both cut answers)) ∙ text
-  where
-    both : {hs gs : List Head} {ps qs : List (ℕ × Answer)} → hs ≡ gs → ps ≡ qs → reply_lines hs ps ≡ reply_lines gs qs
-    both p q = cc
+-- The entry answers a call of the stream,
+pub answers-own : (stream place : ℕ) (entries : List Entry) (a : Answer) → place < length entries
+    → get_or entries place (entry.Answer a) ≡ entry.Answer a → a.stream ≡ stream
+    → answers_from stream place (drop place entries) ≡ (place, a) ∷ answers_from stream (place + 1) (drop (place + 1) entries)
+answers-own stream place entries a inside is own =
+    answers-cut stream place entries a inside is ∙ cond_is_true (eqb a.stream stream) _ _ (eq-eqb _ _ own)
 
--- The entry answers a call of another stream.
-pub skip_other : (into whole : List ℕ) (stream next place : ℕ) (heads : List Head) (entries : List Entry) (a : Answer)
-    → place < length entries → get_or entries place (entry.Answer a) ≡ entry.Answer a → (a.stream ≡ stream → ⊥)
-    → into ++ reply_lines (drop next heads) (answers_from stream place (drop place entries)) ≡ whole
-    → into ++ reply_lines (drop next heads) (answers_from stream (place + 1) (drop (place + 1) entries)) ≡ whole
-skip_other into whole stream next place heads entries a inside is other text =
-    let answers : answers_from stream place (drop place entries) ≡ answers_from stream (place + 1) (drop (place + 1) entries) =
-    answers-cut stream place entries a inside is ∙ cond_is_false (eqb a.stream stream) _ _ (ne_eqb _ _ other) in
-    ap (λ l. into ++ reply_lines (drop next heads) l) (sym answers) ∙ text
+-- or a call of another stream,
+pub answers-other : (stream place : ℕ) (entries : List Entry) (a : Answer) → place < length entries
+    → get_or entries place (entry.Answer a) ≡ entry.Answer a → (a.stream ≡ stream → ⊥)
+    → answers_from stream place (drop place entries) ≡ answers_from stream (place + 1) (drop (place + 1) entries)
+answers-other stream place entries a inside is other =
+    answers-cut stream place entries a inside is ∙ cond_is_false (eqb a.stream stream) _ _ (ne_eqb _ _ other)
 
--- The entry is a mark.
+-- or it is a mark.
 answers_from-mark : (stream place : ℕ) (e : Entry) (entries : List Entry) → IsMark e
     → answers_from stream place (e ∷ entries) ≡ answers_from stream (suc place) entries
 answers_from-mark stream place (entry.Answer a) entries mark = absurd mark
 answers_from-mark stream place (entry.Mark m) entries mark = refl
 
-pub skip_mark : (into whole : List ℕ) (stream next place : ℕ) (heads : List Head) (entries : List Entry) (e : Entry)
-    → place < length entries → get_or entries place e ≡ e → IsMark e
-    → into ++ reply_lines (drop next heads) (answers_from stream place (drop place entries)) ≡ whole
-    → into ++ reply_lines (drop next heads) (answers_from stream (place + 1) (drop (place + 1) entries)) ≡ whole
-skip_mark into whole stream next place heads entries e inside is mark text =
+pub answers-mark : (stream place : ℕ) (entries : List Entry) (e : Entry) → place < length entries → get_or entries place e ≡ e
+    → IsMark e → answers_from stream place (drop place entries) ≡ answers_from stream (place + 1) (drop (place + 1) entries)
+answers-mark stream place entries e inside is mark =
     let cut : drop place entries ≡ e ∷ drop (suc place) entries = drop-cons entries place e inside
     ∙ ap (λ x. x ∷ drop (suc place) entries) is in
-    let answers : answers_from stream place (drop place entries) ≡ answers_from stream (place + 1) (drop (place + 1) entries) =
     ap (answers_from stream place) cut ∙ answers_from-mark stream place e (drop (suc place) entries) mark
-    ∙ ap (λ n. answers_from stream n (drop n entries)) (sym (add-one place)) in
-    ap (λ l. into ++ reply_lines (drop next heads) l) (sym answers) ∙ text
+    ∙ ap (λ n. answers_from stream n (drop n entries)) (sym (add-one place))
 
--- No header is left.
-pub skip_past : (into whole : List ℕ) (next : ℕ) (heads : List Head) (ps qs : List (ℕ × Answer)) → length heads ≤ next
-    → into ++ reply_lines (drop next heads) ps ≡ whole → into ++ reply_lines (drop next heads) qs ≡ whole
-skip_past into whole next heads ps qs past text =
-    let none : drop next heads ≡ [] = drop_of_length-le heads past in
-    ap (λ l. into ++ reply_lines l qs) none ∙ sym (ap (λ l. into ++ reply_lines l ps) none) ∙ text
+-- of what is told of frames with these headers, each with its answer: a line of the report, or the frame that replies
+module _ (told : Head → Answer → List ℕ) where
+  abbrev pub told_of : List Head → List (ℕ × Answer) → List ℕ
+  told_of heads answers = flat_map (λ p. told p.0 p.1.1) (zip heads answers)
 
--- no entry is left
-pub no_reply : (into whole : List ℕ) (stream next place : ℕ) (heads : List Head) (entries : List Entry) → length entries ≤ place
-    → into ++ reply_lines (drop next heads) (answers_from stream place (drop place entries)) ≡ whole → into ≡ whole
-no_reply into whole stream next place heads entries past text =
-    sym (append-nil into) ∙ ap (λ l. into ++ l) (sym (no_answer (drop next heads)))
-    ∙ sym (ap (λ l. into ++ reply_lines (drop next heads) (answers_from stream place l)) (drop_of_length-le entries past)) ∙ text
-  where
-    no_answer : (hs : List Head) → reply_lines hs [] ≡ []
-    no_answer [] = refl
-    no_answer (h ∷ hs) = refl
+  same_told : {hs gs : List Head} {ps qs : List (ℕ × Answer)} → hs ≡ gs → ps ≡ qs → told_of hs ps ≡ told_of gs qs
+  same_told p q = cc
+
+  -- The entry answers the next header.
+  pub next_reply : (into whole : List ℕ) (stream next place : ℕ) (heads : List Head) (entries : List Entry) (h : Head) (a : Answer)
+      → place < length entries → get_or entries place (entry.Answer a) ≡ entry.Answer a → next < length heads
+      → get_or heads next h ≡ h → a.stream ≡ stream
+      → into ++ told_of (drop next heads) (answers_from stream place (drop place entries)) ≡ whole
+      → (into ++ told h a) ++ told_of (drop (next + 1) heads) (answers_from stream (place + 1) (drop (place + 1) entries)) ≡ whole
+  next_reply into whole stream next place heads entries h a inside is room at own text =
+      let cut : drop next heads ≡ h ∷ drop (next + 1) heads =
+      drop-cons heads next h room ∙ ap (λ x. x ∷ drop (suc next) heads) at ∙ ap (λ n. h ∷ drop n heads) (sym (add-one next)) in
+      append_assoc into (told h a) _
+      ∙ ap (λ l. into ++ l) (sym (same_told cut (answers-own stream place entries a inside is own))) ∙ text
+
+  -- The entry answers a call of another stream.
+  pub skip_other : (into whole : List ℕ) (stream next place : ℕ) (heads : List Head) (entries : List Entry) (a : Answer)
+      → place < length entries → get_or entries place (entry.Answer a) ≡ entry.Answer a → (a.stream ≡ stream → ⊥)
+      → into ++ told_of (drop next heads) (answers_from stream place (drop place entries)) ≡ whole
+      → into ++ told_of (drop next heads) (answers_from stream (place + 1) (drop (place + 1) entries)) ≡ whole
+  skip_other into whole stream next place heads entries a inside is other text =
+      ap (λ l. into ++ told_of (drop next heads) l) (sym (answers-other stream place entries a inside is other)) ∙ text
+
+  pub skip_mark : (into whole : List ℕ) (stream next place : ℕ) (heads : List Head) (entries : List Entry) (e : Entry)
+      → place < length entries → get_or entries place e ≡ e → IsMark e
+      → into ++ told_of (drop next heads) (answers_from stream place (drop place entries)) ≡ whole
+      → into ++ told_of (drop next heads) (answers_from stream (place + 1) (drop (place + 1) entries)) ≡ whole
+  skip_mark into whole stream next place heads entries e inside is mark text =
+      ap (λ l. into ++ told_of (drop next heads) l) (sym (answers-mark stream place entries e inside is mark)) ∙ text
+
+  -- No header is left.
+  pub skip_past : (into whole : List ℕ) (next : ℕ) (heads : List Head) (ps qs : List (ℕ × Answer)) → length heads ≤ next
+      → into ++ told_of (drop next heads) ps ≡ whole → into ++ told_of (drop next heads) qs ≡ whole
+  skip_past into whole next heads ps qs past text =
+      let none : drop next heads ≡ [] = drop_of_length-le heads past in
+      ap (λ l. into ++ told_of l qs) none ∙ sym (ap (λ l. into ++ told_of l ps) none) ∙ text
+
+  no_answer : (hs : List Head) → told_of hs [] ≡ []
+  no_answer [] = refl
+  no_answer (h ∷ hs) = refl
+
+  -- no entry is left
+  pub no_reply : (into whole : List ℕ) (stream next place : ℕ) (heads : List Head) (entries : List Entry) → length entries ≤ place
+      → into ++ told_of (drop next heads) (answers_from stream place (drop place entries)) ≡ whole → into ≡ whole
+  no_reply into whole stream next place heads entries past text =
+      sym (append-nil into) ∙ ap (λ l. into ++ l) (sym (no_answer (drop next heads)))
+      ∙ sym (ap (λ l. into ++ told_of (drop next heads) (answers_from stream place l)) (drop_of_length-le entries past)) ∙ text
 
 -- the replies of the next stream, and those of the streams behind it
 pub next_stream : (into whole : List ℕ) (stream : ℕ) (streams : List (List Head)) (entries : List Entry) (hs : List Head)

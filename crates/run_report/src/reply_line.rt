@@ -1,13 +1,13 @@
 ghost use Rattle.std.specs.Prelude.{◌≡◌, ◌++◌, OnOk, OnErr, take, length};
-ghost use Rattle.frame_stream.specs.Replies.{reply_kind, reply_size, reply_body, error_text};
+ghost use Rattle.frame_stream.specs.Replies.{reply_body};
 ghost use Rattle.run_report.specs.Lines.{reply_line, header_words};
 
+use crate::reply_frame::{body_of, kind_of, size_of};
 use crate::words::{append_error, append_number, append_offset, whole_or_none};
-use frame_stream::{ERROR, RESPONSE};
 use frame_wire::Head;
 use image_runs::print_runs;
 use std::alloc::AllocError;
-use volume_model::{Answer, Call, Reply};
+use volume_model::Answer;
 
 /// Appends the line of the reply to a frame with this header, which asked what was answered.
 pub fn print_reply(asked: &Head, answer: &Answer, into: &mut Vec<u8>) -> Result<(), AllocError>
@@ -47,38 +47,7 @@ fn append_header(
     ensures kept { take (length into.old.items) into.new.items ≡ into.old.items }
 {
     append_number(u64::from(asked.seq), into)?;
-    append_number(kind_of(&answer.reply), into)?;
+    append_number(u64::from(kind_of(&answer.reply)), into)?;
     append_offset(asked.offset, into)?;
     append_number(size_of(answer, body), into)
-}
-
-fn kind_of(reply: &Reply) -> u64
-    ensures { result ≡ reply_kind reply.now }
-{
-    match reply {
-        Reply::Done | Reply::Read(_) | Reply::Status { .. } => u64::from(RESPONSE),
-        Reply::Refused(_) | Reply::Aborted(_) => u64::from(ERROR),
-    }
-}
-
-/// What the size of the frame says: the bytes that a write put, and else the length of its data.
-fn size_of(answer: &Answer, body: &[u8]) -> u64
-    requires { body.now ≡ reply_body answer.now.reply }
-    ensures { result ≡ reply_size answer.now.call answer.now.reply }
-{
-    match (&answer.call, &answer.reply) {
-        (Call::Write { bytes, .. }, Reply::Done) => bytes.len() as u64,
-        _ => body.len() as u64,
-    }
-}
-
-/// The data of the frame, the text of an error being at hand.
-fn body_of<'a>(reply: &'a Reply, error: &'a [u8]) -> &'a [u8]
-    requires { error.now ≡ error_text reply.now }
-    ensures { result.now ≡ reply_body reply.now }
-{
-    match reply {
-        Reply::Read(bytes) => bytes.as_slice(),
-        _ => error,
-    }
 }

@@ -17,7 +17,7 @@ ghost use Rattle.volume_model.specs.declared.mode.Mode.TheVariants as mode;
 ghost use Rattle.run_report.specs.declared.reason.Reason.TheVariants as reason;
 ghost use Rattle.run_report.specs.Lines.{reason_text, opening_line, call_text, reply_text, reply_line, mode_line, chain_line};
 ghost use Rattle.run_report.specs.Report.{opening_lines, journal_lines, call_lines};
-ghost use Rattle.run_report.specs.Summary.{stream_line, control_line, modes_line, disk_line, summary_of};
+ghost use Rattle.run_report.specs.Summary.{stream_line, control_line, modes_line, disk_line, summary_of, frames_from, summary_in};
 
 use crate::reason::Reason;
 
@@ -131,4 +131,13 @@ pub fn the_summary_reads()
     ensures disk { disk_line (codes "0f") ≡ codes "disk 0f\n" }
     ensures failed { summary_of [] (reply.Done ∷ reply.Aborted 7 ∷ []) (mode.Err ∷ mode.Err ∷ [])
         None ≡ codes "control ok,error aborted 7\nmodes ERR,ERR\n" }
+    ensures frames { frames_from 0
+        (((record { seq = 3; kind = 0; offset = pos 1; size = 1; len = 0 }) ∷ []) ∷ [])
+        (served no_store (record { state = state_of (0 ∷ 7 ∷ []); modes = mode.Rw ∷ [] })
+        ((call.Read (pos 1) 1 ∷ []) ∷ []))
+        ≡ (0x01 ∷ 0x1b ∷ 3 ∷ 0 ∷ 0 ∷ 0 ∷ 2 ∷ 0 ∷ 0 ∷ 0 ∷ 1 ∷ 0 ∷ 0 ∷ 0 ∷ 0 ∷ 0 ∷ 0 ∷ 0
+        ∷ 1 ∷ 0 ∷ 0 ∷ 0 ∷ 1 ∷ 0 ∷ 0 ∷ 0 ∷ 7 ∷ []) ∷ [] }
+    ensures journal { summary_in [] (record { state = state_of (0 ∷ []); modes = mode.Rw ∷ [] })
+        (served no_store (record { state = state_of (0 ∷ []); modes = mode.Rw ∷ [] })
+        ((call.Command (command.Fail 0) ∷ []) ∷ [])) ≡ codes "control ok\nmodes ERR\n" }
 {}

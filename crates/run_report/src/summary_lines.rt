@@ -1,4 +1,4 @@
-ghost use Rattle.std.specs.Prelude.{◌≡◌, ◌++◌, ◌∷◌, OnOk, OnErr, take, length, flat_map};
+ghost use Rattle.std.specs.Prelude.{◌≡◌, ◌++◌, ◌∷◌, OnOk, OnErr, take, length, map, flat_map};
 ghost use Rattle.run_report.specs.Lines.{reply_text};
 ghost use Rattle.run_report.specs.Summary.{stream_line, replies_text, control_line, modes_line, disk_line};
 
@@ -18,8 +18,9 @@ pub fn print_stream(stream: u8, digest: &[u8; 64], into: &mut Vec<u8>) -> Result
 }
 
 /// Appends the line of the control stream, whose commands were answered so.
-pub fn print_control(replies: &[Reply], into: &mut Vec<u8>) -> Result<(), AllocError>
-    ensures ok { OnOk result (into.new.items ≡ into.old.items ++ control_line replies.now) }
+pub fn print_control(replies: &[&Reply], into: &mut Vec<u8>) -> Result<(), AllocError>
+    ensures ok { OnOk result (into.new.items
+        ≡ into.old.items ++ control_line (map (λ r. r.now) replies.now)) }
     ensures err { OnErr result (into.new.items ≡ into.old.items) }
 {
     let start = into.len();
@@ -58,8 +59,9 @@ fn append_stream(stream: u8, digest: &[u8; 64], into: &mut Vec<u8>) -> Result<()
     Ok(())
 }
 
-fn append_control(replies: &[Reply], into: &mut Vec<u8>) -> Result<(), AllocError>
-    ensures ok { OnOk result (into.new.items ≡ into.old.items ++ control_line replies.now) }
+fn append_control(replies: &[&Reply], into: &mut Vec<u8>) -> Result<(), AllocError>
+    ensures ok { OnOk result (into.new.items
+        ≡ into.old.items ++ control_line (map (λ r. r.now) replies.now)) }
     ensures kept { take (length into.old.items) into.new.items ≡ into.old.items }
 {
     into.extend_from_slice(b"control ")?;
@@ -89,8 +91,9 @@ fn append_disk(digest: &[u8; 64], into: &mut Vec<u8>) -> Result<(), AllocError>
 }
 
 /// Appends replies, parted by commas.
-fn append_replies(replies: &[Reply], into: &mut Vec<u8>) -> Result<(), AllocError>
-    ensures ok { OnOk result (into.new.items ≡ into.old.items ++ replies_text replies.now) }
+fn append_replies(replies: &[&Reply], into: &mut Vec<u8>) -> Result<(), AllocError>
+    ensures ok { OnOk result (into.new.items
+        ≡ into.old.items ++ replies_text (map (λ r. r.now) replies.now)) }
     ensures kept { take (length into.old.items) into.new.items ≡ into.old.items }
 {
     let [first, rest @ ..] = replies else {
@@ -101,9 +104,9 @@ fn append_replies(replies: &[Reply], into: &mut Vec<u8>) -> Result<(), AllocErro
 }
 
 /// Appends replies that stand behind another.
-fn append_more_replies(replies: &[Reply], into: &mut Vec<u8>) -> Result<(), AllocError>
+fn append_more_replies(replies: &[&Reply], into: &mut Vec<u8>) -> Result<(), AllocError>
     ensures ok { OnOk result (into.new.items
-        ≡ into.old.items ++ flat_map (λ r. 44 ∷ reply_text r) replies.now) }
+        ≡ into.old.items ++ flat_map (λ r. 44 ∷ reply_text r.now) replies.now) }
     ensures kept { take (length into.old.items) into.new.items ≡ into.old.items }
 {
     for reply in replies {

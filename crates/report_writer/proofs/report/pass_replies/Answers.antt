@@ -25,7 +25,7 @@ loop-place-preserved g c =
       | in-Some-head_for+in_ok-pass_reply w ↦
           let h = w.in-Some-head_for.asked.now in
           let found = w.in-Some-head_for.ensures.some in
-          let t = next_reply i.0 whole c.args.stream s.next s.place heads entries h a inside is found.1
+          let t = next_reply reply_line i.0 whole c.args.stream s.next s.place heads entries h a inside is found.1
           (get_or_from_slice_get heads s.next h h found.2) found.0 i.2 in
           rw (w.sink-is, w.buffer-is, w.next-is) (
             i.0 ++ reply_line h a,
@@ -37,8 +37,8 @@ loop-place-preserved g c =
           let t : i.0 ++ reply_lines (drop s.next heads)
           (answers_from c.args.stream (s.place + 1) (drop (s.place + 1) entries)) ≡ whole =
           elim w.in_default-head_for.ensures.none [
-            | inl other ↦ skip_other i.0 whole c.args.stream s.next s.place heads entries a inside is other i.2
-            | inr past ↦ skip_past i.0 whole s.next heads _ _ past i.2
+            | inl other ↦ skip_other reply_line i.0 whole c.args.stream s.next s.place heads entries a inside is other i.2
+            | inr past ↦ skip_past reply_line i.0 whole s.next heads _ _ past i.2
           ] in
           rw (w.sink-is, w.buffer-is, w.next-is) (i.0, i.1, t, i.3)
     ]
@@ -51,7 +51,7 @@ loop-place-preserved-in_default g c =
     let i = s.invariant in
     let e = c.entry.result.now in
     let inside : s.place < length entries = omega (arith, c.len-place-end.ensures) in
-    let t = skip_mark i.0 (reply_lines heads (answers_from c.args.stream 0 entries)) c.args.stream s.next s.place heads entries e
+    let t = skip_mark reply_line i.0 (reply_lines heads (answers_from c.args.stream 0 entries)) c.args.stream s.next s.place heads entries e
     inside (get_or_from_slice_get entries s.place e e c.entry.ensures) c.in_default.ensures i.2 in (i.0, i.1, t, i.3)
 
 pub returns-in_err-pass_reply-clause-prefix : goal.returns-in_err-pass_reply-clause-prefix
@@ -69,7 +69,7 @@ returns-in_err-pass_reply-clause-prefix g c =
     let inside : s.place < length entries = omega (arith, c.len-place-end.ensures) in
     let is : get_or entries s.place (entry.Answer a) ≡ entry.Answer a =
     get_or_from_slice_get entries s.place c.entry.result.now (entry.Answer a) c.entry.ensures ∙ c.in-Some.ensures in
-    let t = next_reply i.0 whole c.args.stream s.next s.place heads entries h a inside is found.1
+    let t = next_reply reply_line i.0 whole c.args.stream s.next s.place heads entries h a inside is found.1
     (get_or_from_slice_get heads s.next h h found.2) found.0 i.2 in
     let prefix = WritesPrefix-after _ _ _ had _ i.0 (reply_line h a) i.1 c.in_err-pass_reply.ensures.prefix in
     subst (WritesPrefix _ _) (append_assoc had (i.0 ++ reply_line h a) rest ∙ ap (λ l. had ++ l) t) (WritesPrefix-more _ _ _ rest prefix)
@@ -80,7 +80,7 @@ returns-clause-passed g c =
     let entries = c.args.journal.now.entries in
     let heads = c.args.heads.now in
     let past : length entries ≤ c.loop-place.place = omega (arith, c.len-place-end.ensures) in
-    let all = no_reply i.0 (reply_lines heads (answers_from c.args.stream 0 entries)) c.args.stream c.loop-place.next
+    let all = no_reply reply_line i.0 (reply_lines heads (answers_from c.args.stream 0 entries)) c.args.stream c.loop-place.next
     c.loop-place.place heads entries past i.2 in
     subst (Passes _ _ c.args.buffer.now.items c.loop-place.buffer.items) all i.1
 
