@@ -1,18 +1,26 @@
--- Where each replica that is read and written is one volume, what is written of them is the end of its report.
-use Rattle.std.proofs.Common.{◌≡◌, ℕ, zero, suc, List, [], ◌∷◌, ◌++◌, length, map, get_or, Option, refl, ap, ◌∙◌, arith}
+-- Where each replica that is read and written is one volume, what is written of them is the end of its report, or of its
+-- summary.
+use Rattle.std.proofs.Common.{◌≡◌, ℕ, zero, suc, ◌<◌, List, [], ◌∷◌, ◌++◌, length, map, get_or, Option, None, Some}
+use Rattle.std.proofs.Common.{refl, sym, ap, subst, ◌∙◌, arith}
+use Rattle.std.specs.Prelude.{option_and_then, option_map, slice_get}
 use Rattle.std.proofs.lemmas.List.{length-map}
+use Rattle.std.proofs.lemmas.Option.{slice_get-get_or}
+use Rattle.mode_table.proofs.SourceLemmas.{within_from_read}
 use Rattle.frame_wire.specs.declared.head.Head.{Head}
 use Rattle.journal_book.specs.Book.{Book, modes_of}
 use Rattle.volume_model.specs.declared.mode.Mode.{Mode}
 use Rattle.volume_model.specs.declared.mode.Mode.TheVariants.{Rw, Wo, Err}
-use Rattle.volume_model.specs.Modes.{mode_of, modes_after}
+use Rattle.volume_model.specs.Modes.{mode_of, modes_after, source_of}
+use Rattle.volume_model.proofs.SpotLemmas.{source_is}
 use Rattle.volume_model.specs.History.{Spot}
 use Rattle.volume_model.specs.PlainState.{Volume}
 use Rattle.volume_model.specs.Replay.{replay}
 use Rattle.replica_node.specs.Node.{Node}
 use Rattle.replica_node.specs.Volume.{volume_of_node}
+use Rattle.load_laws.specs.Result.{replies_of}
 use Rattle.run_report.specs.Report.{opening_lines, call_lines, mode_lines, source_lines, end_lines, report_of}
-use Rattle.report_writer.specs.Written.{replica_line, replica_lines, end_text, written_text}
+use Rattle.run_report.specs.Summary.{frames_from, summary_of, volume_if_read, summary_in}
+use Rattle.report_writer.specs.Written.{replica_line, replica_lines, end_text, written_text, source_volume, written_summary}
 use Rattle.report_writer.specs.declared.end.EndLine.{EndLine}
 use Rattle.report_writer.specs.declared.end.EndLine.TheVariants.{Chain, Digest}
 
@@ -61,3 +69,29 @@ written_is_report reasons opened heads book opening nodes other lines began many
     (each_volume (modes_of book) nodes other v many each))
     ∙ ap (λ l. l ++ call_lines heads book.entries ++ end_lines (modes_of book) v) lines
     ∙ ap (λ ms. opening_lines 0 reasons ++ call_lines heads book.entries ++ end_lines (modes_after ms book.entries) v) began
+
+-- The lowest of them is this volume too, if there is one.
+same_source : (ms : List Mode) (vs : List Volume) (v : Volume) → length vs ≡ length ms → EachIs ms vs v
+    → source_volume ms vs ≡ volume_if_read ms v
+same_source ms vs v many each = found (source_of ms) refl
+  where
+    found : (s : Option ℕ) → source_of ms ≡ s → option_and_then (slice_get vs) s ≡ option_map (λ r. v) s
+    found None is = refl
+    found (Some s) is =
+        let read = (source_is ms s is).read in
+        slice_get-get_or vs s v (subst (λ n. s < n) (sym many) (within_from_read ms s read)) ∙ ap (λ w. Some w) (each s read)
+
+-- Where each replica that is read and written is the volume that the journal tells of, the summary that is written is the
+-- journal's.
+pub written_is_summary : (heads : List (List Head)) (book : Book) (opening : Spot) (nodes : List Node) (other : Node)
+    → book.opening.modes ≡ opening.modes → length nodes ≡ length (modes_of book)
+    → EachNodeIs (modes_of book) nodes other (replay opening.state book.entries).volume
+    → written_summary heads book (map volume_of_node nodes) ≡ summary_in heads opening book.entries
+written_is_summary heads book opening nodes other began many each =
+    let v = (replay opening.state book.entries).volume in
+    let summary : List Mode → Option Volume → List ℕ =
+    λ ms volume. summary_of (frames_from 0 heads book.entries) (replies_of (length heads) book.entries) ms volume in
+    ap (summary (modes_of book))
+    (same_source (modes_of book) (map volume_of_node nodes) v (length-map nodes volume_of_node ∙ many)
+    (each_volume (modes_of book) nodes other v many each))
+    ∙ ap (λ ms. summary (modes_after ms book.entries) (volume_if_read (modes_after ms book.entries) v)) began

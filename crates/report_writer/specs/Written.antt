@@ -1,14 +1,17 @@
 -- What is written of a run.
-use Rattle.std.specs.Prelude.{ℕ, suc, List, [], ◌∷◌, ◌++◌, Some}
+use Rattle.std.specs.Prelude.{ℕ, suc, List, [], ◌∷◌, ◌++◌, length, Option, Some, option_and_then, slice_get}
 use Rattle.frame_wire.specs.declared.head.Head.{Head}
 use Rattle.journal_book.specs.Book.{Book, modes_of}
 use Rattle.volume_model.specs.declared.mode.Mode.{Mode}
 use Rattle.volume_model.specs.declared.mode.Mode.TheVariants as mode
+use Rattle.volume_model.specs.Modes.{source_of}
 use Rattle.volume_model.specs.PlainState.{Volume}
 use Rattle.volume_model.specs.Snapshots.{chain_of}
 use Rattle.digest.specs.Digest.{digest_text}
 use Rattle.run_report.specs.Lines.{chain_line, head_line}
+use Rattle.load_laws.specs.Result.{replies_of}
 use Rattle.run_report.specs.Report.{call_lines, mode_lines}
+use Rattle.run_report.specs.Summary.{frames_from, summary_of}
 use Rattle.report_writer.specs.declared.end.EndLine.{EndLine}
 use Rattle.report_writer.specs.declared.end.EndLine.TheVariants.{Chain, Digest}
 
@@ -33,3 +36,13 @@ end_text modes volumes =
 -- these volumes
 abbrev pub written_text : List ℕ → List (List Head) → Book → List Volume → List ℕ
 written_text opened heads book volumes = opened ++ call_lines heads book.entries ++ end_text (modes_of book) volumes
+
+-- of replicas that are these volumes, the lowest that is read and written
+abbrev pub source_volume : List Mode → List Volume → Option Volume
+source_volume modes volumes = option_and_then (slice_get volumes) (source_of modes)
+
+-- the summary, for streams whose frames have these headers, and replicas that are these volumes: the next stream is the
+-- control stream
+abbrev pub written_summary : List (List Head) → Book → List Volume → List ℕ
+written_summary heads book volumes = summary_of (frames_from 0 heads book.entries) (replies_of (length heads) book.entries)
+    (modes_of book) (source_volume (modes_of book) volumes)

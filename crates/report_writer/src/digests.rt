@@ -61,7 +61,7 @@ fn same_head(one: &ReplicaNode, other: &ReplicaNode) -> bool
 
 /// The digest of all bytes of a head. Each is hashed once, and none is made for a block that was never
 /// written.
-fn digest_of_head(replica: &ReplicaNode) -> [u8; 64]
+pub(crate) fn digest_of_head(replica: &ReplicaNode) -> [u8; 64]
     ensures { result ≡ digest_text replica.now.disk }
 {
     let mut digest = Digest::new();

@@ -1,4 +1,4 @@
-ghost use Rattle.std.specs.Prelude.{◌≡◌, ◌≢◌, ◌<◌, ◌≤◌, ◌⊎◌, ◌++◌, length, map, slice_get, Some, OnOk, IfSome, IfNone, vec_len};
+ghost use Rattle.std.specs.Prelude.{◌≡◌, ◌<◌, ◌++◌, length, map, OnOk, vec_len};
 ghost use Rattle.std.specs.Io.KnownBytes.{Appends};
 ghost use Rattle.outer_traits.specs.Causes.{HasOuterCause};
 ghost use Rattle.outer_traits.specs.Passing.{WritesPrefix, Passes};
@@ -11,6 +11,7 @@ ghost use Rattle.replica_node.specs.Volume.{volume_of_node};
 ghost use Rattle.report_writer.specs.Written.{written_text};
 
 use crate::end::print_end;
+use crate::heads::head_for;
 use frame_wire::Head;
 use journal_book::Journal;
 use outer_traits::{Outer, Sink, pass_on, write_all};
@@ -109,20 +110,6 @@ fn pass_replies<K: Sink>(
         }
     }
     Ok(())
-}
-
-/// The next header, where the answer is one of the stream and there is one.
-fn head_for<'a>(stream: usize, heads: &'a [Head], next: usize, answer: &Answer) -> Option<&'a Head>
-    ensures some { IfSome result (λ asked.
-        (answer.now.stream ≡ stream) × (next < length heads.now)
-        × (slice_get heads.now next ≡ Some asked.now)) }
-    ensures none { IfNone result ((answer.now.stream ≢ stream) ⊎ (length heads.now ≤ next)) }
-{
-    if usize::from(answer.stream) == stream {
-        heads.get(next)
-    } else {
-        None
-    }
 }
 
 /// Prints a line, and passes the buffer on where it is a large piece by then.
