@@ -10,15 +10,10 @@ use Rattle.open_calls.specs.Calls.{node_at}
 use Rattle.volume_core.specs.declared.world.World.{World}
 use Rattle.volume_core.specs.State.{state_of, opening_of}
 use Rattle.script_text.specs.declared.script.Script.{Script}
-use Rattle.script_text.specs.Script.{IsScript}
 use Rattle.stream_turns.specs.declared.serving.ServedStreams.{ServedStreams}
 use Rattle.stream_turns.specs.Volume.{heads_in}
 use Rattle.stream_turns.specs.Run.{IsRun, IsOneWorkersRun}
 use Rattle.stream_turns.specs.Turn.{IsBetween}
-
--- some input is this script
-abbrev pub IsRead : Script → Type 0
-IsRead script = (input : List ℕ) × IsScript input script
 
 -- The World has just begun for the script at this spot: nothing is open of it, and nothing has happened. It has a place
 -- for each stream, and as many replicas as the script says.

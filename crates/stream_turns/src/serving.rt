@@ -3,11 +3,11 @@ ghost use Rattle.volume_model.specs.History.{Spot};
 ghost use Rattle.volume_core.specs.Opened.{blank_opening};
 ghost use Rattle.outer_traits.specs.Lines.{TellsMore};
 ghost use Rattle.volume_core.specs.State.{state_of, opening_of};
-ghost use Rattle.script_text.specs.Good.{backs_up};
+ghost use Rattle.script_text.specs.Good.{IsGood, backs_up};
 ghost use Rattle.control_worker.specs.Store.{TellsFault};
 ghost use Rattle.stream_turns.specs.Store.{StoreOfRun};
 ghost use Rattle.stream_turns.specs.Turn.{IsTaken, IsBetween, KeepsOrigin, HaveTurns};
-ghost use Rattle.stream_turns.specs.Serving.{IsRead, IsBegun, IsServed, IsServedInTurn};
+ghost use Rattle.stream_turns.specs.Serving.{IsBegun, IsServed, IsServedInTurn};
 ghost use Rattle.stream_turns.specs.Volume.{asks_from, asks_in, blank_spot, stream_calls, heads_of};
 
 use crate::stream::serve_stream;
@@ -33,7 +33,7 @@ pub struct ServedStreams {
 
 /// The World of a script that opens nothing.
 pub fn blank_world(alloc: Global, script: &Script) -> Result<World, AllocError>
-    requires { IsRead script.now }
+    requires { IsGood script.now }
     ensures begun { IfOk result (IsBegun script.entry.now (blank_spot script.entry.now)) }
     ensures opening { IfOk result (λ world. world.journal.opening ≡ blank_opening script.entry.now.replicas) }
 {
@@ -52,7 +52,7 @@ pub fn serve<R: Wait, W: Wiring, T: Target>(
     wiring: &mut W,
     target: &mut T,
 ) -> Result<ServedStreams, AllocError>
-    requires read { IsRead script }
+    requires good { IsGood script }
     requires begun { (spot : Spot) × IsBegun script spot world }
     ensures served { (spot : Spot) → IsBegun script spot world
         → IfOk result (IsServed script spot (W.counts wiring.new) (W.carried wiring.new)) }

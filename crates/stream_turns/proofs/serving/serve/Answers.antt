@@ -1,6 +1,5 @@
 use Rattle.std.proofs.Common.{◌≡◌, ◌≤◌, false, length, sym, ap, subst, ◌∙◌, List, All}
 use Rattle.script_text.specs.declared.script.Stream.{Stream}
-use Rattle.script_text.proofs.GoodLemmas.{few_streams}
 use Rattle.script_text.specs.Good.{backs_up}
 use Rattle.stream_turns.specs.Store.{StoreOfRun}
 use Rattle.stream_turns.specs.Turn.{IsTaken}
@@ -12,8 +11,7 @@ use Rattle.stream_turns.proofs.serving.serve.Goals as goal
 
 pub serve_streams-requires-clause-few : goal.serve_streams-requires-clause-few
 serve_streams-requires-clause-few g c κs within =
-    subst (λ (ss : List Stream). length ss ≤ 16) (sym c.into_vec.ensures)
-    (few_streams c.requires.read.0 c.args.script c.requires.read.1).1
+    subst (λ (ss : List Stream). length ss ≤ 16) (sym c.into_vec.ensures) c.requires.good.few_streams
 
 pub serve_streams-requires-clause-many : goal.serve_streams-requires-clause-many
 serve_streams-requires-clause-many g c κs within =
@@ -22,8 +20,7 @@ serve_streams-requires-clause-many g c κs within =
 pub serve_streams-requires-clause-taken : goal.serve_streams-requires-clause-taken
 serve_streams-requires-clause-taken g c κs within =
     subst (λ n. All (IsTaken n) c.into_vec.result.items) (sym c.requires.begun.1.replicas)
-    (subst (All (IsTaken c.args.script.replicas)) (sym c.into_vec.ensures)
-    (all_taken c.requires.read.0 c.args.script c.requires.read.1))
+    (subst (All (IsTaken c.args.script.replicas)) (sym c.into_vec.ensures) (all_taken c.args.script c.requires.good))
 
 pub serve_streams-requires-clause-between : goal.serve_streams-requires-clause-between
 serve_streams-requires-clause-between g c κs within = c.requires.begun.1.between
