@@ -2,11 +2,11 @@ ghost use Rattle.std.specs.Prelude.{◌≡◌, ◌≤◌, true, false, [], lengt
 ghost use Rattle.outer_traits.specs.Lines.{TellsMore};
 ghost use Rattle.volume_model.specs.History.{Spot};
 ghost use Rattle.volume_core.specs.State.{state_of, opening_of};
-ghost use Rattle.script_text.specs.Good.{backs_up};
+ghost use Rattle.script_text.specs.Good.{IsGood, backs_up};
 ghost use Rattle.control_worker.specs.Store.{TellsFault};
 ghost use Rattle.stream_turns.specs.Store.{StoreOfRun};
 ghost use Rattle.stream_turns.specs.Turn.{IsTaken, IsBetween, KeepsOrigin};
-ghost use Rattle.stream_turns.specs.Serving.{IsRead, IsBegun, IsServed};
+ghost use Rattle.stream_turns.specs.Serving.{IsBegun, IsServed};
 ghost use Rattle.stream_turns.specs.Volume.{asks_from, asks_in, stream_calls, heads_of};
 ghost use Rattle.stream_workers.specs.Ended.{HaveEnded};
 
@@ -35,7 +35,7 @@ pub fn serve<R: Threads + Wait + Sync, W: Wiring, T: Target + Send, G: Gate + Sy
     target: &mut T,
     gate: &G,
 ) -> Result<ServedStreams, AllocError>
-    requires read { IsRead script }
+    requires good { IsGood script }
     requires begun { (spot : Spot) × IsBegun script spot world }
     ensures served { (spot : Spot) → IsBegun script spot world
         → IfOk result (IsServed script spot (W.counts wiring.new) (W.carried wiring.new)) }

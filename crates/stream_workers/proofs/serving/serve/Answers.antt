@@ -2,7 +2,6 @@ use Rattle.std.specs.Prelude.{count_by}
 use Rattle.script_text.specs.Good.{backs_up}
 use Rattle.std.proofs.Common.{◌≤◌, length, refl, sym, ap, subst, ◌∙◌, List, All}
 use Rattle.script_text.specs.declared.script.Stream.{Stream}
-use Rattle.script_text.proofs.GoodLemmas.{few_streams, one_backs_up}
 use Rattle.stream_turns.specs.Turn.{IsTaken}
 use Rattle.stream_turns.proofs.Asks.{asked_in}
 use Rattle.stream_turns.proofs.ScriptLemmas.{all_taken}
@@ -13,7 +12,7 @@ use Rattle.stream_workers.proofs.serving.serve.Goals as goal
 pub serve_streams-requires-clause-some : goal.serve_streams-requires-clause-some
 serve_streams-requires-clause-some g c κs within =
     subst (λ (ss : List Stream). (1 ≤ length ss) × (length ss ≤ 16)) (sym c.into_vec.ensures)
-    (few_streams c.requires.read.0 c.args.script c.requires.read.1)
+    (c.requires.good.some_streams, c.requires.good.few_streams)
 
 pub serve_streams-requires-clause-many : goal.serve_streams-requires-clause-many
 serve_streams-requires-clause-many g c κs within =
@@ -24,8 +23,7 @@ serve_streams-requires-clause-replicas g c κs within = sym c.requires.begun.1.r
 
 pub serve_streams-requires-clause-taken : goal.serve_streams-requires-clause-taken
 serve_streams-requires-clause-taken g c κs within =
-    subst (All (IsTaken c.args.script.replicas)) (sym c.into_vec.ensures)
-    (all_taken c.requires.read.0 c.args.script c.requires.read.1)
+    subst (All (IsTaken c.args.script.replicas)) (sym c.into_vec.ensures) (all_taken c.args.script c.requires.good)
 
 pub serve_streams-requires-clause-between : goal.serve_streams-requires-clause-between
 serve_streams-requires-clause-between g c κs within = c.requires.begun.1.between
@@ -35,8 +33,7 @@ serve_streams-requires-clause-begun g c κs within = c.requires.begun.1.none
 
 pub serve_streams-requires-clause-one : goal.serve_streams-requires-clause-one
 serve_streams-requires-clause-one g c κs within =
-    subst (λ (ss : List Stream). count_by backs_up ss ≤ 1) (sym c.into_vec.ensures)
-    (one_backs_up c.requires.read.0 c.args.script c.requires.read.1)
+    subst (λ (ss : List Stream). count_by backs_up ss ≤ 1) (sym c.into_vec.ensures) c.requires.good.backups
 
 pub returns-clause-served : goal.returns-clause-served
 returns-clause-served g c spot begun =
