@@ -1,5 +1,5 @@
 -- What the words behind the program's name ask for.
-use Rattle.std.specs.Prelude.{◌≡◌, ◌&&◌, ℕ, Bool, List, length, nat_le, slice_index, if◌then◌else◌, codes}
+use Rattle.std.specs.Prelude.{◌≡◌, ◌&&◌, ⊤, ℕ, Bool, List, length, nat_le, slice_index, if◌then◌else◌, codes}
 use Rattle.std.specs.Prelude.{Option, Some, None, option_map, option_and_then}
 use Rattle.std.specs.Char.{is_ascii_alphanumeric}
 use Rattle.std.specs.List.{list_all}
@@ -7,12 +7,14 @@ use Rattle.std.specs.Str.{bytes_eq}
 use Rattle.clap.specs.Words.{Row, Text, first_of, subcommand_of, takes}
 use Rattle.clap.specs.declared.error.kind.ErrorKind.{ErrorKind}
 use Rattle.clap.specs.declared.error.kind.ErrorKind.TheVariants.{OutOfMemory}
-use Rattle.vol_units.specs.Name.{is_name_byte}
+use Rattle.vol_units.specs.Name.{IsPlainName, is_name_byte}
+use Rattle.vol_units.specs.Size.{IsVolumeSize}
+use Rattle.program_words.specs.Numbers.{AreLoadNumbers, number_of, size_of, streams_of, calls_of}
 use Rattle.program_words.specs.Program.{program}
 use Rattle.program_words.specs.declared.words.Workers.{Workers}
 use Rattle.program_words.specs.declared.words.Workers.TheVariants.{One, Each}
 use Rattle.program_words.specs.declared.words.Words.{Words}
-use Rattle.program_words.specs.declared.words.Words.TheVariants.{Run, Restore, Backups}
+use Rattle.program_words.specs.declared.words.Words.TheVariants.{Run, Restore, Backups, Replica, Generate}
 use Rattle.program_words.specs.declared.words.WordsError.{WordsError}
 use Rattle.program_words.specs.declared.words.WordsError.TheVariants.{Usage, NoMemory}
 
@@ -52,11 +54,31 @@ restore_of rows = option_and_then (λ backup. option_map (Restore backup) (name_
 abbrev pub backups_of : List Row → Option Words
 backups_of rows = option_map Backups (name_at (codes "volume") rows)
 
+-- the number that is given for an argument, if one is given
+abbrev pub number_at : Text → List Row → Option ℕ
+number_at id rows = option_and_then number_of (first_of id rows)
+
+-- `replica`, of a size
+abbrev pub replica_of : List Row → Option Words
+replica_of rows = option_map Replica (option_and_then size_of (number_at (codes "size") rows))
+
+-- `gen`, of a number and a count of streams, by how many calls each of them has
+abbrev pub load_of : ℕ → ℕ → List Row → Option Words
+load_of number streams rows =
+    option_map (Generate number streams) (option_and_then calls_of (number_at (codes "calls") rows))
+
+-- `gen`, of a number, by how many streams there are and how many calls each of them has
+abbrev pub generate_of : List Row → Option Words
+generate_of rows = option_and_then (λ number. option_and_then (λ streams. load_of number streams rows)
+    (option_and_then streams_of (number_at (codes "streams") rows))) (number_at (codes "number") rows)
+
 -- what a subcommand of this name asks for, by what `clap` reads of its arguments
 abbrev pub asked_at : Text → List Row → Option Words
 asked_at name rows = if bytes_eq name (codes "run") then run_of rows
     else (if bytes_eq name (codes "restore") then restore_of rows
-    else (if bytes_eq name (codes "backups") then backups_of rows else None))
+    else (if bytes_eq name (codes "backups") then backups_of rows
+    else (if bytes_eq name (codes "replica") then replica_of rows
+    else (if bytes_eq name (codes "gen") then generate_of rows else None))))
 
 -- the same of the subcommand that is named, if one is
 abbrev pub asked_named : Option (Text × List Row) → Option Words
@@ -65,6 +87,14 @@ asked_named = option_and_then (λ named. asked_at named.0 named.1)
 -- what the words ask for, if `clap` takes them and each value is one that the program knows
 abbrev pub asked_by : List Text → Option Words
 asked_by words = if takes program words then asked_named (subcommand_of program words) else None
+
+-- what is asked for keeps to the grammar of its names and the limits of its numbers
+abbrev pub KeepsLimits : Words → Type 0
+KeepsLimits (Run workers) = ⊤
+KeepsLimits (Restore backup volume) = IsPlainName backup × IsPlainName volume
+KeepsLimits (Backups volume) = IsPlainName volume
+KeepsLimits (Replica size) = IsVolumeSize size
+KeepsLimits (Generate number streams calls) = AreLoadNumbers number streams calls
 
 -- the error that a refusal of this kind is
 abbrev pub IsErrorOf : ErrorKind → WordsError → Type 0

@@ -1,6 +1,8 @@
 //! The words of the command line, as `clap` reads them.
 #![tactic(auto)]
 
+pub mod laws;
+mod numbers;
 mod program;
 pub mod rows;
 mod words;

@@ -1,7 +1,8 @@
 ghost use Rattle.std.specs.Prelude.{◌≡◌, IfOk, false};
 ghost use Rattle.clap.specs.Words.{app_of, rule_of};
 ghost use Rattle.clap.specs.declared.builder.Command.TheViews.{out-Command as fields_of};
-ghost use Rattle.program_words.specs.Program.{backups_app, positional, program, restore_app, run_app};
+ghost use Rattle.program_words.specs.Program.{backups_app, generate_app, positional, program};
+ghost use Rattle.program_words.specs.Program.{replica_app, restore_app, run_app};
 
 use clap::{Arg, Command};
 use std::alloc::{AllocError, Global};
@@ -15,7 +16,9 @@ pub fn command<'a>(alloc: Global) -> Result<Command<'a>, AllocError>
         .subcommand_required(true)
         .subcommand(run_command(alloc)?)?
         .subcommand(restore_command(alloc)?)?
-        .subcommand(backups_command(alloc)?)
+        .subcommand(backups_command(alloc)?)?
+        .subcommand(replica_command(alloc)?)?
+        .subcommand(generate_command(alloc)?)
 }
 
 fn run_command<'a>(alloc: Global) -> Result<Command<'a>, AllocError>
@@ -41,4 +44,25 @@ fn backups_command<'a>(alloc: Global) -> Result<Command<'a>, AllocError>
 {
     let volume = Arg::new(alloc, "volume").required(true);
     Command::new(alloc, "backups").arg(volume)
+}
+
+fn replica_command<'a>(alloc: Global) -> Result<Command<'a>, AllocError>
+    ensures shape { IfOk result (λ c. app_of c ≡ replica_app) }
+    ensures local { IfOk result (λ c. (fields_of c).has_globals ≡ false) }
+{
+    let size = Arg::new(alloc, "size").required(true);
+    Command::new(alloc, "replica").arg(size)
+}
+
+fn generate_command<'a>(alloc: Global) -> Result<Command<'a>, AllocError>
+    ensures shape { IfOk result (λ c. app_of c ≡ generate_app) }
+    ensures local { IfOk result (λ c. (fields_of c).has_globals ≡ false) }
+{
+    let number = Arg::new(alloc, "number").required(true);
+    let streams = Arg::new(alloc, "streams").required(true);
+    let calls = Arg::new(alloc, "calls").required(true);
+    Command::new(alloc, "gen")
+        .arg(number)?
+        .arg(streams)?
+        .arg(calls)
 }

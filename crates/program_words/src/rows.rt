@@ -1,10 +1,9 @@
-//! Worked rows of command lines, computed by the checker, and the law of their test for names.
-#![tactic(auto, unfolding(clap::proofs::OnLiterals::clap_on_literals))]
+//! Worked rows of command lines, computed by the checker.
+#![tactic(auto, unfolding(crate::proofs::OnLiterals::words_on_literals))]
 
-ghost use Rattle.std.specs.Prelude.{◌≡◌, ◌↔◌, ℕ, true, List, [], ◌∷◌, Some, None, codes, replicate};
-ghost use Rattle.vol_units.specs.Name.{IsPlainName};
-ghost use Rattle.program_words.specs.Asked.{asked_by, is_plain_name};
-ghost use Rattle.program_words.specs.declared.words.Words.TheVariants.{Run, Restore, Backups};
+ghost use Rattle.std.specs.Prelude.{◌≡◌, [], ◌∷◌, Some, None, codes, replicate};
+ghost use Rattle.program_words.specs.Asked.{asked_by};
+ghost use Rattle.program_words.specs.declared.words.Words.TheVariants.{Run, Restore, Backups, Replica, Generate};
 ghost use Rattle.program_words.specs.declared.words.Workers.TheVariants.{One, Each};
 
 /// The ways to ask for a run.
@@ -127,7 +126,114 @@ pub fn other_names_are_refused()
     ensures not_ascii { asked_by (codes "backups" ∷ (195 ∷ 169 ∷ []) ∷ []) ≡ None }
 {}
 
-/// The test for a name is the grammar of names that `vol_units` has.
-pub fn the_test_for_a_name_is_its_grammar()
-    ensures { (text : List ℕ) → is_plain_name text ≡ true ↔ IsPlainName text }
+/// The ways to ask for a replica that is served.
+pub fn a_replica_is_asked_for()
+    ensures least { asked_by (codes "replica" ∷ codes "2097152" ∷ []) ≡ Some (Replica 2097152) }
+    ensures most { asked_by (codes "replica" ∷ codes "1073741824" ∷ [])
+        ≡ Some (Replica 1073741824) }
+    ensures dashes_first { asked_by (codes "replica" ∷ codes "--" ∷ codes "6291456" ∷ [])
+        ≡ Some (Replica 6291456) }
+    ensures dashes_last { asked_by (codes "replica" ∷ codes "6291456" ∷ codes "--" ∷ [])
+        ≡ Some (Replica 6291456) }
+{}
+
+/// The ways to ask for a generated load.
+pub fn a_load_is_asked_for()
+    ensures least { asked_by (codes "gen" ∷ codes "0" ∷ codes "1" ∷ codes "1" ∷ [])
+        ≡ Some (Generate 0 1 1) }
+    ensures most { asked_by (codes "gen" ∷ codes "18446744073709551615" ∷ codes "15"
+        ∷ codes "4096" ∷ []) ≡ Some (Generate 18446744073709551615 15 4096) }
+    ensures in_this_order { asked_by (codes "gen" ∷ codes "7" ∷ codes "2" ∷ codes "3" ∷ [])
+        ≡ Some (Generate 7 2 3) }
+    ensures dashes_first { asked_by (codes "gen" ∷ codes "--" ∷ codes "7" ∷ codes "2"
+        ∷ codes "3" ∷ []) ≡ Some (Generate 7 2 3) }
+    ensures dashes_between { asked_by (codes "gen" ∷ codes "7" ∷ codes "--" ∷ codes "2"
+        ∷ codes "3" ∷ []) ≡ Some (Generate 7 2 3) }
+    ensures dashes_last { asked_by (codes "gen" ∷ codes "7" ∷ codes "2" ∷ codes "3"
+        ∷ codes "--" ∷ []) ≡ Some (Generate 7 2 3) }
+{}
+
+/// `replica` has a size, and nothing else.
+pub fn replica_has_one_size()
+    ensures none { asked_by (codes "replica" ∷ []) ≡ None }
+    ensures none_behind_dashes { asked_by (codes "replica" ∷ codes "--" ∷ []) ≡ None }
+    ensures two { asked_by (codes "replica" ∷ codes "2097152" ∷ codes "2097152" ∷ []) ≡ None }
+    ensures option { asked_by (codes "replica" ∷ codes "--size" ∷ codes "2097152" ∷ []) ≡ None }
+    ensures option_joined { asked_by (codes "replica" ∷ codes "--size=2097152" ∷ []) ≡ None }
+    ensures help { asked_by (codes "replica" ∷ codes "--help" ∷ []) ≡ None }
+    ensures help_behind { asked_by (codes "replica" ∷ codes "2097152" ∷ codes "-h" ∷ []) ≡ None }
+    ensures longer_word { asked_by (codes "replicas" ∷ codes "2097152" ∷ []) ≡ None }
+{}
+
+/// What is no size of a volume.
+pub fn other_sizes_are_refused()
+    ensures zero { asked_by (codes "replica" ∷ codes "0" ∷ []) ≡ None }
+    ensures a_byte_more { asked_by (codes "replica" ∷ codes "2097153" ∷ []) ≡ None }
+    ensures a_page_more_than_the_most { asked_by (codes "replica" ∷ codes "1075838976" ∷ [])
+        ≡ None }
+    ensures past_the_largest_number { asked_by (codes "replica" ∷ codes "18446744073711648768" ∷ [])
+        ≡ None }
+    ensures leading_zero { asked_by (codes "replica" ∷ codes "02097152" ∷ []) ≡ None }
+    ensures plus { asked_by (codes "replica" ∷ codes "+2097152" ∷ []) ≡ None }
+    ensures minus { asked_by (codes "replica" ∷ codes "-2097152" ∷ []) ≡ None }
+    ensures minus_behind_dashes { asked_by (codes "replica" ∷ codes "--" ∷ codes "-2097152" ∷ [])
+        ≡ None }
+    ensures blank_before { asked_by (codes "replica" ∷ codes " 2097152" ∷ []) ≡ None }
+    ensures blank_behind { asked_by (codes "replica" ∷ codes "2097152 " ∷ []) ≡ None }
+    ensures empty { asked_by (codes "replica" ∷ codes "" ∷ []) ≡ None }
+    ensures unit { asked_by (codes "replica" ∷ codes "2MiB" ∷ []) ≡ None }
+    ensures other_base { asked_by (codes "replica" ∷ codes "0x200000" ∷ []) ≡ None }
+{}
+
+/// `gen` has three numbers, and nothing else.
+pub fn gen_has_three_numbers()
+    ensures none { asked_by (codes "gen" ∷ []) ≡ None }
+    ensures two { asked_by (codes "gen" ∷ codes "0" ∷ codes "1" ∷ []) ≡ None }
+    ensures two_behind_dashes { asked_by (codes "gen" ∷ codes "--" ∷ codes "0" ∷ codes "1" ∷ [])
+        ≡ None }
+    ensures four { asked_by (codes "gen" ∷ codes "0" ∷ codes "1" ∷ codes "1" ∷ codes "1" ∷ [])
+        ≡ None }
+    ensures option { asked_by (codes "gen" ∷ codes "0" ∷ codes "1" ∷ codes "--calls=1" ∷ [])
+        ≡ None }
+    ensures help { asked_by (codes "gen" ∷ codes "--help" ∷ []) ≡ None }
+    ensures help_first { asked_by (codes "help" ∷ codes "gen" ∷ []) ≡ None }
+    ensures longer_word { asked_by (codes "generate" ∷ codes "0" ∷ codes "1" ∷ codes "1" ∷ [])
+        ≡ None }
+    ensures another_word { asked_by (codes "replica" ∷ codes "0" ∷ codes "1" ∷ codes "1" ∷ [])
+        ≡ None }
+{}
+
+/// Numbers past the limits of a load.
+pub fn numbers_past_their_limits_are_refused()
+    ensures number { asked_by (codes "gen" ∷ codes "18446744073709551616" ∷ codes "1"
+        ∷ codes "1" ∷ []) ≡ None }
+    ensures no_stream { asked_by (codes "gen" ∷ codes "0" ∷ codes "0" ∷ codes "1" ∷ []) ≡ None }
+    ensures sixteen_streams { asked_by (codes "gen" ∷ codes "0" ∷ codes "16" ∷ codes "1" ∷ [])
+        ≡ None }
+    ensures more_than_a_byte { asked_by (codes "gen" ∷ codes "0" ∷ codes "257" ∷ codes "1" ∷ [])
+        ≡ None }
+    ensures no_call { asked_by (codes "gen" ∷ codes "0" ∷ codes "1" ∷ codes "0" ∷ []) ≡ None }
+    ensures a_call_more { asked_by (codes "gen" ∷ codes "0" ∷ codes "1" ∷ codes "4097" ∷ [])
+        ≡ None }
+    ensures calls_first { asked_by (codes "gen" ∷ codes "0" ∷ codes "4096" ∷ codes "15" ∷ [])
+        ≡ None }
+{}
+
+/// What is no number.
+pub fn other_numbers_are_refused()
+    ensures zeros { asked_by (codes "gen" ∷ codes "00" ∷ codes "1" ∷ codes "1" ∷ []) ≡ None }
+    ensures zero_before_streams { asked_by (codes "gen" ∷ codes "0" ∷ codes "01" ∷ codes "1" ∷ [])
+        ≡ None }
+    ensures zeros_before_calls { asked_by (codes "gen" ∷ codes "0" ∷ codes "1" ∷ codes "0001" ∷ [])
+        ≡ None }
+    ensures plus { asked_by (codes "gen" ∷ codes "+7" ∷ codes "1" ∷ codes "1" ∷ []) ≡ None }
+    ensures minus { asked_by (codes "gen" ∷ codes "-7" ∷ codes "1" ∷ codes "1" ∷ []) ≡ None }
+    ensures minus_behind_dashes { asked_by (codes "gen" ∷ codes "--" ∷ codes "-7" ∷ codes "1"
+        ∷ codes "1" ∷ []) ≡ None }
+    ensures empty { asked_by (codes "gen" ∷ codes "" ∷ codes "1" ∷ codes "1" ∷ []) ≡ None }
+    ensures blank { asked_by (codes "gen" ∷ codes "0" ∷ codes "1 " ∷ codes "1" ∷ []) ≡ None }
+    ensures blanks_between { asked_by (codes "gen" ∷ codes "0 1 1" ∷ []) ≡ None }
+    ensures point { asked_by (codes "gen" ∷ codes "0" ∷ codes "1" ∷ codes "1.0" ∷ []) ≡ None }
+    ensures not_ascii { asked_by (codes "gen" ∷ codes "0" ∷ (217 ∷ 161 ∷ []) ∷ codes "1" ∷ [])
+        ≡ None }
 {}

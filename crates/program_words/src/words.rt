@@ -1,14 +1,15 @@
 ghost use Rattle.std.specs.Prelude.{◌≡◌, None, Some, map, IfOk, IsErrOf, codes, string_bytes};
 ghost use Rattle.clap.specs.Words.{first_of, found_of, kind_of, rows_of, subcommand_rows_of};
-ghost use Rattle.program_words.specs.Asked.{asked_at, asked_by, asked_named, backups_of, name_at, plain_name, restore_of};
-ghost use Rattle.program_words.specs.Asked.{run_of, workers_named, workers_of, IsErrorOf};
+ghost use Rattle.program_words.specs.Asked.{asked_at, asked_by, asked_named, backups_of, generate_of, name_at, number_at};
+ghost use Rattle.program_words.specs.Asked.{plain_name, replica_of, restore_of, run_of, workers_named, workers_of, IsErrorOf};
 ghost use Rattle.program_words.specs.declared.words.WordsError.TheVariants.{NoMemory};
 
+use crate::numbers::{calls_of, number_of, size_of, streams_of};
 use crate::program::command;
 use clap::ArgMatches;
 use clap::error::ErrorKind;
 use std::alloc::{AllocError, Global};
-use vol_units::PlainName;
+use vol_units::{PlainName, VolumeSize};
 
 /// Who serves the streams of a script.
 #[derive(Clone, Copy, Debug, PartialEq, Eq)]
@@ -34,6 +35,16 @@ pub enum Words {
     /// To list a volume's backups.
     Backups {
         volume: PlainName,
+    },
+    /// To serve one blank replica.
+    Replica {
+        size: VolumeSize,
+    },
+    /// To run the script that a number makes: so many streams, each of so many calls.
+    Generate {
+        number: u64,
+        streams: u8,
+        calls: u32,
     },
 }
 
@@ -93,6 +104,8 @@ fn asked_at(name: &str, arguments: &ArgMatches<'_>) -> Option<Words>
         "run" => run_in(arguments),
         "restore" => restore_in(arguments),
         "backups" => backups_in(arguments),
+        "replica" => replica_in(arguments),
+        "gen" => generate_in(arguments),
         _ => None,
     }
 }
@@ -117,6 +130,36 @@ fn backups_in(arguments: &ArgMatches<'_>) -> Option<Words>
 {
     let volume = name_in(arguments, "volume")?;
     Some(Words::Backups { volume })
+}
+
+fn replica_in(arguments: &ArgMatches<'_>) -> Option<Words>
+    ensures { result ≡ replica_of (rows_of (found_of arguments.now)) }
+{
+    let bytes = number_in(arguments, "size")?;
+    let size = size_of(bytes)?;
+    Some(Words::Replica { size })
+}
+
+fn generate_in(arguments: &ArgMatches<'_>) -> Option<Words>
+    ensures { result ≡ generate_of (rows_of (found_of arguments.now)) }
+{
+    let number = number_in(arguments, "number")?;
+    let streams = streams_of(number_in(arguments, "streams")?)?;
+    let calls = calls_of(number_in(arguments, "calls")?)?;
+    Some(Words::Generate {
+        number,
+        streams,
+        calls,
+    })
+}
+
+/// The number that is given for an argument, if one is given.
+#[tactic(auto, using(crate::proofs::AskedLemmas::first_values))]
+fn number_in(arguments: &ArgMatches<'_>, id: &str) -> Option<u64>
+    ensures { result ≡ number_at id.now (rows_of (found_of arguments.now)) }
+{
+    let text = arguments.get_str(id)?;
+    number_of(text)
 }
 
 /// The name that is given for an argument, if one is given.

@@ -18,6 +18,10 @@ returns c =
     let run = c.in_ok-run_command.ensures in
     let restore = c.in_ok-restore_command.ensures in
     let backups = c.in_ok-backups_command.ensures in
+    let replica = c.in_ok-replica_command.ensures in
+    let generate = c.in_ok-generate_command.ensures in
     let one = one_more _ _ _ _ _ bare run.shape run.local c.in_ok-subcommand.ensures in
     let two = one_more _ _ _ _ _ one restore.shape restore.local c.in_ok-subcommand-2.ensures in
-    IfOk-weaker c.subcommand-3.result _ _ (λ new adds. one_more _ _ _ _ _ two backups.shape backups.local adds) c.subcommand-3.ensures
+    let three = one_more _ _ _ _ _ two backups.shape backups.local c.in_ok-subcommand-3.ensures in
+    let four = one_more _ _ _ _ _ three replica.shape replica.local c.in_ok-subcommand-4.ensures in
+    IfOk-weaker c.subcommand-5.result _ _ (λ new adds. one_more _ _ _ _ _ four generate.shape generate.local adds) c.subcommand-5.ensures
