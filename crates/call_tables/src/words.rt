@@ -3,7 +3,7 @@ use program_words::{Words, WordsError, Workers, read_words};
 use std::alloc::{AllocError, Global};
 use std::process::Abort;
 use std::test::Fail;
-use vol_units::PlainName;
+use vol_units::{PlainName, VolumeSize};
 
 type Read = Result<Words, WordsError>;
 
@@ -27,6 +27,18 @@ fn read_lines(rt: &impl Abort, alloc: Global, rows: &[(&str, Read)]) -> Result<(
 
 fn run_by(workers: Workers) -> Read {
     Ok(Words::Run { workers })
+}
+
+fn replica_of(size: VolumeSize) -> Read {
+    Ok(Words::Replica { size })
+}
+
+fn load_of(number: u64, streams: u8, calls: u32) -> Read {
+    Ok(Words::Generate {
+        number,
+        streams,
+        calls,
+    })
 }
 
 fn usage_error() -> Read {
@@ -74,6 +86,40 @@ fn words_of_backups_are_read(rt: HostRuntime) -> Result<(), Fail> {
         ("backups", usage),
         ("backups b-1 v.2", usage),
         ("backups -- -v", usage),
+    ];
+    read_lines(&rt, rt.alloc(), &rows)
+}
+
+#[test]
+fn words_of_loads_are_read(rt: HostRuntime) -> Result<(), Fail> {
+    let size = VolumeSize::new(6_291_456)?;
+    let rows = [
+        ("replica 6291456", replica_of(size)),
+        ("replica -- 6291456", replica_of(size)),
+        ("gen 0 1 1", load_of(0, 1, 1)),
+        ("gen 7 15 1024", load_of(7, 15, 1024)),
+        (
+            "gen 18446744073709551615 15 4096",
+            load_of(u64::MAX, 15, 4096),
+        ),
+        ("gen 7 -- 2 3", load_of(7, 2, 3)),
+        ("replica", usage_error()),
+        ("replica 0", usage_error()),
+        ("replica 6291457", usage_error()),
+        ("replica 06291456", usage_error()),
+        ("replica 1075838976", usage_error()),
+        ("replica 6291456 6291456", usage_error()),
+        ("replica --help", usage_error()),
+        ("gen 0 1", usage_error()),
+        ("gen 0 1 1 1", usage_error()),
+        ("gen +7 1 1", usage_error()),
+        ("gen 07 1 1", usage_error()),
+        ("gen 18446744073709551616 1 1", usage_error()),
+        ("gen 7 16 1", usage_error()),
+        ("gen 7 0 1", usage_error()),
+        ("gen 7 1 4097", usage_error()),
+        ("gen 7 1 0", usage_error()),
+        ("gen -7 1 1", usage_error()),
     ];
     read_lines(&rt, rt.alloc(), &rows)
 }
