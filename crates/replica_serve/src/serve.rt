@@ -1,6 +1,6 @@
 //! The frames of a client, served until it closes, or its input ends.
 
-ghost use Rattle.std.specs.Prelude.{◌≡◌, ◌<◌, [], vec_len, IfOk, OnOk, OnErr};
+ghost use Rattle.std.specs.Prelude.{◌≡◌, ◌<◌, ◌≤◌, [], take, vec_len, IfOk, OnOk, OnErr};
 ghost use Rattle.std.specs.Io.KnownBytes.{Appends, Consumes, IsAtEnd};
 ghost use Rattle.outer_traits.specs.Passing.{WritesPrefix};
 ghost use Rattle.volume_model.specs.PlainStep.{longest_call};
@@ -61,6 +61,7 @@ pub fn serve_replica<R: Wait, S: Source, K: Sink>(
     let mut node = node;
     let mut reader = FrameReader::new(alloc, LONGEST_CALL);
     let mut replies = Vec::new(alloc);
+    let mut piece = Vec::new(alloc);
     for _ in rt.forever() {
         let served = serve_waiting(alloc, &mut reader, &mut node, &mut replies, sink)?;
         write_out(sink, &mut replies)?;
@@ -69,7 +70,7 @@ pub fn serve_replica<R: Wait, S: Source, K: Sink>(
             Served::Closed => return Ok(()),
             Served::Bad(place) => return Err(ServeError::Frame(place)),
         }
-        match feed_more(alloc, source, &mut reader)? {
+        match feed_more(alloc, source, &mut piece, &mut reader)? {
             Input::More => {}
             Input::End if reader.is_empty() => return Ok(()),
             Input::End => return Err(ServeError::Frame(reader.place())),
@@ -145,43 +146,45 @@ fn write_out<K: Sink>(sink: &mut K, replies: &mut Vec<u8>) -> Result<(), ServeEr
     }
 }
 
-/// Reads once, and feeds the reader with what came.
+/// Reads once into a piece, and feeds the reader with a copy of what came. A client that sends few bytes and waits would
+/// else have a whole new piece made each time.
 fn feed_more<S: Source>(
     alloc: Global,
     source: &mut S,
+    piece: &mut Vec<u8>,
     reader: &mut FrameReader,
 ) -> Result<Input, ServeError>
     ensures fed { IfOk result (FeedsMore (S.left source.old) (S.left source.new) reader.old reader.new) }
     ensures counts { ReadCounts result (S.faults source.old) (S.faults source.new) }
 {
-    let piece = read_piece(alloc, source, PIECE)?;
-    if piece.is_empty() {
+    let count = read_piece(source, piece)?;
+    if count == 0 {
         return Ok(Input::End);
     }
-    reader.feed(Bytes::from_vec(piece)?)?;
+    reader.feed(Bytes::copy_from_slice(alloc, &piece[..count])?)?;
     Ok(Input::More)
 }
 
-/// Reads once, so many bytes at most. No bytes are the end of the input.
-fn read_piece<S: Source>(alloc: Global, source: &mut S, most: usize) -> Result<Vec<u8>, ServeError>
-    requires { 0 < most }
-    ensures bytes { IfOk result (λ piece. Consumes (S.left source.old) (S.left source.new) piece.items) }
-    ensures end { IfOk result (λ piece. vec_len piece ≡ 0 → IsAtEnd (S.left source.new)) }
+/// Reads once to the front of a piece, and says how many bytes came. None are the end of the input.
+fn read_piece<S: Source>(source: &mut S, piece: &mut Vec<u8>) -> Result<usize, ServeError>
+    ensures within { IfOk result (λ count. count ≤ vec_len piece.new) }
+    ensures bytes { IfOk result (λ count. Consumes (S.left source.old) (S.left source.new) (take count piece.new.items)) }
+    ensures end { IfOk result (λ count. count ≡ 0 → IsAtEnd (S.left source.new)) }
     ensures counts { ReadCounts result (S.faults source.old) (S.faults source.new) }
 {
-    let mut piece = empty_piece(alloc, most)?;
-    match source.read(&mut piece) {
-        Ok(count) => {
-            piece.truncate(count);
-            Ok(piece)
-        }
+    make_piece(piece)?;
+    match source.read(piece) {
+        Ok(count) => Ok(count),
         Err(_) => Err(ServeError::ReadFault),
     }
 }
 
-/// A piece of so many bytes, to be read into.
-fn empty_piece(alloc: Global, len: usize) -> Result<Vec<u8>, AllocError>
-    ensures { IfOk result (λ piece. vec_len piece ≡ len) }
+/// Makes a piece, unless there is one.
+fn make_piece(piece: &mut Vec<u8>) -> Result<(), AllocError>
+    ensures { OnOk result (0 < vec_len piece.new) }
 {
-    vec![in alloc; 0; len]
+    if piece.is_empty() {
+        piece.resize(PIECE, 0)?;
+    }
+    Ok(())
 }
