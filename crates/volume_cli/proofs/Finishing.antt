@@ -14,7 +14,7 @@ use Rattle.volume_folders.specs.Saved.{OnlyFoldersChange}
 use Rattle.volume_cli.specs.declared.status.Status.{Status}
 use Rattle.volume_cli.specs.declared.status.Status.TheVariants as status
 use Rattle.volume_cli.specs.Begun.{Begin, HasBegun, HadScript}
-use Rattle.volume_cli.specs.Left.{RunFact, Prints, PrintsPrefix, report_text}
+use Rattle.volume_cli.specs.Left.{RunFact, Purpose, Prints, PrintsPrefix}
 use Rattle.volume_cli.specs.Ends.{Counts, Found, Leaves}
 use Rattle.volume_cli.specs.Steps.{end_status, HasPrinted, FinishCounts}
 
@@ -24,7 +24,7 @@ use Rattle.volume_cli.specs.Steps.{end_status, HasPrinted, FinishCounts}
 abbrev PartEnded : {A : Type 0} → Result A OuterError → ℕ → ℕ → Type 0
 PartEnded result before now = HasOuterCause before now result
 
-rose_exactly : (h i : ℕ) → i ≡ one_more h → Rose h i
+pub rose_exactly : (h i : ℕ) → i ≡ one_more h → Rose h i
 rose_exactly h i is = omega (arith, is)
 
 pub finish_counts : {A B : Type 0} (lost : Bool) (written : Result A OuterError) (saved : Result B OuterError) (k l h i : ℕ)
@@ -102,6 +102,7 @@ run_counts status.TargetFault lost s t k l h i m n read c tells = (read, c.1, c.
 run_counts status.NoMemory lost s t k l h i m n read c tells = (read, c.0, c.1, rose_or_not lost m n tells)
 run_counts (status.NoCleanShelf reasons) lost s t k l h i m n read c tells = absurd c
 run_counts (status.Refused kind name) lost s t k l h i m n read c tells = absurd c
+run_counts (status.Frame place) lost s t k l h i m n read c tells = absurd c
 
 pub run_found : (left : Option (List ℕ)) (held : Option Files) (script : Script) (begin : Begin) (st : Status) (lost : Bool)
     (k l h i : ℕ) → HadScript left script → HasBegun held script begin → FinishCounts st lost k l h i → Found left held st
@@ -115,32 +116,33 @@ run_found left held script begin status.TargetFault lost k l h i had begun c = (
 run_found left held script begin status.NoMemory lost k l h i had begun c = tt
 run_found left held script begin (status.NoCleanShelf reasons) lost k l h i had begun c = absurd c
 run_found left held script begin (status.Refused kind name) lost k l h i had begun c = absurd c
+run_found left held script begin (status.Frame place) lost k l h i had begun c = absurd c
 
 -- what is left of a run that was served
-module _ (Runs : RunFact) (same untouched still spared : Type 0) (left old new : Option (List ℕ)) (script : Script)
-    (begin : Begin) (journal : List Entry) (had : HadScript left script) where
+module _ (purpose : Purpose) (Runs : RunFact) (same untouched still spared : Type 0) (old new : Option (List ℕ)) (script : Script)
+    (begin : Begin) (journal : List Entry) (had : purpose.Had script) where
   abbrev IsWhole : Type 0
-  IsWhole = Appends old new (report_text script begin journal)
+  IsWhole = Appends old new (purpose.text script begin journal)
 
   abbrev IsPrefix : Type 0
-  IsPrefix = WritesPrefix old new (report_text script begin journal)
+  IsPrefix = WritesPrefix old new (purpose.text script begin journal)
 
-  whole_of : (st : Status) → Runs st script begin journal → IsWhole → Prints Runs st left old new
+  whole_of : (st : Status) → Runs st script begin journal → IsWhole → Prints purpose Runs st old new
   whole_of st runs whole =
       record { script = script; begin = begin; journal = journal; had = had; runs = runs; whole = whole }
 
-  prefix_of : (st : Status) → Runs st script begin journal → IsPrefix → PrintsPrefix Runs st left old new
+  prefix_of : (st : Status) → Runs st script begin journal → IsPrefix → PrintsPrefix purpose Runs st old new
   prefix_of st runs prefix =
       record { script = script; begin = begin; journal = journal; had = had; runs = runs; prefix = prefix }
 
   -- where its target failed
   lost_leaves : (fell : Type 0) → Runs status.TargetFault script begin journal → fell ⊎ IsWhole → IsPrefix
-      → Leaves Runs same untouched still spared fell left old new status.TargetFault
+      → Leaves purpose Runs same untouched still spared fell old new status.TargetFault
   lost_leaves fell runs (inl falls) prefix = inr (falls, prefix_of status.TargetFault runs prefix)
   lost_leaves fell runs (inr whole) prefix = inl (whole_of status.TargetFault runs whole)
 
   pub run_leaves : (st : Status) (lost : Bool) (k l h i : ℕ) → Runs st script begin journal → HasPrinted st k l IsWhole → IsPrefix
-      → FinishCounts st lost k l h i → Leaves Runs same untouched still spared (Rose k l) left old new st
+      → FinishCounts st lost k l h i → Leaves purpose Runs same untouched still spared (Rose k l) old new st
   run_leaves status.Done lost k l h i runs whole prefix c = whole_of status.Done runs whole
   run_leaves status.Usage lost k l h i runs whole prefix c = absurd c
   run_leaves (status.Script place what) lost k l h i runs whole prefix c = absurd c
@@ -151,3 +153,4 @@ module _ (Runs : RunFact) (same untouched still spared : Type 0) (left old new :
   run_leaves status.NoMemory lost k l h i runs whole prefix c = inr (prefix_of status.NoMemory runs prefix)
   run_leaves (status.NoCleanShelf reasons) lost k l h i runs whole prefix c = absurd c
   run_leaves (status.Refused kind name) lost k l h i runs whole prefix c = absurd c
+  run_leaves (status.Frame place) lost k l h i runs whole prefix c = absurd c

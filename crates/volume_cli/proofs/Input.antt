@@ -15,7 +15,7 @@ use Rattle.script_text.specs.Script.{IsScript, IsNoScript, RefusesInput}
 use Rattle.volume_cli.specs.declared.status.Status.{Status}
 use Rattle.volume_cli.specs.declared.status.Status.TheVariants as status
 use Rattle.volume_cli.specs.Begun.{HadScript, HadNoScript}
-use Rattle.volume_cli.specs.Left.{RunFact}
+use Rattle.volume_cli.specs.Left.{RunFact, Purpose}
 use Rattle.volume_cli.specs.Ends.{status_of, ended, Counts, Found, Leaves}
 use Rattle.volume_cli.specs.Steps.{ReadEnd, BeginEnd}
 use Rattle.volume_cli.proofs.Beginnings.{one_had}
@@ -74,6 +74,7 @@ read_counts status.TargetFault s t k h m end = absurd end
 read_counts status.NoMemory s t k h m end = (end, inr refl, refl, inr refl)
 read_counts (status.NoCleanShelf reasons) s t k h m end = absurd end
 read_counts (status.Refused kind name) s t k h m end = absurd end
+read_counts (status.Frame place) s t k h m end = absurd end
 
 pub read_found : (left : Option (List ℕ)) (held : Option Files) (st : Status) (s t : ℕ) → ReadEnd s t st → Found left held st
 read_found left held status.Done s t end = absurd end
@@ -86,13 +87,14 @@ read_found left held status.TargetFault s t end = absurd end
 read_found left held status.NoMemory s t end = tt
 read_found left held (status.NoCleanShelf reasons) s t end = absurd end
 read_found left held (status.Refused kind name) s t end = absurd end
+read_found left held (status.Frame place) s t end = absurd end
 
 pub read_not_done : (st : Status) (s t : ℕ) → ReadEnd s t st → st ≡ status.Done → ⊥
 read_not_done st s t end is = subst (ReadEnd s t) is end
 
-module _ (Runs : RunFact) (same untouched still spared fell : Type 0) (left old new : Option (List ℕ)) where
+module _ (purpose : Purpose) (Runs : RunFact) (same untouched still spared fell : Type 0) (old new : Option (List ℕ)) where
   abbrev IsLeft : Status → Type 0
-  IsLeft = Leaves Runs same untouched still spared fell left old new
+  IsLeft = Leaves purpose Runs same untouched still spared fell old new
 
   pub read_leaves : (st : Status) (s t : ℕ) → same → untouched → still → spared → ReadEnd s t st → IsLeft st
   read_leaves status.Done s t kept whole held spares end = absurd end
@@ -105,6 +107,7 @@ module _ (Runs : RunFact) (same untouched still spared fell : Type 0) (left old 
   read_leaves status.NoMemory s t kept whole held spares end = inl (kept, held)
   read_leaves (status.NoCleanShelf reasons) s t kept whole held spares end = absurd end
   read_leaves (status.Refused kind name) s t kept whole held spares end = absurd end
+  read_leaves (status.Frame place) s t kept whole held spares end = absurd end
 
   -- a script was refused so
   pub refused_leaves : (fault : ScriptError) → same → untouched → still → spared → IsLeft (status_of fault)
@@ -124,6 +127,7 @@ module _ (Runs : RunFact) (same untouched still spared fell : Type 0) (left old 
   begin_leaves held script status.NoMemory h i kept stays spares end = inl (kept, stays)
   begin_leaves held script (status.NoCleanShelf reasons) h i kept stays spares end = (kept, stays, spares)
   begin_leaves held script (status.Refused kind name) h i kept stays spares end = absurd end
+  begin_leaves held script (status.Frame place) h i kept stays spares end = absurd end
 
 -- ---- a script was refused so
 
@@ -155,6 +159,7 @@ begin_counts held script status.TargetFault s t k h i m read end = absurd end
 begin_counts held script status.NoMemory s t k h i m read end = (read, inr refl, end, inr refl)
 begin_counts held script (status.NoCleanShelf reasons) s t k h i m read end = (read, refl, end.0, refl)
 begin_counts held script (status.Refused kind name) s t k h i m read end = absurd end
+begin_counts held script (status.Frame place) s t k h i m read end = absurd end
 
 pub begin_found : (left : Option (List ℕ)) (held : Option Files) (script : Script) (st : Status) (h i : ℕ) → HadScript left script
     → BeginEnd held script h i st → Found left held st
@@ -168,6 +173,7 @@ begin_found left held script status.TargetFault h i had end = absurd end
 begin_found left held script status.NoMemory h i had end = tt
 begin_found left held script (status.NoCleanShelf reasons) h i had end = (script, had, end.1)
 begin_found left held script (status.Refused kind name) h i had end = absurd end
+begin_found left held script (status.Frame place) h i had end = absurd end
 
 pub begin_not_done : (held : Option Files) (script : Script) (st : Status) (h i : ℕ) → BeginEnd held script h i st → st ≡ status.Done → ⊥
 begin_not_done held script st h i end is = subst (BeginEnd held script h i) is end

@@ -6,3 +6,5 @@ pub mod Folders
 pub mod Finishing
 pub mod StoreLemmas
 pub mod Restorable
+pub mod LoadLemmas
+pub mod ServedLemmas

@@ -9,7 +9,7 @@ use Rattle.volume_folders.specs.declared.reason.Reason.{Reason}
 use Rattle.volume_cli.specs.declared.status.Status.{Status}
 use Rattle.volume_cli.specs.declared.status.Status.TheVariants as status
 use Rattle.volume_cli.specs.Begun.{Begin, HasBegun, HadScript, HadNoScript, HasNoCleanShelf}
-use Rattle.volume_cli.specs.Left.{RunFact, Prints, PrintsPrefix}
+use Rattle.volume_cli.specs.Left.{RunFact, Purpose, Prints, PrintsPrefix}
 
 -- the status that a refusal of a script is
 abbrev pub status_of : ScriptError → Status
@@ -35,6 +35,7 @@ Counts status.TargetFault s t k l h i m n = (t ≡ s) × (Rose k l ⊎ (l ≡ k)
 Counts status.NoMemory s t k l h i m n = (t ≡ s) × (Rose k l ⊎ (l ≡ k)) × (i ≡ h) × (Rose m n ⊎ (n ≡ m))
 Counts (status.NoCleanShelf reasons) s t k l h i m n = (t ≡ s) × (l ≡ k) × (i ≡ h) × (n ≡ m)
 Counts (status.Refused kind name) s t k l h i m n = (t ≡ s) × (l ≡ k) × (i ≡ h) × (n ≡ m)
+Counts (status.Frame place) s t k l h i m n = (t ≡ s) × (l ≡ k) × (i ≡ h) × (n ≡ m)
 
 -- The source had a script that opens folders of which none is clean, each for its reason.
 abbrev pub HadNoCleanShelf : Option (List ℕ) → Option Files → List Reason → Type 0
@@ -56,19 +57,21 @@ Found left held status.TargetFault = HadBegun left held
 Found left held status.NoMemory = Unit {0}
 Found left held (status.NoCleanShelf reasons) = HadNoCleanShelf left held reasons
 Found left held (status.Refused kind name) = ⊥
+Found left held (status.Frame place) = ⊥
 
 -- What is left then: `same` says that the sink is as it was, `untouched` that the shelves are, `still` that they hold what
 -- they held, `spared` that the target is as it was, and `fell` that the sink failed.
-module _ (Runs : RunFact) (same untouched still spared fell : Type 0) (left old new : Option (List ℕ)) where
+module _ (purpose : Purpose) (Runs : RunFact) (same untouched still spared fell : Type 0) (old new : Option (List ℕ)) where
   abbrev pub Leaves : Status → Type 0
-  Leaves status.Done = Prints Runs status.Done left old new
+  Leaves status.Done = Prints purpose Runs status.Done old new
   Leaves status.Usage = same × untouched × spared
   Leaves (status.Script place what) = same × untouched × spared
   Leaves status.ReadFault = same × untouched × spared
-  Leaves status.WriteFault = PrintsPrefix Runs status.WriteFault left old new
-  Leaves status.ShelfFault = (same × still × spared) ⊎ Prints Runs status.ShelfFault left old new
+  Leaves status.WriteFault = PrintsPrefix purpose Runs status.WriteFault old new
+  Leaves status.ShelfFault = (same × still × spared) ⊎ Prints purpose Runs status.ShelfFault old new
   Leaves status.TargetFault =
-      Prints Runs status.TargetFault left old new ⊎ (fell × PrintsPrefix Runs status.TargetFault left old new)
-  Leaves status.NoMemory = (same × still) ⊎ PrintsPrefix Runs status.NoMemory left old new
+      Prints purpose Runs status.TargetFault old new ⊎ (fell × PrintsPrefix purpose Runs status.TargetFault old new)
+  Leaves status.NoMemory = (same × still) ⊎ PrintsPrefix purpose Runs status.NoMemory old new
   Leaves (status.NoCleanShelf reasons) = same × still × spared
   Leaves (status.Refused kind name) = ⊥
+  Leaves (status.Frame place) = ⊥

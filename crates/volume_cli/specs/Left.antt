@@ -1,8 +1,9 @@
 -- What a run has printed, and the folders and the store of backups that it leaves.
-use Rattle.std.specs.Prelude.{◌≡◌, ◌≢◌, ℕ, ◌<◌, ◌≤◌, true, false, List, length, map, All, Option, Some, option_map}
+use Rattle.std.specs.Prelude.{◌≡◌, ◌≢◌, ℕ, ◌<◌, ◌≤◌, ◌-◌, true, false, List, length, map, take, All, Option, Some, option_map}
 use Rattle.std.specs.Io.KnownBytes.{Appends}
 use Rattle.outer_traits.specs.Lines.{Asked, TellsMore}
 use Rattle.outer_traits.specs.Passing.{WritesPrefix}
+use Rattle.frame_wire.specs.declared.head.Head.{Head}
 use Rattle.shelf_traits.specs.Files.{Files, Both}
 use Rattle.chain_meta.specs.Kinds.{largest_head}
 use Rattle.folder_checks.specs.Told.{Told}
@@ -15,10 +16,12 @@ use Rattle.volume_model.specs.PlainState.{Volume}
 use Rattle.volume_model.specs.Replay.{replay}
 use Rattle.program_words.specs.declared.words.Workers.TheVariants.{One}
 use Rattle.program_words.specs.declared.words.Words.{Words}
-use Rattle.program_words.specs.declared.words.Words.TheVariants.{Run}
+use Rattle.program_words.specs.declared.words.Words.TheVariants.{Run, Generate}
 use Rattle.replica_shelf.specs.Folder.{Stamps}
 use Rattle.report_laws.specs.Fits.{AllFit}
 use Rattle.run_report.specs.Report.{report_of}
+use Rattle.run_report.specs.Summary.{summary_in}
+use Rattle.script_text.specs.Generated.{generated}
 use Rattle.script_text.specs.Good.{backs_up}
 use Rattle.script_text.specs.declared.script.Script.{Script}
 use Rattle.stream_turns.specs.Volume.{asks_in, heads_in}
@@ -91,24 +94,50 @@ RunFact = Status → Script → Begin → List Entry → Type 0
 abbrev pub opening_texts : List (Option Reason) → List (Option (List ℕ))
 opening_texts reasons = map (λ why. option_map why_text why) reasons
 
--- what such a run prints
+-- what is printed of the run of a script: the report
 abbrev pub report_text : Script → Begin → List Entry → List ℕ
 report_text script begin journal = report_of (opening_texts begin.reasons) (heads_in script) begin.spot journal
 
--- The sink has got the whole report of a run of the script that the source had.
-pub record Prints (Runs : RunFact) (status : Status) (left old new : Option (List ℕ)) : Type 0 where
-  pub script : Script
-  pub begin : Begin
-  pub journal : List Entry
-  pub had : HadScript left script
-  pub runs : Runs status script begin journal
-  pub whole : Appends old new (report_text script begin journal)
+-- the headers of the frames of each stream but the last, which is the control stream of a generated script
+abbrev pub frame_heads : Script → List (List Head)
+frame_heads script = take (length script.streams - 1) (heads_in script)
 
--- The sink has got a prefix of that report.
-pub record PrintsPrefix (Runs : RunFact) (status : Status) (left old new : Option (List ℕ)) : Type 0 where
+-- what is printed of the run of a generated script: the summary
+abbrev pub summary_text : Script → Begin → List Entry → List ℕ
+summary_text script begin journal = summary_in (frame_heads script) begin.spot journal
+
+-- what is to be done: which script may be run, and what is printed of its run
+pub record Purpose : Type 1 where
+  pub Had : Script → Type 0
+  pub text : Script → Begin → List Entry → List ℕ
+
+-- the script is the source's, and its run is reported
+abbrev pub script_purpose : Option (List ℕ) → Purpose
+script_purpose left = record { Had = HadScript left; text = report_text }
+
+-- the script is the generated one of these numbers, and its run is summed up
+abbrev pub load_purpose : ℕ → ℕ → ℕ → Purpose
+load_purpose number streams calls = record { Had = λ script. script ≡ generated number streams calls; text = summary_text }
+
+-- which of both the words ask for, of what the source had
+abbrev pub purpose_of : Option Words → Option (List ℕ) → Purpose
+purpose_of (Some (Generate number streams calls)) left = load_purpose number streams calls
+purpose_of asked left = script_purpose left
+
+-- The sink has got all that is printed of a run.
+pub record Prints (purpose : Purpose) (Runs : RunFact) (status : Status) (old new : Option (List ℕ)) : Type 0 where
   pub script : Script
   pub begin : Begin
   pub journal : List Entry
-  pub had : HadScript left script
+  pub had : purpose.Had script
   pub runs : Runs status script begin journal
-  pub prefix : WritesPrefix old new (report_text script begin journal)
+  pub whole : Appends old new (purpose.text script begin journal)
+
+-- The sink has got a prefix of that.
+pub record PrintsPrefix (purpose : Purpose) (Runs : RunFact) (status : Status) (old new : Option (List ℕ)) : Type 0 where
+  pub script : Script
+  pub begin : Begin
+  pub journal : List Entry
+  pub had : purpose.Had script
+  pub runs : Runs status script begin journal
+  pub prefix : WritesPrefix old new (purpose.text script begin journal)

@@ -5,3 +5,5 @@ pub mod Steps
 pub mod Statuses
 pub mod Headline
 pub mod Stores
+pub mod Served
+pub mod Loads

@@ -2,7 +2,8 @@
 
 ghost use Rattle.std.specs.Prelude.{◌≡◌, IfOk, true};
 ghost use Rattle.folder_checks.specs.Told.{Told};
-ghost use Rattle.stream_turns.specs.Serving.{IsRead, IsBegun};
+ghost use Rattle.script_text.specs.Good.{IsGood};
+ghost use Rattle.stream_turns.specs.Serving.{IsBegun};
 ghost use Rattle.volume_cli.specs.Begun.{HasBegun, BeginsOn};
 ghost use Rattle.opened_world.specs.Opening.{opened_spot};
 ghost use Rattle.volume_cli.specs.Steps.{begin_of, IsBeginEnd, IsKnownVolume, HasMany};
@@ -33,7 +34,7 @@ pub(crate) fn begin<H: Shelves>(
     script: &Script,
     shelves: &mut H,
 ) -> Result<Begun, Status>
-    requires { IsRead script.now }
+    requires { IsGood script.now }
     ensures begun { IfOk result (λ b. HasBegun (H.holds shelves.old) script.entry.now (begin_of b)) }
     ensures world { IfOk result (λ b. IsBegun script.entry.now (begin_of b).spot b.world) }
     ensures many { IfOk result (λ b. HasMany script.entry.now (begin_of b)) }
@@ -59,7 +60,7 @@ fn begin_opened<H: Shelves>(
     script: &Script,
     shelves: &mut H,
 ) -> Result<Begun, Status>
-    requires read { IsRead script.now }
+    requires good { IsGood script.now }
     requires opens { script.now.opens ≡ true }
     ensures begun { IfOk result (λ b. Told (H.holds shelves.old)
         (λ files. BeginsOn files script.entry.now (begin_of b))) }
@@ -79,7 +80,7 @@ fn begin_opened<H: Shelves>(
 
 /// Begins on replicas that were opened.
 fn begin_on(alloc: Global, script: &Script, opened: OpenedReplicas) -> Result<Begun, AllocError>
-    requires read { IsRead script.now }
+    requires good { IsGood script.now }
     requires known { IsKnownVolume script.now opened }
     ensures same { IfOk result (λ b. (b.reasons ≡ opened.reasons) × (b.heads ≡ opened.heads)) }
     ensures world { IfOk result (λ b. IsBegun script.entry.now (begin_of b).spot b.world) }

@@ -1,11 +1,14 @@
 //! `longhorn`: serves the streams of a script on a replicated volume, and prints the journal of the run
-//! with the replies; or writes what a store of backups holds.
+//! with the replies; runs a load that generates itself, and sums it up; serves one replica by frames; or writes what a
+//! store of backups holds.
 #![tactic(auto)]
 
 mod begin;
 mod edge;
 mod finish;
 mod laws;
+mod load;
+mod replica;
 mod standard;
 mod status;
 mod stores;

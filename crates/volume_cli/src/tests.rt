@@ -8,4 +8,5 @@ mod purges;
 mod row;
 mod runs;
 mod script;
+mod served;
 mod stores;

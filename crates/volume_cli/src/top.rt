@@ -1,31 +1,38 @@
 ghost use Rattle.std.specs.Prelude.{◌≡◌, ◌<◌, ◌≤◌, ◌-◌, ◌^◌, ◌↔◌, true, false, ℕ, List, All, Some, None, IfOk, IfSome, OnOk};
-ghost use Rattle.std.specs.Io.KnownBytes.{IsAtEnd};
+ghost use Rattle.std.specs.Io.KnownBytes.{Appends, IsAtEnd};
 ghost use Rattle.outer_traits.specs.Causes.{Rose};
 ghost use Rattle.outer_traits.specs.Lines.{TellsMore};
 ghost use Rattle.outer_traits.specs.Passing.{GivesAtMost};
 ghost use Rattle.control_worker.specs.Store.{TellsFault};
-ghost use Rattle.script_text.specs.Good.{backs_up};
+ghost use Rattle.script_text.specs.Generated.{generated};
+ghost use Rattle.script_text.specs.Good.{IsGood, backs_up};
 ghost use Rattle.script_text.specs.Script.{IsScript, IsNoScript};
 ghost use Rattle.script_text.specs.declared.script.Script.{Script};
 ghost use Rattle.script_text.specs.declared.what.What.{What};
 ghost use Rattle.program_words.specs.declared.words.Workers.{Workers};
 ghost use Rattle.program_words.specs.declared.words.Words.{Words};
-ghost use Rattle.program_words.specs.declared.words.Words.TheVariants.{Run};
+ghost use Rattle.program_words.specs.declared.words.Words.TheVariants.{Run, Replica, Generate};
+ghost use Rattle.volume_model.specs.Disk.{zeros};
 ghost use Rattle.volume_model.specs.History.{Spot};
-ghost use Rattle.stream_turns.specs.Serving.{IsRead, IsBegun, IsServed, IsServedInTurn};
+ghost use Rattle.stream_turns.specs.Run.{HaveNotFailed};
+ghost use Rattle.stream_turns.specs.Serving.{IsBegun, IsServed, IsServedInTurn};
 ghost use Rattle.stream_turns.specs.Store.{StoreOfRun};
 ghost use Rattle.stream_turns.specs.Volume.{asks_in};
+ghost use Rattle.summary_laws.specs.LoadText.{load_text};
 ghost use Rattle.volume_cli.specs.Begun.{CanBegin, CannotBegin};
-ghost use Rattle.volume_cli.specs.Left.{IsRunOf};
+ghost use Rattle.volume_cli.specs.Left.{IsRunOf, script_purpose, purpose_of};
 ghost use Rattle.volume_cli.specs.Ends.{ended, Counts, Found, Leaves};
-ghost use Rattle.volume_cli.specs.Headline.{asked_for, AskRun, AskStore, IsUsageError, IsStatus};
+ghost use Rattle.volume_cli.specs.Headline.{asked_for, AskRun, AskLoad, AskReplica, AskStore, IsUsageError, IsStatus};
 ghost use Rattle.volume_cli.specs.Headline.{ExactlyWhere, TellsNoCleanShelf, RefusedOnly};
+ghost use Rattle.volume_cli.specs.Served.{EndsAsInput, Serves};
 ghost use Rattle.volume_cli.specs.Stores.{IsOfStore, HasAnswer, RefusesObject, LeavesAnswer};
 ghost use Rattle.backup_restore.specs.declared.error.Refusal.{Refusal};
 
 use crate::begin::{Begun, begin};
 use crate::edge::read_input;
 use crate::finish::{ServedRun, finish};
+use crate::load::{how_loaded, run_load};
+use crate::replica::{how_served, serve_blank};
 use crate::status::Status;
 use crate::stores::{print_backups, restore_backup};
 use outer_traits::{Gate, Sink, Source, Wiring};
@@ -44,8 +51,10 @@ use vol_units::TimeText;
 /// replicas' last lines to the sink. The replicas are those of the shelves, where the script opens them, and else
 /// zeros; where it saves them, they are on the shelves at the end. Backups that it makes go to the target. The
 /// streams are served side by side, a worker for each, which passes the gate on its way; or one after another, by one
-/// worker, which passes none. `restore` writes the disk of a backup to the sink, and `backups` a line for each backup
-/// of a volume, by what the target holds; neither changes it.
+/// worker, which passes none. `gen` does the same with a script that it generates from three numbers, on zeros, and
+/// writes a summary. `replica` serves one blank replica to the client whose frames the source gives, and writes the
+/// replies to the sink. `restore` writes the disk of a backup to the sink, and `backups` a line for each backup of a
+/// volume, by what the target holds; neither changes it.
 pub fn longhorn<
     R: Threads + Wait + Sync,
     S: Source,
@@ -108,23 +117,31 @@ pub fn longhorn<
         → IfSome (S.left source.old) (λ input. (script : Script)
         → IsScript input script → CanBegin (H.holds shelves.old) script → IsStatus result Status.Done) }
 
+    // A load that is asked for is done where the sink does not fail, and a replica serves its input to the end, to a Close
+    // or to the place where it is cut off, where neither source nor sink fails.
+    ensures loads { AskLoad words.now → K.faults sink.new ≡ K.faults sink.old → IsStatus result Status.Done }
+    ensures serves { AskReplica words.now → S.faults source.new ≡ S.faults source.old
+        → K.faults sink.new ≡ K.faults sink.old → IfSome (S.left source.old) (EndsAsInput (IsStatus result)) }
+
     // Where the objects that are asked for are as they have to be, and neither sink nor target fails, they are written.
     ensures answered { T.tells ≡ true → K.faults sink.new ≡ K.faults sink.old → T.faults target.new ≡ T.faults target.old
         → (asked : Words) → asked_for words.now ≡ Some asked → HasAnswer (T.holds target.old) asked
         → IsStatus result Status.Done }
 
-    // Only a run reads the source, asks for lines and uses the shelves, and at most one byte more is read than an
-    // input may have. The target is used only where what is in a store is asked for, and by a run of a script in
-    // which a stream backs up; and what it holds only such a run changes.
-    ensures unread { (AskRun words.now → ⊥) → source.new ≡ source.old }
-    ensures unasked { (AskRun words.now → ⊥) → (wiring.new ≡ wiring.old) × (shelves.new ≡ shelves.old) }
-    ensures untouched { IsUsageError words.now → target.new ≡ target.old }
+    // Only a run and a replica read the source, and a run at most one byte more than an input may have. Only a run and a
+    // load ask for lines, and only a run uses the shelves. The target is used only where what is in a store is asked for,
+    // and by a run of a script in which a stream backs up; and what it holds only such a run changes.
+    ensures unread { (AskRun words.now → ⊥) → (AskReplica words.now → ⊥) → source.new ≡ source.old }
+    ensures unasked { (AskRun words.now → ⊥) → (AskLoad words.now → ⊥) → wiring.new ≡ wiring.old }
+    ensures unused { (AskRun words.now → ⊥) → shelves.new ≡ shelves.old }
+    ensures untouched { (AskRun words.now → ⊥) → (AskStore words.now → ⊥) → target.new ≡ target.old }
     ensures spared { AskRun words.now → IfSome (S.left source.old) (λ input. (script : Script)
         → IsScript input script → All (λ s. backs_up s ≡ false) script.streams → target.new ≡ target.old) }
     ensures held { (AskRun words.now → ⊥) → T.holds target.new ≡ T.holds target.old }
-    ensures most { GivesAtMost (S.left source.old) (S.left source.new) 268435457 }
+    ensures most { (AskReplica words.now → ⊥) → GivesAtMost (S.left source.old) (S.left source.new) 268435457 }
 
-    // However the workers' steps interleave, at Done the sink has the report of one journal. It begins on the folders
+    // However the workers' steps interleave, at Done the sink has the report of one journal, or the summary of one where a
+    // load was asked for: then the script is the generated one, and it begins blank. A script's begins on the folders
     // that the script opens, of which the lowest clean one is the disk, or blank. It is one legal history of the
     // script's calls, and its fault marks are faults that the run's own lines counted. What it holds fits its types,
     // so that no two such journals have one report. Where the wiring tells which lines it was asked for, these were
@@ -140,14 +157,27 @@ pub fn longhorn<
     // there at first or was made; and each that was there stays, and each block, and all that is none of the volume's.
     // After a fault of the target the rest is printed and saved all the same. After a write fault the sink has a
     // prefix of the report, and the folders are saved all the same; after a refusal and a read fault all is as it was.
-    ensures printed { (AskStore words.now → ⊥) → Leaves (IsRunOf (asked_for words.now) (W.asked wiring.old) (W.asked wiring.new)
+    ensures printed { (AskStore words.now → ⊥) → (AskReplica words.now → ⊥)
+        → Leaves (purpose_of (asked_for words.now) (S.left source.old))
+        (IsRunOf (asked_for words.now) (W.asked wiring.old) (W.asked wiring.new)
         (W.counts wiring.new) (W.carried wiring.new) (H.holds shelves.old) (H.holds shelves.new)
         (Rose (H.faults shelves.old) (H.faults shelves.new) → ⊥)
         (λ volume spot journal. T.tells ≡ true → StoreOfRun (T.holds target.old) (T.faults target.old)
         (T.holds target.new) (T.faults target.new) volume spot journal) (target.new ≡ target.old))
         (sink.new ≡ sink.old) (shelves.new ≡ shelves.old) (H.holds shelves.new ≡ H.holds shelves.old)
         (target.new ≡ target.old) (Rose (K.faults sink.old) (K.faults sink.new))
-        (S.left source.old) (K.contents sink.old) (K.contents sink.new) result }
+        (K.contents sink.old) (K.contents sink.new) result }
+
+    // Where no line of a generated load has failed, its summary is a function of the words.
+    ensures summed { result ≡ Status.Done → (number streams calls : ℕ)
+        → asked_for words.now ≡ Some (Generate number streams calls)
+        → HaveNotFailed (W.counts wiring.new) (generated number streams calls)
+        → Appends (K.contents sink.old) (K.contents sink.new) (load_text number streams calls) }
+
+    // One replica replies as a blank disk answers: to the calls before a Close, the end of the input, or the place where
+    // no whole frame stands; after a fault, and where memory runs out, the sink has a prefix of such replies.
+    ensures served { (size : ℕ) → asked_for words.now ≡ Some (Replica size)
+        → Serves (zeros size) (S.left source.old) (K.contents sink.old) (K.contents sink.new) result }
 
     // What is in a store is written whole at Done: the disk of a backup, or the lines of a volume's backups. After a
     // fault of the sink or of the target, and where memory runs out, the sink has a prefix of it; where an object is
@@ -164,6 +194,14 @@ pub fn longhorn<
         Words::Run { workers } => how_ended(run(
             rt, alloc, *workers, source, sink, wiring, shelves, target, gate,
         )),
+        Words::Generate {
+            number,
+            streams,
+            calls,
+        } => how_loaded(run_load(
+            rt, alloc, *number, *streams, *calls, sink, wiring, target, gate,
+        )),
+        Words::Replica { size } => how_served(serve_blank(rt, alloc, *size, source, sink)),
         Words::Restore { backup, volume } => restore_backup(alloc, target, volume, backup, sink),
         Words::Backups { volume } => print_backups(alloc, target, volume, sink),
     }
@@ -196,14 +234,15 @@ fn run<
     ensures found { Found (S.left source.old) (H.holds shelves.old) (ended result) }
     ensures spared { IfSome (S.left source.old) (λ input. (script : Script)
         → IsScript input script → All (λ s. backs_up s ≡ false) script.streams → target.new ≡ target.old) }
-    ensures printed { Leaves (IsRunOf (Some (Run workers)) (W.asked wiring.old) (W.asked wiring.new)
+    ensures printed { Leaves (script_purpose (S.left source.old))
+        (IsRunOf (Some (Run workers)) (W.asked wiring.old) (W.asked wiring.new)
         (W.counts wiring.new) (W.carried wiring.new) (H.holds shelves.old) (H.holds shelves.new)
         (Rose (H.faults shelves.old) (H.faults shelves.new) → ⊥)
         (λ volume spot journal. T.tells ≡ true → StoreOfRun (T.holds target.old) (T.faults target.old)
         (T.holds target.new) (T.faults target.new) volume spot journal) (target.new ≡ target.old))
         (sink.new ≡ sink.old) (shelves.new ≡ shelves.old) (H.holds shelves.new ≡ H.holds shelves.old)
         (target.new ≡ target.old) (Rose (K.faults sink.old) (K.faults sink.new))
-        (S.left source.old) (K.contents sink.old) (K.contents sink.new) (ended result) }
+        (K.contents sink.old) (K.contents sink.new) (ended result) }
 {
     let input = read_input(alloc, source)?;
     let script = read_script(alloc, &input)?;
@@ -266,7 +305,7 @@ fn serve_by<R: Threads + Wait + Sync, W: Wiring, T: Target + Send, G: Gate + Syn
     target: &mut T,
     gate: &G,
 ) -> Result<ServedStreams, AllocError>
-    requires read { IsRead script }
+    requires good { IsGood script }
     requires begun { (spot : Spot) × IsBegun script spot world }
     ensures served { (spot : Spot) → IsBegun script spot world
         → IfOk result (IsServed script spot (W.counts wiring.new) (W.carried wiring.new)) }

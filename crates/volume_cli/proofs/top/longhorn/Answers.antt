@@ -1,8 +1,11 @@
-use Rattle.std.proofs.Common.{subst}
-use Rattle.program_words.specs.declared.words.Words.TheVariants.{Run, Restore, Backups}
+use Rattle.std.proofs.Common.{refl, sym, subst, ◌∙◌, map}
+use Rattle.std.specs.Prelude.{string_bytes}
+use Rattle.program_words.specs.declared.words.Words.TheVariants.{Run, Restore, Backups, Generate}
 use Rattle.volume_cli.specs.Ends.{ended}
 use Rattle.volume_cli.specs.Stores.{AnswersStore}
 use Rattle.volume_cli.proofs.Asked.{asks_that, one_words}
+use Rattle.volume_cli.proofs.LoadLemmas.{can_generate, load_leaves, load_runs, summed_as}
+use Rattle.volume_cli.proofs.ServedLemmas.{ends_as_input, serves_nothing}
 use Rattle.volume_cli.proofs.StoreLemmas.{store_refused_only, store_refuses, store_answers}
 use Rattle.volume_cli.proofs.Statuses.{script_clause, no_clean_clause, complete_clause}
 use Rattle.volume_cli.proofs.top.longhorn.Goals as goal
@@ -38,7 +41,7 @@ pub returns-in-Run-clause-printed : goal.returns-in-Run-clause-printed
 returns-in-Run-clause-printed g c =
     let read = asks_that _ c.read_words.result c.in-Ok.asked (Run c.in-Run.workers) c.in-Ok.is c.in-Run.is
     c.read_words.ensures.found in
-    rw c.how_ended.ensures (rw read (λ other. c.run.ensures.printed))
+    rw c.how_ended.ensures (rw read (λ other none. c.run.ensures.printed))
 
 pub returns-in-Restore-clause-refused_only : goal.returns-in-Restore-clause-refused_only
 returns-in-Restore-clause-refused_only g c =
@@ -89,3 +92,41 @@ returns-in-Backups-clause-answered g c = λ tells dry well asked is has.
     c.requires.sink_count c.requires.target_count dry well c.print_backups.result c.print_backups.ensures.counts
     (subst (λ a. AnswersStore (g.T.Target.holds c.args.target.now) a c.print_backups.result) (one_words _ words asked read is)
     (c.print_backups.ensures.answer tells)) has
+
+-- ---- a load
+
+pub run_load-requires-clause-can : goal.run_load-requires-clause-can
+run_load-requires-clause-can g c κs within =
+    let n = c.in-Generate.number in
+    let s = c.in-Generate.streams in
+    let k = c.in-Generate.calls in
+    can_generate (map string_bytes c.args.words.now) n s k
+    (asks_that _ c.read_words.result c.in-Ok.asked (Generate n s k) c.in-Ok.is c.in-Generate.is c.read_words.ensures.found)
+
+pub returns-in-Generate-clause-printed : goal.returns-in-Generate-clause-printed
+returns-in-Generate-clause-printed g c =
+    let n = c.in-Generate.number in
+    let s = c.in-Generate.streams in
+    let k = c.in-Generate.calls in
+    let read = asks_that _ c.read_words.result c.in-Ok.asked (Generate n s k) c.in-Ok.is c.in-Generate.is c.read_words.ensures.found in
+    rw c.how_loaded.ensures (rw read (λ other none. load_leaves n s k _ _ _ _ _ _ _ _ _ refl
+    (λ st journal. load_runs n s k _ _ _ _ _ _ _ _ c.run_load.ensures.unasked st journal) c.run_load.result c.run_load.ensures.left))
+
+pub returns-in-Generate-clause-summed : goal.returns-in-Generate-clause-summed
+returns-in-Generate-clause-summed g c =
+    let n = c.in-Generate.number in
+    let s = c.in-Generate.streams in
+    let k = c.in-Generate.calls in
+    let read = asks_that _ c.read_words.result c.in-Ok.asked (Generate n s k) c.in-Ok.is c.in-Generate.is c.read_words.ensures.found in
+    rw c.how_loaded.ensures (λ done number streams calls is. summed_as n s k number streams calls _ _ _ _ _ _ _ _
+    c.run_load.result c.run_load.ensures.left done (sym read ∙ is))
+
+-- ---- a replica
+
+pub returns-in-Err-NoMemory-clause-served : goal.returns-in-Err-NoMemory-clause-served
+returns-in-Err-NoMemory-clause-served g c = λ size asks. serves_nothing _ _ _
+
+pub returns-in-Replica-clause-serves : goal.returns-in-Replica-clause-serves
+returns-in-Replica-clause-serves g c =
+    rw c.how_served.ensures (λ asks read dry. ends_as_input _ _ _ _ _ _ _ _ c.requires.source_count c.requires.sink_count read dry
+    c.serve_blank.result c.serve_blank.ensures.served c.serve_blank.ensures.counts)

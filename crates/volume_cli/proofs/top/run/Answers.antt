@@ -6,17 +6,24 @@ use Rattle.folder_checks.specs.Told.{Told}
 use Rattle.program_words.specs.declared.words.Workers.TheVariants.{One}
 use Rattle.program_words.specs.declared.words.Words.TheVariants.{Run}
 use Rattle.script_text.specs.Good.{backs_up}
+use Rattle.script_text.proofs.GoodLemmas.{good_script}
 use Rattle.stream_turns.specs.Store.{StoreOfRun}
 use Rattle.volume_cli.specs.declared.finish.ServedRun.{ServedRun}
 use Rattle.volume_cli.specs.declared.status.Status.TheVariants.{NoMemory}
 use Rattle.volume_cli.specs.Ends.{ended, status_of}
-use Rattle.volume_cli.specs.Left.{IsRunOf}
+use Rattle.volume_cli.specs.Left.{IsRunOf, script_purpose}
 use Rattle.volume_cli.specs.Steps.{begin_of, AreSavedOf, FinishCounts, HasPrinted}
 use Rattle.volume_cli.proofs.Asked.{same_workers}
 use Rattle.volume_cli.proofs.Input.{ended_err, refused_found, had_script, begin_found, rose_or_same, of_each}
 use Rattle.volume_cli.proofs.Finishing.{run_counts, run_found, run_leaves}
 use Rattle.volume_cli.proofs.Folders.{written_is, saved_of, kept_of, only_of}
 use Rattle.volume_cli.proofs.top.run.Goals as goal
+
+pub begin-requires : goal.begin-requires
+begin-requires g c = good_script _ _ c.in_ok-script.ensures.found
+
+pub serve_by-requires-clause-good : goal.serve_by-requires-clause-good
+serve_by-requires-clause-good g c κs within = good_script _ _ c.in_ok-script.ensures.found
 
 pub returns-in_err-script-clause-found : goal.returns-in_err-script-clause-found
 returns-in_err-script-clause-found g c =
@@ -112,12 +119,12 @@ returns-clause-printed g c =
     let sized = c.in_ok-world.ensures.many in
     let ends = ended c.finish.result in
     let same = written_is script begin counts carried run sized served refl in
-    run_leaves (IsRunOf (Some (Run c.args.workers)) (g.W.Wiring.asked c.args.wiring.now) (g.W.Wiring.asked c.serve_by.new.wiring)
+    run_leaves (script_purpose (g.S.Source.left c.args.source.now)) (IsRunOf (Some (Run c.args.workers)) (g.W.Wiring.asked c.args.wiring.now) (g.W.Wiring.asked c.serve_by.new.wiring)
     counts carried (g.H.Shelves.holds c.args.shelves.now) (g.H.Shelves.holds c.finish.new.shelves)
     (Rose (g.H.Shelves.faults c.args.shelves.now) (g.H.Shelves.faults c.finish.new.shelves) → ⊥)
     (λ volume spot entries. g.T.Target.tells ≡ true → StoreOfRun (g.T.Target.holds c.args.target.now)
     (g.T.Target.faults c.args.target.now) (g.T.Target.holds c.serve_by.new.target) (g.T.Target.faults c.serve_by.new.target)
-    volume spot entries) (c.serve_by.new.target ≡ c.args.target.now)) _ _ _ _ _ _ _
+    volume spot entries) (c.serve_by.new.target ≡ c.args.target.now)) _ _ _ _ _ _
     script begin journal
     (had_script _ _ c.in_ok-input.input script c.in_ok-input.ensures.bytes c.in_ok-input.ensures.whole c.in_ok-script.ensures.found)
     ends c.in_ok-served.served.target_fault (g.K.Sink.faults c.args.sink.now) (g.K.Sink.faults c.finish.new.sink)
