@@ -19,11 +19,12 @@ const DRAWN: usize = 0;
 
 pub(crate) const SERVED: usize = 1;
 
-// How often one who waits for the desk, or the next in line, looks before it sleeps.
-const LOOKS: u32 = 100;
+// How often one who waits looks before it sleeps: some 30 microseconds, which is longer than most turns take.
+const LOOKS: u32 = 10_000;
 
-// How many microseconds one sleeps who waits for the desk, if nobody wakes it.
-const PAUSE: u64 = 50;
+// How many microseconds one sleeps who found no rest. Those who sleep leave the desk to a few, which then hand it over
+// less often, and handing it over is what costs.
+const PAUSE: u64 = 1_000;
 
 impl<S: Kept> Desk<S> {
     // Draws a ticket, waits for its turn, and takes the state out.
@@ -41,8 +42,8 @@ impl<S: Kept> Desk<S> {
             if serving == ticket {
                 return shared.exchange(pass, 0, None).unwrap();
             }
-            // The next in line looks again at once, for a while, since a turn is mostly short.
-            if serving.wrapping_add(1) == ticket && looks < LOOKS {
+            // It looks again at once, for a while, since a turn is mostly short.
+            if looks < LOOKS {
                 looks += 1;
                 spin_loop();
             } else {
@@ -53,14 +54,15 @@ impl<S: Kept> Desk<S> {
     }
 
     // Waits until no ticket is out, or so it looks. Who drew one while another's turn is on would have the desk handed
-    // over, and a sleeper woken, at each turn of streams that take turn after turn.
+    // over, and a sleeper woken, at each turn of streams that take turn after turn. Nobody wakes who sleeps here, on the
+    // word of tickets.
     fn wait_for_rest<R: Wait>(&self, rt: &R) {
         let shared = &self.table.shared;
         let pause = Duration::from_micros(PAUSE);
         let mut looks = 0;
         for _ in rt.forever() {
-            let serving = shared.peek(SERVED);
-            if shared.peek(DRAWN) == serving {
+            let drawn = shared.peek(DRAWN);
+            if drawn == shared.peek(SERVED) {
                 return;
             }
             if looks < LOOKS {
@@ -68,7 +70,7 @@ impl<S: Kept> Desk<S> {
                 spin_loop();
             } else {
                 looks = 0;
-                shared.park_timeout(rt, SERVED, (serving & 0xffff_ffff) as u32, pause);
+                shared.park_timeout(rt, DRAWN, (drawn & 0xffff_ffff) as u32, pause);
             }
         }
         unreachable!()
