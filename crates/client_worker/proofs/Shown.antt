@@ -1,6 +1,6 @@
 -- What lines show of the stream, step after step.
 use Rattle.std.proofs.Common.{zero, suc, true, ◌≡◌, ℕ, ◌<◌, ◌≤◌, ◌⊎◌, inl, inr, List, [], ◌∷◌, get_or, set, Option, IfSome}
-use Rattle.std.proofs.Common.{Result, Ok, Err, OnOk, OnErr, subst, sym, refl, ap, ◌∙◌}
+use Rattle.std.proofs.Common.{Result, Ok, Err, OnOk, OnErr, subst, sym, refl, ap}
 use Rattle.std.proofs.lemmas.List.Elements.{All-push}
 use Rattle.volume_model.specs.declared.call.Call.{Call}
 use Rattle.volume_model.specs.declared.call.Call.TheVariants as call
@@ -200,12 +200,10 @@ shows_takes t r o a b own e = shows_open (record o { parts = set o.parts r Taken
     (λ counts carried h started q was. h.acked o own.is started q (acked_before o.parts r q was))
 
 -- where it took it at all
-pub shows_taken : {E : Type 0} (res : Result (Unit {0}) E) (t r : ℕ) (o : OwnCall) (a b c : Mine) → IsOwn t o a
-    → b ≡ a → OnOk res ((x : OwnCall) → IsOwn t x b → TakesTo x r x.buffer b c) → OnErr res (c ≡ b) → ShowsOn a c
-shows_taken (Ok u) t r o a b c own same ok err =
-    let own2 = subst (IsOwn t o) (sym same) own in
-    subst (λ m. ShowsOn m c) same (shows_takes t r o b c own2 (ok o own2))
-shows_taken (Err e) t r o a b c own same ok err = shows_same a c (err ∙ same)
+pub shows_taken : {E : Type 0} (res : Result (Unit {0}) E) (t r : ℕ) (o : OwnCall) (a b : Mine) → IsOwn t o a
+    → OnOk res ((x : OwnCall) → IsOwn t x a → TakesTo x r x.buffer a b) → OnErr res (b ≡ a) → ShowsOn a b
+shows_taken (Ok u) t r o a b own ok err = shows_takes t r o a b own (ok o own)
+shows_taken (Err e) t r o a b own ok err = shows_same a b err
 
 -- the bytes of a read may change while none has acknowledged it
 pub shows_reads : (t r : ℕ) (buffer : List ℕ) (o : OwnCall) (a b : Mine) → IsOwn t o a → NoneAcked a

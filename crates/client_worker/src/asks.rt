@@ -58,8 +58,8 @@ impl<C: ClientSteps + Drop, L: Line + Drop> Carrier<C, L> {
         self.reply_with(rt, ticket, replica, &reply, room)
     }
 
-    /// A replica takes the open write, whose request came through: in place, or else in boxes. Where it does not, since
-    /// it has failed, which is next is said.
+    /// A replica takes the open write, whose request came through. Where it does not, since it has failed, which is next
+    /// is said.
     fn take_write<R: Wait>(
         &mut self,
         rt: &R,
@@ -76,19 +76,13 @@ impl<C: ClientSteps + Drop, L: Line + Drop> Carrier<C, L> {
         ensures falls { IfErr result (Falls (C.modes self.new.steps) part.now.replica
             (C.mine self.old.steps) (C.mine self.new.steps)) }
     {
-        let placed = self.steps.apply_in_place(rt, part.ticket, part.replica);
-        match placed.answer {
-            Ok(true) => return Ok(()),
-            Ok(false) => {}
-            Err(_) => return Err(placed.next),
-        }
         blocks.fill(&request[HEADER_LENGTH..]);
-        let boxed = self
+        let taken = self
             .steps
             .apply_write(rt, part.ticket, part.replica, blocks);
-        match boxed.answer {
+        match taken.answer {
             Ok(()) => Ok(()),
-            Err(_) => Err(boxed.next),
+            Err(_) => Err(taken.next),
         }
     }
 

@@ -97,7 +97,8 @@ fn make_all_full(alloc: Global, sets: &mut [Blocks], count: usize) -> Result<(),
     Ok(())
 }
 
-/// Makes a set so many boxes. It takes no memory where it has them all: a write in place leaves them there.
+/// Makes a set so many boxes. It takes no memory where it has them all: a write over blocks that the head had brings
+/// boxes back.
 fn make_full(alloc: Global, set: &mut Blocks, count: usize) -> Result<(), AllocError>
     ensures { OnOk result (AreBoxes count set.new) }
 {

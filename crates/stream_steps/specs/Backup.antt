@@ -1,5 +1,5 @@
 -- What the core's steps of a backup say to the stream for which they are taken.
-use Rattle.std.specs.Prelude.{◌≡◌, ◌≢◌, ⊤, ℕ, ◌*◌, Bool, List, Contains, Option, None, Some, IsSome, IfSome}
+use Rattle.std.specs.Prelude.{◌≡◌, ◌≢◌, ℕ, ◌*◌, List, Contains, Option, None, Some, IsSome, IfSome}
 use Rattle.vol_units.specs.Bytes.{bytes_at}
 use Rattle.vol_units.specs.declared.size.TheConstants.{PAGE_BYTES}
 use Rattle.volume_model.specs.declared.command.Command.TheVariants as command

@@ -1,6 +1,6 @@
 -- What the core's steps say to the stream for which they are taken.
 use Rattle.std.specs.Prelude.{◌≡◌, ◌⊎◌, ℕ, ◌+◌, ◌*◌, ◌<◌, ◌≤◌, ℤ, pos, true, false, List, [], ◌∷◌, ◌++◌, length, slice_set, All}
-use Rattle.std.specs.Prelude.{is_some, Bool, Option, IfSome}
+use Rattle.std.specs.Prelude.{is_some, Option, IfSome}
 use Rattle.vol_units.specs.Bytes.{bytes_at, with_bytes_at}
 use Rattle.vol_units.specs.Range.{place_of, blocks_around}
 use Rattle.vol_units.specs.declared.range.BlockRange.{BlockRange}
@@ -30,7 +30,7 @@ use Rattle.volume_model.specs.declared.mark.Mark.{Mark}
 use Rattle.volume_model.specs.declared.mark.Mark.TheVariants as mark
 use Rattle.volume_model.specs.Modes.{HasSource, HasNoSource}
 use Rattle.volume_model.specs.OneWorker.{entries_at}
-use Rattle.stream_steps.specs.Mine.{Mine, OwnCall, ForOwn, Log, with_entries, with_more, with_running, answer_placed}
+use Rattle.stream_steps.specs.Mine.{Mine, OwnCall, Log, with_entries, with_more, with_running, answer_placed}
 use Rattle.stream_steps.specs.Mine.{fault_placed, length_of, log_length}
 
 -- ---- enrolled
@@ -202,11 +202,6 @@ pub record AreBlocksOfCall (o : OwnCall) (blocks : List (Option (List ℕ))) : T
 -- the replica has taken its part
 abbrev pub TakesTo : OwnCall → ℕ → List ℕ → Mine → Mine → Type 0
 TakesTo o r buffer m m2 = m2 ≡ with_running m (record o { buffer = buffer; parts = slice_set o.parts r Taken } ∷ [])
-
--- it has, where that was done in place; where it was not, nothing changes
-abbrev pub PlacesTo : Bool → ℕ → ℕ → Mine → Mine → Type 0
-PlacesTo true t r m m2 = ForOwn t m (λ o. TakesTo o r o.buffer m m2)
-PlacesTo false t r m m2 = m2 ≡ m
 
 -- the replica has acknowledged it
 abbrev pub AcksTo : OwnCall → ℕ → Mine → Mine → Type 0

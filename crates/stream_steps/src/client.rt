@@ -4,7 +4,7 @@ ghost use Rattle.step_answers.specs.Asked.{IsOnRange};
 ghost use Rattle.stream_steps.specs.Mine.{OwnCall, IsOwn, ForOwn, with_running};
 ghost use Rattle.stream_steps.specs.Does.{Stands, StandsStill, Does, StartsOrWaits};
 ghost use Rattle.stream_steps.specs.Against.{AgainstTake, AgainstGive, RefusesAck, RefusesFault, RefusesEnd};
-ghost use Rattle.stream_steps.specs.Steps.{HasNotStarted, HasStarted, IsStartedWrite, IsStartedRead, AsksNow, EnrolsTo, AnswersNow, Answers, AdmitsTo, IsNotAfter, AreBlocksOfCall, PlacesTo, TakesTo, AcksTo, FaultsTo};
+ghost use Rattle.stream_steps.specs.Steps.{HasNotStarted, HasStarted, IsStartedWrite, IsStartedRead, AsksNow, EnrolsTo, AnswersNow, Answers, AdmitsTo, IsNotAfter, AreBlocksOfCall, TakesTo, AcksTo, FaultsTo};
 ghost use Rattle.stream_steps.specs.Seen.{IsJobOf, TellsNext, WaitsAs};
 
 use crate::on_replica::OnReplica;
@@ -86,22 +86,6 @@ pub trait ClientSteps {
         ensures stands { StandsStill ready home mine self.old self.new }
         ensures is { MatchOption result (HasNoSource (modes self.new)) (IsSource (modes self.new)) }
         ensures inside { IfSome result (λ r. r < (mine self.old).replicas) };
-
-    /// A replica takes the open write without boxes for its blocks, where that can be done: where it is not, nothing
-    /// changes.
-    fn apply_in_place<R: Wait>(
-        &mut self,
-        rt: &R,
-        t: TicketNumber,
-        replica: u8,
-    ) -> OnReplica<Result<bool, NotThis>>
-        requires ready { ready self.old }
-        requires writes { (o : OwnCall) × IsOwn t o (mine self.old) × IsStartedWrite o }
-        ensures stands { Stands ready home self.old self.new }
-        ensures does { Does result.answer (mine self.old) (mine self.new)
-            (λ placed. PlacesTo placed t replica (mine self.old) (mine self.new))
-            (AgainstTake (modes self.new) replica) }
-        ensures next { TellsNext (modes self.new) replica (mine self.old).replicas result.next };
 
     /// A replica takes the blocks of the open write.
     fn apply_write<R: Wait>(

@@ -1,6 +1,6 @@
 -- Each step of a frame in one turn: the World that was seen as s is found as x, left as y, and seen so as u.
 use Rattle.std.proofs.Common.{◌≡◌, ℕ, Bool, [], Result, Ok, OnOk, OnErr, IfOk, IfErr, subst, sym, ap, ◌∙◌}
-use Rattle.std.proofs.Common.{Err as Failed, true, ◌<◌, false, List, length, IfSome, refl, Option}
+use Rattle.std.proofs.Common.{Err as Failed, ◌<◌, List, length, IfSome, refl, Option}
 use Rattle.vol_units.specs.Size.{IsVolumeSize}
 use Rattle.range_turns.specs.Order.{ticket_at}
 use Rattle.volume_model.specs.declared.call.Call.{Call}
@@ -15,7 +15,7 @@ use Rattle.step_answers.specs.declared.answers.Enrolled.{Enrolled}
 use Rattle.step_answers.specs.declared.answers.NotThis.{NotThis}
 use Rattle.step_answers.specs.Asked.{IsOnRange, IsNow}
 use Rattle.volume_core.specs.Answers.{EnrolsAs, Completes, IsAdmit, IsAnsweredNow, AreBlocksOfWrite}
-use Rattle.volume_core.specs.Answers.{TakesInPlace, IsRoomier}
+use Rattle.volume_core.specs.Answers.{IsRoomier}
 use Rattle.volume_core.specs.Places.{IsCallAt, IsWriteAt, IsReadAt, IsWaitingAt}
 use Rattle.volume_core.specs.State.{State, modes_in, gave_up_at}
 use Rattle.volume_core.specs.Sound.{IsSound}
@@ -33,7 +33,7 @@ use Rattle.stream_steps.specs.Does.{Does, StartsOrWaits}
 use Rattle.stream_steps.specs.Against.{RefusesAck, RefusesFault, RefusesEnd, AgainstTake, AgainstGive}
 use Rattle.stream_steps.specs.Steps.{HasStarted, IsOnBlocks, EnrolsTo, AcksTo, FaultsTo, Answers, AnswersNow, TakesTo}
 use Rattle.stream_steps.specs.Steps.{IsFrameCall, AdmitsTo, IsNotAfter, HasNotStarted, AreBlocksOfCall}
-use Rattle.stream_steps.specs.Steps.{IsStartedWrite, IsStartedRead, PlacesTo}
+use Rattle.stream_steps.specs.Steps.{IsStartedWrite, IsStartedRead}
 use Rattle.stream_steps.specs.Seen.{AsksAll, IsJobOf, IsNextUp, TellsNext, WaitsAs}
 use Rattle.world_holder.proofs.Grow.{found_same, over, unchanged}
 use Rattle.world_holder.specs.View.{view, IsFree, IsFound, Owes}
@@ -47,10 +47,10 @@ use Rattle.world_steps.proofs.StartRows.{admit_rows, never_after, asks_all, wait
 use Rattle.world_steps.proofs.Carried.{carries}
 use Rattle.world_steps.proofs.Does.{starts_or_waits}
 use Rattle.world_steps.proofs.RebuildKept.{kept_itself, kept_enrolled, kept_now, kept_admitted, kept_withdrawn}
-use Rattle.world_steps.proofs.RebuildKept.{kept_placed, kept_wrote, kept_read, kept_acked, kept_faulted}
+use Rattle.world_steps.proofs.RebuildKept.{kept_wrote, kept_read, kept_acked, kept_faulted}
 use Rattle.world_steps.proofs.RebuildKept.{kept_completed}
 use Rattle.world_steps.proofs.Rest.{Rest, rest_of, turns_enrolled, turns_answered, turns_admitted, turns_withdrawn}
-use Rattle.world_steps.proofs.Rest.{turns_placed, turns_wrote, turns_read, turns_acked, turns_faulted, turns_completed}
+use Rattle.world_steps.proofs.Rest.{turns_wrote, turns_read, turns_acked, turns_faulted, turns_completed}
 use Rattle.world_steps.proofs.FaultRows.{shows_fault, alone_calm, fault_row}
 
 -- ---- what each of them owes, and leaves to its stream
@@ -301,46 +301,7 @@ module _ (a : Bool) (n t : ℕ) (s x y : State) (found : IsFound a n s x)
         (gone_row a n x y gone_go (found_turns a n s x found free) (ap (λ (z : State). turning z n) gone.2)
         (sees n mine.0.call (opened a n t mine.0 x found.sound mine.1 mine.2)))
 
--- ---- on one replica, where its block is
-
-module _ (a : Bool) (n t r : ℕ) (s x y : State) (found : IsFound a n s x) (res : Result Bool NotThis)
-    (op : (o : OwnCall) × IsOwn t o (view a n s) × IsStartedWrite o) (may : ForOwner t x (λ m c. MayGo m x y))
-    (ok : IfOk res (λ done. (i : ℕ) × IsWriteAt x t i × TakesInPlace x i r done y)) (err : OnErr res (y ≡ x)) where
-  place_its : HasOpen t (view a n s)
-  place_its = write_open t (view a n s) op
-
-  pub place_go : MayGo n x y
-  place_go = found_may a n s x found t place_its y may
-
-  pub place_owes : Owes n x y
-  place_owes = owes_by n x y place_go (turns_placed t r x y res ok err) (kept_placed t r x y res ok err)
-
-  module _ (u : State) (left : u ≡ y) where
-    pub place_free : IsFree n s → IsFree n u
-    place_free free = free_on a n s x found y u left free (turns_placed t r x y res ok err)
-
-    place_err : OnErr res (view a n u ≡ view a n s)
-    place_err = same_on a n s x found y u left res err
-
-    place_to : IfOk res (λ done. PlacesTo done t r (view a n s) (view a n u))
-    place_to = over a n s x y u found left (λ (m : Mine) (z : State). IfOk res (λ done. PlacesTo done t r m (view a n z))) (by res ok)
-      where
-        by : (q : Result Bool NotThis) → IfOk q (λ done. (i : ℕ) × IsWriteAt x t i × TakesInPlace x i r done y)
-            → IfOk q (λ done. PlacesTo done t r (view a n x) (view a n y))
-        by (Ok true) d = λ o own.
-            wrote_row a n t o r x y found.sound own (found_blocks a n s x found t place_its o own) d.0 d.1.stands d.2.1 place_go
-        by (Ok false) d = ap (view a n) d.2.1
-        by (Failed e) d = tt
-
-    place_why : IfErr res (core.AgainstWrite x t r) → IfErr res (AgainstTake (modes_in u) r)
-    place_why why = over a n s x y u found left (λ (m : Mine) (z : State). IfErr res (AgainstTake (modes_in z) r))
-        (takes_why a n t r x y found.sound res (op.0, found_in a n s x found (IsOwn t op.0) op.1, op.2) err why)
-
-    pub place_does : IfErr res (core.AgainstWrite x t r) → Does res (view a n s) (view a n u)
-        (λ done. PlacesTo done t r (view a n s) (view a n u)) (AgainstTake (modes_in u) r)
-    place_does why = record { ok = place_to; why = place_why why; err = place_err }
-
--- ---- on one replica, with boxes
+-- ---- on one replica
 
 module _ (a : Bool) (n t r : ℕ) (boxes : List (Option (List ℕ))) (s x y : State) (found : IsFound a n s x)
     (res : Result (Unit {0}) NotThis)

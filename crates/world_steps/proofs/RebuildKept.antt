@@ -1,6 +1,6 @@
 -- No step of a stream of frames takes from others' commands what they count on: the rebuild that is open stays, with the
 -- blocks of its source's frozen layers, or the fall of a replica aborts it.
-use Rattle.std.proofs.Common.{◌≡◌, ℕ, Bool, true, false, List, Result, Ok, Err as Failed, OnOk, OnErr, IfOk, refl, sym, subst}
+use Rattle.std.proofs.Common.{◌≡◌, ℕ, List, Result, Ok, Err as Failed, OnOk, OnErr, IfOk, refl, sym, subst}
 use Rattle.volume_model.specs.declared.call.Call.{Call}
 use Rattle.volume_model.specs.declared.mark.Mark.TheVariants as mark
 use Rattle.range_turns.specs.declared.ticket.Kind.{Kind}
@@ -15,7 +15,7 @@ use Rattle.step_answers.specs.declared.answers.Admit.{Admit}
 use Rattle.step_answers.specs.declared.answers.Admit.TheVariants as admit
 use Rattle.step_answers.specs.declared.answers.Enrolled.{Enrolled}
 use Rattle.step_answers.specs.declared.answers.Enrolled.TheVariants as enrol
-use Rattle.volume_core.specs.Answers.{EnrolsAs, IsAdmit, BeginsBy, IsRoomier, IsAnsweredNow, TakesInPlace, Completes}
+use Rattle.volume_core.specs.Answers.{EnrolsAs, IsAdmit, BeginsBy, IsRoomier, IsAnsweredNow, Completes}
 use Rattle.volume_core.specs.Places.{IsWriteAt, IsReadAt, IsCallAt, IsWaitingAt}
 use Rattle.volume_core.specs.State.{State}
 use Rattle.volume_core.specs.Steps.{with_place, without_call, wrote, has_read, acked, marked, faulted}
@@ -79,15 +79,6 @@ put : (s s2 : State) (i r : ℕ) → s2 ≡ wrote s i r → Kept s s2
 put s s2 i r e = subst (Kept s) (sym e)
     (kept_put s (wrote s i r) refl refl r
     (put_at (node_at s.nodes r) (ticket_at s.tickets i).range.first (whole_of (open_at s.calls i))) refl refl)
-
-placed : (s s2 : State) (i r : ℕ) (done : Bool) → TakesInPlace s i r done s2 → Kept s s2
-placed s s2 i r true is = put s s2 i r is.1
-placed s s2 i r false is = same s s2 is.1
-
-pub kept_placed : {E : Type 0} (t r : ℕ) (s s2 : State) (res : Result Bool E)
-    → IfOk res (λ done. (i : ℕ) × IsWriteAt s t i × TakesInPlace s i r done s2) → OnErr res (s2 ≡ s) → Kept s s2
-kept_placed t r s s2 (Ok done) is err = placed s s2 is.0 r done is.2
-kept_placed t r s s2 (Failed e) is err = same s s2 err
 
 pub kept_wrote : {E : Type 0} (t r : ℕ) (s s2 : State) (res : Result (Unit {0}) E)
     → OnOk res ((i : ℕ) × IsWriteAt s t i × (s2 ≡ wrote s i r)) → OnErr res (s2 ≡ s) → Kept s s2

@@ -16,7 +16,7 @@ use Rattle.step_answers.specs.declared.answers.Admit.{Admit}
 use Rattle.step_answers.specs.declared.answers.Admit.TheVariants as admit
 use Rattle.step_answers.specs.declared.answers.Enrolled.{Enrolled}
 use Rattle.step_answers.specs.declared.answers.Enrolled.TheVariants as enrol
-use Rattle.volume_core.specs.Answers.{EnrolsAs, IsAdmit, BeginsBy, IsRoomier, IsAnsweredNow, TakesInPlace, Completes}
+use Rattle.volume_core.specs.Answers.{EnrolsAs, IsAdmit, BeginsBy, IsRoomier, IsAnsweredNow, Completes}
 use Rattle.volume_core.specs.Answers.{failed_in, after_fail, failed_by}
 use Rattle.volume_core.specs.Places.{IsWriteAt, IsReadAt, IsCallAt, IsWaitingAt}
 use Rattle.volume_core.specs.State.{State, modes_in}
@@ -106,16 +106,6 @@ pub turns_withdrawn : (t : ℕ) (s s2 : State) → (i : ℕ) × IsWaitingAt s t 
 turns_withdrawn t s s2 is = ap rest_of is.2
 
 -- ---- on one replica
-
-placed_turns : (s s2 : State) (i r : ℕ) (done : Bool) → TakesInPlace s i r done s2 → rest_of s2 ≡ rest_of s
-placed_turns s s2 i r true is = ap rest_of is.1
-placed_turns s s2 i r false is = same_turns s s2 is.1
-
-pub turns_placed : {E : Type 0} (t r : ℕ) (s s2 : State) (res : Result Bool E)
-    → IfOk res (λ done. (i : ℕ) × IsWriteAt s t i × TakesInPlace s i r done s2) → OnErr res (s2 ≡ s)
-    → rest_of s2 ≡ rest_of s
-turns_placed t r s s2 (Ok done) is err = placed_turns s s2 is.0 r done is.2
-turns_placed t r s s2 (Failed e) is err = same_turns s s2 err
 
 pub turns_wrote : {E : Type 0} (t r : ℕ) (s s2 : State) (res : Result (Unit {0}) E)
     → OnOk res ((i : ℕ) × IsWriteAt s t i × (s2 ≡ wrote s i r)) → OnErr res (s2 ≡ s) → rest_of s2 ≡ rest_of s

@@ -80,19 +80,6 @@ impl<H: Holder, G: Gate> ClientSteps for Steps<H, G> {
         source
     }
 
-    fn apply_in_place<R: Wait>(
-        &mut self,
-        rt: &R,
-        t: TicketNumber,
-        replica: u8,
-    ) -> OnReplica<Result<bool, NotThis>> {
-        let mut world = self.holder.take(rt, self.stream);
-        let answer = world.apply_in_place(t, replica);
-        let next = next_up(&world, replica);
-        self.holder.put(self.stream, world);
-        OnReplica { answer, next }
-    }
-
     fn apply_write<R: Wait>(
         &mut self,
         rt: &R,
