@@ -1,4 +1,4 @@
-ghost use Rattle.std.specs.Prelude.{◌≡◌, ◌≤◌, None, Some, true, IfOk, MatchOption, vec_capacity};
+ghost use Rattle.std.specs.Prelude.{◌≡◌, ◌≤◌, ℕ, None, Some, true, IfOk, MatchOption, vec_capacity};
 ghost use Rattle.frame_wire.specs.Spelling.{IsFrame};
 ghost use Rattle.rebuild_worker.specs.Copying.{AreQuiet, CarriesTo, KeepsCopying, KeepsHand, ReadsTo, PutsTo, TakesTo};
 
@@ -139,5 +139,6 @@ pub trait CopySteps {
         ensures keeps { KeepsCopying ready home is_aborted is_text stays copying self.old self.new }
         ensures quiet { AreQuiet (copying self.old) (copying self.new) }
         ensures same { KeepsHand (copying self.old) (copying self.new) }
+        ensures not { result ≡ None → (place : ℕ) → ¬ is_aborted self.new place }
         ensures is { MatchOption result ((copying self.new).left ≡ (copying self.old).left) (is_aborted self.new) };
 }
