@@ -39,7 +39,8 @@ use Rattle.stream_steps.specs.Mine.{Log, Mine, OwnCall, Placed, answer_placed, l
 use Rattle.stream_steps.specs.Backup.{EndsBackup, KeepsCopies, KeepsTold, RefusesEndBackup}
 use Rattle.control_worker.specs.declared.backup.Tried.{Tried}
 use Rattle.control_worker.specs.declared.backup.Tried.TheVariants as tried
-use Rattle.control_worker.specs.Backups.{BacksUp, IsLast, IsListOf, IsTriedOf, LiveFor, MakesOf, StoreTells, Tries, count_for, last_of, reply_of, tells_fault}
+use Rattle.control_worker.specs.Backups.{BacksUp, IsLast, IsListOf, IsTriedOf, LiveFor, MakesOf, StoreTells, Tries}
+use Rattle.control_worker.specs.Backups.{count_for, last_of, reply_of, tells_fault}
 use Rattle.control_worker.specs.Giver.{copies_of}
 use Rattle.control_worker.proofs.GiverLemmas.{copies_known, still_live}
 
@@ -143,7 +144,8 @@ pub list_of : (tells : Bool) (objects : Objects) (volume snapshot : List ℕ) (c
 list_of tells objects volume snapshot copy (Ok list) t is h =
     subst (IsListOf tells objects volume snapshot copy) (sym is) (h.named, h.backup)
 list_of tells objects volume snapshot copy (Err make_error.Exists) t is h = subst (IsListOf tells objects volume snapshot copy) (sym is) tt
-list_of tells objects volume snapshot copy (Err make_error.NoReplica) t is h = subst (IsListOf tells objects volume snapshot copy) (sym is) tt
+list_of tells objects volume snapshot copy (Err make_error.NoReplica) t is h =
+    subst (IsListOf tells objects volume snapshot copy) (sym is) tt
 list_of tells objects volume snapshot copy (Err (make_error.BlockDiffers c)) t is h =
     subst (IsListOf tells objects volume snapshot copy) (sym is) tt
 list_of tells objects volume snapshot copy (Err make_error.TargetFault) t is h =
@@ -353,9 +355,12 @@ retried (tried.Refused refusal.ChainFull) snapshot f g modes kept live against =
 retried (tried.Refused refusal.NoSuchSnapshot) snapshot f g modes kept live against = (λ e. absurd cc, λ e. absurd cc)
 retried (tried.Refused refusal.NoReplica) snapshot f g modes kept live against = (λ e. absurd cc, λ e. absurd cc)
 retried (tried.Refused refusal.InUse) snapshot f g modes kept live against = (λ e. absurd cc, λ e. absurd cc)
-retried (tried.Refused refusal.BackupExists) snapshot f g modes kept live against = absurd (none_some _ against (still_live f g snapshot kept live))
-retried (tried.Refused refusal.BlockDiffers) snapshot f g modes kept live against = absurd (none_some _ against (still_live f g snapshot kept live))
-retried (tried.Refused refusal.TargetFault) snapshot f g modes kept live against = absurd (none_some _ against (still_live f g snapshot kept live))
+retried (tried.Refused refusal.BackupExists) snapshot f g modes kept live against =
+    absurd (none_some _ against (still_live f g snapshot kept live))
+retried (tried.Refused refusal.BlockDiffers) snapshot f g modes kept live against =
+    absurd (none_some _ against (still_live f g snapshot kept live))
+retried (tried.Refused refusal.TargetFault) snapshot f g modes kept live against =
+    absurd (none_some _ against (still_live f g snapshot kept live))
 
 pub count_kept : (r : Reply) (before : ℕ) → r ≢ reply.Refused TargetFault → count_for r before ≡ before
 count_kept (reply.Refused refusal.TooLong) before not = refl

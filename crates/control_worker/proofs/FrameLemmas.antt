@@ -10,7 +10,8 @@ use Rattle.client_worker.proofs.Told.{header_alone, is_framed}
 use Rattle.step_answers.specs.declared.whole_op.WholeOp.{WholeOp}
 use Rattle.step_answers.specs.declared.whole_op.WholeOp.TheVariants as whole
 use Rattle.client_worker.specs.Frames.{read_reply, read_reply_head}
-use Rattle.control_worker.specs.Frames.{page_head, page_request, ask_head, ask_request, done_head, done_reply, pair_text, part_text, AsksBy, IsPartText}
+use Rattle.control_worker.specs.Frames.{page_head, page_request, ask_head, ask_request, done_head, done_reply}
+use Rattle.control_worker.specs.Frames.{pair_text, part_text, AsksBy, IsPartText}
 
 -- a request's header is put before its text
 pub asks_now : (seq : ℕ) (offset : ℤ) (text before request : List ℕ) (h : Head) → AsksBy text before

@@ -15,7 +15,8 @@ use Rattle.volume_model.specs.declared.entry.Entry.{Entry}
 use Rattle.volume_model.specs.declared.entry.Entry.TheVariants as entry
 use Rattle.volume_model.specs.History.{Spot}
 use Rattle.volume_model.specs.Modes.{HasSource, source_of}
-use Rattle.volume_model.specs.OneWorker.{Against, Exists, Differs, Fails, marks_unless, refused_by, reply_for, store_refusal, want_of_replica, entries_by}
+use Rattle.volume_model.specs.OneWorker.{Against, Exists, Differs, Fails, marks_unless, refused_by, reply_for}
+use Rattle.volume_model.specs.OneWorker.{store_refusal, want_of_replica, entries_by}
 use Rattle.volume_model.specs.PlainStep.{refusal_of}
 use Rattle.volume_model.proofs.OnlyServed.{with_source}
 use Rattle.stream_steps.specs.Mine.{Mine, Log, answer_placed, length_of, longer, with_entries, with_more}

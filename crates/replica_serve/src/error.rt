@@ -1,7 +1,7 @@
 ghost use Rattle.std.specs.Prelude.{◌≡◌};
 ghost use Rattle.replica_serve.specs.declared.error.ServeError.TheVariants.{NoMemory};
 
-use std::alloc::{AllocError, AllocFailed};
+use std::alloc::AllocError;
 use thiserror::Error;
 
 /// Why a replica was not served to the end of its input.
@@ -25,14 +25,6 @@ impl From<AllocError> for ServeError {
     ghost from_gives = { λ _ e. e ≡ NoMemory };
 
     fn from(_e: AllocError) -> ServeError {
-        ServeError::NoMemory
-    }
-}
-
-impl<T: Drop> From<AllocFailed<T>> for ServeError {
-    ghost from_gives = { λ _ e. e ≡ NoMemory };
-
-    fn from(_e: AllocFailed<T>) -> ServeError {
         ServeError::NoMemory
     }
 }

@@ -191,7 +191,8 @@ module _ (opening : Spot) (replicas : ℕ) (css : List (List Call)) (cs : List C
   many : length (css ++ cs ∷ []) ≡ suc (length css)
   many = omega (arith, length-append css (cs ∷ []))
 
-  all_turns : ((w : ℕ) → w < length (css ++ cs ∷ []) → AreWell replicas (counts' w)) → after ≡ served (store_in after) opening (css ++ cs ∷ [])
+  all_turns : ((w : ℕ) → w < length (css ++ cs ∷ []) → AreWell replicas (counts' w))
+      → after ≡ served (store_in after) opening (css ++ cs ∷ [])
   all_turns well =
       one.is ∙ (λ i. first i ++ (one.turn (well (length css) (omega (arith, many))) ∙ second) i)
       ∙ sym (served_streams-push (store_in after) opening 0 0 css cs)
@@ -210,7 +211,8 @@ module _ (opening : Spot) (replicas : ℕ) (css : List (List Call)) (cs : List C
       zero_more n = omega arith
 
       second : served_from (store_in after) (behind_entries opening before) (length css) (length before) 0 cs
-          ≡ served_from (store_in after) (after_streams opening css) (0 + length css) (behind 0 (served_streams (store_in after) opening 0 0 css)) 0 cs
+          ≡ served_from (store_in after) (after_streams opening css) (0 + length css)
+          (behind 0 (served_streams (store_in after) opening 0 0 css)) 0 cs
       second = λ i. served_from (store_in after) (stands i) (zero_more (length css) i)
           ((ap length first ∙ zero_more (length (served (store_in after) opening css))) i) 0 cs
 

@@ -54,7 +54,8 @@ returns-clause-keeps g c =
       copies = g.C.BackupSteps.copies c.base_of-base.new.steps;
     })
     (record { goes = goes_same _ _ refl; kept = λ name disk is. is }) in
-    let keeps = gives_then {at = g.C.CommandSteps.home} {mine = g.C.CommandSteps.mine} {copies = g.C.BackupSteps.copies} {between = g.L.Line.ends}
+    let keeps = gives_then {at = g.C.CommandSteps.home} {mine = g.C.CommandSteps.mine} {copies = g.C.BackupSteps.copies}
+    {between = g.L.Line.ends}
     (record { steps = c.args.steps.now; channels = c.args.channels.now })
     (record { steps = c.base_of-base.new.steps; channels = c.args.channels.now })
     (record { steps = c.make_with.new.pages.steps.now; channels = c.make_with.new.pages.channels.now })

@@ -55,5 +55,6 @@ returns-clause-ok g c =
     (λ told. makes_same c.args.volume.now c.args.backup.now _ _ c.make_over.result _ _ (sym same) (c.make_over.ensures.store told))
     (made_same g.T.Target.tells _ c.args.volume.now c.args.snapshot.now _ _ c.make_over.result (sym same) c.make_over.ensures.made)
     c.make_over.ensures.cause
-    (source_seen _ (g.C.CommandSteps.mine c.lowest.new.self) c.lowest.result (c.lowest.ensures.stands.same ∙ c.copy_size.ensures.stands.same) some c.lowest.ensures.here))
+    (source_seen _ (g.C.CommandSteps.mine c.lowest.new.self) c.lowest.result
+    (c.lowest.ensures.stands.same ∙ c.copy_size.ensures.stands.same) some c.lowest.ensures.here))
     c.tried_of-2.ensures

@@ -119,7 +119,8 @@ returns-clause-printed g c =
     let sized = c.in_ok-world.ensures.many in
     let ends = ended c.finish.result in
     let same = written_is script begin counts carried run sized served refl in
-    run_leaves (script_purpose (g.S.Source.left c.args.source.now)) (IsRunOf (Some (Run c.args.workers)) (g.W.Wiring.asked c.args.wiring.now) (g.W.Wiring.asked c.serve_by.new.wiring)
+    run_leaves (script_purpose (g.S.Source.left c.args.source.now)) (IsRunOf (Some (Run c.args.workers))
+    (g.W.Wiring.asked c.args.wiring.now) (g.W.Wiring.asked c.serve_by.new.wiring)
     counts carried (g.H.Shelves.holds c.args.shelves.now) (g.H.Shelves.holds c.finish.new.shelves)
     (Rose (g.H.Shelves.faults c.args.shelves.now) (g.H.Shelves.faults c.finish.new.shelves) → ⊥)
     (λ volume spot entries. g.T.Target.tells ≡ true → StoreOfRun (g.T.Target.holds c.args.target.now)

@@ -41,7 +41,8 @@ loop-command-preserved g c =
           (subst (λ y. GrewByCommand y mine_loop mine_answer) (sym at) c.in_ok-failed.ensures.ok);
       last = c.in_ok-failed.ensures.last;
       store = λ so first from far. c.in_ok-failed.ensures.store so first from (c.loop-command.invariant.store so first from far);
-      fault = subst (λ f. TellsFault f (g.T.Target.faults c.args.target.now) (g.T.Target.faults c.answer_next.new.target)) (sym c.either-so_far.ensures)
+      fault = subst (λ f. TellsFault f (g.T.Target.faults c.args.target.now) (g.T.Target.faults c.answer_next.new.target))
+          (sym c.either-so_far.ensures)
           (fault_then _ _ _ _ _ c.loop-command.invariant.later c.answer_next.ensures.later c.loop-command.invariant.fault
           c.in_ok-failed.ensures.fault);
       later = omega (arith, c.loop-command.invariant.later, c.answer_next.ensures.later);

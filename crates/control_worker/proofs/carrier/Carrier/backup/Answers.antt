@@ -28,7 +28,8 @@ invariant_of-self-2 g c =
 pub await_turn-requires : goal.await_turn-requires
 await_turn-requires g c =
     let e = c.in_ok-t.ensures.ok in
-    record { waits = (command.Backup c.args.backup.now c.args.snapshot.now, e.own, awaits _ (command.Backup c.args.backup.now c.args.snapshot.now) tt _ _ e) }
+    let asked = command.Backup c.args.backup.now c.args.snapshot.now in
+    record { waits = (asked, e.own, awaits _ asked tt _ _ e) }
 
 -- the backup has the turn, where the lines are lent
 here : (g : Over) (c : After-deref_mut g) → TakesTurn c.in_ok-t.t (command.Backup c.args.backup.now c.args.snapshot.now)
