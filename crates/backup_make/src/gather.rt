@@ -9,7 +9,7 @@ ghost use Rattle.backup_make.specs.Making.{HoldsAnotherPage, IfDiffers, is_make_
 use crate::error::MakeError;
 use crate::giver::{PageGiver, Pages};
 use crate::keep::keep_pages;
-use backup_units::{Checksum, PAGE_LENGTH};
+use backup_units::Checksum;
 use std::alloc::{AllocError, Global};
 use std::sync::Wait;
 use target_traits::Target;
@@ -76,26 +76,8 @@ fn keep_found<R: Wait, T: Target, P: PageGiver>(
         (HoldsAnotherPage (T.holds target.new) volume.now (P.copies pages.old (P.asked pages.old)))) }
 {
     let mut blocks = blocks;
-    let mut room = room_of(alloc, PAGE_LENGTH)?;
-    keep_pages(
-        rt,
-        alloc,
-        target,
-        volume,
-        pages,
-        wanted,
-        &mut blocks,
-        &mut room,
-    )?;
+    keep_pages(rt, alloc, target, volume, pages, wanted, &mut blocks)?;
     Ok(blocks)
-}
-
-/// Room for so many bytes. Of any number, since a page of zeros is not to be written out in a proof.
-fn room_of(alloc: Global, count: usize) -> Result<Vec<u8>, AllocError>
-    requires { count ≤ 2097152 }
-    ensures { IfOk result (λ room. length room.items ≡ count) }
-{
-    vec![in alloc; 0; count]
 }
 
 /// The list from which a backup starts.

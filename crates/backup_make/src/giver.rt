@@ -1,6 +1,5 @@
-ghost use Rattle.std.specs.Prelude.{◌≡◌, true, Some, IfOk, IfErr, OnOk, length, option_map};
+ghost use Rattle.std.specs.Prelude.{◌≡◌, true, Some, IfOk, IfErr, OnOk, option_map};
 ghost use Rattle.backup_units.specs.Backups.{page_at};
-ghost use Rattle.backup_units.specs.Blocks.{page_bytes};
 ghost use Rattle.backup_make.specs.Giving.{Stays, KeepsGiver, Drops, Covers, HasPage, finds_none};
 
 use std::alloc::{AllocError, Global};
@@ -36,6 +35,9 @@ pub trait PageGiver {
     // The name that is asked for. No call changes it, nor its copy.
     ghost asked: { Self → List ℕ };
 
+    // The page that was given last.
+    ghost given: { Self → List ℕ };
+
     // No replica is left that could be read.
     ghost has_none: { Self → Type 0 };
 
@@ -65,20 +67,17 @@ pub trait PageGiver {
         ensures base { Drops (option_map (λ n. n.now) base.entry) (copies self.old) (copies self.new) }
         ensures ok { IfOk result (Covers (copies self.new) (asked self.new) (option_map (λ n. n.now) base.entry)) };
 
-    /// Reads a page of the name's copy.
-    fn page<R: Wait>(
-        &mut self,
-        rt: &R,
-        alloc: Global,
-        page: u32,
-        into: &mut [u8],
-    ) -> Result<(), GiveError>
+    /// Has a page of the name's copy given. The giver keeps it until it is to give the next one.
+    fn page<R: Wait>(&mut self, rt: &R, alloc: Global, page: u32) -> Result<(), GiveError>
         requires ready { ready self.old }
         requires page { HasPage (copies self.old) (asked self.old) page }
-        requires size { length into.old ≡ page_bytes }
         ensures keeps { KeepsGiver ready home lasts self.old self.new }
         ensures stays { Stays (copies self.old) (copies self.new) (asked self.old) (asked self.new) }
         ensures ok { OnOk result
-            (option_map (λ disk. page_at disk page) (copies self.new (asked self.new)) ≡ Some into.new) }
+            (option_map (λ disk. page_at disk page) (copies self.new (asked self.new)) ≡ Some (given self.new)) }
         ensures none { IfErr result (λ e. finds_none e ≡ true → has_none self.new) };
+
+    /// The page that was given last, where the giver has it: no one copies it.
+    fn given_page(&self) -> &[u8]
+        ensures { result.now ≡ given self.now };
 }

@@ -24,10 +24,8 @@ pub(crate) fn keep_pages<R: Wait, T: Target, P: PageGiver>(
     pages: &mut P,
     wanted: &[u32],
     blocks: &mut [Option<Checksum>],
-    room: &mut [u8],
 ) -> Result<(), MakeError>
     requires ready { P.ready pages.old }
-    requires room { length room.old ≡ page_bytes }
     requires copy { IfSome (P.copies pages.old (P.asked pages.old)) (λ disk. length disk ≡ length blocks.old * page_bytes) }
     requires within { (i : ℕ) → i < length wanted.now → slice_index wanted.now i < length blocks.old }
     ensures kept { OnOk result ((disk : List ℕ) → P.copies pages.old (P.asked pages.old) ≡ Some disk
@@ -44,8 +42,8 @@ pub(crate) fn keep_pages<R: Wait, T: Target, P: PageGiver>(
         (HoldsAnotherPage (T.holds target.new) volume.now (P.copies pages.old (P.asked pages.old)))) }
 {
     for page in wanted {
-        pages.page(rt, alloc, *page, room)?;
-        let listed = keep_page(alloc, target, volume, room)?;
+        pages.page(rt, alloc, *page)?;
+        let listed = keep_page(alloc, target, volume, pages.given_page())?;
         blocks[*page as usize] = listed;
     }
     Ok(())

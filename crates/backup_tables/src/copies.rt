@@ -21,6 +21,8 @@ pub(crate) struct Copies {
     pub base: LayerName,
     pub old: Vec<u8>,
     pub count: u32,
+    /// The page that was given last.
+    page: Vec<u8>,
     /// How many pages were given.
     pub given: u64,
     /// No replica is left.
@@ -45,6 +47,7 @@ impl Copies {
             base,
             old: disk_of(alloc, fills)?,
             count: fills.len() as u32,
+            page: Vec::new(alloc),
             given: 0,
             has_none: false,
         })
@@ -65,6 +68,7 @@ impl Copies {
             base: _,
             old,
             count,
+            page,
             given: _,
             has_none: _,
         } = self;
@@ -76,6 +80,7 @@ impl Copies {
             base,
             old,
             count,
+            page,
             given: 0,
             has_none: false,
         })
@@ -109,6 +114,8 @@ impl PageGiver for Copies {
 
     ghost asked = { λ g. g.name };
 
+    ghost given = { λ g. g.page.items };
+
     ghost has_none = { λ g. g.has_none ≡ true };
 
     ghost Fact = { Unit {0} };
@@ -137,19 +144,20 @@ impl PageGiver for Copies {
         Ok(Pages::All(pages))
     }
 
-    fn page<R: Wait>(
-        &mut self,
-        _rt: &R,
-        _alloc: Global,
-        page: u32,
-        into: &mut [u8],
-    ) -> Result<(), GiveError> {
+    fn page<R: Wait>(&mut self, _rt: &R, alloc: Global, page: u32) -> Result<(), GiveError> {
         if self.has_none {
             return Err(GiveError::NoReplica);
         }
+        match page_of(self.copy(), page).to_vec(alloc) {
+            Ok(bytes) => self.page = bytes,
+            Err(_) => return Err(GiveError::NoMemory),
+        }
         self.given = self.given.saturating_add(1);
-        into.copy_from_slice(page_of(self.copy(), page));
         Ok(())
+    }
+
+    fn given_page(&self) -> &[u8] {
+        &self.page
     }
 }
 

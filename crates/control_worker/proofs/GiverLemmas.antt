@@ -1,7 +1,8 @@
 -- The pages of a backup go over the stream's lines.
 use Rattle.std.proofs.Common.{◌≡◌, ◌⊎◌, inl, inr, ℕ, ◌*◌, ◌<◌, Bool, true, false, List, [], ◌∷◌, length, set, get_or, pos}
 use Rattle.std.proofs.Common.{Result, Ok, Err, IfOk, Option, Some, None, subst, sym, refl, ap, ◌∙◌}
-use Rattle.std.specs.Prelude.{IsSome, IfSome}
+use Rattle.std.specs.Prelude.{IsSome, IfSome, ℤ}
+use Rattle.std.proofs.lemmas.List.{drop_at}
 use Rattle.outer_traits.specs.declared.ends.Ends.{Ends}
 use Rattle.std.specs.Prelude.{if◌then◌else◌}
 use Rattle.std.specs.Str.{bytes_eq}
@@ -15,7 +16,7 @@ use Rattle.backup_make.specs.declared.giver.Pages.TheVariants as found
 use Rattle.stream_steps.specs.Mine.{Mine, OwnCall}
 use Rattle.stream_steps.specs.Backup.{HasBackup, KeepsCopies}
 use Rattle.vol_units.specs.declared.size.TheConstants.{PAGE_BYTES}
-use Rattle.frame_wire.specs.Spelling.{frame, IsHead}
+use Rattle.frame_wire.specs.Spelling.{frame, header, IsHead}
 use Rattle.rebuild_worker.specs.Copying.{CarriesOn, OnLine, number_after, numbered}
 use Rattle.rebuild_worker.proofs.CopyLemmas.{exchange}
 use Rattle.client_worker.specs.declared.channel.Channel.{Channel}
@@ -24,7 +25,7 @@ use Rattle.client_worker.specs.Working.{Work}
 use Rattle.client_worker.proofs.Counts.{at_map}
 use Rattle.client_worker.proofs.Told.{here_set}
 use Rattle.control_worker.specs.Copier.{on_line}
-use Rattle.control_worker.specs.Frames.{page_head, page_request}
+use Rattle.control_worker.specs.Frames.{page_head, page_in, page_request}
 use Rattle.control_worker.specs.Giver.{CanGive, GivesOn, IsPageOf, Known, KnownOf, TellsPage, copies_below, copies_of, line_at, same_base}
 use Rattle.control_worker.specs.Whole.{GoesOn}
 use Rattle.control_worker.proofs.CarrierLemmas.{stays_both}
@@ -100,11 +101,6 @@ still_live f g name kept some = subst IsSome (sym (live_kept f g name kept some)
 pub kept_of : (f g : Copies) (name : List ℕ) (P : List ℕ → Type 0) → KeepsCopies f g → IsSome (f name) → IfSome (f name) P
     → IfSome (g name) P
 kept_of f g name P kept some h = subst (λ o. IfSome o P) (sym (live_kept f g name kept some)) h
-
--- it came, and this is true
-pub came_ok : {E : Type 0} (res : Result Bool E) {P : Type 0} → P → IfOk res (λ came. came ≡ true → P)
-came_ok (Ok came) p = λ is. p
-came_ok (Err e) p = tt
 
 -- ---- two names
 
@@ -250,6 +246,13 @@ came_on told xs i x d before after within c =
       spelled = λ h body e. c.spelled h body e ∙ ap (λ n. frame (numbered n h) body) (sym now);
       number = λ h body fits e. now ∙ c.number h body fits e ∙ ap (λ n. number_after n h.kind) (sym was);
     }
+
+-- a reply that came through gives the page that it gave
+pub page_kept : (a b : OnLine) (offset : ℤ) (page before after : List ℕ) → CarriesOn a b before after
+    → before ≡ read_reply 0 offset page → page_in after ≡ page
+page_kept a b offset page before after carries is =
+    let head = read_reply_head 0 offset (length page) in
+    ap page_in (carries.spelled head page is) ∙ drop_at (header (numbered b.seq head)) page 26 refl
 
 -- a page was asked for, and came
 pub tells_page : (name : List ℕ) (page : ℕ) (bytes : List ℕ) (a b c : OnLine) (request asked reply replied : List ℕ)

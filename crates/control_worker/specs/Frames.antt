@@ -71,6 +71,10 @@ page_head seq offset size n = record { seq = seq; kind = read_kind; offset = off
 abbrev pub page_request : ℕ → ℤ → List ℕ → List ℕ
 page_request seq offset name = frame (page_head seq offset PAGE_BYTES (length name)) name
 
+-- the page that a reply gives, behind the header
+abbrev pub page_in : List ℕ → List ℕ
+page_in reply = drop header_length reply
+
 -- ---- on a line
 
 -- the exchange by that text was carried, at that place of the volume

@@ -5,7 +5,7 @@ ghost use Rattle.vol_units.specs.declared.size.TheConstants.{PAGE_BYTES};
 ghost use Rattle.frame_wire.specs.Spelling.{header_length, frame, IsFrame, IsHead};
 ghost use Rattle.client_worker.specs.Frames.{read_reply, read_reply_head};
 ghost use Rattle.control_worker.specs.Frames.{AsksBy, ask_head, done_head, fold_text, longest_text, page_head, page_request};
-ghost use Rattle.control_worker.specs.Frames.{pair_text, part_text};
+ghost use Rattle.control_worker.specs.Frames.{page_in, pair_text, part_text};
 
 use client_worker::put_header;
 use frame_stream::{PING, READ};
@@ -122,20 +122,24 @@ fn page_head(offset: i64, size: u32, len: u32) -> Head
     }
 }
 
-/// Makes the reply that gives a page, from that offset on.
-pub(crate) fn fill_page_reply(
-    reply: &mut Vec<u8>,
-    offset: i64,
-    page: &[u8],
-) -> Result<(), AllocError>
-    requires few { length page.now ≤ PAGE_BYTES }
-    ensures frame { OnOk result (reply.new.items ≡ read_reply 0 offset page.now) }
-    ensures head { OnOk result (IsHead (read_reply_head 0 offset (length page.now))) }
-    ensures whole { OnOk result (IsFrame reply.new.items) }
+/// Puts the header of a reply before the page that it gives, from that offset on.
+pub(crate) fn put_page_head(reply: &mut [u8], offset: i64)
+    requires long { length reply.old ≡ header_length + PAGE_BYTES }
+    ensures frame { reply.new ≡ read_reply 0 offset (page_in reply.old) }
+    ensures head { IsHead (read_reply_head 0 offset (length (page_in reply.old))) }
+    ensures whole { IsFrame reply.new }
 {
-    make_room(reply, page)?;
-    put_header(reply, &page_reply_head(offset, page.len() as u32));
-    Ok(())
+    put_header(reply, &page_reply_head(offset, PAGE_BYTES as u32));
+}
+
+/// The page that a reply gives: it stands behind the header.
+pub(crate) fn page_in(reply: &[u8]) -> &[u8]
+    ensures { result.now ≡ page_in reply.now }
+{
+    if reply.len() < HEADER_LENGTH {
+        return &[];
+    }
+    reply.split_at(HEADER_LENGTH).1
 }
 
 /// Gives so many bytes.
@@ -150,6 +154,13 @@ fn page_reply_head(offset: i64, count: u32) -> Head
         size: count,
         len: count,
     }
+}
+
+/// Makes a frame so long, of which the bytes are to be written. It costs nothing where it is so long already.
+pub(crate) fn make_long(frame: &mut Vec<u8>, count: usize) -> Result<(), AllocError>
+    ensures { OnOk result (length frame.new.items ≡ count) }
+{
+    frame.resize(count, 0)
 }
 
 /// A place for the header, and these bytes.

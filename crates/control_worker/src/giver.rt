@@ -1,6 +1,6 @@
 //! The pages of a backup come over the stream's lines.
 
-ghost use Rattle.std.specs.Prelude.{◌≡◌, ℕ, ◌*◌, ◌<◌, List, [], length, map, true, IfOk, IfErr, OnOk, IsSome, IfSome, option_map};
+ghost use Rattle.std.specs.Prelude.{◌≡◌, ℕ, ◌*◌, ◌+◌, ◌<◌, List, [], length, map, true, IfOk, IfErr, OnOk, IsSome, IfSome, option_map};
 ghost use Rattle.vol_units.specs.Bytes.{bytes_at};
 ghost use Rattle.vol_units.specs.declared.size.TheConstants.{PAGE_BYTES};
 ghost use Rattle.volume_model.specs.Modes.{HasNoSource};
@@ -8,27 +8,33 @@ ghost use Rattle.backup_make.specs.Giving.{Covers, finds_none};
 ghost use Rattle.stream_steps.specs.Mine.{OwnCall, with_running};
 ghost use Rattle.stream_steps.specs.Backup.{HasBackup, KeepsCopies};
 ghost use Rattle.stream_steps.specs.Does.{StandsStill};
-ghost use Rattle.frame_wire.specs.Spelling.{IsFrame};
+ghost use Rattle.frame_wire.specs.Spelling.{header_length, IsFrame};
 ghost use Rattle.client_worker.specs.Working.{IsServing};
 ghost use Rattle.rebuild_worker.specs.Copying.{CarriesOn};
+ghost use Rattle.control_worker.specs.Frames.{page_in};
 ghost use Rattle.control_worker.specs.Giver.{GavePage, GivesOn, IsPageOf, TellsPage, line_at, same_base};
 
-use crate::frames::{fill_page_reply, fill_page_request, offset_of};
+use crate::frames::{fill_page_request, make_long, offset_of, page_in, put_page_head};
 use crate::line::carry_on;
 use backup_make::{GiveError, PageGiver, Pages};
 use client_worker::{Channel, Line};
+use frame_wire::HEADER_LENGTH;
 use range_turns::TicketNumber;
 use std::alloc::{AllocError, Global};
 use std::sync::Wait;
+use step_answers::NotThis;
 use stream_steps::BackupSteps;
-use vol_units::LayerName;
+use vol_units::{LayerName, PAGE_BYTES};
+
+/// How long a reply with a page is.
+const PAGE_REPLY: usize = HEADER_LENGTH + PAGE_BYTES as usize;
 
 /// What the pages of a backup are carried in. It is made for the first page, and never grows.
 #[derive(Drop)]
 pub(crate) struct PageRooms {
     /// The request for a page.
     request: Vec<u8>,
-    /// The reply with a page.
+    /// The reply with a page, which a replica writes behind the place for the header.
     reply: Vec<u8>,
     /// Where frames arrive.
     arrivals: Vec<u8>,
@@ -64,12 +70,15 @@ impl<'a, C: BackupSteps, L: Line + Drop> PageGiver for Giver<'a, C, L> {
     ghost use Rattle.backup_make.specs.Giving.{Copies};
     ghost use Rattle.stream_steps.specs.Mine.{Mine, with_running};
     ghost use Rattle.client_worker.specs.Working.{IsServing};
+    ghost use Rattle.control_worker.specs.Frames.{page_in};
     ghost use Rattle.control_worker.specs.Giver.{CanGive, KnownOf, Known, copies_of};
 
     // Of these two names alone.
     ghost copies = { λ s. copies_of (C.copies s.steps.now) s.snapshot s.base };
 
     ghost asked = { λ s. s.snapshot };
+
+    ghost given = { λ s. page_in s.rooms.now.reply.items };
 
     ghost has_none = { λ s. HasNoSource (C.modes s.steps.now) };
 
@@ -112,13 +121,7 @@ impl<'a, C: BackupSteps, L: Line + Drop> PageGiver for Giver<'a, C, L> {
         )
     }
 
-    fn page<R: Wait>(
-        &mut self,
-        rt: &R,
-        alloc: Global,
-        page: u32,
-        into: &mut [u8],
-    ) -> Result<(), GiveError> {
+    fn page<R: Wait>(&mut self, rt: &R, alloc: Global, page: u32) -> Result<(), GiveError> {
         let _ = alloc;
         give_page(
             rt,
@@ -127,9 +130,12 @@ impl<'a, C: BackupSteps, L: Line + Drop> PageGiver for Giver<'a, C, L> {
             self.turn,
             &self.snapshot,
             page,
-            into,
             &mut *self.rooms,
         )
+    }
+
+    fn given_page(&self) -> &[u8] {
+        page_in(&self.rooms.reply)
     }
 }
 
@@ -177,7 +183,6 @@ fn give_page<R: Wait, C: BackupSteps, L: Line + Drop>(
     turn: TicketNumber,
     snapshot: &LayerName,
     page: u32,
-    into: &mut [u8],
     rooms: &mut PageRooms,
 ) -> Result<(), GiveError>
     requires serving { IsServing C.ready (λ s. with_running (C.mine s) []) L.count L.carried
@@ -185,22 +190,20 @@ fn give_page<R: Wait, C: BackupSteps, L: Line + Drop>(
     requires turn { (b s : List ℕ) × (o : OwnCall) × HasBackup turn b s o (C.mine steps.old) }
     requires live { IsSome (C.copies steps.old snapshot.now) }
     requires page { IfSome (C.copies steps.old snapshot.now) (λ disk. page * PAGE_BYTES < length disk) }
-    requires whole { length into.old ≡ PAGE_BYTES }
     ensures serving { IsServing C.ready (λ s. with_running (C.mine s) []) L.count L.carried
         (record { steps = steps.new; channels = channels.new }) }
     ensures keeps { GivesOn C.home C.mine C.copies L.ends (record { steps = steps.old; channels = channels.old })
         (record { steps = steps.new; channels = channels.new }) }
-    ensures ok { OnOk result (IsPageOf (C.copies steps.new snapshot.now) page into.new) }
-    ensures gave { OnOk result (GavePage snapshot.now page into.new (map (λ c. L.carried c.line) channels.new)) }
+    ensures ok { OnOk result (IsPageOf (C.copies steps.new snapshot.now) page (page_in rooms.new.reply.items)) }
+    ensures gave { OnOk result (GavePage snapshot.now page (page_in rooms.new.reply.items)
+        (map (λ c. L.carried c.line) channels.new)) }
     ensures none { IfErr result (λ e. finds_none e ≡ true → HasNoSource (C.modes steps.new)) }
 {
     for _ in rt.forever() {
         let Some(replica) = steps.lowest(rt, turn) else {
             return Err(GiveError::NoReplica);
         };
-        match page_from(
-            rt, steps, channels, turn, snapshot, replica, page, into, rooms,
-        ) {
+        match page_from(rt, steps, channels, turn, snapshot, replica, page, rooms) {
             Ok(true) => return Ok(()),
             Ok(false) => {}
             Err(_) => return Err(GiveError::NoMemory),
@@ -219,7 +222,6 @@ fn page_from<R: Wait, C: BackupSteps, L: Line + Drop>(
     snapshot: &LayerName,
     replica: u8,
     page: u32,
-    into: &mut [u8],
     rooms: &mut PageRooms,
 ) -> Result<bool, AllocError>
     requires serving { IsServing C.ready (λ s. with_running (C.mine s) []) L.count L.carried
@@ -228,17 +230,18 @@ fn page_from<R: Wait, C: BackupSteps, L: Line + Drop>(
     requires line { replica < length channels.old }
     requires live { IsSome (C.copies steps.old snapshot.now) }
     requires page { IfSome (C.copies steps.old snapshot.now) (λ disk. page * PAGE_BYTES < length disk) }
-    requires whole { length into.old ≡ PAGE_BYTES }
     ensures serving { IsServing C.ready (λ s. with_running (C.mine s) []) L.count L.carried
         (record { steps = steps.new; channels = channels.new }) }
     ensures keeps { GivesOn C.home C.mine C.copies L.ends (record { steps = steps.old; channels = channels.old })
         (record { steps = steps.new; channels = channels.new }) }
-    ensures ok { IfOk result (λ came. came ≡ true → IsPageOf (C.copies steps.new snapshot.now) page into.new) }
-    ensures came { IfOk result (λ came. came ≡ true → TellsPage snapshot.now page into.new
+    ensures ok { IfOk result (λ came. came ≡ true
+        → IsPageOf (C.copies steps.new snapshot.now) page (page_in rooms.new.reply.items)) }
+    ensures came { IfOk result (λ came. came ≡ true → TellsPage snapshot.now page (page_in rooms.new.reply.items)
         (line_at L.carried channels.old replica).told (line_at L.carried channels.new replica).told) }
 {
     let offset = offset_of(page);
     fill_page_request(&mut rooms.request, snapshot, offset)?;
+    make_long(&mut rooms.reply, PAGE_REPLY)?;
     if !pass_on(
         rt,
         steps,
@@ -250,22 +253,43 @@ fn page_from<R: Wait, C: BackupSteps, L: Line + Drop>(
     )? {
         return Ok(false);
     }
-    if steps
-        .snap_page(rt, turn, replica, snapshot, page, into)
-        .is_err()
-    {
+    let reply: &mut [u8] = &mut rooms.reply;
+    if give_into(rt, steps, turn, replica, snapshot, page, reply).is_err() {
         return Ok(false);
     }
-    fill_page_reply(&mut rooms.reply, offset, into)?;
+    put_page_head(reply, offset);
     pass_on(
         rt,
         steps,
         channels,
         turn,
         replica,
-        &mut rooms.reply,
+        reply,
         &mut rooms.arrivals,
     )
+}
+
+/// Has a replica give a page of the snapshot's copy into its reply, behind the place for the header: no one copies it.
+fn give_into<R: Wait, C: BackupSteps>(
+    rt: &R,
+    steps: &mut C,
+    turn: TicketNumber,
+    replica: u8,
+    snapshot: &LayerName,
+    page: u32,
+    reply: &mut [u8],
+) -> Result<(), NotThis>
+    requires ready { C.ready steps.old }
+    requires turn { (b s : List ℕ) × (o : OwnCall) × HasBackup turn b s o (C.mine steps.old) }
+    requires page { IfSome (C.copies steps.old snapshot.now) (λ disk. page * PAGE_BYTES < length disk) }
+    requires live { IsSome (C.copies steps.old snapshot.now) }
+    requires long { length reply.old ≡ header_length + PAGE_BYTES }
+    ensures stands { StandsStill C.ready C.home C.mine steps.old steps.new }
+    ensures kept { KeepsCopies (C.copies steps.old) (C.copies steps.new) }
+    ensures ok { OnOk result (IsPageOf (C.copies steps.new snapshot.now) page (page_in reply.new)) }
+{
+    let into = &mut reply[HEADER_LENGTH..];
+    steps.snap_page(rt, turn, replica, snapshot, page, into)
 }
 
 /// Carries a frame to a replica, by the next number of its line, and says whether it came through: where it did not, the

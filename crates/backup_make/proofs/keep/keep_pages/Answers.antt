@@ -7,7 +7,7 @@ pub loop-page-preserved : goal.loop-page-preserved
 loop-page-preserved g c =
     let so_far = c.loop-page.invariant in
     let volume = c.args.volume.now in
-    let room = c.page.new.into in
+    let room = c.given_page.result.now in
     let number = get_or c.args.wanted.now c.loop-page.page-index 0 in
     let after = g.T.Target.holds c.keep_page.new.target in
     let stays = stays_then _ _ _ _ _ _ so_far.stays c.page.ensures.stays in
