@@ -92,18 +92,7 @@ fn make_all_full(alloc: Global, sets: &mut [Blocks], count: usize) -> Result<(),
     ensures boxes { OnOk result (All (AreBoxes count) sets.new) }
 {
     for r in 0..sets.len() {
-        make_full(alloc, &mut sets[r], count)?;
-    }
-    Ok(())
-}
-
-/// Makes a set so many boxes. It takes no memory where it has them all: a write over blocks that the head had brings
-/// boxes back.
-fn make_full(alloc: Global, set: &mut Blocks, count: usize) -> Result<(), AllocError>
-    ensures { OnOk result (AreBoxes count set.new) }
-{
-    if set.len() != count || !set.is_full() {
-        *set = Blocks::with_count(alloc, count)?;
+        sets[r].make_full(alloc, count)?;
     }
     Ok(())
 }

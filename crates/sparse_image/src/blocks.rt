@@ -37,10 +37,22 @@ impl Blocks {
         ensures full { IfOk result (All (λ b. is_some b ≡ true)) }
     {
         let mut blocks = Blocks::new(alloc);
-        for _i in 0..count {
-            blocks.push(Box::new(alloc, [0; BLOCK_BYTES])?)?;
-        }
+        blocks.make_full(alloc, count)?;
         Ok(blocks)
+    }
+
+    /// Makes them so many boxes, to be filled. Those that are there serve: a write over blocks that the head had brings
+    /// boxes back.
+    pub fn make_full(&mut self, alloc: Global, count: usize) -> Result<(), AllocError>
+        ensures count { OnOk result (length self.new ≡ count) }
+        ensures full { OnOk result (All (λ b. is_some b ≡ true) self.new) }
+    {
+        self.slots.truncate(count);
+        make_all(alloc, &mut self.slots)?;
+        for _i in self.slots.len()..count {
+            self.push(Box::new(alloc, [0; BLOCK_BYTES])?)?;
+        }
+        Ok(())
     }
 
     pub fn push(&mut self, block: Box<Block>) -> Result<(), AllocError>
@@ -75,6 +87,26 @@ impl Blocks {
     {
         fill_all(&mut self.slots, bytes);
     }
+}
+
+/// Makes a box for each slot that has none.
+fn make_all(alloc: Global, slots: &mut [Place]) -> Result<(), AllocError>
+    ensures count { length slots.new ≡ length slots.old }
+    ensures full { OnOk result (All (λ b. is_some b ≡ true) slots.new) }
+{
+    for i in 0..slots.len() {
+        make_one(alloc, &mut slots[i])?;
+    }
+    Ok(())
+}
+
+fn make_one(alloc: Global, slot: &mut Place) -> Result<(), AllocError>
+    ensures { OnOk result (is_some slot.new ≡ true) }
+{
+    if !slot.is_there() {
+        slot.block = Some(Box::new(alloc, [0; BLOCK_BYTES])?);
+    }
+    Ok(())
 }
 
 /// Writes over the blocks in the slots with these bytes.
