@@ -102,26 +102,8 @@ fn withdraw(world: &mut World, ticket: TicketNumber)
     }
 }
 
-/// A write of one block that the head has goes in place.
+/// The blocks are made here, as a worker makes them.
 fn apply_write(
-    world: &mut World,
-    alloc: Global,
-    ticket: TicketNumber,
-    replica: u8,
-) -> Result<(), AllocError>
-    requires { IsSound (state_of world.old) }
-    ensures sound { IsSound (state_of world.new) }
-    ensures ok { OnOk result (Makes (Step.ApplyWrite ticket replica) (state_of world.old) (state_of world.new)) }
-    ensures err { OnErr result (state_of world.new ≡ state_of world.old) }
-{
-    match world.apply_in_place(ticket, replica) {
-        Ok(false) => apply_blocks(world, alloc, ticket, replica),
-        Ok(true) | Err(_) => Ok(()),
-    }
-}
-
-/// The blocks of any other are made here, as a worker makes them.
-fn apply_blocks(
     world: &mut World,
     alloc: Global,
     ticket: TicketNumber,

@@ -9,7 +9,6 @@ pub mod HasLemmas
 pub mod HeldLemmas
 pub mod MadeLemmas
 pub mod NodeLemmas
-pub mod OverLemmas
 pub mod OwnLemmas
 pub mod PageLemmas
 pub mod PlaceLemmas

@@ -1,4 +1,4 @@
-ghost use Rattle.std.specs.Prelude.{◌≡◌, ◌↔◌, ℕ, ◌+◌, ◌*◌, ◌/◌, ◌^◌, ◌<◌, ◌≤◌, ◌++◌, length, Some, IfOk, IfSome, OnOk, OnErr, MatchOption, All, IsTrue, is_some, true, false};
+ghost use Rattle.std.specs.Prelude.{◌≡◌, ◌↔◌, ℕ, ◌+◌, ◌*◌, ◌/◌, ◌^◌, ◌<◌, ◌≤◌, length, Some, IfOk, IfSome, OnOk, OnErr, MatchOption, All, IsTrue, is_some, true, false};
 ghost use Rattle.std.specs.Option.{option_copied};
 ghost use Rattle.vol_units.specs.Bytes.{zeros, bytes_at, with_bytes_at};
 ghost use Rattle.vol_units.specs.declared.size.TheConstants.{LARGEST_SIZE, PAGE_BYTES};
@@ -244,26 +244,6 @@ impl ReplicaNode {
             (with_bytes_at (bytes_at self.old.disk (block * BLOCK_BYTES) BLOCK_BYTES) start bytes.now) }
     {
         self.tree.overwrite(block, start, bytes)
-    }
-
-    /// Writes three parts, one behind another, over a whole block that the head itself has, and is false where it has
-    /// none. It takes no memory.
-    pub fn overwrite_block(&mut self, block: u32, front: &[u8], bytes: &[u8], back: &[u8]) -> bool
-        requires whole { length front.now + length bytes.now + length back.now ≡ BLOCK_BYTES }
-        requires inside { block * BLOCK_BYTES < length self.old.disk }
-        ensures there { result ≡ has_own self.old.own block }
-        ensures absent { result ≡ false → self.new ≡ self.old }
-        ensures put { result ≡ true
-            → self.new ≡ put_at self.old block ((front.now ++ bytes.now) ++ back.now) }
-    {
-        // That the disk is whole blocks, a proof learns here.
-        let _count = self.block_count();
-        if !self.overwrite(block, 0, front) {
-            return false;
-        }
-        self.overwrite(block, front.len(), bytes);
-        self.overwrite(block, front.len() + bytes.len(), back);
-        true
     }
 
     /// The layers and the head.

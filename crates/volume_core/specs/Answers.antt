@@ -15,7 +15,7 @@ use Rattle.range_turns.specs.declared.ticket.Kind.{Kind}
 use Rattle.range_turns.specs.declared.ticket.Kind.TheVariants as kind
 use Rattle.range_turns.specs.declared.ticket.Ticket.{Ticket}
 use Rattle.range_turns.specs.Order.{ticket_at, from_of, until_of, IsFresh, IsClear, IsFirstInWay}
-use Rattle.replica_node.specs.Node.{Node, has_own}
+use Rattle.replica_node.specs.Node.{Node}
 use Rattle.sparse_image.specs.Listed.{bytes_in}
 use Rattle.open_calls.specs.declared.open_call.OpenCall.{OpenCall}
 use Rattle.step_answers.specs.declared.parts.Part.TheVariants.{Acked}
@@ -29,7 +29,7 @@ use Rattle.step_answers.specs.declared.answers.Enrolled.TheVariants as enrol
 use Rattle.step_answers.specs.declared.answers.Job.{Job}
 use Rattle.volume_core.specs.Places.{IsWriteAt, IsReadAt, IsWaitingAt}
 use Rattle.volume_core.specs.State.{State, modes_in, told_of}
-use Rattle.volume_core.specs.Steps.{with_place, answered, failed, enrolled, started, wrote, ended}
+use Rattle.volume_core.specs.Steps.{with_place, answered, failed, enrolled, started, ended}
 
 -- ---- enrolled
 
@@ -120,16 +120,6 @@ pub record AreBlocksOfWrite (t : Ticket) (c : OpenCall) (blocks : List (Option (
   pub full : All (λ b. is_some b ≡ true) blocks
   pub count : t.range.first + length blocks ≡ t.range.end
   pub bytes : bytes_in blocks ≡ whole_of c
-
--- the write at i is of one block, and the head of that replica itself has it
-pub record IsOverOwn (s : State) (i r : ℕ) : Type 0 where
-  pub one : (ticket_at s.tickets i).range.first + 1 ≡ (ticket_at s.tickets i).range.end
-  pub own : has_own (node_at s.nodes r).own (ticket_at s.tickets i).range.first ≡ true
-
--- the replica takes the write at i where it is so, and else nothing changes
-abbrev pub TakesInPlace : State → ℕ → ℕ → Bool → State → Type 0
-TakesInPlace s i r true s2 = IsOverOwn s i r × (s2 ≡ wrote s i r)
-TakesInPlace s i r false s2 = (¬ IsOverOwn s i r) × (s2 ≡ s)
 
 -- ---- ended
 

@@ -8,7 +8,6 @@ mod end;
 mod enrol;
 mod fault;
 mod give_up;
-mod in_place;
 mod open;
 mod places;
 mod turn;

@@ -1,6 +1,6 @@
 use Rattle.volume_core.specs.State.{state_of}
 use Rattle.core_laws.proofs.Refused.{write_made}
-use Rattle.core_laws.proofs.take.apply_blocks.Goals as goal
+use Rattle.core_laws.proofs.take.apply_write.Goals as goal
 
 pub returns-clause-ok : goal.returns-clause-ok
 returns-clause-ok c =
