@@ -34,6 +34,7 @@ pub record CutTwo {X : Type 0} (xs : List X) (i j : ℕ) (d : X) : Type 0 where
   pub without_one : (a : X) → remove (set xs i a) j ≡ before ++ (a ∷ (between ++ after))
   pub set_without : (a : X) → set (remove xs j) i a ≡ before ++ (a ∷ (between ++ after))
   pub without_first : remove xs i ≡ before ++ (between ++ (get_or xs j d ∷ after))
+  pub place : length before ≡ i
 
 pub cut_two : {X : Type 0} (xs : List X) (i j : ℕ) (d : X) → i < j → j < length xs → CutTwo xs i j d
 cut_two [] i j d h l = absurd (omega arith)
@@ -49,6 +50,7 @@ cut_two (x ∷ xs) zero (suc j) d h l =
       without_one = λ a. ap (λ ys. a ∷ ys) rest.without;
       set_without = λ a. ap (λ ys. a ∷ ys) rest.without;
       without_first = rest.is;
+      place = refl;
     }
 cut_two (x ∷ xs) (suc i) (suc j) d h l =
     let rest : CutTwo xs i j d = cut_two xs i j d (omega arith) (omega arith) in
@@ -61,6 +63,7 @@ cut_two (x ∷ xs) (suc i) (suc j) d h l =
       without_one = λ a. ap (λ ys. x ∷ ys) (rest.without_one a);
       set_without = λ a. ap (λ ys. x ∷ ys) (rest.set_without a);
       without_first = ap (λ ys. x ∷ ys) rest.without_first;
+      place = ap suc rest.place;
     }
 
 pub set_then_remove : {X : Type 0} (xs : List X) (i j : ℕ) (a : X) → i < j → j < length xs → set (remove xs j) i a ≡ remove (set xs i a) j

@@ -1,9 +1,13 @@
 -- Folding, replacing and deleting, by the places of the layers.
-use Rattle.std.proofs.Common.{◌≡◌, ◌≢◌, ℕ, ◌<◌, List, [], ◌∷◌, ◌++◌, length, get_or, set, Option, Some, sym, ap, ◌∙◌, subst}
+use Rattle.std.proofs.Common.{◌≡◌, ◌≢◌, ℕ, ◌-◌, ◌<◌, List, [], ◌∷◌, ◌++◌, length, get_or, set, Option, Some, sym, ap, ◌∙◌, subst}
+use Rattle.std.proofs.Common.{arith, length-append}
 use Rattle.std.specs.List.{remove}
 use Rattle.std.proofs.lemmas.List.{append_assoc}
 use Rattle.std.specs.Option.{option_or}
-use Rattle.layer_chain.specs.Layers.{StandsOn, HasNoChild, IsTree, read_layers}
+use Rattle.vol_units.specs.Chain.{chain_from}
+use Rattle.layer_chain.specs.Layers.{StandsOn, HasNoChild, IsTree, ages_in, read_layers}
+use Rattle.layer_chain.specs.Found.{index_of_age}
+use Rattle.layer_chain.proofs.ChainLaws.{Goes, chain-replaced, chain-without}
 use Rattle.layer_chain.proofs.Cuts.{CutAt, cut_at, CutTwo, cut_two, each_before, each_other}
 use Rattle.layer_chain.proofs.ReadLaws.{fold_keeps, replace_keeps, drop_keeps, read-alike}
 use Rattle.layer_chain.proofs.TreeShape.{childless_append, on_back, tree_back, named_once, parent_above, parent_other}
@@ -81,6 +85,27 @@ module _ {X B : Type 0} (name_of : X → List ℕ) (parent_of : X → Option (Li
         (on_other name_of parent_of n k.before (k.between ++ (p ∷ k.after)) c d d_name
         (subst (λ (ys : List X). StandsOn name_of parent_of n ys) is on_n))))
 
+    older : length xs - 1 - i ≡ length (k.between ++ (p ∷ k.after))
+    older = omega (arith, ap length is, k.place, length-append k.before (c ∷ (k.between ++ (p ∷ k.after))))
+
+    -- p goes from each chain in which c stands over it
+    pub replace_chain : (d : X) → name_of d ≡ name_of c → parent_of d ≡ parent_of p → (want : Option (List ℕ))
+        → want ≢ Some (name_of p) → Goes (chain_from name_of parent_of xs want)
+        (chain_from name_of parent_of (remove (set xs i d) j) want)
+        (index_of_age (ages_in name_of parent_of xs want) (length xs - 1 - i)) c p d
+    replace_chain d d_name d_parent want n =
+        subst (λ (new : List X). Goes (chain_from name_of parent_of xs want) (chain_from name_of parent_of new want)
+        (index_of_age (ages_in name_of parent_of xs want) (length xs - 1 - i)) c p d) (sym (k.without_one d))
+        (subst (λ (age : ℕ). Goes (chain_from name_of parent_of xs want)
+        (chain_from name_of parent_of (k.before ++ (d ∷ (k.between ++ k.after))) want)
+        (index_of_age (ages_in name_of parent_of xs want) age) c p d) (sym older)
+        (subst (λ (old : List X). Goes (chain_from name_of parent_of old want)
+        (chain_from name_of parent_of (k.before ++ (d ∷ (k.between ++ k.after))) want)
+        (index_of_age (ages_in name_of parent_of old want) (length (k.between ++ (p ∷ k.after)))) c p d) (sym is)
+        (chain-replaced name_of parent_of k.between k.after c p d on childless_between
+        (named_once name_of parent_of k.between k.after p under) d_name d_parent
+        (parent_above name_of parent_of k.between k.after p under) k.before childless_before want n)))
+
   -- p at i has no child
   module _ (xs : List X) (i : ℕ) (p : X) (within : i < length xs) (p_is : p ≡ get_or xs i p)
       (leaf : (n : ℕ) → n < i → parent_of (get_or xs n p) ≢ Some (name_of p)) where
@@ -99,6 +124,14 @@ module _ {X B : Type 0} (name_of : X → List ℕ) (parent_of : X → Option (Li
         ap (λ (ys : List X). read_layers name_of parent_of block_of ys want) l.without
         ∙ drop_keeps name_of parent_of block_of l.before l.after p childless want n
         ∙ sym (ap (λ (ys : List X). read_layers name_of parent_of block_of ys want) leaf_is)
+
+    -- it is in no chain
+    pub delete_chain : (want : Option (List ℕ)) → want ≢ Some (name_of p)
+        → chain_from name_of parent_of (remove xs i) want ≡ chain_from name_of parent_of xs want
+    delete_chain want n =
+        ap (λ (ys : List X). chain_from name_of parent_of ys want) l.without
+        ∙ chain-without name_of parent_of l.before l.after p childless want n
+        ∙ sym (ap (λ (ys : List X). chain_from name_of parent_of ys want) leaf_is)
 
     pub delete_tree : IsTree name_of parent_of xs → IsTree name_of parent_of (remove xs i)
     delete_tree tree = subst (λ (ys : List X). IsTree name_of parent_of ys) (sym l.without)

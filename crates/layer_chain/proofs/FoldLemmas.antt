@@ -8,18 +8,21 @@ use Rattle.std.proofs.lemmas.List.Edits.{get_or-remove_below, length-remove}
 use Rattle.std.proofs.lemmas.Grind.{elements}
 use Rattle.sparse_image.specs.Image.{Tables, block_at, EmptiesPage, LaysPageOver}
 use Rattle.layer_chain.specs.Tree.{Tree, name_of, parent_of, layer_at, reads, IsLayers, IsThere, IsWholeTree, IsChild}
+use Rattle.vol_units.specs.Chain.{chain_from}
 use Rattle.layer_chain.specs.Changes.{with_layers, with_image, with_images, MovesPage, taken_out, in_place_of, replaced}
+use Rattle.layer_chain.specs.Found.{ages_from, index_of_age}
 use Rattle.layer_chain.specs.Children.{IsLeaf, IsOnlyChild}
 use Rattle.layer_chain.specs.declared.layer.Layer.{Layer}
 use Rattle.layer_chain.specs.declared.children.Child.TheVariants as child
+use Rattle.layer_chain.proofs.ChainLaws.{Goes}
 use Rattle.layer_chain.proofs.Cuts.{set_then_remove}
-use Rattle.layer_chain.proofs.FoldLaws.{fold_at, replace_at, replace_tree, replace_on, delete_at, delete_tree}
-use Rattle.layer_chain.proofs.FoldLaws.{delete_on, alike_tree, alike_on}
+use Rattle.layer_chain.proofs.FoldLaws.{fold_at, replace_at, replace_chain, replace_tree, replace_on}
+use Rattle.layer_chain.proofs.FoldLaws.{delete_at, delete_chain, delete_tree, delete_on, alike_tree, alike_on}
 use Rattle.layer_chain.proofs.TreeLemmas.{layer_read, layer_got, child_newer}
 
 -- ---- two layers with other blocks
 
-other_layer : (xs : List Layer) (p c : ℕ) (x : Layer) → c < p → p < length xs → layer_at (set xs c x) p ≡ layer_at xs p
+pub other_layer : (xs : List Layer) (p c : ℕ) (x : Layer) → c < p → p < length xs → layer_at (set xs c x) p ≡ layer_at xs p
 other_layer xs p c x h in_p = grind (arith, elements)
 
 pub images_tree : (xs : List Layer) (p c : ℕ) (under over : Tables) → c < p → p < length xs → IsLayers xs
@@ -105,6 +108,16 @@ module _ (t : Tree) (p c : ℕ) (w : IsWholeTree t) (in_p : p < length t.layers)
       child_on others_elsewhere
       d refl refl (sym (ap (λ (o : Option (List ℕ)). option_or o (block_at (layer_at t.layers p).image block)) empty)) want n
 
+  -- c's parent goes from the chain of the head, if c is in it
+  pub replaced_chain : Goes (chain_from name_of parent_of t.layers t.on) (chain_from name_of parent_of (replaced t p c).layers t.on)
+      (index_of_age (ages_from t.layers t.on) (length t.layers - 1 - c)) (layer_at t.layers c) (layer_at t.layers p) d
+  replaced_chain =
+      subst (λ (ys : List Layer). Goes (chain_from name_of parent_of t.layers t.on) (chain_from name_of parent_of ys t.on)
+      (index_of_age (ages_from t.layers t.on) (length t.layers - 1 - c)) (layer_at t.layers c) (layer_at t.layers p) d) (sym swap)
+      (replace_chain name_of parent_of (λ l. block_at l.image 0) t.layers c p (layer_at t.layers c) (layer_at t.layers p)
+      child_above in_p (layer_read t.layers c child_in) (layer_got t.layers p (layer_at t.layers c) in_p) w.layers
+      child_on others_elsewhere d refl refl t.on head_elsewhere)
+
   pub replaced_whole : IsWholeTree (replaced t p c)
   replaced_whole =
       let layer_got_here = layer_got t.layers p (layer_at t.layers c) in_p in
@@ -134,6 +147,10 @@ module _ (t : Tree) (p : ℕ) (in_p : p < length t.layers) (leaf : IsLeaf t p) w
       → reads (taken_out t p).layers want block ≡ reads t.layers want block
   without_reads block = delete_at name_of parent_of (λ l. block_at l.image block) t.layers p (layer_at t.layers p) in_p
       (layer_read t.layers p in_p) leaf_elsewhere
+
+  pub without_chain : chain_from name_of parent_of (taken_out t p).layers t.on ≡ chain_from name_of parent_of t.layers t.on
+  without_chain = delete_chain name_of parent_of (λ l. block_at l.image 0) t.layers p (layer_at t.layers p) in_p
+      (layer_read t.layers p in_p) leaf_elsewhere t.on leaf_head
 
   pub without_whole : IsWholeTree t → IsWholeTree (taken_out t p)
   without_whole w = record {

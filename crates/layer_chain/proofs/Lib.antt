@@ -1,9 +1,12 @@
+pub mod ChainLaws
 pub mod ChangeLemmas
 pub mod ChildLemmas
 pub mod Cuts
 pub mod EmptiedLemmas
 pub mod FoldLaws
 pub mod FoldLemmas
+pub mod FoundLemmas
+pub mod IndexLemmas
 pub mod ReadLaws
 pub mod ReadLemmas
 pub mod TreeLemmas

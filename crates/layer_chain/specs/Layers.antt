@@ -1,6 +1,6 @@
 -- A tree of layers, the newest first, and what a block reads as from each of them. A parent is told by its
 -- name and stands further on, so that each walk is a recursion on the list.
-use Rattle.std.specs.Prelude.{◌≡◌, ◌≢◌, ◌⊎◌, ℕ, cond, List, [], ◌∷◌, Option, None, Some}
+use Rattle.std.specs.Prelude.{◌≡◌, ◌≢◌, ◌⊎◌, ℕ, cond, List, [], ◌∷◌, length, Option, None, Some, if◌then◌else◌}
 use Rattle.std.specs.List.{AllByRecursion}
 use Rattle.std.specs.Option.{option_or}
 use Rattle.vol_units.specs.Chain.{is_named}
@@ -34,6 +34,12 @@ module _ {X : Type 0} (name_of : X → List ℕ) (parent_of : X → Option (List
   abbrev pub IsTree : List X → Type 0
   IsTree [] = Unit {0}
   IsTree (x ∷ older) = HasNo (name_of x) older × StandsOn (parent_of x) older × IsTree older
+
+  -- the named layer, its parent, and so on down, each told by how many are older, which no newer layer changes
+  abbrev pub ages_in : List X → Option (List ℕ) → List ℕ
+  ages_in [] want = []
+  ages_in (x ∷ older) want =
+      if is_named want (name_of x) then length older ∷ ages_in older (parent_of x) else ages_in older want
 
   module _ {B : Type 0} (block_of : X → Option B) where
     -- what the named layer reads as: its own block, or else what its parent reads as. None where no layer

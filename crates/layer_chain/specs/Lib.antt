@@ -1,4 +1,5 @@
 pub mod Layers
 pub mod Tree
+pub mod Found
 pub mod Changes
 pub mod Children

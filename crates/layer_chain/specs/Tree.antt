@@ -76,11 +76,6 @@ pub record IsWholeTree (t : Tree) : Type 0 where
   pub head : IsThere t.on t.layers
   pub few : length t.layers + 1 ≤ 250
 
--- and so many layers have room, so that none runs out of memory
-pub record IsRoomyTree (t : Tree) (capacity : ℕ) : Type 0 where
-  pub whole : IsWholeTree t
-  pub room : 250 ≤ capacity
-
 -- no layer, and a head without blocks on none
 pub record IsBlank (t : Tree) (page_count : ℕ) : Type 0 where
   pub layers : t.layers ≡ []

@@ -1,9 +1,10 @@
 //! What follows from the definitions alone. Each law is a contract.
 
-ghost use Rattle.std.specs.Prelude.{◌≡◌, ◌≢◌, ◌<◌, ℕ, Bool, List, length, Option, None, Some};
+ghost use Rattle.std.specs.Prelude.{◌≡◌, ◌≢◌, ◌<◌, ℕ, Bool, true, false, List, [], ◌∷◌, length, Option, None, Some};
 ghost use Rattle.std.specs.Option.{option_or};
 ghost use Rattle.sparse_image.specs.Image.{Tables, block_at};
 ghost use Rattle.layer_chain.specs.Changes.{KeepsReadings, marked_at, pushed, reverted_tree, snapped_tree};
+ghost use Rattle.layer_chain.specs.Found.{first_true};
 ghost use Rattle.layer_chain.specs.Tree.{IsAt, IsLayers, Tree, head_reads, name_of, parent_of, reads};
 ghost use Rattle.layer_chain.specs.declared.layer.Layer.{Layer};
 
@@ -59,6 +60,11 @@ pub fn a_reverted_head_reads_as_the_layer()
     ensures { (t : Tree) (name : List ℕ) (spare : Tables) (block : ℕ)
         → block_at spare block ≡ None
         → head_reads (reverted_tree t name spare) block ≡ reads t.layers (Some name) block }
+{}
+
+/// Three have a block or not, from the head down: the middle one is the second from the lowest.
+pub fn a_block_is_found_counted_from_the_lowest()
+    ensures { first_true (false ∷ true ∷ true ∷ []) ≡ 2 }
 {}
 
 /// Each layer and the head read as they did.

@@ -10,8 +10,10 @@ ghost use Rattle.layer_chain.specs.Children.{Tells, IsLeaf, IsOnlyChild, childre
 
 use crate::chain::chain_in;
 use crate::children::{Children, children_in, standing_in};
+use crate::finding::{image_below, locate_in};
 use crate::layer::{Layer, LayerMeta};
 use crate::moving::move_page_in;
+use crate::read_index::ReadIndex;
 use crate::reading::{index_in, read_in};
 use sparse_image::{BLOCK_BYTES, Block, Image, PAGE_BLOCKS, Page};
 use std::alloc::{AllocError, Global};
@@ -26,11 +28,14 @@ pub struct LayerTree {
     head: Image,
     on: Option<LayerName>,
     number: u64,
+    /// Where blocks of the head are found. A contract does not see it.
+    index: ReadIndex,
 }
 
 impl Model for LayerTree {
     ghost use Rattle.std.specs.Prelude.{vec_capacity};
-    ghost use Rattle.layer_chain.specs.Tree.{Tree, IsRoomyTree};
+    ghost use Rattle.layer_chain.specs.Tree.{Tree};
+    ghost use Rattle.layer_chain.specs.Found.{IsRoomyTree};
 
     ghost Value = { Tree };
 
@@ -38,7 +43,7 @@ impl Model for LayerTree {
 
     ghost invariant = { λ t. IsRoomyTree
         (record { layers = t.layers.items; head = t.head; on = t.on; number = t.number })
-        (vec_capacity t.layers) };
+        (vec_capacity t.layers) t.index };
 }
 
 impl LayerTree {
@@ -50,6 +55,7 @@ impl LayerTree {
             head: Image::with_pages(alloc, page_count)?,
             on: None,
             number: 0,
+            index: ReadIndex::new(alloc, page_count)?,
         })
     }
 
@@ -117,6 +123,11 @@ impl LayerTree {
         ensures value { option_copied result ≡ head_reads self.now block }
         ensures whole { IfSome result (λ b. length b.now ≡ BLOCK_BYTES) }
     {
+        let index = self.index.find(block);
+        if index > 0 {
+            let above = self.index.layer_count() + 1 - index as usize;
+            return image_below(&self.head, &self.layers, &self.index, above).get(block);
+        }
         if let Some(found) = self.head.get(block) {
             return Some(found);
         }
@@ -124,6 +135,15 @@ impl LayerTree {
             Some(name) => read_in(&self.layers, name, block),
             None => None,
         }
+    }
+
+    /// Whether the head reads as a block that is there, and not as zeros for want of one. Where it does, the search
+    /// down the chain is not needed again.
+    pub fn locate(&mut self, block: u32) -> bool
+        ensures there { result ≡ is_some (head_reads self.old block) }
+        ensures same { self.new ≡ self.old }
+    {
+        locate_in(&self.head, &self.layers, &mut self.index, block) > 0
     }
 
     /// The place of the layer on which the layer at that place stands.
@@ -203,12 +223,15 @@ impl LayerTree {
         self.head = image;
         self.on = on;
         self.number = number;
+        self.index.forget_all();
+        self.index.stand_on(&self.layers, &self.on);
     }
 
     /// A snapshot: the head is the layer of that name, and a spare image the next head.
     pub fn snap_head(&mut self, name: LayerName, user_created: bool, spare: Image)
         requires room { length self.old.layers + 1 < MOST_LAYERS }
         requires new { IsNew name self.old.layers }
+        requires empty { (block : ℕ) → block_at spare block ≡ None }
         requires number { self.old.number + 1 < 2 ^ 64 }
         ensures { self.new ≡ snapped_tree self.old name user_created spare }
     {
@@ -222,9 +245,13 @@ impl LayerTree {
             },
             image: mem::replace(&mut self.head, spare),
         };
-        self.push_layer(layer);
+        if let Err(_) = self.layers.insert(0, layer) {
+            unreachable!()
+        }
         self.on = Some(name);
         self.number += 1;
+        // What is known stays: indices are counted from the lowest layer, and the new head has no block.
+        self.index.stand_on(&self.layers, &self.on);
     }
 
     /// A revert: the head is dropped, and a spare image is the next head, on the layer of that name.
@@ -253,6 +280,7 @@ impl LayerTree {
         ensures rest { self.new ≡ with_layers self.old self.new.layers }
     {
         move_page_in(&mut self.layers, parent, child, page);
+        self.index.forget_page(page);
     }
 
     /// Swaps a page of the layer at a place with another. The boxes move, and nothing is copied.
@@ -265,6 +293,7 @@ impl LayerTree {
         ensures table { IsTable with.old }
     {
         self.layers[place].image.swap_page(page, with);
+        self.index.forget_page(page);
     }
 
     /// The layer goes, and the one that stands on it stands in its place, with its blocks.
@@ -273,10 +302,13 @@ impl LayerTree {
         requires only { IsOnlyChild self.old parent child }
         ensures { self.new ≡ replaced self.old parent child }
     {
+        let gone = self.index.index_of(self.layers.len() - 1 - child);
         let Layer { meta, image } = self.layers.remove(parent);
         let upper = &mut self.layers[child];
         upper.meta.parent = meta.parent;
         upper.image = image;
+        self.index.renumber(gone);
+        self.index.stand_on(&self.layers, &self.on);
     }
 
     /// The layer goes, on which nothing stands.
@@ -286,6 +318,7 @@ impl LayerTree {
         ensures { self.new ≡ taken_out self.old place }
     {
         let _ = self.layers.remove(place);
+        self.index.stand_on(&self.layers, &self.on);
     }
 
     /// Makes the tables of the pages of a range in the head, wherever one is not there. No block changes.
@@ -309,6 +342,7 @@ impl LayerTree {
             ≡ with_bytes_at (disk_of self.old.head) (block * BLOCK_BYTES) new.value }
         ensures rest { self.new ≡ with_head self.old self.new.head }
     {
+        self.index.learn_head(block);
         self.head.put(block, new)
     }
 
@@ -323,6 +357,10 @@ impl LayerTree {
             ≡ with_bytes_at (disk_of self.old.head) (block * BLOCK_BYTES + start) bytes.now }
         ensures rest { self.new ≡ with_head self.old self.new.head }
     {
-        self.head.overwrite(block, start, bytes)
+        let is_there = self.head.overwrite(block, start, bytes);
+        if is_there {
+            self.index.learn_head(block);
+        }
+        is_there
     }
 }

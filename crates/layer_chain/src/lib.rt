@@ -3,10 +3,12 @@
 
 mod chain;
 mod children;
+mod finding;
 pub mod laws;
 mod layer;
 mod layer_tree;
 mod moving;
+mod read_index;
 mod reading;
 
 pub use children::{Child, Children};

@@ -1,9 +1,11 @@
-use Rattle.std.proofs.Common.{◌≡◌, ◌<◌, ◌≤◌, List, length, get_or, set, sym, ap, subst, ◌∙◌, arith}
+use Rattle.std.proofs.Common.{◌≡◌, ◌-◌, ◌<◌, ◌≤◌, List, length, get_or, set, sym, ap, subst, ◌∙◌, arith}
 use Rattle.std.specs.List.{remove}
 use Rattle.layer_chain.specs.Tree.{Tree, IsWholeTree}
 use Rattle.layer_chain.specs.Changes.{replaced, in_place_of, with_layers}
+use Rattle.layer_chain.specs.Found.{Index, IsIndexed, ages_from, index_of_age}
 use Rattle.layer_chain.specs.declared.layer.Layer.{Layer}
 use Rattle.layer_chain.proofs.FoldLemmas.{child_above, replaced_whole, replaced_is}
+use Rattle.layer_chain.proofs.IndexLemmas.{indexed_replaced}
 use Rattle.layer_chain.proofs.layer_tree.LayerTree.replace.Goals as goal
 
 pub index_mut-upper-requires : goal.index_mut-upper-requires
@@ -28,6 +30,21 @@ is c =
     c.index_mut-upper.ensures.value
     (c.remove-meta.ensures.value ∙ ap (λ (xs : List Layer). get_or xs c.args.parent c.remove-meta.result) same)
 
+-- the index, of which the layer that went is taken
+indexed : (c : goal.Joined-meta) → IsIndexed (replaced c.args.self.now c.args.parent c.args.child) c.stand_on.new.self
+indexed c =
+    let inside = c.self.inside in
+    let t = c.args.self.now in
+    let long : c.len.result ≡ length t.layers = omega (arith, c.len.ensures, ap (λ (u : Tree). length u.layers) c.self.view_is) in
+    indexed_replaced t c.args.parent c.args.child inside.index (whole c) c.requires.within c.requires.only
+    (subst (λ (u : Tree). IsIndexed u inside.index) c.self.view_is c.self.invariant.indexed)
+    c.stand_on.new.self c.index_of-gone.result
+    (c.index_of-gone.ensures ∙ ap (λ n. index_of_age inside.index.ages (n - 1 - c.args.child)) long)
+    (ap (λ (i : Index). i.bytes) c.stand_on.ensures ∙ c.renumber.ensures.bytes)
+    (ap (λ (i : Index). i.ages) c.stand_on.ensures
+    ∙ ap (λ (xs : List Layer). ages_from xs inside.on) (c.deref.ensures.value ∙ is c)
+    ∙ ap (λ (u : Tree). ages_from (replaced t c.args.parent c.args.child).layers u.on) c.self.view_is)
+
 pub invariant_of-self : goal.invariant_of-self
 invariant_of-self c = record {
   whole =
@@ -35,6 +52,9 @@ invariant_of-self c = record {
       (subst (λ (xs : List Layer). IsWholeTree (with_layers c.args.self.now xs)) (sym (is c))
       (replaced_whole c.args.self.now c.args.parent c.args.child (whole c) c.requires.within c.requires.only));
   room = subst (λ n. 250 ≤ n) (sym c.remove-meta.ensures.capacity) c.self.invariant.room;
+  indexed =
+      subst (λ (t : Tree). IsIndexed (with_layers t (new c)) c.stand_on.new.self) (sym c.self.view_is)
+      (subst (λ (xs : List Layer). IsIndexed (with_layers c.args.self.now xs) c.stand_on.new.self) (sym (is c)) (indexed c));
 }
 
 pub returns : goal.returns
