@@ -409,9 +409,43 @@ impl ReplicaNode {
             let place = at + done;
             let start = place % BLOCK_BYTES;
             let piece = (BLOCK_BYTES - start).min(into.len() - done);
-            let block = self.block(&layer, (place / BLOCK_BYTES) as u32);
-            into[done..done + piece].copy_from_slice(&block[start..start + piece]);
+            let block = (place / BLOCK_BYTES) as u32;
+            self.read_piece(&layer, block, start, &mut into[done..done + piece]);
             done += piece;
+        }
+    }
+
+    /// Reads a part of what a layer, or the head, reads as at a block.
+    fn read_piece(&mut self, layer: &Option<LayerName>, block: u32, start: usize, into: &mut [u8])
+        requires kept { IsKept self.old layer.now }
+        requires inside { block * BLOCK_BYTES < length self.old.disk }
+        requires part { start + length into.old ≤ BLOCK_BYTES }
+        ensures bytes { into.new
+            ≡ bytes_at (disk_of_layer self.old layer.now) (block * BLOCK_BYTES + start) (length into.old) }
+        ensures same { self.new ≡ self.old }
+    {
+        if !self.locate(layer, block) {
+            into.fill(0);
+            return;
+        }
+        let found = self.block(layer, block);
+        into.copy_from_slice(&found[start..start + into.len()]);
+    }
+
+    /// Whether a layer, or the head, may read as other than zeros at a block. Where the head does, the search down its
+    /// chain is not needed again.
+    fn locate(&mut self, layer: &Option<LayerName>, block: u32) -> bool
+        requires kept { IsKept self.old layer.now }
+        requires inside { block * BLOCK_BYTES < length self.old.disk }
+        ensures zeros { result ≡ false
+            → bytes_at (disk_of_layer self.old layer.now) (block * BLOCK_BYTES) BLOCK_BYTES
+            ≡ zeros BLOCK_BYTES }
+        ensures same { self.new ≡ self.old }
+    {
+        match layer {
+            // Only the head's chain is known.
+            Some(_) => true,
+            None => self.tree.locate(block),
         }
     }
 

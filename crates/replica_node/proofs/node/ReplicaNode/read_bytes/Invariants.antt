@@ -6,9 +6,10 @@ use Rattle.replica_node.proofs.node.ReplicaNode.read_bytes.Given as goal
 -- the front has been read
 abbrev pub invariant-loop-done : goal.invariant-loop-done
 invariant-loop-done l = record {
-  read : take l.done l.into ≡ bytes_at (disk_of_layer l.self l.layer) l.at l.done;
+  read : take l.done l.into ≡ bytes_at (disk_of_layer l.fn.self l.layer) l.at l.done;
   within : l.done ≤ length l.into;
   len : length l.into ≡ length l.fn.into;
+  same : l.self ≡ l.fn.self;
 }
 
 abbrev pub decreases-loop-done : goal.decreases-loop-done
