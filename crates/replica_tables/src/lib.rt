@@ -12,4 +12,6 @@ mod page;
 #[cfg(test)]
 mod pages;
 #[cfg(test)]
+mod read_index;
+#[cfg(test)]
 mod rebuild;
