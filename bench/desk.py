@@ -38,26 +38,18 @@ static int tickets;
 
 static void enter(void) {
     if (!tickets) { pthread_mutex_lock(&mutex); return; }
-    struct timespec pause = {0, 50000};
+    struct timespec pause = {0, 1000000};
     for (int looks = 0;;) {
-        unsigned long serving = atomic_load(&served);
-        if (atomic_load(&drawn) == serving) break;
-        if (looks < 100) { looks++; __builtin_ia32_pause(); }
-        else { looks = 0; syscall(SYS_futex, &served, FUTEX_WAIT_PRIVATE, (int)serving, &pause, 0, 0); }
-    }
-    unsigned long ticket = atomic_fetch_add(&drawn, 1);
-    for (int looks = 0;;) {
-        unsigned long serving = atomic_load(&served);
-        if (serving == ticket) return;
-        if (serving + 1 == ticket && looks < 100) { looks++; __builtin_ia32_pause(); }
-        else syscall(SYS_futex, &served, FUTEX_WAIT_PRIVATE, (int)serving, 0, 0, 0);
+        unsigned long seen = atomic_load(&drawn);
+        if (seen == atomic_load(&served) && atomic_compare_exchange_strong(&drawn, &seen, seen + 1)) return;
+        if (looks < 10000) looks++;
+        else { looks = 0; syscall(SYS_futex, &drawn, FUTEX_WAIT_PRIVATE, (int)seen, &pause, 0, 0); }
     }
 }
 
 static void leave(void) {
     if (!tickets) { pthread_mutex_unlock(&mutex); return; }
-    unsigned long ended = atomic_fetch_add(&served, 1);
-    if (atomic_load(&drawn) != ended + 1) syscall(SYS_futex, &served, FUTEX_WAKE_PRIVATE, 1 << 30, 0, 0, 0);
+    atomic_fetch_add(&served, 1);
 }
 
 static void *serve(void *given) {

@@ -1,64 +1,88 @@
 -- Drawing a ticket keeps the rule of a desk.
-use Rattle.std.proofs.Common.{◌≡◌, ℕ, ◌+◌, ◌%◌, ◌^◌, List, [], ◌∷◌, set, get_or, Some, refl, sym, ap, ◌∙◌, subst, arith, length-set}
+use Rattle.std.proofs.Common.{◌≡◌, ℕ, ◌+◌, ◌%◌, ◌^◌, ◌==◌, Option, List, [], ◌∷◌}
+use Rattle.std.proofs.Common.{set, get_or, Some, refl, sym, ap, ◌∙◌, subst, arith, length-set}
 use mathlib.Core.Option.{some, some-injective}
 use mathlib.Core.Option as maybe
 use lib.ListN.{get_elem?}
-use Rattle.atomic_table.specs.Table.{step, keeps, Allows}
+use prog.Atomic.{either}
+use Rattle.atomic_table.specs.Table.{State, Act, step, keeps, stepped, Valid, carried_after, Allows}
+use Rattle.atomic_table.proofs.Lists.{exchanged}
 use Rattle.desk_lock.specs.declared.views.Known.{Known}
+use Rattle.desk_lock.specs.declared.views.View.{View}
 use Rattle.desk_lock.specs.declared.views.View.TheVariants.{Knows}
 use Rattle.desk_lock.specs.declared.views.Stage.TheVariants.{Idle, Waits}
 use Rattle.desk_lock.specs.Account.{Account}
 use Rattle.desk_lock.specs.Known.{staged}
 use Rattle.desk_lock.specs.Rule.{Place, ticket, has_ticket, holds_it, out_of, drew}
 use Rattle.desk_lock.proofs.Lists.{outs-set, outs-le, seats_stay, apart_stays}
-use Rattle.desk_lock.proofs.Stages.{wraps, knows_is, ticket_within, more_drawn, R, Sits, lies_still}
+use Rattle.desk_lock.proofs.Stages.{wraps, knows_is, ticket_within, more_drawn, R, Sits, lies_still, unmoved}
 
 module _ {S Entry OpenCall Origin : Type 0} (account : Account S Entry OpenCall Origin) where
-  pub draws : (slots id : ℕ) (me : Place S) (v : Known S) → me.0 ≡ Knows v → v.stage ≡ Idle
-      → Allows (R account) slots id me 0 (λ n. (n + 1) % 2 ^ 64) (drew (step slots 0 1 0 maybe.none) me)
-  draws slots id me v is idle s r _ at _ =
+  drawn_one : (s : State (Option S) (View S)) (r : R account s) (id : ℕ) (cs : List (ℕ × Option S)) (v : Known S)
+      → get_elem? s.views id ≡ some (Knows v) → v.stage ≡ Idle
+      → R account (stepped s 0 ((get_or s.words 0 0 + 1) % 2 ^ 64) id cs (Knows (staged v (Waits r.drawn))) keeps)
+  drawn_one s r id cs v at idle =
       let a : ℕ = r.drawn in
       let w : Known S = staged v (Waits a) in
-      let at' : get_elem? s.views id ≡ some (Knows v) = at ∙ ap some is in
-      let mine = r.each_seat id v at' in
-      let sum = outs-set s.views id (Knows v) (Knows w) at' in
+      let mine = r.each_seat id v at in
+      let sum = outs-set s.views id (Knows v) (Knows w) at in
       let was : out_of (Knows v) ≡ 0 = ap has_ticket idle in
       let all = r.counted in
-      let some_out = outs-le s.views in (
-        Knows w,
+      let some_out = outs-le s.views in record {
+        served = r.served;
+        drawn = a + 1;
+        made = r.made;
+        seat_of = r.seat_of;
+        now = r.now;
+        words = ap (λ (ws : List ℕ). set ws 0 ((get_or ws 0 0 + 1) % 2 ^ 64)) r.words
+            ∙ ap (λ (z : ℕ). z ∷ (r.served % 2 ^ 64) ∷ []) (wraps a);
+        counted = omega arith;
+        wide = length-set s.views id (Knows w) ∙ r.wide;
+        few = r.few;
+        lies = lies_still r.now s 0 ((get_or s.words 0 0 + 1) % 2 ^ 64) id cs (Knows v) (Knows w) r.lies at
+            (λ u e. ap (λ (z : Known S). holds_it z.stage) (sym (knows_is v u e)) ∙ ap holds_it idle);
+        sound = r.sound;
+        each_seat = seats_stay (Sits account r.served (a + 1) r.made r.seat_of r.now s.homes) s.views id (Knows w)
+            (λ u e. subst (Sits account r.served (a + 1) r.made r.seat_of r.now s.homes id) (knows_is w u e)
+            record { finds = mine.finds; on_stage = (omega arith, omega arith); placed = mine.placed })
+            (λ j u ne there. let t = r.each_seat j u there in
+            record { finds = t.finds; on_stage = more_drawn r.served a r.now s.homes u.last u.stage t.on_stage; placed = t.placed });
+        apart = apart_stays s.views id (Knows w) r.apart (λ x u b j e xt ne there ut.
+            let f : Some a ≡ Some b = ap (λ (z : Known S). ticket z.stage) (knows_is w x e) ∙ xt in let g : a ≡ b = cc in
+            let t = r.each_seat j u there in let h = (ticket_within r.served a r.now s.homes u.last u.stage b t.on_stage ut).1 in
+            omega arith);
+        silent = r.silent;
+      }
+
+  pub draws : (slots id old next : ℕ) (me : Place S) (v : Known S) → next ≡ (old + 1) % 2 ^ 64
+      → me.0 ≡ Knows v → v.stage ≡ Idle
+      → Allows (R account) slots id me 0 (λ n. either (n == old) next n) (drew (step slots 0 old next maybe.none) me)
+  draws slots id old next me v one is idle s r _ at _ =
+      let n = get_or s.words 0 0 in
+      let at' : get_elem? s.views id ≡ some (Knows v) = at ∙ ap some is in
+      exchanged n old next
+      (λ m. (w : View S) × (a : Act (Option S)) × Valid s.homes me.1 a × R account (stepped s 0 m id me.1 w a)
+      × drew (step slots 0 old next maybe.none) me n (w, carried_after me.1 a))
+      (λ hit. (
+        Knows (staged v (Waits r.drawn)),
         keeps,
         tt,
-        record {
-          served = r.served;
-          drawn = a + 1;
-          made = r.made;
-          seat_of = r.seat_of;
-          now = r.now;
-          words = ap (λ (ws : List ℕ). set ws 0 ((get_or ws 0 0 + 1) % 2 ^ 64)) r.words
-              ∙ ap (λ (z : ℕ). z ∷ (r.served % 2 ^ 64) ∷ []) (wraps a);
-          counted = omega arith;
-          wide = length-set s.views id (Knows w) ∙ r.wide;
-          few = r.few;
-          lies = lies_still r.now s 0 ((get_or s.words 0 0 + 1) % 2 ^ 64) id me.1 (Knows v) (Knows w) r.lies at'
-              (λ u e. ap (λ (z : Known S). holds_it z.stage) (sym (knows_is v u e)) ∙ ap holds_it idle);
-          sound = r.sound;
-          each_seat = seats_stay (Sits account r.served (a + 1) r.made r.seat_of r.now s.homes) s.views id (Knows w)
-              (λ u e. subst (Sits account r.served (a + 1) r.made r.seat_of r.now s.homes id) (knows_is w u e)
-              record { finds = mine.finds; on_stage = (omega arith, omega arith); placed = mine.placed })
-              (λ j u ne there. let t = r.each_seat j u there in
-              record { finds = t.finds; on_stage = more_drawn r.served a r.now s.homes u.last u.stage t.on_stage; placed = t.placed });
-          apart = apart_stays s.views id (Knows w) r.apart (λ x u b j e xt ne there ut.
-              let f : Some a ≡ Some b = ap (λ (z : Known S). ticket z.stage) (knows_is w x e) ∙ xt in let g : a ≡ b = cc in
-              let t = r.each_seat j u there in let h = (ticket_within r.served a r.now s.homes u.last u.stage b t.on_stage ut).1 in
-              omega arith);
-          silent = r.silent;
-        },
+        subst (λ m. R account (stepped s 0 m id me.1 (Knows (staged v (Waits r.drawn))) keeps))
+            (ap (λ m. (m + 1) % 2 ^ 64) hit ∙ sym one)
+            (drawn_one s r id me.1 v at' idle),
         (
-          refl,
-          λ u e. (
-            a,
+          λ miss. absurd (miss hit),
+          λ _ u e. (
+            r.drawn,
             ap (λ (ws : List ℕ). get_or ws 0 0) r.words,
-            ap (λ (z : Known S). Knows (staged z (Waits a))) (knows_is v u (sym is ∙ e)),
+            ap (λ (z : Known S). (Knows (staged z (Waits r.drawn)), me.1)) (knows_is v u (sym is ∙ e)),
           ),
         ),
-      )
+      ))
+      (λ miss. (
+        me.0,
+        keeps,
+        tt,
+        unmoved account s 0 id me.1 me.0 r at,
+        (λ _. refl, λ hit. absurd (miss hit)),
+      ))

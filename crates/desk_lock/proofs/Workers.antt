@@ -1,5 +1,5 @@
 -- For whoever takes a turn: what `leave` asks, and what the seat knows afterwards, from what the one step between says.
-use Rattle.std.proofs.Common.{◌≡◌, ℕ, Option, Some, [], sym, subst}
+use Rattle.std.proofs.Common.{◌≡◌, ℕ, Option, Some, sym, subst}
 use Rattle.desk_lock.specs.declared.views.Known.{Known}
 use Rattle.desk_lock.specs.declared.seats.Seat.{Seat}
 use Rattle.desk_lock.specs.Account.{Account, Finds, MayLeave}

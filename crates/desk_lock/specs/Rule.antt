@@ -87,10 +87,11 @@ module _ {S : Type 0} where
 -- ---- what each step tells
 
 module _ {S : Type 0} where
-  -- a ticket is drawn: the number found is the ticket's
+  -- a ticket is drawn where the number found is the one that was seen: it is the ticket's. Else nothing changes
   abbrev pub drew : Step (Option S) → Place S → ℕ → Place S → Type 0
-  drew st m r m' = (m'.1 ≡ m.1)
-      × ((v : Known S) → m.0 ≡ Knows v → (a : ℕ) × (r ≡ a % 2 ^ 64) × (m'.0 ≡ Knows (staged v (Waits a))))
+  drew st m r m' = (r ≢ st.first → m' ≡ m)
+      × (r ≡ st.first → (v : Known S) → m.0 ≡ Knows v
+      → (a : ℕ) × (r ≡ a % 2 ^ 64) × (m' ≡ (Knows (staged v (Waits a)), m.1)))
 
   -- the turn is passed on, and the state that the seat had is put back: it is the last that the seat saw
   abbrev pub passed : Step (Option S) → Place S → ℕ → Place S → Type 0

@@ -1,16 +1,21 @@
 -- What the steps under a desk's calls say of a seat of the table.
-use Rattle.std.specs.Prelude.{◌≡◌, ℕ, [], ◌∷◌, None}
+use Rattle.std.specs.Prelude.{◌≡◌, ℕ, ◌%◌, ◌^◌, [], ◌∷◌, None}
 use Rattle.desk_lock.specs.declared.views.Known.{Known}
 use Rattle.desk_lock.specs.declared.views.View.TheVariants.{Knows}
-use Rattle.desk_lock.specs.declared.views.Stage.TheVariants.{Idle, Holds}
+use Rattle.desk_lock.specs.declared.views.Stage.TheVariants.{Idle, Waits, Holds}
 use Rattle.desk_lock.specs.Account.{Account}
-use Rattle.desk_lock.specs.Known.{knowing, Fits}
+use Rattle.desk_lock.specs.Known.{staged, knowing, Fits}
 use Rattle.desk_lock.specs.Rule.{Place}
 
 module _ {S : Type 0} where
   -- no ticket is out with it
   abbrev pub IsIdle : Place S → Type 0
   IsIdle m = (v : Known S) × (m.0 ≡ Knows v) × (v.stage ≡ Idle) × (m.1 ≡ [])
+
+  -- from idle to waiting, with the ticket of that number
+  abbrev pub Draws : Place S → ℕ → Place S → Type 0
+  Draws m number m' = (v : Known S) → m.0 ≡ Knows v
+      → (a : ℕ) × (number ≡ a % 2 ^ 64) × (m' ≡ (Knows (staged v (Waits a)), m.1))
 
   -- it took the state x
   abbrev pub HasTurn : Known S → S → Place S → Type 0

@@ -14,7 +14,7 @@ impl<S: Kept> TableRule<Option<S>, View<S>, Start<S>> for InTurn {
     ghost first = { λ start. starting start.state.value };
 }
 
-/// A ticket is drawn.
+/// A ticket is drawn, where none was drawn since the word was seen.
 pub struct Draw;
 
 impl<S: Kept> Play<Option<S>, View<S>> for Draw {

@@ -5,7 +5,7 @@ ghost use Rattle.desk_lock.specs.declared.views.View.TheVariants.{Knows};
 ghost use Rattle.desk_lock.specs.declared.views.Stage.TheVariants.{Idle, Holds};
 ghost use Rattle.desk_lock.specs.Account.{MayLeave};
 ghost use Rattle.desk_lock.specs.Known.{knowing};
-ghost use Rattle.desk_lock.specs.Turns.{IsIdle, Takes};
+ghost use Rattle.desk_lock.specs.Turns.{IsIdle, Draws, Takes};
 
 use crate::kept::Kept;
 use crate::plays::{Draw, Look, PassOn};
@@ -33,37 +33,37 @@ impl<S: Kept> Desk<S> {
         ensures same { (pass.new.table_id ≡ pass.old.table_id) × (pass.new.id ≡ pass.old.id) }
         ensures takes { Takes S.account pass.old.me result pass.new.me }
     {
+        let ticket = self.draw(rt, pass);
         let shared = &self.table.shared;
-        self.wait_for_rest(rt);
-        let ticket = shared.fetch_add::<Draw>(pass, DRAWN, 1);
-        let mut looks = 0;
+        // No ticket was out when it was drawn, so that its turn has come.
         for _ in rt.forever() {
             let serving = shared.load::<Look>(pass, SERVED);
             if serving == ticket {
                 return shared.exchange(pass, 0, None).unwrap();
             }
-            // It looks again at once, for a while, since a turn is mostly short.
-            if looks < LOOKS {
-                looks += 1;
-                spin_loop();
-            } else {
-                shared.park(rt, SERVED, (serving & 0xffff_ffff) as u32);
-            }
+            spin_loop();
         }
         unreachable!()
     }
 
-    // Waits until no ticket is out, or so it looks. Who drew one while another's turn is on would have the desk handed
-    // over, and a sleeper woken, at each turn of streams that take turn after turn. Nobody wakes who sleeps here, on the
-    // word of tickets.
-    fn wait_for_rest<R: Wait>(&self, rt: &R) {
+    // Draws a ticket where none is out, and waits until it can. Who drew one while another's turn is on would have the
+    // desk handed over, and a sleeper woken, at each turn of streams that take turn after turn. Nobody wakes who sleeps
+    // here, on the word of tickets.
+    fn draw<R: Wait>(&self, rt: &R, pass: &mut Pass<S>) -> u64
+        requires { (pass.old.table_id ≡ self.now.table.shared.table_id) × IsIdle pass.old.me }
+        ensures same { (pass.new.table_id ≡ pass.old.table_id) × (pass.new.id ≡ pass.old.id) }
+        ensures draws { Draws pass.old.me result pass.new.me }
+    {
         let shared = &self.table.shared;
         let pause = Duration::from_micros(PAUSE);
         let mut looks = 0;
         for _ in rt.forever() {
             let drawn = shared.peek(DRAWN);
             if drawn == shared.peek(SERVED) {
-                return;
+                let next = drawn.wrapping_add(1);
+                if shared.compare_exchange::<Draw>(pass, DRAWN, drawn, next) == drawn {
+                    return drawn;
+                }
             }
             if looks < LOOKS {
                 looks += 1;
@@ -89,10 +89,6 @@ impl<S: Kept> Desk<S> {
             None => {}
             Some(_) => unreachable!(),
         }
-        let ended = shared.fetch_add::<PassOn>(pass, SERVED, 1);
-        // Who drew a ticket before this look may sleep, and who draws one later finds the turn passed on.
-        if shared.peek(DRAWN) != ended.wrapping_add(1) {
-            shared.wake_all(SERVED);
-        }
+        shared.fetch_add::<PassOn>(pass, SERVED, 1);
     }
 }

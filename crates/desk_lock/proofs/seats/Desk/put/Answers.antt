@@ -3,8 +3,8 @@ use Rattle.atomic_table.specs.Table.{rest}
 use Rattle.desk_lock.proofs.Passes.{passes}
 use Rattle.desk_lock.proofs.seats.Desk.put.Goals as goal
 
-pub fetch_add-ended-requires : goal.fetch_add-ended-requires
-fetch_add-ended-requires g c = let may = c.requires.may in let now = c.exchange.ensures.3 in (
+pub fetch_add-requires : goal.fetch_add-requires
+fetch_add-requires g c = let may = c.requires.may in let now = c.exchange.ensures.3 in (
   search rules,
   search rules,
   passes g.S.Kept.account _ _ _ may.0 may.1 c.args.state (ap (λ m. m.0) now ∙ may.2) may.3
