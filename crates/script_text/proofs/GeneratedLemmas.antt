@@ -1,7 +1,7 @@
 -- How a generated script is made: frames and streams one after another, until none is left.
 use Rattle.std.proofs.Common.{◌≡◌, ◌∙◌, ℕ, ◌+◌, ◌-◌, ◌<◌, ◌≤◌, List, [], ◌∷◌, ◌++◌, length, map, take, drop, replicate, cond}
 use Rattle.std.proofs.Common.{Result, Ok, Err, is_ok, refl, suc, sym, ap, ap₂, subst, arith, append_assoc, append-nil, OnOk}
-use Rattle.std.proofs.lemmas.List.{take_all, take_at, drop_at, length-append}
+use Rattle.std.proofs.lemmas.List.{take_at, drop_at, length-append, replicate-append-replicate}
 use Rattle.std.proofs.lemmas.List.Elements.{All-head, All-tail}
 use Rattle.std.specs.List.{All}
 use Rattle.frame_wire.specs.declared.head.Head.{Head}
@@ -15,16 +15,26 @@ use Rattle.script_text.specs.Kept.{frames_under, HoldFrames}
 
 -- ---- the bytes of a frame
 
--- a text that is filled up behind a header is longer by that header and so many bytes
-pub filled : {E : Type 0} (r : Result (Unit {0}) E) (old mid new front : List ℕ) (n m len byte : ℕ) → mid ≡ old ++ front → m ≡ length mid
-    → n ≡ m + len → new ≡ cond (is_ok r) (take n mid ++ replicate (n - m) byte) mid → OnOk r (new ≡ old ++ (front ++ replicate len byte))
-filled (Ok x) old mid new front n m len byte headed long to is =
-    is ∙ ap₂ (λ (l : List ℕ) (k : ℕ). l ++ replicate k byte) (take_all n mid (omega arith)) more
-    ∙ ap (λ l. l ++ replicate len byte) headed ∙ append_assoc old front (replicate len byte)
-  where
-    more : n - m ≡ len
-    more = omega arith
-filled (Err e) old mid new front n m len byte headed long to is = tt
+-- as many more of one byte
+pub more_same : (old mid new : List ℕ) (n m byte : ℕ) → mid ≡ old ++ replicate n byte → new ≡ mid ++ replicate m byte
+    → new ≡ old ++ replicate (n + m) byte
+more_same old mid new n m byte had is =
+    is ∙ ap (λ l. l ++ replicate m byte) had ∙ append_assoc old (replicate n byte) (replicate m byte)
+    ∙ ap (λ l. old ++ l) (replicate-append-replicate n m byte)
+
+-- and then they are all
+pub all_same : {E : Type 0} (r : Result (Unit {0}) E) (old mid new last : List ℕ) (n m count byte : ℕ)
+    → mid ≡ old ++ replicate n byte → last ≡ replicate m byte → n + m ≡ count → new ≡ cond (is_ok r) (mid ++ last) mid
+    → OnOk r (new ≡ old ++ replicate count byte)
+all_same (Ok x) old mid new last n m count byte had same all is =
+    more_same old mid new n m byte had (is ∙ ap (λ l. mid ++ l) same) ∙ ap (λ k. old ++ replicate k byte) all
+all_same (Err e) old mid new last n m count byte had same all is = tt
+
+-- bytes behind a header are a frame's
+pub headed : {E : Type 0} (r : Result (Unit {0}) E) (old mid new front body : List ℕ) → mid ≡ old ++ front
+    → OnOk r (new ≡ mid ++ body) → OnOk r (new ≡ old ++ (front ++ body))
+headed (Ok x) old mid new front body had is = is ∙ ap (λ l. l ++ body) had ∙ append_assoc old front body
+headed (Err e) old mid new front body had is = tt
 
 -- ---- frames
 

@@ -17,6 +17,9 @@ const OFFSETS: u64 = 2_093_056;
 /// The largest frame reads or writes a block.
 const LARGEST_FRAME: u64 = 4096;
 
+/// How many bytes are written at once.
+const PIECE: usize = 256;
+
 /// The generated script of a number: so many streams of frames, each of so many calls within a page of its own, and a
 /// control stream behind them.
 pub fn make_script(
@@ -83,7 +86,18 @@ fn append_frame(head: &Head, byte: u8, bytes: &mut Vec<u8>) -> Result<(), AllocE
         ++ spelled (record { head = head.now; body = replicate head.now.len byte })) }
 {
     bytes.extend_from_slice(&encode_header(head))?;
-    bytes.resize(bytes.len() + head.len as usize, byte)
+    append_same(byte, head.len as usize, bytes)
+}
+
+/// Appends one byte so many times, many of them at once.
+fn append_same(byte: u8, count: usize, bytes: &mut Vec<u8>) -> Result<(), AllocError>
+    ensures { OnOk result (bytes.new.items ≡ bytes.old.items ++ replicate count byte) }
+{
+    let piece = [byte; PIECE];
+    for _i in 0..count / PIECE {
+        bytes.extend_from_slice(&piece)?;
+    }
+    bytes.extend_from_slice(&piece[..count % PIECE])
 }
 
 /// The header of the frame that four numbers make in a page.
