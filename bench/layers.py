@@ -2,7 +2,7 @@
 """layers.py PROGRAM [REPEATS]
 
 Times a built longhorn on scripts, each with and without the calls that are measured: a read of one byte whose block is in the
-lowest of 1, 16 and 249 layers, and its ratio to one layer; and a revert, which makes a new head, on a volume of 1 GiB and on
+lowest of 1, 16 and 249 layers, the first of that block and each later one, and its ratio to one layer; and a revert, which makes a new head, on a volume of 1 GiB and on
 one of 2 MiB; and a snapshot on two replicas of 1 GiB, and a removal, which carries as much. By turns, in time of the processor,
 as medians with the least and the greatest. And the memory of one snapshot of 247, on both volumes, and of a purge that folds
 them, where GNU time is there.
@@ -20,7 +20,7 @@ PAGE = 2 << 20
 MIB = 1 << 20
 BLOCK = 4096
 LAYERS = (1, 16, 249)
-# The volume that is read, and how often each of its blocks is.
+# The volume that is read, and how often each of its blocks is after the first time.
 SIZE = 16 * MIB
 READS = 12
 REVERTS = 60_000
@@ -59,9 +59,9 @@ def removals(count):
     return ['remove n%d' % number for number in range(count)]
 
 
-def reads():
+def reads(rounds):
     blocks = SIZE // BLOCK
-    return b''.join(frame(number, 0, number % blocks * BLOCK, 1) for number in range(READS * blocks))
+    return b''.join(frame(number, 0, number % blocks * BLOCK, 1) for number in range(rounds * blocks))
 
 
 class Bench:
@@ -107,13 +107,15 @@ def main():
     program, repeats = sys.argv[1], int(sys.argv[2]) if len(sys.argv) > 2 else 5
     with tempfile.TemporaryDirectory() as folder:
         bench = Bench(program, folder, repeats)
-        all_reads = reads()
-        one = None
-        for layers in LAYERS:
-            taken = bench.added(bench.timed, SIZE, layered(layers), all_reads, READS * SIZE // BLOCK)
-            one = one or statistics.median(taken)
-            print('a read from the lowest of %d: %s nanoseconds, against one layer: %s'
-                  % (layers, spread([time * 1e9 for time in taken]), spread([time / one for time in taken])))
+        # No head is digested, which would read each block too.
+        first, unread = [reads(1)], [['fail r0']]
+        for which, before, rounds in (('first', [], 1), ('later', first, READS)):
+            more, one = reads(rounds), None
+            for layers in LAYERS:
+                taken = bench.added(bench.timed, SIZE, layered(layers) + before, more, rounds * SIZE // BLOCK, 1, unread)
+                one = one or statistics.median(taken)
+                print('a %s read from the lowest of %d: %s nanoseconds, against one layer: %s'
+                      % (which, layers, spread([time * 1e9 for time in taken]), spread([time / one for time in taken])))
         failed = [['fail r0', 'fail r1']]
         layers = [snapshots(SNAPSHOTS)]
         for what, written in (('nothing', []), ('64 MiB', [filled(64 * MIB)])):
