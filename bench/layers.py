@@ -28,6 +28,8 @@ REVERTS = 60_000
 SNAPSHOTS = 247
 VOLUMES = ((512 * PAGE, '1 GiB'), (PAGE, '2 MiB'))
 GNU_TIME = shutil.which('time')
+# One stream after another.
+RUN = ['run', '--workers', 'one']
 
 
 def frame(seq, kind, offset, size, data=b''):
@@ -51,8 +53,10 @@ def filled(size):
 
 
 def layered(layers):
-    """The streams that fill a volume and put so many layers less one on top of what was written."""
-    return [filled(SIZE), snapshots(layers - 1)]
+    """The streams that fill a volume and put so many layers less one on top of what was written. A revert makes the head anew, so
+    that it is not known from the writes where a block is."""
+    again = ['revert n%d' % (layers - 2)] if layers > 1 else []
+    return [filled(SIZE), snapshots(layers - 1) + again]
 
 
 def removals(count):
@@ -77,7 +81,7 @@ class Bench:
     def timed(self, path):
         """The seconds that a run of a script keeps a processor busy."""
         with open(path, 'rb') as given:
-            run = subprocess.Popen([self.program, 'run'], stdin=given, stdout=subprocess.DEVNULL)
+            run = subprocess.Popen([self.program, *RUN], stdin=given, stdout=subprocess.DEVNULL)
         _, status, usage = os.wait4(run.pid, 0)
         run.returncode = os.waitstatus_to_exitcode(status)
         if run.returncode != 0:
@@ -87,7 +91,7 @@ class Bench:
     def peak(self, path):
         """The most memory that a run of a script has, in KiB."""
         with open(path, 'rb') as given:
-            run = subprocess.run([GNU_TIME, '-f', '%M', self.program, 'run'], stdin=given,
+            run = subprocess.run([GNU_TIME, '-f', '%M', self.program, *RUN], stdin=given,
                                  stdout=subprocess.DEVNULL, stderr=subprocess.PIPE, text=True, check=True)
         return int(run.stderr.split()[-1])
 
