@@ -77,13 +77,9 @@ all_replies had whole stream place entries past all =
 -- ---- the whole
 
 -- four parts, one behind the other
-pub four_parts : (o a b c d p q r s : List ℕ) → a ≡ o ++ p → b ≡ a ++ q → c ≡ b ++ r → d ≡ c ++ s → d ≡ o ++ (p ++ q ++ r ++ s)
-four_parts o a b c d p q r s ea eb ec ed =
-    ed ∙ ap (λ l. l ++ s) (ec ∙ ap (λ l. l ++ r) (eb ∙ ap (λ l. l ++ q) ea)) ∙ regroup
-  where
-    regroup : (((o ++ p) ++ q) ++ r) ++ s ≡ o ++ (p ++ q ++ r ++ s)
-    regroup = simp append_assoc
+pub three_parts : (o a b c p q r : List ℕ) → o ≡ [] → a ≡ o ++ p → b ≡ a ++ q → c ≡ b ++ r → c ≡ (p ++ q) ++ r
+three_parts o a b c p q r eo ea eb ec = ec ∙ ap (λ l. l ++ r) (eb ∙ ap (λ l. l ++ q) (ea ∙ ap (λ l. l ++ p) eo))
 
--- the text stands alone where it was put behind nothing
-pub text_alone : (rest all none text : List ℕ) → rest ≡ all → all ≡ none ++ text → none ≡ [] → rest ≡ text
-text_alone rest all none text is put empty = is ∙ put ∙ ap (λ l. l ++ text) empty
+-- what was put behind nothing is all
+pub text_of : (none all text : List ℕ) → none ≡ [] → all ≡ none ++ text → all ≡ text
+text_of none all text empty put = put ∙ ap (λ l. l ++ text) empty

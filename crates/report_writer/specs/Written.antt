@@ -11,7 +11,7 @@ use Rattle.digest.specs.Digest.{digest_text}
 use Rattle.run_report.specs.Lines.{chain_line, head_line}
 use Rattle.load_laws.specs.Result.{replies_of}
 use Rattle.run_report.specs.Report.{call_lines, mode_lines}
-use Rattle.run_report.specs.Summary.{frames_from, summary_of}
+use Rattle.run_report.specs.Summary.{stream_lines, control_line, modes_line, frames_from, summary_of}
 use Rattle.report_writer.specs.declared.end.EndLine.{EndLine}
 use Rattle.report_writer.specs.declared.end.EndLine.TheVariants.{Chain, Digest}
 
@@ -40,6 +40,12 @@ written_text opened heads book volumes = opened ++ call_lines heads book.entries
 -- of replicas that are these volumes, the lowest that is read and written
 abbrev pub source_volume : List Mode → List Volume → Option Volume
 source_volume modes volumes = option_and_then (slice_get volumes) (source_of modes)
+
+-- what a summary tells of the calls: the line of each stream whose frames have these headers, that of the next stream, which
+-- is the control stream, and the modes that they left
+abbrev pub calls_text : List (List Head) → Book → List ℕ
+calls_text heads book = stream_lines 0 (frames_from 0 heads book.entries)
+    ++ control_line (replies_of (length heads) book.entries) ++ modes_line (modes_of book)
 
 -- the summary, for streams whose frames have these headers, and replicas that are these volumes: the next stream is the
 -- control stream

@@ -1,4 +1,4 @@
-ghost use Rattle.std.specs.Prelude.{◌≡◌, ◌<◌, ◌++◌, length, map, OnOk, IfOk};
+ghost use Rattle.std.specs.Prelude.{◌≡◌, ◌<◌, ◌++◌, length, map, option_map, Some, OnOk, IfOk};
 ghost use Rattle.std.specs.Io.KnownBytes.{Appends};
 ghost use Rattle.outer_traits.specs.Causes.{HasOuterCause};
 ghost use Rattle.outer_traits.specs.Passing.{WritesPrefix};
@@ -8,7 +8,7 @@ ghost use Rattle.run_report.specs.Summary.{stream_lines, volume_lines, replying_
 ghost use Rattle.journal_book.specs.Book.{modes_of};
 ghost use Rattle.volume_model.specs.History.{answers_of};
 ghost use Rattle.replica_node.specs.Volume.{volume_of_node};
-ghost use Rattle.report_writer.specs.Written.{source_volume, written_summary};
+ghost use Rattle.report_writer.specs.Written.{calls_text, source_volume, written_summary};
 
 use crate::digests::digest_of_head;
 use crate::heads::head_for;
@@ -19,11 +19,15 @@ use outer_traits::{Outer, Sink, write_all};
 use replica_node::ReplicaNode;
 use run_report::{digest_reply, print_chain, print_control, print_disk, print_modes, print_stream};
 use std::alloc::{AllocError, Global};
+use std::thread;
+use std::thread::Threads;
 use volume_model::{Reply, Sequence};
 
 /// Writes the summary of a run of a generated load on these replicas, as they are at its end. The headers are those of the
-/// frames of each stream of frames; the next stream is the control stream.
-pub fn write_summary<K: Sink>(
+/// frames of each stream of frames; the next stream is the control stream. The disk is digested beside the replies, in a
+/// thread of its own where one can be made.
+pub fn write_summary<R: Threads + Sync, K: Sink>(
+    rt: &R,
     alloc: Global,
     heads: &[Sequence<Head>],
     journal: &Journal,
@@ -39,27 +43,54 @@ pub fn write_summary<K: Sink>(
     ensures cause { HasOuterCause (K.faults sink.old) (K.faults sink.new) result }
 {
     // The text is short: a line for each stream, and a few more.
-    let mut text = Vec::new(alloc);
-    print_summary(alloc, heads, journal, replicas, &mut text)?;
+    let text = print_summary(rt, alloc, heads, journal, replicas)?;
     write_all(sink, &text)
 }
 
-fn print_summary(
+fn print_summary<R: Threads + Sync>(
+    rt: &R,
     alloc: Global,
     heads: &[Sequence<Head>],
     journal: &Journal,
     replicas: &[ReplicaNode],
-    into: &mut Vec<u8>,
-) -> Result<(), AllocError>
+) -> Result<Vec<u8>, AllocError>
     requires streams { length heads.now < 256 }
     requires each { length replicas.now ≡ length (modes_of journal.now) }
-    ensures { OnOk result (into.new.items ≡ into.old.items
-        ++ written_summary heads.now journal.now (map volume_of_node replicas.now)) }
+    ensures { IfOk result (λ text. text.items
+        ≡ written_summary heads.now journal.now (map volume_of_node replicas.now)) }
 {
-    print_streams(alloc, heads, journal, into)?;
-    print_control(&replies_to(alloc, heads.len(), journal)?, into)?;
-    print_modes(journal.modes(), into)?;
-    print_source(alloc, journal, replicas, into)
+    let Some(replica) = source_of(journal, replicas) else {
+        return print_calls(alloc, heads, journal);
+    };
+    let (volume, calls) = thread::join(
+        rt,
+        move || -> Result<Vec<u8>, AllocError>
+            ensures { IfOk result (λ text. text.items ≡ volume_lines (Some (volume_of_node replica.entry.now))) }
+        { print_volume(alloc, replica) },
+        move || -> Result<Vec<u8>, AllocError>
+            requires { length heads.now < 256 }
+            ensures { IfOk result (λ text. text.items ≡ calls_text heads.entry.now journal.entry.now) }
+        { print_calls(alloc, heads, journal) },
+    );
+    let mut text = calls?;
+    text.append(&mut volume?)?;
+    Ok(text)
+}
+
+/// The line of each stream, and that of the modes.
+fn print_calls(
+    alloc: Global,
+    heads: &[Sequence<Head>],
+    journal: &Journal,
+) -> Result<Vec<u8>, AllocError>
+    requires { length heads.now < 256 }
+    ensures { IfOk result (λ text. text.items ≡ calls_text heads.now journal.now) }
+{
+    let mut text = Vec::new(alloc);
+    print_streams(alloc, heads, journal, &mut text)?;
+    print_control(&replies_to(alloc, heads.len(), journal)?, &mut text)?;
+    print_modes(journal.modes(), &mut text)?;
+    Ok(text)
 }
 
 /// The line of each stream of frames.
@@ -127,21 +158,22 @@ fn replies_to<'a>(
     Ok(replies)
 }
 
-/// The chain and the disk of the lowest replica that is read and written, and nothing where there is none.
-fn print_source(
-    alloc: Global,
-    journal: &Journal,
-    replicas: &[ReplicaNode],
-    into: &mut Vec<u8>,
-) -> Result<(), AllocError>
+/// The lowest replica that is read and written, if there is one.
+fn source_of<'a>(journal: &Journal, replicas: &'a [ReplicaNode]) -> Option<&'a ReplicaNode>
     requires { length replicas.now ≡ length (modes_of journal.now) }
-    ensures { OnOk result (into.new.items ≡ into.old.items
-        ++ volume_lines (source_volume (modes_of journal.now) (map volume_of_node replicas.now))) }
+    ensures { option_map (λ r. volume_of_node r.now) result
+        ≡ source_volume (modes_of journal.now) (map volume_of_node replicas.now) }
 {
-    let Some(source) = journal.source() else {
-        return Ok(());
-    };
-    let replica = &replicas[usize::from(source)];
-    print_chain(None, &replica.chain(alloc)?, into)?;
-    print_disk(&digest_of_head(replica), into)
+    let source = journal.source()?;
+    Some(&replicas[usize::from(source)])
+}
+
+/// The chain and the disk of a replica.
+fn print_volume(alloc: Global, replica: &ReplicaNode) -> Result<Vec<u8>, AllocError>
+    ensures { IfOk result (λ text. text.items ≡ volume_lines (Some (volume_of_node replica.now))) }
+{
+    let mut text = Vec::new(alloc);
+    print_chain(None, &replica.chain(alloc)?, &mut text)?;
+    print_disk(&digest_of_head(replica), &mut text)?;
+    Ok(text)
 }

@@ -51,11 +51,16 @@ pub(crate) fn run_load<
     let script = make_script(alloc, number, streams, calls)?;
     let world = blank_world(alloc, &script)?;
     let served = stream_workers::serve(rt, alloc, script, world, wiring, target, gate)?;
-    sum_up(alloc, &served, sink)
+    sum_up(rt, alloc, &served, sink)
 }
 
 /// Writes the summary of streams that were served, the last of which is the control stream.
-fn sum_up<K: Sink>(alloc: Global, served: &ServedStreams, sink: &mut K) -> Outer<()>
+fn sum_up<R: Threads + Sync, K: Sink>(
+    rt: &R,
+    alloc: Global,
+    served: &ServedStreams,
+    sink: &mut K,
+) -> Outer<()>
     requires each { length served.now.world.nodes.items ≡ length (modes_of served.now.world.journal) }
     requires some_streams { 0 < length served.now.heads.items }
     requires few_streams { length served.now.heads.items < 256 }
@@ -68,6 +73,7 @@ fn sum_up<K: Sink>(alloc: Global, served: &ServedStreams, sink: &mut K) -> Outer
     know_journal(&world.journal);
     let frames = served.heads.len() - 1;
     write_summary(
+        rt,
         alloc,
         &served.heads[..frames],
         &world.journal,

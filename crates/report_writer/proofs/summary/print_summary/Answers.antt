@@ -1,29 +1,16 @@
-use Rattle.std.proofs.Common.{◌≡◌, ◌++◌, length, map, ap, ◌∙◌}
-use Rattle.std.proofs.lemmas.Result.{on_ok_weaker}
-use Rattle.std.specs.Borrow.{Bor}
-use Rattle.load_laws.specs.Result.{replies_of}
-use Rattle.journal_book.specs.Book.{modes_of}
+use Rattle.std.proofs.Common.{◌≡◌, ◌++◌, Option, Some, ap, ◌∙◌}
+use Rattle.std.proofs.lemmas.Result.{IfOk-at_ok}
+use Rattle.volume_model.specs.PlainState.{Volume}
 use Rattle.replica_node.specs.Volume.{volume_of_node}
-use Rattle.volume_model.specs.declared.call.Reply.{Reply}
-use Rattle.run_report.specs.Summary.{stream_lines, control_line, modes_line, volume_lines, frames_from}
-use Rattle.report_writer.specs.Written.{source_volume}
-use Rattle.report_writer.proofs.SummaryLemmas.{four_parts}
+use Rattle.run_report.specs.Summary.{volume_lines}
+use Rattle.report_writer.specs.Written.{calls_text}
 use Rattle.report_writer.proofs.summary.print_summary.Goals as goal
 
 pub returns : goal.returns
-returns c =
-    let entries = c.args.journal.now.entries in
-    let modes = modes_of c.args.journal.now in
-    let streams = stream_lines 0 (frames_from 0 c.args.heads.now entries) in
-    let commands = replies_of (length c.args.heads.now) entries in
-    let volume = volume_lines (source_volume modes (map volume_of_node c.args.replicas.now)) in
-    let answered : map (λ (r : Bor Reply). r.now) c.deref.result.now ≡ commands =
-    ap (map (λ (r : Bor Reply). r.now)) c.deref.ensures.value ∙ c.in_ok-replies_to.ensures in
-    let control : c.print_control.new.into.items ≡ c.print_streams.new.into.items ++ control_line commands =
-    c.in_ok-print_control.ensures.ok ∙ ap (λ rs. c.print_streams.new.into.items ++ control_line rs) answered in
-    let left : c.print_modes.new.into.items ≡ c.print_control.new.into.items ++ modes_line modes =
-    c.in_ok-print_modes.ensures.ok ∙ ap (λ ms. c.print_control.new.into.items ++ modes_line ms) c.modes.ensures in
-    on_ok_weaker c.print_source.result
-    (λ put. four_parts c.args.into.now.items c.print_streams.new.into.items c.print_control.new.into.items c.print_modes.new.into.items
-    c.print_source.new.into.items streams (control_line commands) (modes_line modes) volume c.in_ok-print_streams.ensures control left put)
-    c.print_source.ensures
+returns g c =
+    let calls = calls_text c.args.heads.now c.args.journal.now in
+    let lines = volume_lines (Some (volume_of_node c.in-Some.replica.now)) in
+    let front : c.in_ok-text.text.items ≡ calls = IfOk-at_ok (λ v. v.items ≡ calls) c.in_ok-text.was c.join-volume.ensures.second in
+    let back : c.in_ok-volume.field-0.items ≡ lines = IfOk-at_ok (λ v. v.items ≡ lines) c.in_ok-volume.was c.join-volume.ensures.first in
+    c.in_ok-append.ensures.items ∙ ap (λ l. l ++ c.in_ok-volume.field-0.items) front ∙ ap (λ l. calls ++ l) back
+    ∙ ap (λ (o : Option Volume). calls ++ volume_lines o) c.in-Some.ensures

@@ -25,11 +25,11 @@ returns-in_err-served-clause-unasked g c =
     (no_backups c.args.number c.args.streams c.args.calls))
 
 pub sum_up-requires-clause-each : goal.sum_up-requires-clause-each
-sum_up-requires-clause-each g c =
+sum_up-requires-clause-each g c κs within =
     (c.in_ok-served.ensures.served (blank_spot c.in_ok-script.script) c.in_ok-world.ensures.begun).many
 
 pub sum_up-requires-clause-some_streams : goal.sum_up-requires-clause-some_streams
-sum_up-requires-clause-some_streams g c =
+sum_up-requires-clause-some_streams g c κs within =
     omega (
       arith,
       served_many c.args.number c.args.streams c.args.calls _ _ c.in_ok-script.script c.in_ok-served.served
@@ -37,7 +37,7 @@ sum_up-requires-clause-some_streams g c =
     )
 
 pub sum_up-requires-clause-few_streams : goal.sum_up-requires-clause-few_streams
-sum_up-requires-clause-few_streams g c =
+sum_up-requires-clause-few_streams g c κs within =
     omega (
       arith,
       c.requires.can.few_streams,
