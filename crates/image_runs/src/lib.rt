@@ -7,4 +7,5 @@ mod print;
 mod run;
 mod table;
 
-pub use print::print_runs;
+pub use print::{append_runs, print_runs};
+pub use run::{append_run, run_length};

@@ -26,7 +26,7 @@ pub fn print_runs(bytes: &[u8], into: &mut Vec<u8>) -> Result<(), AllocError>
 }
 
 /// Appends all runs, a comma behind each. Some of them stand there where memory runs out.
-fn append_runs(bytes: &[u8], into: &mut Vec<u8>) -> Result<(), AllocError>
+pub fn append_runs(bytes: &[u8], into: &mut Vec<u8>) -> Result<(), AllocError>
     ensures ok { OnOk result (into.new.items ≡ into.old.items ++ with_commas (runs bytes.now)) }
     ensures kept { IsPrefixOf into.old.items into.new.items }
 {
