@@ -18,7 +18,7 @@ use Rattle.stream_steps.specs.Steps.{IsReadCall, AcksTo}
 use Rattle.stream_steps.specs.Against.{RefusesAck, RefusesFault, RefusesEnd}
 use Rattle.client_worker.specs.Ends.{NoneAcked}
 use Rattle.client_worker.specs.Serving.{KeepsOpen}
-use Rattle.client_worker.specs.Asking.{HasTaken, HasAcked, AckedOrFailed, Falls}
+use Rattle.client_worker.specs.Asking.{HasTaken, HasAcked, AckedOrFailed, AckedOrUnread, Falls}
 use Rattle.client_worker.proofs.Going.{one_of}
 
 -- ---- refused
@@ -100,3 +100,13 @@ pub falls_goes : (res : Result (Unit {0}) (Option ℕ)) (modes : List Mode) (r :
     → IfErr res (Falls modes r a b) → KeepsOpen a b
 falls_goes (Ok u) modes r a b e h = absurd cc
 falls_goes (Err next) modes r a b e h = h.goes
+
+-- one that has failed is not read
+pub failed_unread : (modes : List Mode) (r : ℕ) (m : Mine) → AckedOrFailed modes r m → AckedOrUnread modes r m
+failed_unread modes r m asked o run = elim (asked o run) [
+  | inl acked ↦ inl acked
+  | inr failed ↦ inr (λ e. no_mode (sym failed ∙ e))
+]
+  where
+    no_mode : mode.Err ≡ mode.Rw → ⊥
+    no_mode e = cc

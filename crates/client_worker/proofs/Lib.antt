@@ -9,3 +9,4 @@ pub mod Starting
 pub mod Writing
 pub mod Calls
 pub mod ServedLaws
+pub mod Acked

@@ -4,6 +4,7 @@ use Rattle.std.proofs.Common.{subst, sym, refl, ap, ◌∙◌, append_assoc, app
 use Rattle.std.specs.Prelude.{All}
 use Rattle.std.specs.Option.{option_map}
 use Rattle.std.proofs.lemmas.List.{map-append}
+use Rattle.std.proofs.lemmas.List.Elements.{All-append}
 use Rattle.volume_model.specs.declared.call.Call.{Call}
 use Rattle.volume_model.specs.declared.call.Reply.{Reply}
 use Rattle.volume_model.specs.declared.call.Reply.TheVariants as reply
@@ -13,7 +14,7 @@ use Rattle.stream_steps.specs.Mine.{Mine, Log, OwnCall, IsOwn, entries_in, longe
 use Rattle.stream_steps.specs.Steps.{IsUncarried, EnrolsAt, AnswersNow, Answers, Refuses}
 use Rattle.stream_steps.proofs.MineLemmas.{entries-append, longer_none, longer_twice, more_none, more_twice}
 use Rattle.client_worker.specs.Serving.{IsOwnFault, StaysOpen, KeepsOpen, Serves, AreServed, GrewBy, Grew}
-use Rattle.client_worker.specs.Ends.{BeginsAs, EndsTo, TakesUp}
+use Rattle.client_worker.specs.Ends.{BeginsAs, EndsTo, EndsOpen, TakesUp}
 use Rattle.client_worker.proofs.Going.{after, goes_running, own_of, no_faults}
 
 -- ---- one call
@@ -31,6 +32,31 @@ ends_answered o a b c g s = record {
   by = s.by ∙ ap (λ (m : Mine). m.stream) g.is;
   saw = s.saw;
 }
+
+-- one that is answered behind what went on before
+ends_later : (o : OwnCall) (a b c : Mine) (g : StaysOpen o a b) → EndsTo (after o a b g) b c → EndsTo o a c
+ends_later o a b c g s = record {
+  marks = g.marks ++ s.marks;
+  spot = s.spot;
+  answer = s.answer;
+  is = s.is ∙ ap (λ (m : Mine). with_more m (s.marks ++ answer_placed s.spot s.answer ∷ []) []) g.is
+      ∙ more_twice a g.marks (s.marks ++ answer_placed s.spot s.answer ∷ []) (after o a b g ∷ []) []
+      ∙ ap (λ ps. with_more a ps []) (sym (append_assoc g.marks s.marks (answer_placed s.spot s.answer ∷ [])));
+  faults = subst (All (IsOwnFault a.stream)) (sym (entries-append g.marks s.marks))
+      (All-append (IsOwnFault a.stream) (entries_in g.marks) (entries_in s.marks) g.faults
+      (subst (λ n. All (IsOwnFault n) (entries_in s.marks)) (ap (λ (m : Mine). m.stream) g.is) s.faults));
+  call = s.call;
+  by = s.by ∙ ap (λ (m : Mine). m.stream) g.is;
+  saw = s.saw;
+}
+
+pub ends_then : (a b c : Mine) → KeepsOpen a b → EndsOpen b c → EndsOpen a c
+ends_then a b c goes ends o run =
+    let g = goes o run in
+    ends_later o a b c g (ends (after o a b g) (goes_running o a b g))
+
+pub ends_own : (t : ℕ) (a c : Mine) → EndsOpen a c → (o : OwnCall) → IsOwn t o a → EndsTo o a c
+ends_own t a c ends o own = ends o own.is
 
 pub ends_by : (t : ℕ) (a b c : Mine) → KeepsOpen a b → ((x : OwnCall) × IsOwn t x a)
     → ((x : OwnCall) → IsOwn t x b → Answers x b c) → (o : OwnCall) → IsOwn t o a → EndsTo o a c

@@ -122,7 +122,7 @@ ShowsOn a b = (b.replicas ≡ a.replicas) × KeepsShown a b
 pub shows_same : (a b : Mine) → b ≡ a → ShowsOn a b
 shows_same a b e = (ap (λ (m : Mine). m.replicas) e, shown_same a b e)
 
-shows_answers : (o : OwnCall) (a b : Mine) → a.running ≡ o ∷ [] → o.started ≡ true → Answers o a b → ShowsOn a b
+pub shows_answers : (o : OwnCall) (a b : Mine) → a.running ≡ o ∷ [] → o.started ≡ true → Answers o a b → ShowsOn a b
 shows_answers o a b run started s = (
   ap (λ (m : Mine). m.replicas) s.is,
   λ counts carried h.

@@ -1,7 +1,7 @@
 -- A write is carried to each replica in its turn, in room that was made before it started.
 use Rattle.std.proofs.Common.{◌≡◌, ℕ, ◌+◌, ◌-◌, ◌*◌, ◌<◌, ◌≤◌, ℤ, List, [], ◌∷◌, ◌++◌, length, take, drop, get_or}
 use Rattle.std.proofs.Common.{set, is_some, true, vec_capacity, Option, Some, None, subst, sym, ap, ◌∙◌}
-use Rattle.std.proofs.Common.{length-append, arith, Bool, false, IfSome, refl}
+use Rattle.std.proofs.Common.{length-append, arith, IfSome, Result, Ok, Err, IfOk, refl}
 use Rattle.std.specs.List.{All}
 use Rattle.std.proofs.lemmas.List.{get_or-set_other, length-set, take_rest}
 use Rattle.std.proofs.lemmas.List.Elements.{All-get_or}
@@ -18,6 +18,7 @@ use Rattle.step_answers.specs.declared.answers.Job.{Job}
 use Rattle.frame_wire.specs.Spelling.{header_length}
 use Rattle.client_worker.specs.declared.opened.OpenRead.{OpenRead}
 use Rattle.client_worker.specs.declared.rooms.Rooms.{Rooms}
+use Rattle.stream_steps.specs.declared.with_source.WithSource.{WithSource}
 use Rattle.stream_steps.specs.Mine.{Mine, OwnCall, IsOwn}
 use Rattle.stream_steps.specs.Steps.{Refuses, StartsCall, IsStarted, IsStartedWrite, IsWriteCall, IsRounded, IsJobFor}
 use Rattle.stream_steps.specs.Steps.{HasStarted, IsOnBlocks, IsReadCall, AreBlocksOfCall}
@@ -120,12 +121,12 @@ left_from n (Some r) = n - r
 -- ---- the start
 
 -- what was said of the start
-module _ (t : ℕ) (a c : Mine) (j : Option Job) (ok : (o : OwnCall) → IsOwn t o a → StartsOr o j a c) where
+module _ (t : ℕ) (a c : Mine) (j : Option (WithSource Job)) (ok : (o : OwnCall) → IsOwn t o a → StartsOr o j a c) where
   pub not_begun : j ≡ None → (o : OwnCall) → IsOwn t o a → Refuses o a c
   not_begun e o h = subst (λ x. StartsOr o x a c) e (ok o h)
 
-  pub begun : (job : Job) → j ≡ Some job → (o : OwnCall) → IsOwn t o a → StartsCall o job a c
-  begun job e o h = subst (λ x. StartsOr o x a c) e (ok o h)
+  pub begun : (start : WithSource Job) → j ≡ Some start → (o : OwnCall) → IsOwn t o a → StartsCall o start.answer a c
+  begun start e o h = subst (λ x. StartsOr o x a c) e (ok o h)
 
 -- the bytes of a started write fill its blocks, which were counted before
 module _ (o : OwnCall) (job : Job) (a b : Mine) (s : StartsCall o job a b) (offset : ℤ) (bytes : List ℕ)
@@ -193,6 +194,13 @@ reads_begun o job offset n a b s is = record {
   long = subst (λ c. IsStarted c s.own) is s.of;
 }
 
+pub reads_or : {E : Type 0} (res : Result (Option (WithSource Job)) E) (t : ℕ) (offset : ℤ) (n : ℕ) (a b : Mine)
+    → IfOk res (λ j. (o : OwnCall) → IsOwn t o a → StartsOr o j a b)
+    → IfOk res (λ j. (o : OwnCall) → IsOwn t o a → o.call ≡ call.Read offset n → ReadsOr o j offset n a b)
+reads_or (Ok None) t offset n a b ok = λ o own is. ok o own
+reads_or (Ok (Some start)) t offset n a b ok = λ o own is. reads_begun o start.answer offset n a b (ok o own) is
+reads_or (Err e) t offset n a b ok = tt
+
 -- ---- its end
 
 pub only_own : (t : ℕ) (m : Mine) (o p : OwnCall) → IsOwn t o m → IsOwn t p m → p ≡ o
@@ -218,14 +226,14 @@ begins_ends t n job a b c rooms begins ends o own =
     let s = begins o own in
     takes_started o s.own a b c s.begins (ends s.own (begun_own t o s.own a b own s.begins))
 
-pub reads_none : (t : ℕ) (offset : ℤ) (n : ℕ) (a b : Mine) (started : Bool) (op : (o : OwnCall) × IsOwn t o a)
-    → ReadsOr op.0 started offset n a b → started ≡ false → (o : OwnCall) → IsOwn t o a → TakesUp o a b
-reads_none t offset n a b started op ok e o h =
+pub reads_none : (t : ℕ) (offset : ℤ) (n : ℕ) (a b : Mine) (j : Option (WithSource Job)) (op : (o : OwnCall) × IsOwn t o a)
+    → ReadsOr op.0 j offset n a b → j ≡ None → (o : OwnCall) → IsOwn t o a → TakesUp o a b
+reads_none t offset n a b j op ok e o h =
     subst (λ x. TakesUp x a b) (only_own t a o op.0 h op.1) (takes_refused op.0 a b (subst (λ x. ReadsOr op.0 x offset n a b) e ok))
 
-pub reads_some : (o : OwnCall) (offset : ℤ) (n : ℕ) (a b : Mine) (started : Bool) → ReadsOr o started offset n a b
-    → started ≡ true → ReadsIn o offset n a b
-reads_some o offset n a b started ok e = subst (λ x. ReadsOr o x offset n a b) e ok
+pub reads_some : (o : OwnCall) (offset : ℤ) (n : ℕ) (a b : Mine) (j : Option (WithSource Job)) (start : WithSource Job)
+    → ReadsOr o j offset n a b → j ≡ Some start → ReadsIn o offset n a b
+reads_some o offset n a b j start ok e = subst (λ x. ReadsOr o x offset n a b) e ok
 
 pub reads_ends : (t : ℕ) (offset : ℤ) (n : ℕ) (a b c : Mine) (op : (o : OwnCall) × IsOwn t o a) → ReadsIn op.0 offset n a b
     → ((o : OwnCall) → IsOwn t o b → EndsTo o b c) → (o : OwnCall) → IsOwn t o a → TakesUp o a c

@@ -12,7 +12,10 @@ use Rattle.outer_traits.specs.Lines.{TellsMore}
 use Rattle.stream_steps.specs.Mine.{Mine, OwnCall}
 use Rattle.stream_steps.specs.Seen.{IsNextUp}
 use Rattle.client_worker.specs.Exchanges.{told_in, HasPart}
+use Rattle.client_worker.specs.declared.opened.AfterPart.{AfterPart}
+use Rattle.client_worker.specs.declared.opened.AfterPart.TheVariants as after
 use Rattle.client_worker.specs.Serving.{KeepsOpen}
+use Rattle.client_worker.specs.Ends.{EndsOpen}
 
 -- ---- a carry
 
@@ -78,9 +81,14 @@ pub record Falls (modes : List Mode) (r : ℕ) (m m2 : Mine) (next : Option ℕ)
   pub up : IsNextUp modes r next
   pub inside : IfSome next (λ q. q < m.replicas)
 
--- the replica was asked: it has acknowledged or has failed, and the open call goes on; which is next
-pub record WasAsked (modes : List Mode) (r : ℕ) (m m2 : Mine) (next : Option ℕ) : Type 0 where
+-- the replica has acknowledged or has failed, and the open call goes on; which is next
+pub record GoesToNext (modes : List Mode) (r : ℕ) (m m2 : Mine) (next : Option ℕ) : Type 0 where
   pub goes : KeepsOpen m m2
   pub asked : AckedOrFailed modes r m2
   pub up : IsNextUp modes r next
   pub inside : IfSome next (λ q. q < m.replicas)
+
+-- the replica was asked: the open call is answered, or it goes on
+abbrev pub WasAsked : List Mode → ℕ → Mine → Mine → AfterPart → Type 0
+WasAsked modes r m m2 after.Answered = EndsOpen m m2
+WasAsked modes r m m2 (after.GoesOn next) = GoesToNext modes r m m2 next

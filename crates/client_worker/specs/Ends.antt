@@ -7,6 +7,7 @@ use Rattle.volume_model.specs.Modes.{HasSource}
 use Rattle.step_answers.specs.declared.parts.Part.TheVariants.{Acked}
 use Rattle.step_answers.specs.Parts.{part_at}
 use Rattle.step_answers.specs.declared.answers.Job.{Job}
+use Rattle.stream_steps.specs.declared.with_source.WithSource.{WithSource}
 use Rattle.stream_steps.specs.Mine.{Mine, OwnCall, Placed, entries_in, with_more, with_running, answer_placed}
 use Rattle.stream_steps.specs.Steps.{StartsCall, Refuses}
 use Rattle.client_worker.specs.Serving.{IsOwnFault, IsShown}
@@ -31,9 +32,9 @@ pub record BeginsAs (o own : OwnCall) (m m2 : Mine) : Type 0 where
   pub source : IfSome m.log (λ log. HasSource log.spot.modes)
 
 -- it starts, or there is no replica
-abbrev pub StartsOr : OwnCall → Option Job → Mine → Mine → Type 0
+abbrev pub StartsOr : OwnCall → Option (WithSource Job) → Mine → Mine → Type 0
 StartsOr o None m m2 = Refuses o m m2
-StartsOr o (Some job) m m2 = StartsCall o job m m2
+StartsOr o (Some start) m m2 = StartsCall o start.answer m m2
 
 -- ---- the end
 
@@ -47,6 +48,10 @@ pub record EndsTo (o : OwnCall) (m m2 : Mine) : Type 0 where
   pub call : answer.call ≡ o.call
   pub by : answer.stream ≡ m.stream
   pub saw : answer.saw ≡ o.saw
+
+-- so it is with the open call that there is
+abbrev pub EndsOpen : Mine → Mine → Type 0
+EndsOpen m m2 = (o : OwnCall) → m.running ≡ o ∷ [] → EndsTo o m m2
 
 -- the same of one that waits: it is answered with bytes only where a replica was read
 pub record TakesUp (o : OwnCall) (m m2 : Mine) : Type 0 where

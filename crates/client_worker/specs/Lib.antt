@@ -6,3 +6,4 @@ pub mod Ends
 pub mod Frames
 pub mod Rooms
 pub mod Working
+pub mod After

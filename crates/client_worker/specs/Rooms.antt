@@ -1,5 +1,5 @@
 -- What a call is carried in.
-use Rattle.std.specs.Prelude.{◌≡◌, ℕ, ◌+◌, ◌*◌, ◌<◌, ◌≤◌, ◌^◌, ℤ, Bool, true, false, List, [], vec_capacity, length}
+use Rattle.std.specs.Prelude.{◌≡◌, ℕ, ◌+◌, ◌*◌, ◌<◌, ◌≤◌, ◌^◌, ℤ, true, List, [], vec_capacity, length}
 use Rattle.std.specs.Prelude.{drop, All, is_some, Option, Some, None}
 use Rattle.vol_units.specs.declared.size.TheConstants.{BLOCK_BYTES}
 use Rattle.volume_model.specs.declared.call.Call.TheVariants as call
@@ -7,6 +7,7 @@ use Rattle.step_answers.specs.declared.answers.Job.{Job}
 use Rattle.frame_wire.specs.Spelling.{header_length}
 use Rattle.client_worker.specs.declared.opened.OpenRead.{OpenRead}
 use Rattle.client_worker.specs.declared.rooms.Rooms.{Rooms}
+use Rattle.stream_steps.specs.declared.with_source.WithSource.{WithSource}
 use Rattle.stream_steps.specs.Mine.{Mine, OwnCall, IsOwn}
 use Rattle.stream_steps.specs.Steps.{Refuses, IsStarted, IsStartedWrite}
 use Rattle.client_worker.specs.Ends.{BeginsAs, NoneAcked}
@@ -83,6 +84,6 @@ pub record ReadsIn (o : OwnCall) (offset : ℤ) (n : ℕ) (m m2 : Mine) : Type 0
   pub long : length own.buffer ≡ n
 
 -- it begins, or there is no replica
-abbrev pub ReadsOr : OwnCall → Bool → ℤ → ℕ → Mine → Mine → Type 0
-ReadsOr o false offset n m m2 = Refuses o m m2
-ReadsOr o true offset n m m2 = ReadsIn o offset n m m2
+abbrev pub ReadsOr : OwnCall → Option (WithSource Job) → ℤ → ℕ → Mine → Mine → Type 0
+ReadsOr o None offset n m m2 = Refuses o m m2
+ReadsOr o (Some start) offset n m m2 = ReadsIn o offset n m m2

@@ -1,11 +1,12 @@
 //! A replica is asked for its part of the open call.
 
-ghost use Rattle.std.specs.Prelude.{◌≡◌, ℕ, ◌+◌, ◌<◌, ◌≤◌, length, drop, vec_capacity, OnOk, OnErr, IfErr};
+ghost use Rattle.std.specs.Prelude.{◌≡◌, ℕ, ◌+◌, ◌<◌, ◌≤◌, true, false, length, drop, vec_capacity, OnOk, OnErr, IfErr};
 ghost use Rattle.volume_model.specs.Modes.{IsSource};
 ghost use Rattle.frame_wire.specs.Spelling.{header_length};
 ghost use Rattle.stream_steps.specs.Mine.{OwnCall, IsOwn};
 ghost use Rattle.stream_steps.specs.Steps.{TakesTo};
 ghost use Rattle.client_worker.specs.Serving.{KeepsOpen};
+ghost use Rattle.client_worker.specs.Ends.{EndsOpen};
 ghost use Rattle.client_worker.specs.Asking.{Falls, WasAsked, AckedOrUnread};
 ghost use Rattle.client_worker.specs.Rooms.{AreBoxes, CarriesWrite, IsOpenRead};
 ghost use Rattle.client_worker.specs.Working.{Stays, StaysHome};
@@ -13,7 +14,7 @@ ghost use Rattle.client_worker.specs.Working.{Stays, StaysHome};
 use crate::carrier::Carrier;
 use crate::channel::next_exchange;
 use crate::frames::{put_header, read_head, read_reply_head, write_head, write_reply_head};
-use crate::opened::{OpenRead, WritePart};
+use crate::opened::{AfterPart, OpenRead, WritePart};
 use frame_wire::{HEADER_LENGTH, encode_header};
 use outer_traits::Line;
 use sparse_image::Blocks;
@@ -21,7 +22,8 @@ use std::sync::Wait;
 use stream_steps::ClientSteps;
 
 impl<C: ClientSteps + Drop, L: Line + Drop> Carrier<C, L> {
-    /// Asks a replica for its part of the open write, and says which is next: its request is there but for the header.
+    /// Asks a replica for its part of the open write, whose request is there but for the header, and says whether the write
+    /// is answered now, and else which replica is next.
     pub(crate) fn ask_write<R: Wait>(
         &mut self,
         rt: &R,
@@ -29,7 +31,7 @@ impl<C: ClientSteps + Drop, L: Line + Drop> Carrier<C, L> {
         request: &mut [u8],
         blocks: &mut Blocks,
         room: &mut Vec<u8>,
-    ) -> Option<u8>
+    ) -> AfterPart
         requires line { part.now.replica < length self.old.channels }
         requires room { header_length + length request.old ≤ vec_capacity room.old }
         requires own { (o : OwnCall) × (n : ℕ) × IsOwn part.now.ticket o (C.mine self.old.steps)
@@ -49,10 +51,10 @@ impl<C: ClientSteps + Drop, L: Line + Drop> Carrier<C, L> {
         let count = (request.len() - HEADER_LENGTH) as u32;
         put_header(request, &write_head(seq, first, count));
         if let Err(next) = self.pass(rt, replica, request, room) {
-            return next;
+            return AfterPart::GoesOn(next);
         }
         if let Err(next) = self.take_write(rt, part, request, blocks) {
-            return next;
+            return AfterPart::GoesOn(next);
         }
         let reply = encode_header(&write_reply_head(seq, first, count));
         self.reply_with(rt, ticket, replica, &reply, room)
@@ -86,7 +88,8 @@ impl<C: ClientSteps + Drop, L: Line + Drop> Carrier<C, L> {
         }
     }
 
-    /// Asks the lowest replica that is read for the bytes of the open read, for which the reply has the room.
+    /// Asks the lowest replica that is read for the bytes of the open read, for which the reply has the room, and says
+    /// whether the read is answered now.
     pub(crate) fn ask_read<R: Wait>(
         &mut self,
         rt: &R,
@@ -94,15 +97,16 @@ impl<C: ClientSteps + Drop, L: Line + Drop> Carrier<C, L> {
         replica: u8,
         reply: &mut [u8],
         room: &mut Vec<u8>,
-    )
+    ) -> bool
         requires line { replica < length self.old.channels }
         requires source { IsSource (C.modes self.old.steps) replica }
         requires room { header_length + length reply.old ≤ vec_capacity room.old }
         requires own { IsOpenRead read.now (C.mine self.old.steps) reply.old }
         ensures stays { Stays C.home L.ends self.old self.new }
         ensures room { vec_capacity room.old ≤ vec_capacity room.new }
-        ensures goes { KeepsOpen (C.mine self.old.steps) (C.mine self.new.steps) }
-        ensures asked { AckedOrUnread (C.modes self.new.steps) replica (C.mine self.new.steps) }
+        ensures done { result ≡ true → EndsOpen (C.mine self.old.steps) (C.mine self.new.steps) }
+        ensures goes { result ≡ false → KeepsOpen (C.mine self.old.steps) (C.mine self.new.steps) }
+        ensures asked { result ≡ false → AckedOrUnread (C.modes self.new.steps) replica (C.mine self.new.steps) }
     {
         let OpenRead {
             ticket,
@@ -112,13 +116,14 @@ impl<C: ClientSteps + Drop, L: Line + Drop> Carrier<C, L> {
         let seq = next_exchange(&mut self.channels, replica);
         let request = encode_header(&read_head(seq, offset, count));
         if self.pass(rt, replica, &request, room).is_err() {
-            return;
+            return false;
         }
         let bytes = &mut reply[HEADER_LENGTH..];
         if self.steps.apply_read(rt, ticket, replica, bytes).is_err() {
-            return;
+            return false;
         }
         put_header(reply, &read_reply_head(seq, offset, count));
-        self.reply_with(rt, ticket, replica, reply, room);
+        self.reply_with(rt, ticket, replica, reply, room)
+            .is_answered()
     }
 }

@@ -1,8 +1,9 @@
 //! How an open call starts, and how it ends.
 
-ghost use Rattle.std.specs.Prelude.{◌≡◌, [], true, false, IfOk, OnErr};
+ghost use Rattle.std.specs.Prelude.{◌≡◌, [], true, false, length, IfOk, IfSome, OnErr};
 ghost use Rattle.stream_steps.specs.Mine.{OwnCall, IsOwn, with_running};
 ghost use Rattle.stream_steps.specs.Steps.{Answers, HasNotStarted, HasStarted, IsReadCall};
+ghost use Rattle.stream_steps.specs.Seen.{TellsSource};
 ghost use Rattle.client_worker.specs.Ends.{NoneAcked, StartsOr};
 ghost use Rattle.client_worker.specs.Working.{StaysHome};
 
@@ -12,27 +13,32 @@ use range_turns::TicketNumber;
 use std::alloc::{AllocError, Global};
 use std::sync::Wait;
 use step_answers::{Admit, Job};
-use stream_steps::ClientSteps;
+use stream_steps::{ClientSteps, WithSource};
 
 impl<C: ClientSteps + Drop, L: Line + Drop> Carrier<C, L> {
-    /// Waits until the open call starts, or is answered that there is no replica. Out of memory takes it back.
+    /// Waits until the open call starts, or is answered that there is no replica. Where it starts, the lowest replica that
+    /// is read is told. Out of memory takes it back.
     pub(crate) fn start<R: Wait>(
         &mut self,
         rt: &R,
         alloc: Global,
         t: TicketNumber,
-    ) -> Result<Option<Job>, AllocError>
+    ) -> Result<Option<WithSource<Job>>, AllocError>
         requires waits { (o : OwnCall) × IsOwn t o (C.mine self.old.steps) × HasNotStarted o }
         ensures stays { StaysHome C.home self.old self.new }
-        ensures ok { IfOk result (λ job. (o : OwnCall) → IsOwn t o (C.mine self.old.steps)
-            → StartsOr o job (C.mine self.old.steps) (C.mine self.new.steps)) }
+        ensures ok { IfOk result (λ start. (o : OwnCall) → IsOwn t o (C.mine self.old.steps)
+            → StartsOr o start (C.mine self.old.steps) (C.mine self.new.steps)) }
+        ensures source { IfOk result (λ start. IfSome start (λ s. TellsSource (C.modes self.new.steps)
+            (length self.old.channels) s.source)) }
         ensures err { OnErr result (C.mine self.new.steps ≡ with_running (C.mine self.old.steps) []) }
     {
         for _ in rt.forever() {
             match self.steps.admit(rt, alloc, t) {
-                Ok(Admit::Go(job)) => return Ok(Some(job)),
-                Ok(Admit::NoReplica(_)) => return Ok(None),
-                Ok(Admit::After(_)) => {}
+                Ok(WithSource { answer, source }) => match answer {
+                    Admit::Go(answer) => return Ok(Some(WithSource { answer, source })),
+                    Admit::NoReplica(_) => return Ok(None),
+                    Admit::After(_) => {}
+                },
                 Err(error) => {
                     self.steps.withdraw(rt, t);
                     return Err(error);
@@ -54,6 +60,15 @@ impl<C: ClientSteps + Drop, L: Line + Drop> Carrier<C, L> {
             → NoneAcked (C.mine self.new.steps) }
     {
         self.steps.complete(rt, t).is_ok()
+    }
+
+    /// The lowest replica that is read and written.
+    pub(crate) fn source<R: Wait>(&mut self, rt: &R) -> Option<u8>
+        ensures stays { StaysHome C.home self.old self.new }
+        ensures same { C.mine self.new.steps ≡ C.mine self.old.steps }
+        ensures is { TellsSource (C.modes self.new.steps) (length self.old.channels) result }
+    {
+        self.steps.source(rt)
     }
 
     /// Waits until the open call is answered.

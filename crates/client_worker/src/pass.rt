@@ -1,19 +1,22 @@
 //! A frame is carried to a replica, and a replica whose line fails has failed.
 
-ghost use Rattle.std.specs.Prelude.{◌<◌, ◌≤◌, length, map, vec_capacity, slice_index_or, OnOk, IfErr};
+ghost use Rattle.std.specs.Prelude.{◌≡◌, ◌<◌, ◌≤◌, length, map, vec_capacity, slice_index_or, OnOk, IfErr};
 ghost use Rattle.volume_model.specs.Faults.{last_count};
 ghost use Rattle.stream_steps.specs.Mine.{OwnCall, IsOwn, entries_in};
 ghost use Rattle.stream_steps.specs.Steps.{HasStarted};
 ghost use Rattle.client_worker.specs.Exchanges.{told_in};
 ghost use Rattle.client_worker.specs.Asking.{Arrives, LacksReply, HasTaken, Falls, WasAsked};
+ghost use Rattle.client_worker.specs.After.{after_ack};
 ghost use Rattle.client_worker.specs.Working.{Passes, Stays, StaysHome};
 
 use crate::carrier::Carrier;
 use crate::channel::carry;
+use crate::opened::AfterPart;
 use outer_traits::Line;
 use range_turns::TicketNumber;
 use std::sync::Wait;
-use stream_steps::ClientSteps;
+use step_answers::NotThis;
+use stream_steps::{ClientSteps, OnReplica};
 
 impl<C: ClientSteps + Drop, L: Line + Drop> Carrier<C, L> {
     /// The line to a replica has failed: the core is told its count, and says which replica is next.
@@ -53,8 +56,8 @@ impl<C: ClientSteps + Drop, L: Line + Drop> Carrier<C, L> {
         Err(self.tell_fault(rt, replica))
     }
 
-    /// Carries the reply of a replica that had its step of the open call, which is thereby acknowledged, and says which
-    /// replica is next.
+    /// Carries the reply of a replica that had its step of the open call, which is thereby acknowledged, and says whether
+    /// the call is answered now, and else which replica is next.
     pub(crate) fn reply_with<R: Wait>(
         &mut self,
         rt: &R,
@@ -62,7 +65,7 @@ impl<C: ClientSteps + Drop, L: Line + Drop> Carrier<C, L> {
         replica: u8,
         reply: &[u8],
         room: &mut Vec<u8>,
-    ) -> Option<u8>
+    ) -> AfterPart
         requires line { replica < length self.old.channels }
         requires frame { Arrives reply.now (vec_capacity room.old) }
         requires own { (o : OwnCall) × IsOwn t o (C.mine self.old.steps) × HasStarted o × HasTaken o replica
@@ -72,9 +75,20 @@ impl<C: ClientSteps + Drop, L: Line + Drop> Carrier<C, L> {
         ensures asked { WasAsked (C.modes self.new.steps) replica (C.mine self.old.steps)
             (C.mine self.new.steps) result }
     {
-        match self.pass(rt, replica, reply, room) {
-            Ok(()) => self.steps.ack(rt, t, replica).next,
-            Err(next) => next,
+        if let Err(next) = self.pass(rt, replica, reply, room) {
+            return AfterPart::GoesOn(next);
         }
+        let acked = self.steps.ack(rt, t, replica);
+        after(acked)
+    }
+}
+
+/// What an acknowledgement comes to.
+fn after(acked: OnReplica<Result<bool, NotThis>>) -> AfterPart
+    ensures { result ≡ after_ack acked.answer acked.next }
+{
+    match acked.answer {
+        Ok(true) => AfterPart::Answered,
+        Ok(false) | Err(_) => AfterPart::GoesOn(acked.next),
     }
 }

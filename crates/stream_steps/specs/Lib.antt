@@ -2,6 +2,7 @@ pub mod Mine
 pub mod Does
 pub mod Against
 pub mod Steps
+pub mod Ended
 pub mod Maint
 pub mod Seen
 pub mod Add

@@ -1,5 +1,5 @@
 -- What the last step of a stream saw of the volume, in its own turn: whose answer has its cause there.
-use Rattle.std.specs.Prelude.{◌≡◌, ◌≢◌, ◌⊎◌, ℕ, ◌*◌, ◌≤◌, length, ◌<◌, List, Option, Some, None, IfSome}
+use Rattle.std.specs.Prelude.{◌≡◌, ◌≢◌, ◌⊎◌, ℕ, ◌*◌, ◌≤◌, length, ◌<◌, List, Option, Some, None, IfSome, MatchOption}
 use Rattle.volume_model.specs.declared.call.Call.{Call}
 use Rattle.volume_model.specs.declared.call.Refusal.TheVariants.{NoReplica}
 use Rattle.volume_model.specs.declared.call.Reply.{Reply}
@@ -7,7 +7,7 @@ use Rattle.volume_model.specs.declared.call.Reply.TheVariants as reply
 use Rattle.volume_model.specs.declared.mark.FoldOrDrop.{FoldOrDrop}
 use Rattle.volume_model.specs.declared.mode.Mode.{Mode}
 use Rattle.volume_model.specs.declared.mode.Mode.TheVariants.{Rw, Err}
-use Rattle.volume_model.specs.Modes.{mode_of, HasSource}
+use Rattle.volume_model.specs.Modes.{mode_of, HasSource, HasNoSource, IsSource}
 use Rattle.volume_model.specs.PlainState.{Volume}
 use Rattle.volume_model.specs.Purge.{CanFold}
 use Rattle.vol_units.specs.declared.size.TheConstants.{PAGE_BYTES}
@@ -72,6 +72,11 @@ IsNextUp modes r (Some q) = (r < q) × (mode_of modes q ≢ Err) × ((k : ℕ) �
 -- that replica is next, and it is one of so many
 pub record TellsNext (modes : List Mode) (r replicas : ℕ) (q : Option ℕ) : Type 0 where
   pub next : IsNextUp modes r q
+  pub inside : IfSome q (λ k. k < replicas)
+
+-- the lowest that is read and written is that one, if there is one, and it is one of so many
+pub record TellsSource (modes : List Mode) (replicas : ℕ) (q : Option ℕ) : Type 0 where
+  pub is : MatchOption q (HasNoSource modes) (IsSource modes)
   pub inside : IfSome q (λ k. k < replicas)
 
 -- ---- what a started call carries

@@ -1,13 +1,15 @@
-ghost use Rattle.std.specs.Prelude.{◌≡◌, ◌<◌, [], length, OnOk, OnErr, IfOk, IfSome, MatchOption};
-ghost use Rattle.volume_model.specs.Modes.{mode_of, IsSource, HasNoSource};
+ghost use Rattle.std.specs.Prelude.{◌≡◌, ◌<◌, [], length, OnOk, OnErr, IfOk};
+ghost use Rattle.volume_model.specs.Modes.{mode_of, IsSource};
 ghost use Rattle.step_answers.specs.Asked.{IsOnRange};
 ghost use Rattle.stream_steps.specs.Mine.{OwnCall, IsOwn, ForOwn, with_running};
 ghost use Rattle.stream_steps.specs.Does.{Stands, StandsStill, Does, StartsOrWaits};
 ghost use Rattle.stream_steps.specs.Against.{AgainstTake, AgainstGive, RefusesAck, RefusesFault, RefusesEnd};
-ghost use Rattle.stream_steps.specs.Steps.{HasNotStarted, HasStarted, IsStartedWrite, IsStartedRead, AsksNow, EnrolsTo, AnswersNow, Answers, AdmitsTo, IsNotAfter, AreBlocksOfCall, TakesTo, AcksTo, FaultsTo};
-ghost use Rattle.stream_steps.specs.Seen.{IsJobOf, TellsNext, WaitsAs};
+ghost use Rattle.stream_steps.specs.Steps.{HasNotStarted, HasStarted, IsStartedWrite, IsStartedRead, AsksNow, EnrolsTo, AnswersNow, Answers, AdmitsTo, IsNotAfter, AreBlocksOfCall, TakesTo, FaultsTo};
+ghost use Rattle.stream_steps.specs.Ended.{AcksOrEnds};
+ghost use Rattle.stream_steps.specs.Seen.{IsJobOf, TellsNext, TellsSource, WaitsAs};
 
 use crate::on_replica::OnReplica;
+use crate::with_source::WithSource;
 use range_turns::TicketNumber;
 use sparse_image::Blocks;
 use std::alloc::{AllocError, Global};
@@ -57,20 +59,21 @@ pub trait ClientSteps {
         ensures ok { IfOk result (λ e. EnrolsTo call.now e (mine self.old) (mine self.new)) }
         ensures err { OnErr result (mine self.new ≡ mine self.old) };
 
-    /// Starts the open call, where nothing earlier is in its way.
+    /// Starts the open call, where nothing earlier is in its way, and tells the lowest replica that is read and written.
     fn admit<R: Wait>(
         &mut self,
         rt: &R,
         alloc: Global,
         t: TicketNumber,
-    ) -> Result<Admit, AllocError>
+    ) -> Result<WithSource<Admit>, AllocError>
         requires ready { ready self.old }
         requires open { (o : OwnCall) × IsOwn t o (mine self.old) × HasNotStarted o }
         ensures stands { Stands ready home self.old self.new }
         ensures ok { IfOk result (λ a. StartsOrWaits (mine self.old)
-            (ForOwn t (mine self.old) (λ o. AdmitsTo o a (mine self.old) (mine self.new)))
-            (IsNotAfter a) (WaitsAs t a (seen self.new))) }
-        ensures job { IfOk result (λ a. IsJobOf t a (mine self.old) (modes self.new) (seen self.new)) }
+            (ForOwn t (mine self.old) (λ o. AdmitsTo o a.answer (mine self.old) (mine self.new)))
+            (IsNotAfter a.answer) (WaitsAs t a.answer (seen self.new))) }
+        ensures job { IfOk result (λ a. IsJobOf t a.answer (mine self.old) (modes self.new) (seen self.new)) }
+        ensures source { IfOk result (λ a. TellsSource (modes self.new) (mine self.old).replicas a.source) }
         ensures err { OnErr result (mine self.new ≡ mine self.old) };
 
     /// Takes the open call back, which has not started.
@@ -84,8 +87,7 @@ pub trait ClientSteps {
     fn source<R: Wait>(&mut self, rt: &R) -> Option<u8>
         requires ready { ready self.old }
         ensures stands { StandsStill ready home mine self.old self.new }
-        ensures is { MatchOption result (HasNoSource (modes self.new)) (IsSource (modes self.new)) }
-        ensures inside { IfSome result (λ r. r < (mine self.old).replicas) };
+        ensures is { TellsSource (modes self.new) (mine self.old).replicas result };
 
     /// A replica takes the blocks of the open write.
     fn apply_write<R: Wait>(
@@ -122,18 +124,20 @@ pub trait ClientSteps {
             (λ _. ForOwn t (mine self.old) (λ o. TakesTo o replica into.new (mine self.old) (mine self.new)))
             (AgainstGive (modes self.new) replica) };
 
-    /// A replica has acknowledged its part of the open call.
+    /// A replica has acknowledged its part of the open call, which is answered thereby if it can end now: whether it is,
+    /// is told.
     fn ack<R: Wait>(
         &mut self,
         rt: &R,
         t: TicketNumber,
         replica: u8,
-    ) -> OnReplica<Result<(), NotThis>>
+    ) -> OnReplica<Result<bool, NotThis>>
         requires ready { ready self.old }
         requires started { (o : OwnCall) × IsOwn t o (mine self.old) × HasStarted o }
         ensures stands { Stands ready home self.old self.new }
         ensures does { Does result.answer (mine self.old) (mine self.new)
-            (λ _. ForOwn t (mine self.old) (λ o. AcksTo o replica (mine self.old) (mine self.new)))
+            (λ ended. ForOwn t (mine self.old)
+            (λ o. AcksOrEnds o replica (modes self.new) ended (mine self.old) (mine self.new)))
             (λ why. ForOwn t (mine self.old) (λ o. RefusesAck (modes self.new) o replica why)) }
         ensures next { TellsNext (modes self.new) replica (mine self.old).replicas result.next };
 
@@ -147,7 +151,7 @@ pub trait ClientSteps {
         ensures failed { OnOk result.answer (mode_of (modes self.new) replica ≡ Mode.Err) }
         ensures next { TellsNext (modes self.new) replica (mine self.old).replicas result.next };
 
-    /// Answers the open call, once its replicas have acknowledged it.
+    /// Answers the open call, once its replicas have acknowledged it or have failed.
     fn complete<R: Wait>(&mut self, rt: &R, t: TicketNumber) -> Result<u64, NotThis>
         requires ready { ready self.old }
         requires started { (o : OwnCall) × IsOwn t o (mine self.old) × HasStarted o }

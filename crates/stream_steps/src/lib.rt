@@ -6,6 +6,7 @@ mod backup;
 mod client;
 mod command;
 mod on_replica;
+mod with_source;
 
 pub use add::{AddSteps, Added, AdmitBarrier, NextPage, PageIn, PageOut};
 pub use backup::BackupSteps;
@@ -17,3 +18,4 @@ pub use sparse_image::{Blocks, Page};
 pub use step_answers::{Admit, Enrolled, Job, NotThis, TicketNumber};
 pub use vol_units::{BlockRange, LayerName, PageRef};
 pub use volume_model::{Call, Command, Mode};
+pub use with_source::WithSource;

@@ -25,7 +25,7 @@ use Rattle.world_holder.specs.Rests.{IsKept, IsOwnSeat, IsSeated, IsOut}
 
 -- ---- in hand
 
-later_itself : (n : ℕ) (s : State) → IsLater n s s
+pub later_itself : (n : ℕ) (s : State) → IsLater n s s
 later_itself n s = record {
   origin = refl;
   added = ([], sym (append-nil s.book.entries), tt);

@@ -5,7 +5,8 @@ use Rattle.vol_units.specs.Size.{IsVolumeSize}
 use Rattle.range_turns.specs.Order.{ticket_at}
 use Rattle.volume_model.specs.declared.call.Call.{Call}
 use Rattle.volume_model.specs.declared.mode.Mode.TheVariants.{Err}
-use Rattle.volume_model.specs.Modes.{mode_of}
+use Rattle.volume_model.specs.Modes.{mode_of, HasNoSource, IsSource}
+use Rattle.std.specs.Option.{MatchOption}
 use Rattle.volume_model.specs.declared.mode.Mode.{Mode}
 use Rattle.open_calls.specs.Calls.{open_at}
 use Rattle.step_answers.specs.Parts.{part_at, IsTaken}
@@ -34,7 +35,7 @@ use Rattle.stream_steps.specs.Against.{RefusesAck, RefusesFault, RefusesEnd, Aga
 use Rattle.stream_steps.specs.Steps.{HasStarted, IsOnBlocks, EnrolsTo, AcksTo, FaultsTo, Answers, AnswersNow, TakesTo}
 use Rattle.stream_steps.specs.Steps.{IsFrameCall, AdmitsTo, IsNotAfter, HasNotStarted, AreBlocksOfCall}
 use Rattle.stream_steps.specs.Steps.{IsStartedWrite, IsStartedRead}
-use Rattle.stream_steps.specs.Seen.{AsksAll, IsJobOf, IsNextUp, TellsNext, WaitsAs}
+use Rattle.stream_steps.specs.Seen.{AsksAll, IsJobOf, IsNextUp, TellsNext, TellsSource, WaitsAs}
 use Rattle.world_holder.proofs.Grow.{found_same, over, unchanged}
 use Rattle.world_holder.specs.View.{view, IsFree, IsFound, Owes}
 use Rattle.world_steps.specs.Seen.{seen_of}
@@ -55,7 +56,7 @@ use Rattle.world_steps.proofs.FaultRows.{shows_fault, alone_calm, fault_row}
 
 -- ---- what each of them owes, and leaves to its stream
 
-owes_by : (n : ℕ) (x y : State) → MayGo n x y → rest_of y ≡ rest_of x → IsRebuildKept x.rebuild x y → Owes n x y
+pub owes_by : (n : ℕ) (x y : State) → MayGo n x y → rest_of y ≡ rest_of x → IsRebuildKept x.rebuild x y → Owes n x y
 owes_by n x y may rest kept = record {
   may = may;
   parts = parts_stay n x y may (ap (λ (r : Rest). r.whole) rest);
@@ -81,14 +82,14 @@ module _ (a : Bool) (n : ℕ) (s x : State) (found : IsFound a n s x) where
     found_open = (op.0, found_in (IsOwn t op.0) op.1, op.2)
 
     -- what a step for the owner of the ticket leaves
-    found_may : (y : State) → ForOwner t x (λ m c. MayGo m x y) → MayGo n x y
+    pub found_may : (y : State) → ForOwner t x (λ m c. MayGo m x y) → MayGo n x y
     found_may y may = may n op.0.call (opened a n t op.0 x found.sound found_open.1 op.2)
 
     found_blocks : (o : OwnCall) → IsOwn t o (view a n x) → IsOnBlocks o.call
     found_blocks o own = open_as t (view a n x) found_open o own
 
   module _ (y u : State) (left : u ≡ y) where
-    free_on : IsFree n s → rest_of y ≡ rest_of x → IsFree n u
+    pub free_on : IsFree n s → rest_of y ≡ rest_of x → IsFree n u
     free_on free rest = subst (IsFree n) (sym left) (record {
       turns = still_none n x y found.sound (ap (λ (r : Rest). r.commands) rest) (found_turns free);
       gave_up = ap (λ (r : Rest). gave_up_at r.gave_up n) rest ∙ found.later.gave_up ∙ free.gave_up;
@@ -112,6 +113,15 @@ pub tells_next : (a : Bool) (n : ℕ) (s x y : State) → IsFound a n s x → Ma
     → TellsNext (modes_in u) r (view a n s).replicas q
 tells_next a n s x y found may z u same left r q next inside = record {
   next = subst (λ (v : State). IsNextUp (modes_in v) r q) (same ∙ sym left) next;
+  inside = inside_by a n s x y found may q (subst (λ (v : State). IfSome q (λ k. k < length (modes_in v))) same inside);
+}
+
+-- so is the lowest that is read and written
+pub tells_source : (a : Bool) (n : ℕ) (s x y : State) → IsFound a n s x → MayGo n x y → (z u : State) → z ≡ y → u ≡ y → (q : Option ℕ)
+    → MatchOption q (HasNoSource (modes_in z)) (IsSource (modes_in z)) → IfSome q (λ k. k < length (modes_in z))
+    → TellsSource (modes_in u) (view a n s).replicas q
+tells_source a n s x y found may z u same left q is inside = record {
+  is = subst (λ (v : State). MatchOption q (HasNoSource (modes_in v)) (IsSource (modes_in v))) (same ∙ sym left) is;
   inside = inside_by a n s x y found may q (subst (λ (v : State). IfSome q (λ k. k < length (modes_in v))) same inside);
 }
 
@@ -194,7 +204,7 @@ module _ {E : Type 0} (a : Bool) (n t : ℕ) (s x y : State) (found : IsFound a 
   admit_its : HasOpen t (view a n s)
   admit_its = waits_open t (view a n s) op
 
-  admit_go : MayGo n x y
+  pub admit_go : MayGo n x y
   admit_go = found_may a n s x found t admit_its y may
 
   pub admit_owes : Owes n x y

@@ -41,3 +41,5 @@ pub mod BarrierTurns
 pub mod ToldCopies
 pub mod BackupEnds
 pub mod BackupTurns
+pub mod AckTurns
+pub mod ToldWith

@@ -1,10 +1,10 @@
-use crate::in_turn::next_up;
-use crate::passing::{pass_admitted, pass_answered, pass_enrolled};
+use crate::in_turn::{ack_in, next_up, told_with};
+use crate::passing::{pass_acked, pass_admitted, pass_answered, pass_enrolled};
 use crate::steps::Steps;
 use outer_traits::Gate;
 use std::alloc::{AllocError, Global};
 use std::sync::Wait;
-use stream_steps::{ClientSteps, OnReplica};
+use stream_steps::{ClientSteps, OnReplica, WithSource};
 use volume_core::{Admit, Blocks, Call, Enrolled, NotThis, TicketNumber};
 use world_holder::Holder;
 
@@ -59,12 +59,13 @@ impl<H: Holder, G: Gate> ClientSteps for Steps<H, G> {
         rt: &R,
         alloc: Global,
         t: TicketNumber,
-    ) -> Result<Admit, AllocError> {
+    ) -> Result<WithSource<Admit>, AllocError> {
         let mut world = self.holder.take(rt, self.stream);
         let answer = world.admit(alloc, t);
+        let source = world.journal.source();
         self.holder.put(self.stream, world);
         pass_admitted(&self.gate, self.stream, &mut self.ended, &answer);
-        answer
+        told_with(answer, source)
     }
 
     fn withdraw<R: Wait>(&mut self, rt: &R, t: TicketNumber) {
@@ -112,11 +113,12 @@ impl<H: Holder, G: Gate> ClientSteps for Steps<H, G> {
         rt: &R,
         t: TicketNumber,
         replica: u8,
-    ) -> OnReplica<Result<(), NotThis>> {
+    ) -> OnReplica<Result<bool, NotThis>> {
         let mut world = self.holder.take(rt, self.stream);
-        let answer = world.ack(t, replica);
+        let answer = ack_in(&mut world, t, replica);
         let next = next_up(&world, replica);
         self.holder.put(self.stream, world);
+        pass_acked(&self.gate, self.stream, &mut self.ended, &answer);
         OnReplica { answer, next }
     }
 

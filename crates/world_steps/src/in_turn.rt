@@ -6,13 +6,17 @@ ghost use Rattle.volume_core.specs.State.{state_of, modes_in};
 ghost use Rattle.stream_steps.specs.Seen.{IsNextUp, RefusesFold};
 ghost use Rattle.volume_core.specs.Sound.{IsSound};
 ghost use Rattle.volume_core.specs.Streams.{MayGo};
+ghost use Rattle.volume_core.specs.Against.{AgainstAck};
 ghost use Rattle.volume_maint.specs.Answers.{FoldsPage, EnrolsWhole, MayAsk};
 ghost use Rattle.volume_maint.specs.Places.{IsTurnOf};
 ghost use Rattle.world_steps.specs.Seen.{seen_of};
+ghost use Rattle.world_steps.specs.Acked.{AcksThen};
+ghost use Rattle.world_steps.specs.Told.{told_with};
 ghost use Rattle.open_calls.specs.Clients.{IsIdle};
 
 use std::alloc::{AllocError, Global};
-use volume_core::{Command, Mode, NotThis, TicketNumber, World};
+use stream_steps::WithSource;
+use volume_core::{Admit, Command, Mode, NotThis, TicketNumber, World};
 use volume_maint::{LayerName, WholeOp};
 
 /// The first replica behind that one that has not failed.
@@ -21,6 +25,31 @@ pub(crate) fn next_up(world: &World, replica: u8) -> Option<u8>
     ensures inside { IfSome result (λ r. r < length (modes_in (state_of world.now))) }
 {
     (0..world.journal.replica_count()).find(|r| replica < *r && world.mode(*r) != Mode::Err)
+}
+
+/// What asking to start came to, told with the lowest replica that is read and written.
+pub(crate) fn told_with<E: Drop>(
+    answer: Result<Admit, E>,
+    source: Option<u8>,
+) -> Result<WithSource<Admit>, E>
+    ensures { result ≡ told_with answer source }
+{
+    match answer {
+        Ok(answer) => Ok(WithSource { answer, source }),
+        Err(error) => Err(error),
+    }
+}
+
+/// A replica has acknowledged its part of a started call, which ends thereby if it can end now: whether it does, is said.
+pub(crate) fn ack_in(world: &mut World, t: TicketNumber, replica: u8) -> Result<bool, NotThis>
+    requires sound { IsSound (state_of world.old) }
+    ensures sound { IsSound (state_of world.new) }
+    ensures ok { IfOk result (λ ended. AcksThen (state_of world.old) t replica ended (state_of world.new)) }
+    ensures why { IfErr result (AgainstAck (state_of world.old) t replica) }
+    ensures err { OnErr result (state_of world.new ≡ state_of world.old) }
+{
+    world.ack(t, replica)?;
+    Ok(world.complete(t).is_ok())
 }
 
 /// A replica folds a page of the layer's one child onto the layer. Of what stands against it, that the replica is not

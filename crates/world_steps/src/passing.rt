@@ -21,6 +21,16 @@ pub(crate) fn pass_answered<G: Gate, A, E>(
     pass_if(gate, stream, ended, answer.is_ok());
 }
 
+/// A call that a replica has acknowledged may have been answered.
+pub(crate) fn pass_acked<G: Gate, E>(
+    gate: &G,
+    stream: u8,
+    ended: &mut u64,
+    answer: &Result<bool, E>,
+) {
+    pass_if(gate, stream, ended, matches!(answer, Ok(true)));
+}
+
 /// A call that was enrolled may have been answered at once, since its range is not good.
 pub(crate) fn pass_enrolled<G: Gate, E>(
     gate: &G,

@@ -7,11 +7,16 @@ use Rattle.stream_steps.specs.Steps.{TakesTo, IsOnBlocks}
 use Rattle.volume_model.specs.Modes.{IsSource}
 use Rattle.client_worker.specs.Exchanges.{told_in}
 use Rattle.client_worker.specs.Ends.{NoneAcked}
-use Rattle.client_worker.proofs.Asked.{has_taken, falls_goes}
+use Rattle.client_worker.proofs.Acked.{told_answered, told_on}
+use Rattle.client_worker.proofs.Asked.{has_taken, falls_goes, failed_unread}
+use Rattle.client_worker.proofs.Served.{ends_then}
 use Rattle.client_worker.proofs.Carrying.{serving_on, serving_same, stays_lent, stays_step, stays_then, steps_back}
 use Rattle.client_worker.proofs.Going.{goes_then, goes_same, goes_takes, taken_own, done_well}
 use Rattle.client_worker.proofs.Shown.{shows_reads, shows_same}
 use Rattle.client_worker.proofs.Told.{body_put, is_framed, is_framed_alone, read_lacks}
+use Rattle.client_worker.specs.Serving.{KeepsOpen}
+use Rattle.client_worker.proofs.carrier.Carrier.ask_read.Given.{Over}
+use Rattle.client_worker.proofs.carrier.Carrier.ask_read.Goals.{After-is_answered}
 use Rattle.client_worker.proofs.carrier.Carrier.ask_read.Goals as goal
 
 pub invariant_of-self : goal.invariant_of-self
@@ -23,7 +28,7 @@ invariant_of-self g c =
     (search rules)
 
 pub returns-then-is_err-clause-goes : goal.returns-then-is_err-clause-goes
-returns-then-is_err-clause-goes g c =
+returns-then-is_err-clause-goes g c = λ no.
     rw (← c.self.view_is) (falls_goes c.pass.result (g.C.ClientSteps.modes c.pass.new.self.steps) c.args.replica
     (g.C.ClientSteps.mine c.self.inside.steps) (g.C.ClientSteps.mine c.pass.new.self.steps) (search rules) c.pass.ensures.falls)
 
@@ -57,7 +62,7 @@ returns-then-is_err-2-clause-stays g c =
     c.self-2.view_is c.apply_read.ensures.stands.home
 
 pub returns-then-is_err-2-clause-goes : goal.returns-then-is_err-2-clause-goes
-returns-then-is_err-2-clause-goes g c =
+returns-then-is_err-2-clause-goes g c = λ no.
     let back = steps_back _ _ _ _ c.self-2.view_is (done_well c.pass.result (search rules) c.pass.ensures.came).same c.self.view_is in
     let same : g.C.ClientSteps.mine c.apply_read.new.self ≡ g.C.ClientSteps.mine c.self-2.inside.steps = search rules in
     goes_same (g.C.ClientSteps.mine c.args.self.now.steps) (g.C.ClientSteps.mine c.apply_read.new.self)
@@ -131,8 +136,10 @@ returns-clause-stays g c =
     (stays_step c.args.self.now c.pass.new.self _ c.apply_read.new.self passed
     c.self-2.view_is c.apply_read.ensures.stands.home) c.reply_with.ensures.stays
 
-pub returns-clause-goes : goal.returns-clause-goes
-returns-clause-goes g c =
+-- what went on until the replica replied
+gone : (g : Over) (c : After-is_answered g)
+    → KeepsOpen (g.C.ClientSteps.mine c.args.self.now.steps) (g.C.ClientSteps.mine c.apply_read.new.self)
+gone g c =
     let first = g.C.ClientSteps.mine c.args.self.now.steps in
     let before = g.C.ClientSteps.mine c.self-2.inside.steps in
     let after = g.C.ClientSteps.mine c.apply_read.new.self in
@@ -142,7 +149,30 @@ returns-clause-goes g c =
     subst (IsOwn c.args.read.now.ticket h.own) (ap g.C.ClientSteps.mine (sym back)) h.is in
     let yes : is_err c.apply_read.result ≡ false = search rules in
     let long : length c.apply_read.new.into ≡ length h.own.buffer = search rules in
-    goes_then first before (g.C.ClientSteps.mine c.reply_with.new.self.steps) (goes_same first before (ap g.C.ClientSteps.mine back))
-    (goes_then before after (g.C.ClientSteps.mine c.reply_with.new.self.steps)
+    goes_then first before after (goes_same first before (ap g.C.ClientSteps.mine back))
     (goes_takes c.args.read.now.ticket c.args.replica c.apply_read.new.into h.own before after own long
-    (done_well c.apply_read.result yes c.apply_read.ensures.does.ok h.own own)) c.reply_with.ensures.asked.goes)
+    (done_well c.apply_read.result yes c.apply_read.ensures.does.ok h.own own))
+
+pub returns-clause-done : goal.returns-clause-done
+returns-clause-done g c = λ e.
+    let after = g.C.ClientSteps.mine c.apply_read.new.self in
+    let last = g.C.ClientSteps.mine c.reply_with.new.self.steps in
+    ends_then (g.C.ClientSteps.mine c.args.self.now.steps) after last (gone g c)
+    (told_answered (g.C.ClientSteps.modes c.reply_with.new.self.steps) c.args.replica after last c.reply_with.result
+    c.reply_with.ensures.asked (sym c.is_answered.ensures ∙ e))
+
+pub returns-clause-goes : goal.returns-clause-goes
+returns-clause-goes g c = λ e.
+    let after = g.C.ClientSteps.mine c.apply_read.new.self in
+    let last = g.C.ClientSteps.mine c.reply_with.new.self.steps in
+    goes_then (g.C.ClientSteps.mine c.args.self.now.steps) after last (gone g c)
+    (told_on (g.C.ClientSteps.modes c.reply_with.new.self.steps) c.args.replica after last c.reply_with.result
+    c.reply_with.ensures.asked (sym c.is_answered.ensures ∙ e)).0
+
+pub returns-clause-asked : goal.returns-clause-asked
+returns-clause-asked g c = λ e.
+    let modes = g.C.ClientSteps.modes c.reply_with.new.self.steps in
+    let last = g.C.ClientSteps.mine c.reply_with.new.self.steps in
+    failed_unread modes c.args.replica last
+    (told_on modes c.args.replica (g.C.ClientSteps.mine c.apply_read.new.self) last c.reply_with.result c.reply_with.ensures.asked
+    (sym c.is_answered.ensures ∙ e)).1

@@ -1,4 +1,4 @@
-use Rattle.std.proofs.Common.{rules, ◌≡◌, ℕ, ◌-◌, ◌<◌, map, drop, length, length-drop, slice_set, IfSome, refl, ap, sym, subst, ◌∙◌}
+use Rattle.std.proofs.Common.{rules, ◌≡◌, ◌-◌, map, drop, length, length-drop, slice_set, refl, ap, sym, subst, ◌∙◌}
 use Rattle.frame_wire.specs.declared.head.Head.{Head}
 use Rattle.frame_wire.specs.Spelling.{header_length}
 use Rattle.step_answers.specs.declared.parts.Part.TheVariants.{Taken}
@@ -6,6 +6,7 @@ use Rattle.stream_steps.specs.Mine.{Mine, IsOwn}
 use Rattle.stream_steps.specs.Steps.{TakesTo}
 use Rattle.client_worker.specs.Exchanges.{told_in}
 use Rattle.client_worker.specs.Working.{Work}
+use Rattle.client_worker.proofs.Acked.{was_asked}
 use Rattle.client_worker.proofs.Asked.{has_taken}
 use Rattle.client_worker.proofs.Carrying.{serving_same, stays_home, stays_lent, stays_then}
 use Rattle.client_worker.proofs.Going.{goes_then, goes_same, goes_takes, taken_own}
@@ -68,22 +69,17 @@ returns-clause-asked g c =
     let before = g.C.ClientSteps.mine c.args.self.now.steps in
     let mine_pass = g.C.ClientSteps.mine c.pass.new.self.steps in
     let mine_take_write = g.C.ClientSteps.mine c.take_write.new.self.steps in
+    let last = g.C.ClientSteps.mine c.reply_with.new.self.steps in
     let op = c.requires.own in
     let same : mine_pass ≡ before =
     ap g.C.ClientSteps.mine (c.in_default.ensures.came.same ∙ ap (λ (w : Work g.row.C.Denot g.row.L.Denot). w.steps) c.self.view_is) in
     let own : IsOwn c.args.part.now.ticket op.0 mine_pass = subst (IsOwn c.args.part.now.ticket op.0) (sym same) op.2 in
     let took : TakesTo op.0 c.args.part.now.replica op.0.buffer mine_pass mine_take_write =
     c.in_default-take_write.ensures.taken op.0 own in
-    let asked = c.reply_with.ensures.asked in
-    record {
-      goes = goes_then before mine_pass (g.C.ClientSteps.mine c.reply_with.new.self.steps) (goes_same before mine_pass same)
-          (goes_then mine_pass mine_take_write (g.C.ClientSteps.mine c.reply_with.new.self.steps)
-          (goes_takes c.args.part.now.ticket c.args.part.now.replica op.0.buffer op.0 mine_pass mine_take_write own refl took) asked.goes);
-      asked = asked.asked;
-      up = asked.up;
-      inside = subst (λ (n : ℕ). IfSome c.reply_with.result (λ r. r < n))
-          (ap (λ (m : Mine). m.replicas) took ∙ ap (λ (m : Mine). m.replicas) same) asked.inside;
-    }
+    was_asked (g.C.ClientSteps.modes c.reply_with.new.self.steps) c.args.part.now.replica before mine_take_write last
+    (goes_then before mine_pass mine_take_write (goes_same before mine_pass same)
+    (goes_takes c.args.part.now.ticket c.args.part.now.replica op.0.buffer op.0 mine_pass mine_take_write own refl took))
+    (ap (λ (m : Mine). m.replicas) took ∙ ap (λ (m : Mine). m.replicas) same) c.reply_with.result c.reply_with.ensures.asked
 
 pub returns-clause-stays : goal.returns-clause-stays
 returns-clause-stays g c =

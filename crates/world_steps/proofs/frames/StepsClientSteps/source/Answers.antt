@@ -1,8 +1,8 @@
-use Rattle.std.specs.Option.{MatchOption}
-use Rattle.volume_model.specs.Modes.{IsSource, HasNoSource}
+use Rattle.std.proofs.Common.{refl}
+use Rattle.world_holder.proofs.Leaves.{may_stay}
 use Rattle.world_holder.proofs.Taken.{found_as, seen_as}
 use Rattle.world_steps.proofs.Does.{home_free}
-use Rattle.world_steps.proofs.FrameTurns.{look_owes, look_free, look_same, look_modes, look_inside}
+use Rattle.world_steps.proofs.FrameTurns.{look_owes, look_free, look_same, tells_source}
 use Rattle.world_steps.proofs.frames.StepsClientSteps.source.Goals as goal
 
 pub put-requires-clause-owes : goal.put-requires-clause-owes
@@ -20,12 +20,6 @@ returns-clause-stands g c =
 
 pub returns-clause-is : goal.returns-clause-is
 returns-clause-is g c =
-    look_modes (λ modes. MatchOption c.source-source.result (HasNoSource modes) (IsSource modes)) _ _
-    (seen_as c.deref.ensures
-    c.put.ensures.seen) c.source-source.ensures.found
-
-pub returns-clause-inside : goal.returns-clause-inside
-returns-clause-inside g c =
-    look_inside g.H.Holder.alone c.args.self.now.stream _ _ _ (found_as c.deref.ensures c.take-world.ensures.found)
-    (seen_as
-    c.deref.ensures c.put.ensures.seen) c.source-source.result c.source-source.ensures.within
+    tells_source g.H.Holder.alone c.args.self.now.stream _ _ _ (found_as c.deref.ensures c.take-world.ensures.found)
+    (may_stay _ _ (found_as c.deref.ensures c.take-world.ensures.found).sound) _ _ refl (seen_as c.deref.ensures c.put.ensures.seen)
+    c.source-source.result c.source-source.ensures.found c.source-source.ensures.within
