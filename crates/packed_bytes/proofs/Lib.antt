@@ -1,3 +1,4 @@
 pub mod RunLemmas
 pub mod PartLemmas
 pub mod PlaceLemmas
+mod ByteLemmas

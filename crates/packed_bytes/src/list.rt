@@ -1,7 +1,7 @@
-ghost use Rattle.std.specs.Prelude.{◌≡◌, ◌++◌, true, false, length, MatchOption, OnOk};
+ghost use Rattle.std.specs.Prelude.{◌≡◌, ◌<◌, ◌≤◌, ◌++◌, true, false, length, All, MatchOption, OnOk};
 ghost use Rattle.image_runs.specs.Runs.{runs};
 ghost use Rattle.image_runs.specs.Printing.{with_commas, IsPrefixOf};
-ghost use Rattle.packed_bytes.specs.Packed.{is_shorter};
+ghost use Rattle.packed_bytes.specs.Packed.{is_shorter, part};
 ghost use Rattle.packed_bytes.specs.Place.{IsPlace, list_at};
 
 use crate::Data;
@@ -64,6 +64,16 @@ impl<'a> PackedList<'a> {
         self.place.count as usize
     }
 
+    /// Looks at each chunk in which it lies, and does nothing: that its bytes are bytes, a proof learns here.
+    pub fn know(&self)
+        ensures { All (λ b. b < 256) self.now }
+    {
+        // How much there is, a proof learns here.
+        let _length = self.store.len();
+        let at = self.place.at as usize;
+        know_part(self.store, at, at + self.place.taken as usize);
+    }
+
     /// Whether it is kept as its runs: they are shorter.
     pub fn is_packed(&self) -> bool
         ensures { result ≡ is_shorter self.now }
@@ -107,4 +117,25 @@ impl<'a> PackedList<'a> {
             append_plain(self.store, at, at + self.place.taken as usize, into)
         }
     }
+}
+
+/// The same of what stands from a place on until another.
+fn know_part(store: &Data, at: usize, until: usize)
+    requires order { at ≤ until }
+    requires within { until ≤ length store.now.items }
+    ensures { All (λ b. b < 256) (part store.now.items at until) }
+{
+    // How much there is, a proof learns here.
+    let _length = store.len();
+    let mut next = at;
+    while next < until {
+        next += count_of(store.piece(next));
+    }
+}
+
+fn count_of(bytes: &[u8]) -> usize
+    ensures value { result ≡ length bytes.now }
+    ensures bytes { All (λ b. b < 256) bytes.now }
+{
+    bytes.len()
 }

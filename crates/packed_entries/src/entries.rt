@@ -84,6 +84,24 @@ impl PackedEntries {
         Ok(())
     }
 
+    /// Makes places for at least so many entries more and for so much data more, or changes nothing.
+    pub fn reserve_both(&mut self, additional: u64, additional_data: u64) -> Result<(), AllocError>
+        ensures ok { OnOk result (self.new ≡ record self.old {
+          spare = max self.old.spare additional;
+          spare_data = max self.old.spare_data additional_data;
+        }) }
+        ensures err { OnErr result (self.new ≡ self.old) }
+    {
+        let spare = self.spare;
+        self.reserve(additional)?;
+        let made = self.reserve_data(additional_data);
+        if made.is_err() {
+            // Places that nobody knows of are made again without cost.
+            self.spare = spare;
+        }
+        made
+    }
+
     pub fn spare(&self) -> u64
         ensures value { result ≡ self.now.spare }
         ensures most { result < 2 ^ 63 }

@@ -1,9 +1,10 @@
-ghost use Rattle.std.specs.Prelude.{◌≡◌, length};
+ghost use Rattle.std.specs.Prelude.{◌≡◌, ◌<◌, length, All, MatchOption};
 ghost use Rattle.std.specs.Iterator.{YieldsFirstBy, item_count};
 ghost use Rattle.image_runs.specs.Runs.{run_of, runs};
 ghost use Rattle.packed_bytes.specs.Place.{list_at, IsPlace};
 ghost use Rattle.packed_entries.specs.Plain.{plain_entry, call_of, reply_of, data_in, data_of};
-ghost use Rattle.packed_entries.specs.View.{list_seen, runs_left, call_seen, reply_seen, entry_seen};
+ghost use Rattle.packed_entries.specs.View.{list_seen, runs_left, call_seen, reply_seen, answer_seen, entry_seen};
+ghost use Rattle.volume_model.specs.Marks.{IsMark};
 
 use crate::plain::{Answered, Asked, Plain};
 use packed_bytes::{Data, EachRun, PackedList, Place, SliceRuns};
@@ -36,6 +37,16 @@ impl<'a> ListView<'a> {
         }
     }
 
+    /// Looks at it, and does nothing: that its bytes are bytes, a proof learns here.
+    pub fn know(&self)
+        ensures { All (λ b. b < 256) (list_seen self.now) }
+    {
+        match self {
+            ListView::Packed(list) => list.know(),
+            ListView::Whole(bytes) => know_bytes(bytes),
+        }
+    }
+
     /// Its runs, each as long as can be.
     pub fn runs(&self) -> ListRuns<'a>
         ensures { runs_left result ≡ runs (list_seen self.now) }
@@ -45,6 +56,12 @@ impl<'a> ListView<'a> {
             ListView::Whole(bytes) => ListRuns::Whole(SliceRuns::of(bytes)),
         }
     }
+}
+
+fn know_bytes(bytes: &[u8])
+    ensures { All (λ b. b < 256) bytes.now }
+{
+    let _length = bytes.len();
 }
 
 /// The runs of a list of an entry, one after another, each the byte and its count.
@@ -107,6 +124,17 @@ pub enum EntryView<'a> {
 }
 
 impl<'a> EntryView<'a> {
+    /// The answer that the entry is, if it is no mark.
+    pub fn into_answer(self) -> Option<AnswerView<'a>>
+        ensures { MatchOption result (IsMark (entry_seen self.entry))
+            (λ answer. entry_seen self.entry ≡ Entry.Answer (answer_seen answer)) }
+    {
+        match self {
+            EntryView::Answer(answer) => Some(answer),
+            EntryView::Mark(_) => None,
+        }
+    }
+
     /// What a call wrote, or was given; nothing of a mark.
     pub fn data_list(&self) -> ListView<'a>
         ensures { list_seen result ≡ data_of (entry_seen self.now) }
