@@ -3,6 +3,9 @@ ghost use Rattle.volume_model.specs.Faults.{last_count};
 ghost use Rattle.volume_model.specs.Modes.{mode_of, source_of, HasNoSource, IsSource};
 ghost use Rattle.volume_model.specs.Names.{is_used_in, is_live_in};
 ghost use Rattle.journal_book.specs.Book.{modes_of, layers_of, names_of};
+ghost use Rattle.packed_bytes.specs.Packed.{packed};
+ghost use Rattle.packed_entries.specs.Plain.{data_of};
+ghost use Rattle.packed_entries.specs.View.{entry_seen};
 
 use crate::faults::{LastCount, count_in, follow_faults};
 use crate::layers::layers_after;
@@ -12,16 +15,17 @@ use crate::opening::Opening;
 use crate::shown::Shown;
 use crate::taken::{NameMap, is_live, is_used};
 use mode_table::ModeTable;
+use packed_entries::{EntryView, PackedEntries};
 use std::alloc::{AllocError, Global};
 use std::marker::Model;
 use volume_model::{Entry, LayerName, Mode};
 
-/// The entries of a run in their order. Contracts see how it began, the list, and how many places are made beyond it.
+/// The entries of a run in their order. Contracts see how it began, the list, how many places are made beyond it, and for
+/// how many bytes of data.
 #[derive(Drop)]
 pub struct Journal {
     opening: Shown<Opening>,
-    entries: Vec<Entry>,
-    spare: u64,
+    entries: PackedEntries,
     modes: ModeTable,
     layers: u64,
     names: NameMap,
@@ -34,7 +38,12 @@ impl Model for Journal {
 
     ghost Value = { Book };
 
-    ghost view = { λ j. record { opening = j.opening.value; entries = j.entries.items; spare = j.spare } };
+    ghost view = { λ j. record {
+      opening = j.opening.value;
+      entries = j.entries.entries;
+      spare = j.entries.spare;
+      spare_data = j.entries.spare_data;
+    } };
 
     ghost use Rattle.journal_book.specs.Kept.{IsLeft, IsRoomy};
 
@@ -47,11 +56,11 @@ impl Journal {
         ensures opening { result.opening ≡ opening }
         ensures entries { result.entries ≡ [] }
         ensures spare { result.spare ≡ 0 }
+        ensures spare_data { result.spare_data ≡ 0 }
     {
         Journal {
             opening: Shown::of(&opening),
-            entries: Vec::new(alloc),
-            spare: 0,
+            entries: PackedEntries::new(alloc),
             modes: opening.modes,
             layers: u64::from(opening.layers),
             names: opening.names.map,
@@ -65,13 +74,43 @@ impl Journal {
         ensures same { self.new ≡ record self.old { spare = self.new.spare } }
         ensures err { OnErr result (self.new ≡ self.old) }
     {
-        if self.spare < additional {
-            self.entries.reserve(additional as usize)?;
+        if self.entries.spare() < additional {
             self.names.reserve(additional as usize)?;
             self.lines.reserve(additional as usize)?;
-            self.spare = additional;
         }
-        Ok(())
+        self.entries.reserve(additional)
+    }
+
+    /// Makes place for at least so many bytes more that calls write or read.
+    pub fn reserve_data(&mut self, additional: u64) -> Result<(), AllocError>
+        ensures ok { OnOk result (self.new.spare_data ≡ max self.old.spare_data additional) }
+        ensures same { self.new ≡ record self.old { spare_data = self.new.spare_data } }
+        ensures err { OnErr result (self.new ≡ self.old) }
+    {
+        self.entries.reserve_data(additional)
+    }
+
+    /// Makes places for at least so many entries more and for at least so many bytes, or changes nothing.
+    pub fn reserve_both(&mut self, additional: u64, additional_data: u64) -> Result<(), AllocError>
+        ensures ok { OnOk result (self.new ≡ record self.old {
+          spare = max self.old.spare additional;
+          spare_data = max self.old.spare_data additional_data;
+        }) }
+        ensures err { OnErr result (self.new ≡ self.old) }
+    {
+        if self.entries.spare() < additional {
+            self.names.reserve(additional as usize)?;
+            self.lines.reserve(additional as usize)?;
+        }
+        self.entries.reserve_both(additional, additional_data)
+    }
+
+    /// For how many bytes there is place before it is made again.
+    pub fn spare_data(&self) -> u64
+        ensures value { result ≡ self.now.spare_data }
+        ensures most { result < 2 ^ 32 }
+    {
+        self.entries.spare_data()
     }
 
     /// How many entries can be pushed before places are made again.
@@ -79,22 +118,25 @@ impl Journal {
         ensures value { result ≡ self.now.spare }
         ensures most { result < 2 ^ 63 }
     {
-        self.spare
+        self.entries.spare()
     }
 
     /// Puts an entry at the end, in a place that was made before. It takes no memory.
     pub fn push_reserved(&mut self, entry: Entry)
-        requires { 0 < self.old.spare }
+        requires spare { 0 < self.old.spare }
+        requires spare_data { length (data_of entry) ≤ self.old.spare_data }
         ensures opening { self.new.opening ≡ self.old.opening }
         ensures entries { self.new.entries ≡ self.old.entries ++ entry ∷ [] }
         ensures spare { self.new.spare + 1 ≡ self.old.spare }
+        ensures spare_data { self.new.spare_data + length (packed (data_of entry)) ≡ self.old.spare_data }
     {
+        // How many there can be, a proof learns here.
+        let _count = self.entries.len();
         follow_modes(&mut self.modes, &entry);
         self.layers = layers_after(self.layers, &entry);
         follow_names(&mut self.names, &entry);
         follow_faults(&mut self.lines, &entry);
-        self.entries.push(entry).unwrap();
-        self.spare -= 1;
+        self.entries.push(entry);
     }
 
     /// The mode of each replica, after all entries.
@@ -162,20 +204,20 @@ impl Journal {
         ensures value { result ≡ length self.now.entries }
         ensures most { result < 2 ^ 63 }
     {
-        self.entries.len() as u64
+        self.entries.len()
     }
 
     pub fn is_empty(&self) -> bool
         ensures { result ≡ (length self.now.entries == 0) }
     {
-        self.entries.is_empty()
+        self.entries.len() == 0
     }
 
     /// The entry at a place.
-    pub fn entry(&self, place: u64) -> &Entry
+    pub fn entry(&self, place: u64) -> EntryView<'_>
         requires { place < length self.now.entries }
-        ensures { slice_get self.now.entries place ≡ Some result.now }
+        ensures { slice_get self.now.entries place ≡ Some (entry_seen result) }
     {
-        &self.entries[place as usize]
+        self.entries.entry(place)
     }
 }

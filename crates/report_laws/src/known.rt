@@ -1,8 +1,9 @@
 ghost use Rattle.report_laws.specs.Fits.{AllFit, AnswerFits, AreBytes, CallFits, CommandFits, EntryFits, MarkFits, PartFits, ReplyFits};
+ghost use Rattle.packed_entries.specs.View.{entry_seen, answer_seen, call_seen, reply_seen, list_seen};
 ghost use Rattle.vol_units.specs.Name.{IsName};
 
-use journal_book::Journal;
-use volume_model::{Answer, Call, Command, Entry, FoldOrDrop, LayerName, Mark, Reply};
+use journal_book::{AnswerView, CallView, EntryView, Journal, ListView, ReplyView};
+use volume_model::{Command, FoldOrDrop, LayerName, Mark};
 
 /// What the entries of a program's journal hold fits its type, as is known of each value that is looked at: names are names,
 /// numbers have at most 64 bits. A law ranges over all lists of bytes and all numbers, so this looks at each field once, and
@@ -11,21 +12,21 @@ pub fn know_journal(journal: &Journal)
     ensures { AllFit journal.now.entries }
 {
     for place in 0..journal.len() {
-        know_entry(journal.entry(place));
+        know_entry(&journal.entry(place));
     }
 }
 
-fn know_entry(entry: &Entry)
-    ensures { EntryFits entry.now }
+fn know_entry(entry: &EntryView<'_>)
+    ensures { EntryFits (entry_seen entry.now) }
 {
     match entry {
-        Entry::Answer(answer) => know_answer(answer),
-        Entry::Mark(mark) => know_mark(mark),
+        EntryView::Answer(answer) => know_answer(answer),
+        EntryView::Mark(mark) => know_mark(mark),
     }
 }
 
-fn know_answer(answer: &Answer)
-    ensures { AnswerFits answer.now }
+fn know_answer(answer: &AnswerView<'_>)
+    ensures { AnswerFits (answer_seen answer.now) }
 {
     know_call(&answer.call);
     know_reply(&answer.reply);
@@ -34,23 +35,23 @@ fn know_answer(answer: &Answer)
     let _index = answer.index;
 }
 
-fn know_call(call: &Call)
-    ensures { CallFits call.now }
+fn know_call(call: &CallView<'_>)
+    ensures { CallFits (call_seen call.now) }
 {
     match call {
-        Call::Read { offset, length } => {
+        CallView::Read { offset, length } => {
             let _offset = *offset;
             let _length = *length;
         }
-        Call::Write { offset, bytes } => {
+        CallView::Write { offset, bytes } => {
             let _offset = *offset;
-            know_bytes(bytes.as_slice());
+            know_list(bytes);
         }
-        Call::Ping => {}
-        Call::Other(kind) => {
+        CallView::Ping => {}
+        CallView::Other(kind) => {
             let _kind = *kind;
         }
-        Call::Command(command) => know_command(command),
+        CallView::Command(command) => know_command(command),
     }
 }
 
@@ -73,18 +74,18 @@ fn know_command(command: &Command)
     }
 }
 
-fn know_reply(reply: &Reply)
-    ensures { ReplyFits reply.now }
+fn know_reply(reply: &ReplyView<'_>)
+    ensures { ReplyFits (reply_seen reply.now) }
 {
     match reply {
-        Reply::Read(bytes) => know_bytes(bytes.as_slice()),
-        Reply::Status { layers, .. } => {
+        ReplyView::Read(bytes) => know_list(bytes),
+        ReplyView::Status { layers, .. } => {
             let _layers = *layers;
         }
-        Reply::Aborted(place) => {
+        ReplyView::Aborted(place) => {
             let _place = *place;
         }
-        Reply::Done | Reply::Refused(_) => {}
+        ReplyView::Done | ReplyView::Refused(_) => {}
     }
 }
 
@@ -135,8 +136,9 @@ fn know_layer(name: &LayerName)
     let _bytes = name.as_bytes();
 }
 
-fn know_bytes(bytes: &[u8])
-    ensures { AreBytes bytes.now }
+fn know_list(list: &ListView<'_>)
+    ensures { AreBytes (list_seen list.now) }
 {
-    let _length = bytes.len();
+    list.know();
+    let _length = list.len();
 }

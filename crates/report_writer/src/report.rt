@@ -6,6 +6,7 @@ ghost use Rattle.outer_traits.specs.declared.output.TheConstants.{PIECE};
 ghost use Rattle.run_report.specs.Lines.{entry_line, reply_line};
 ghost use Rattle.run_report.specs.Report.{journal_lines, reply_lines, replies_from};
 ghost use Rattle.journal_book.specs.Book.{modes_of};
+ghost use Rattle.packed_entries.specs.View.{entry_seen, answer_seen};
 ghost use Rattle.volume_model.specs.History.{answers_of};
 ghost use Rattle.replica_node.specs.Volume.{volume_of_node};
 ghost use Rattle.report_writer.specs.Written.{written_text};
@@ -13,12 +14,12 @@ ghost use Rattle.report_writer.specs.Written.{written_text};
 use crate::end::print_end;
 use crate::heads::head_for;
 use frame_wire::Head;
-use journal_book::Journal;
+use journal_book::{AnswerView, EntryView, Journal};
 use outer_traits::{Outer, Sink, pass_on, write_all};
 use replica_node::ReplicaNode;
 use run_report::{print_entry, print_reply};
 use std::alloc::Global;
-use volume_model::{Answer, Entry, Sequence};
+use volume_model::Sequence;
 
 /// Writes the report of a run on these replicas, at most 255, as they are at its end. It begins with what was opened: the
 /// lines of the replicas whose folders were, and nothing where none was. The headers are those of each stream's frames: a
@@ -56,7 +57,7 @@ fn pass_entries<K: Sink>(journal: &Journal, sink: &mut K, buffer: &mut Vec<u8>) 
     ensures cause { HasOuterCause (K.faults sink.old) (K.faults sink.new) result }
 {
     for place in 0..journal.len() {
-        pass_entry(place, journal.entry(place), sink, buffer)?;
+        pass_entry(place, &journal.entry(place), sink, buffer)?;
     }
     Ok(())
 }
@@ -101,11 +102,11 @@ fn pass_replies<K: Sink>(
     let mut next = 0;
     for place in 0..journal.len() {
         // A mark has no reply.
-        let Some(answer) = journal.entry(place).answer() else {
+        let Some(answer) = journal.entry(place).into_answer() else {
             continue;
         };
-        if let Some(asked) = head_for(stream, heads, next, answer) {
-            pass_reply(asked, answer, sink, buffer)?;
+        if let Some(asked) = head_for(stream, heads, next, &answer) {
+            pass_reply(asked, &answer, sink, buffer)?;
             next += 1;
         }
     }
@@ -113,12 +114,17 @@ fn pass_replies<K: Sink>(
 }
 
 /// Prints a line, and passes the buffer on where it is a large piece by then.
-fn pass_entry<K: Sink>(place: u64, entry: &Entry, sink: &mut K, buffer: &mut Vec<u8>) -> Outer<()>
+fn pass_entry<K: Sink>(
+    place: u64,
+    entry: &EntryView<'_>,
+    sink: &mut K,
+    buffer: &mut Vec<u8>,
+) -> Outer<()>
     ensures small { OnOk result (vec_len buffer.new < PIECE) }
     ensures passed { OnOk result (Passes (K.contents sink.old) (K.contents sink.new)
-        buffer.old.items buffer.new.items (entry_line place entry.now)) }
+        buffer.old.items buffer.new.items (entry_line place (entry_seen entry.now))) }
     ensures prefix { WritesPrefix (K.contents sink.old) (K.contents sink.new)
-        (buffer.old.items ++ entry_line place entry.now) }
+        (buffer.old.items ++ entry_line place (entry_seen entry.now)) }
     ensures cause { HasOuterCause (K.faults sink.old) (K.faults sink.new) result }
 {
     print_entry(place, entry, buffer)?;
@@ -127,15 +133,15 @@ fn pass_entry<K: Sink>(place: u64, entry: &Entry, sink: &mut K, buffer: &mut Vec
 
 fn pass_reply<K: Sink>(
     asked: &Head,
-    answer: &Answer,
+    answer: &AnswerView<'_>,
     sink: &mut K,
     buffer: &mut Vec<u8>,
 ) -> Outer<()>
     ensures small { OnOk result (vec_len buffer.new < PIECE) }
     ensures passed { OnOk result (Passes (K.contents sink.old) (K.contents sink.new)
-        buffer.old.items buffer.new.items (reply_line asked.now answer.now)) }
+        buffer.old.items buffer.new.items (reply_line asked.now (answer_seen answer.now))) }
     ensures prefix { WritesPrefix (K.contents sink.old) (K.contents sink.new)
-        (buffer.old.items ++ reply_line asked.now answer.now) }
+        (buffer.old.items ++ reply_line asked.now (answer_seen answer.now)) }
     ensures cause { HasOuterCause (K.faults sink.old) (K.faults sink.new) result }
 {
     print_reply(asked, answer, buffer)?;

@@ -6,6 +6,7 @@ ghost use Rattle.digest.specs.Digest.{digest_text};
 ghost use Rattle.load_laws.specs.Result.{replies_of};
 ghost use Rattle.run_report.specs.Summary.{stream_lines, volume_lines, replying_frames, frames_from};
 ghost use Rattle.journal_book.specs.Book.{modes_of};
+ghost use Rattle.packed_entries.specs.View.{reply_seen};
 ghost use Rattle.volume_model.specs.History.{answers_of};
 ghost use Rattle.replica_node.specs.Volume.{volume_of_node};
 ghost use Rattle.report_writer.specs.Written.{calls_text, source_volume, written_summary};
@@ -14,14 +15,14 @@ use crate::digests::digest_of_head;
 use crate::heads::head_for;
 use digest::Digest;
 use frame_wire::Head;
-use journal_book::Journal;
+use journal_book::{Journal, ReplyView};
 use outer_traits::{Outer, Sink, write_all};
 use replica_node::ReplicaNode;
 use run_report::{digest_reply, print_chain, print_control, print_disk, print_modes, print_stream};
 use std::alloc::{AllocError, Global};
 use std::thread;
 use std::thread::Threads;
-use volume_model::{Reply, Sequence};
+use volume_model::Sequence;
 
 /// Writes the summary of a run of a generated load on these replicas, as they are at its end. The headers are those of the
 /// frames of each stream of frames; the next stream is the control stream. The disk is digested beside the replies, in a
@@ -126,11 +127,11 @@ fn digest_of_replies(
     let mut next = 0;
     for place in 0..journal.len() {
         // A mark has no reply.
-        let Some(answer) = journal.entry(place).answer() else {
+        let Some(answer) = journal.entry(place).into_answer() else {
             continue;
         };
-        if let Some(asked) = head_for(stream, heads, next, answer) {
-            digest_reply(alloc, asked, answer, &mut digest)?;
+        if let Some(asked) = head_for(stream, heads, next, &answer) {
+            digest_reply(alloc, asked, &answer, &mut digest)?;
             next += 1;
         }
     }
@@ -142,17 +143,17 @@ fn replies_to<'a>(
     alloc: Global,
     stream: usize,
     journal: &'a Journal,
-) -> Result<Vec<&'a Reply>, AllocError>
+) -> Result<Vec<ReplyView<'a>>, AllocError>
     ensures { IfOk result (λ replies.
-        map (λ r. r.now) replies.items ≡ replies_of stream journal.now.entries) }
+        map reply_seen replies.items ≡ replies_of stream journal.now.entries) }
 {
     let mut replies = Vec::new(alloc);
     for place in 0..journal.len() {
-        let Some(answer) = journal.entry(place).answer() else {
+        let Some(answer) = journal.entry(place).into_answer() else {
             continue;
         };
         if usize::from(answer.stream) == stream {
-            replies.push(&answer.reply)?;
+            replies.push(answer.reply)?;
         }
     }
     Ok(replies)

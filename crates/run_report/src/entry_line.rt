@@ -1,29 +1,32 @@
 ghost use Rattle.std.specs.Prelude.{◌≡◌, ◌++◌, OnOk, OnErr, take, length};
 ghost use Rattle.run_report.specs.Lines.{entry_line, answer_line, place_words, call_text, reply_text};
+ghost use Rattle.volume_model.specs.declared.call.Reply.TheVariants as reply;
+ghost use Rattle.packed_entries.specs.View.{entry_seen, answer_seen, call_seen, reply_seen};
 
+use crate::list::print_list;
 use crate::mark_line::append_mark;
 use crate::words::{
     append_decimal, append_error, append_modes, append_number, append_offset, whole_or_none,
 };
-use image_runs::print_runs;
+use packed_entries::{AnswerView, CallView, EntryView, ReplyView};
 use std::alloc::AllocError;
-use volume_model::{Answer, Call, Entry, Mode, Reply};
+use volume_model::Mode;
 
 /// Appends the line of the entry at a place of the journal.
-pub fn print_entry(place: u64, entry: &Entry, into: &mut Vec<u8>) -> Result<(), AllocError>
-    ensures ok { OnOk result (into.new.items ≡ into.old.items ++ entry_line place entry.now) }
+pub fn print_entry(place: u64, entry: &EntryView<'_>, into: &mut Vec<u8>) -> Result<(), AllocError>
+    ensures ok { OnOk result (into.new.items ≡ into.old.items ++ entry_line place (entry_seen entry.now)) }
     ensures err { OnErr result (into.new.items ≡ into.old.items) }
 {
     let start = into.len();
     let printed = match entry {
-        Entry::Answer(answer) => append_answer(place, answer, into),
-        Entry::Mark(mark) => append_mark(place, mark, into),
+        EntryView::Answer(answer) => append_answer(place, answer, into),
+        EntryView::Mark(mark) => append_mark(place, mark, into),
     };
     whole_or_none(printed, start, into)
 }
 
-fn append_answer(place: u64, answer: &Answer, into: &mut Vec<u8>) -> Result<(), AllocError>
-    ensures ok { OnOk result (into.new.items ≡ into.old.items ++ answer_line place answer.now) }
+fn append_answer(place: u64, answer: &AnswerView<'_>, into: &mut Vec<u8>) -> Result<(), AllocError>
+    ensures ok { OnOk result (into.new.items ≡ into.old.items ++ answer_line place (answer_seen answer.now)) }
     ensures kept { take (length into.old.items) into.new.items ≡ into.old.items }
 {
     append_place(place, answer, into)?;
@@ -34,8 +37,8 @@ fn append_answer(place: u64, answer: &Answer, into: &mut Vec<u8>) -> Result<(), 
     Ok(())
 }
 
-fn append_place(place: u64, answer: &Answer, into: &mut Vec<u8>) -> Result<(), AllocError>
-    ensures ok { OnOk result (into.new.items ≡ into.old.items ++ place_words place answer.now) }
+fn append_place(place: u64, answer: &AnswerView<'_>, into: &mut Vec<u8>) -> Result<(), AllocError>
+    ensures ok { OnOk result (into.new.items ≡ into.old.items ++ place_words place (answer_seen answer.now)) }
     ensures kept { take (length into.old.items) into.new.items ≡ into.old.items }
 {
     append_number(place, into)?;
@@ -44,43 +47,43 @@ fn append_place(place: u64, answer: &Answer, into: &mut Vec<u8>) -> Result<(), A
     append_number(answer.index, into)
 }
 
-fn append_call(call: &Call, into: &mut Vec<u8>) -> Result<(), AllocError>
-    ensures ok { OnOk result (into.new.items ≡ into.old.items ++ call_text call.now) }
+fn append_call(call: &CallView<'_>, into: &mut Vec<u8>) -> Result<(), AllocError>
+    ensures ok { OnOk result (into.new.items ≡ into.old.items ++ call_text (call_seen call.now)) }
     ensures kept { take (length into.old.items) into.new.items ≡ into.old.items }
 {
     match call {
-        Call::Read { offset, length } => {
+        CallView::Read { offset, length } => {
             into.extend_from_slice(b"read ")?;
             append_offset(*offset, into)?;
             append_decimal(u64::from(*length), into)
         }
-        Call::Write { offset, bytes } => {
+        CallView::Write { offset, bytes } => {
             into.extend_from_slice(b"write ")?;
             append_offset(*offset, into)?;
             append_number(bytes.len() as u64, into)?;
-            print_runs(bytes.as_slice(), into)
+            print_list(bytes, into)
         }
-        Call::Ping => into.extend_from_slice(b"ping"),
-        Call::Other(kind) => {
+        CallView::Ping => into.extend_from_slice(b"ping"),
+        CallView::Other(kind) => {
             into.extend_from_slice(b"other ")?;
             append_decimal(u64::from(*kind), into)
         }
-        Call::Command(command) => command.append_to(into),
+        CallView::Command(command) => command.append_to(into),
     }
 }
 
-fn append_reply(reply: &Reply, into: &mut Vec<u8>) -> Result<(), AllocError>
-    ensures ok { OnOk result (into.new.items ≡ into.old.items ++ reply_text reply.now) }
+fn append_reply(reply: &ReplyView<'_>, into: &mut Vec<u8>) -> Result<(), AllocError>
+    ensures ok { OnOk result (into.new.items ≡ into.old.items ++ reply_text (reply_seen reply.now)) }
     ensures kept { take (length into.old.items) into.new.items ≡ into.old.items }
 {
     match reply {
-        Reply::Done => into.extend_from_slice(b"ok"),
-        Reply::Read(bytes) => {
+        ReplyView::Done => into.extend_from_slice(b"ok"),
+        ReplyView::Read(bytes) => {
             into.extend_from_slice(b"ok ")?;
-            print_runs(bytes.as_slice(), into)
+            print_list(bytes, into)
         }
-        Reply::Status { layers, modes } => append_status(*layers, modes.as_slice(), into),
-        Reply::Refused(_) | Reply::Aborted(_) => {
+        ReplyView::Status { layers, modes } => append_status(*layers, modes, into),
+        ReplyView::Refused(_) | ReplyView::Aborted(_) => {
             into.extend_from_slice(b"error ")?;
             append_error(reply, into)
         }
@@ -88,7 +91,7 @@ fn append_reply(reply: &Reply, into: &mut Vec<u8>) -> Result<(), AllocError>
 }
 
 fn append_status(layers: u64, modes: &[Mode], into: &mut Vec<u8>) -> Result<(), AllocError>
-    ensures ok { OnOk result (into.new.items ≡ into.old.items ++ reply_text (Reply.Status layers modes.now)) }
+    ensures ok { OnOk result (into.new.items ≡ into.old.items ++ reply_text (reply.Status layers modes.now)) }
     ensures kept { take (length into.old.items) into.new.items ≡ into.old.items }
 {
     into.extend_from_slice(b"ok layers ")?;

@@ -1,17 +1,22 @@
 ghost use Rattle.std.specs.Prelude.{◌≡◌, ◌++◌, OnOk, OnErr, take, length};
 ghost use Rattle.frame_stream.specs.Replies.{reply_body};
+ghost use Rattle.packed_entries.specs.View.{answer_seen, reply_seen, list_seen};
 ghost use Rattle.run_report.specs.Lines.{reply_line, header_words};
 
+use crate::list::print_list;
 use crate::reply_frame::{body_of, kind_of, size_of};
 use crate::words::{append_error, append_number, append_offset, whole_or_none};
 use frame_wire::Head;
-use image_runs::print_runs;
+use packed_entries::{AnswerView, ListView};
 use std::alloc::AllocError;
-use volume_model::Answer;
 
 /// Appends the line of the reply to a frame with this header, which asked what was answered.
-pub fn print_reply(asked: &Head, answer: &Answer, into: &mut Vec<u8>) -> Result<(), AllocError>
-    ensures ok { OnOk result (into.new.items ≡ into.old.items ++ reply_line asked.now answer.now) }
+pub fn print_reply(
+    asked: &Head,
+    answer: &AnswerView<'_>,
+    into: &mut Vec<u8>,
+) -> Result<(), AllocError>
+    ensures ok { OnOk result (into.new.items ≡ into.old.items ++ reply_line asked.now (answer_seen answer.now)) }
     ensures err { OnErr result (into.new.items ≡ into.old.items) }
 {
     let start = into.len();
@@ -19,8 +24,8 @@ pub fn print_reply(asked: &Head, answer: &Answer, into: &mut Vec<u8>) -> Result<
     whole_or_none(printed, start, into)
 }
 
-fn append_frame(asked: &Head, answer: &Answer, into: &mut Vec<u8>) -> Result<(), AllocError>
-    ensures ok { OnOk result (into.new.items ≡ into.old.items ++ reply_line asked.now answer.now) }
+fn append_frame(asked: &Head, answer: &AnswerView<'_>, into: &mut Vec<u8>) -> Result<(), AllocError>
+    ensures ok { OnOk result (into.new.items ≡ into.old.items ++ reply_line asked.now (answer_seen answer.now)) }
     ensures kept { take (length into.old.items) into.new.items ≡ into.old.items }
 {
     // An error's text is made aside, since it is printed as runs. There is none in most replies.
@@ -30,20 +35,20 @@ fn append_frame(asked: &Head, answer: &Answer, into: &mut Vec<u8>) -> Result<(),
     into.extend_from_slice(b"reply ")?;
     append_number(u64::from(answer.stream), into)?;
     append_number(answer.index, into)?;
-    append_header(asked, answer, body, into)?;
-    print_runs(body, into)?;
+    append_header(asked, answer, &body, into)?;
+    print_list(&body, into)?;
     into.push(b'\n')?;
     Ok(())
 }
 
 fn append_header(
     asked: &Head,
-    answer: &Answer,
-    body: &[u8],
+    answer: &AnswerView<'_>,
+    body: &ListView<'_>,
     into: &mut Vec<u8>,
 ) -> Result<(), AllocError>
-    requires { body.now ≡ reply_body answer.now.reply }
-    ensures ok { OnOk result (into.new.items ≡ into.old.items ++ header_words asked.now answer.now) }
+    requires { list_seen body.now ≡ reply_body (reply_seen answer.now.reply) }
+    ensures ok { OnOk result (into.new.items ≡ into.old.items ++ header_words asked.now (answer_seen answer.now)) }
     ensures kept { take (length into.old.items) into.new.items ≡ into.old.items }
 {
     append_number(u64::from(asked.seq), into)?;

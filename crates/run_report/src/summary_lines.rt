@@ -1,11 +1,14 @@
 ghost use Rattle.std.specs.Prelude.{◌≡◌, ◌++◌, ◌∷◌, OnOk, OnErr, take, length, map, flat_map};
+ghost use Rattle.volume_model.specs.declared.call.Reply.TheVariants as reply;
+ghost use Rattle.packed_entries.specs.View.{reply_seen};
 ghost use Rattle.run_report.specs.Lines.{reply_text};
 ghost use Rattle.run_report.specs.Summary.{stream_line, replies_text, control_line, modes_line, disk_line};
 
+use crate::list::print_list;
 use crate::words::{append_error, append_modes, append_number, whole_or_none};
-use image_runs::print_runs;
+use packed_entries::ReplyView;
 use std::alloc::AllocError;
-use volume_model::{Mode, Reply};
+use volume_model::Mode;
 
 /// Appends the line of a stream: the digest of the frames that reply to its frames.
 pub fn print_stream(stream: u8, digest: &[u8; 64], into: &mut Vec<u8>) -> Result<(), AllocError>
@@ -18,9 +21,9 @@ pub fn print_stream(stream: u8, digest: &[u8; 64], into: &mut Vec<u8>) -> Result
 }
 
 /// Appends the line of the control stream, whose commands were answered so.
-pub fn print_control(replies: &[&Reply], into: &mut Vec<u8>) -> Result<(), AllocError>
+pub fn print_control(replies: &[ReplyView<'_>], into: &mut Vec<u8>) -> Result<(), AllocError>
     ensures ok { OnOk result (into.new.items
-        ≡ into.old.items ++ control_line (map (λ r. r.now) replies.now)) }
+        ≡ into.old.items ++ control_line (map reply_seen replies.now)) }
     ensures err { OnErr result (into.new.items ≡ into.old.items) }
 {
     let start = into.len();
@@ -59,9 +62,9 @@ fn append_stream(stream: u8, digest: &[u8; 64], into: &mut Vec<u8>) -> Result<()
     Ok(())
 }
 
-fn append_control(replies: &[&Reply], into: &mut Vec<u8>) -> Result<(), AllocError>
+fn append_control(replies: &[ReplyView<'_>], into: &mut Vec<u8>) -> Result<(), AllocError>
     ensures ok { OnOk result (into.new.items
-        ≡ into.old.items ++ control_line (map (λ r. r.now) replies.now)) }
+        ≡ into.old.items ++ control_line (map reply_seen replies.now)) }
     ensures kept { take (length into.old.items) into.new.items ≡ into.old.items }
 {
     into.extend_from_slice(b"control ")?;
@@ -91,9 +94,9 @@ fn append_disk(digest: &[u8; 64], into: &mut Vec<u8>) -> Result<(), AllocError>
 }
 
 /// Appends replies, parted by commas.
-fn append_replies(replies: &[&Reply], into: &mut Vec<u8>) -> Result<(), AllocError>
+fn append_replies(replies: &[ReplyView<'_>], into: &mut Vec<u8>) -> Result<(), AllocError>
     ensures ok { OnOk result (into.new.items
-        ≡ into.old.items ++ replies_text (map (λ r. r.now) replies.now)) }
+        ≡ into.old.items ++ replies_text (map reply_seen replies.now)) }
     ensures kept { take (length into.old.items) into.new.items ≡ into.old.items }
 {
     let [first, rest @ ..] = replies else {
@@ -104,9 +107,9 @@ fn append_replies(replies: &[&Reply], into: &mut Vec<u8>) -> Result<(), AllocErr
 }
 
 /// Appends replies that stand behind another.
-fn append_more_replies(replies: &[&Reply], into: &mut Vec<u8>) -> Result<(), AllocError>
+fn append_more_replies(replies: &[ReplyView<'_>], into: &mut Vec<u8>) -> Result<(), AllocError>
     ensures ok { OnOk result (into.new.items
-        ≡ into.old.items ++ flat_map (λ r. 44 ∷ reply_text r.now) replies.now) }
+        ≡ into.old.items ++ flat_map (λ r. 44 ∷ reply_text (reply_seen r)) replies.now) }
     ensures kept { take (length into.old.items) into.new.items ≡ into.old.items }
 {
     for reply in replies {
@@ -115,26 +118,26 @@ fn append_more_replies(replies: &[&Reply], into: &mut Vec<u8>) -> Result<(), All
     Ok(())
 }
 
-fn append_one_more(reply: &Reply, into: &mut Vec<u8>) -> Result<(), AllocError>
-    ensures ok { OnOk result (into.new.items ≡ into.old.items ++ 44 ∷ reply_text reply.now) }
+fn append_one_more(reply: &ReplyView<'_>, into: &mut Vec<u8>) -> Result<(), AllocError>
+    ensures ok { OnOk result (into.new.items ≡ into.old.items ++ 44 ∷ reply_text (reply_seen reply.now)) }
     ensures kept { take (length into.old.items) into.new.items ≡ into.old.items }
 {
     into.push(b',')?;
     append_reply(reply, into)
 }
 
-fn append_reply(reply: &Reply, into: &mut Vec<u8>) -> Result<(), AllocError>
-    ensures ok { OnOk result (into.new.items ≡ into.old.items ++ reply_text reply.now) }
+fn append_reply(reply: &ReplyView<'_>, into: &mut Vec<u8>) -> Result<(), AllocError>
+    ensures ok { OnOk result (into.new.items ≡ into.old.items ++ reply_text (reply_seen reply.now)) }
     ensures kept { take (length into.old.items) into.new.items ≡ into.old.items }
 {
     match reply {
-        Reply::Done => into.extend_from_slice(b"ok"),
-        Reply::Read(bytes) => {
+        ReplyView::Done => into.extend_from_slice(b"ok"),
+        ReplyView::Read(bytes) => {
             into.extend_from_slice(b"ok ")?;
-            print_runs(bytes.as_slice(), into)
+            print_list(bytes, into)
         }
-        Reply::Status { layers, modes } => append_status(*layers, modes.as_slice(), into),
-        Reply::Refused(_) | Reply::Aborted(_) => {
+        ReplyView::Status { layers, modes } => append_status(*layers, modes, into),
+        ReplyView::Refused(_) | ReplyView::Aborted(_) => {
             into.extend_from_slice(b"error ")?;
             append_error(reply, into)
         }
@@ -143,7 +146,7 @@ fn append_reply(reply: &Reply, into: &mut Vec<u8>) -> Result<(), AllocError>
 
 fn append_status(layers: u64, modes: &[Mode], into: &mut Vec<u8>) -> Result<(), AllocError>
     ensures ok { OnOk result (into.new.items
-        ≡ into.old.items ++ reply_text (Reply.Status layers modes.now)) }
+        ≡ into.old.items ++ reply_text (reply.Status layers modes.now)) }
     ensures kept { take (length into.old.items) into.new.items ≡ into.old.items }
 {
     into.extend_from_slice(b"ok layers ")?;

@@ -1,11 +1,13 @@
 ghost use Rattle.std.specs.Prelude.{◌≡◌, ◌++◌, ◌∷◌, OnOk, OnErr, take, length, flat_map};
 ghost use Rattle.std.specs.Fmt.{decimal, signed_decimal};
 ghost use Rattle.frame_stream.specs.Replies.{error_text};
+ghost use Rattle.packed_entries.specs.View.{reply_seen};
 ghost use Rattle.run_report.specs.Lines.{word, replica_text, mode_text, modes_text};
 
 use itoa::Buffer;
+use packed_entries::ReplyView;
 use std::alloc::AllocError;
-use volume_model::{Mode, Reply};
+use volume_model::Mode;
 
 /// What the printing of a line came to, which began at `start`. Where it failed, the part that was printed is taken
 /// back.
@@ -122,14 +124,14 @@ pub fn text_of_mode(mode: Mode) -> &'static str
 }
 
 /// Appends why a call was not done, and nothing where it was.
-pub fn append_error(reply: &Reply, into: &mut Vec<u8>) -> Result<(), AllocError>
-    ensures ok { OnOk result (into.new.items ≡ into.old.items ++ error_text reply.now) }
+pub fn append_error(reply: &ReplyView<'_>, into: &mut Vec<u8>) -> Result<(), AllocError>
+    ensures ok { OnOk result (into.new.items ≡ into.old.items ++ error_text (reply_seen reply.now)) }
     ensures kept { take (length into.old.items) into.new.items ≡ into.old.items }
 {
     match reply {
-        Reply::Done | Reply::Read(_) | Reply::Status { .. } => Ok(()),
-        Reply::Refused(why) => into.extend_from_slice(why.text().as_bytes()),
-        Reply::Aborted(place) => {
+        ReplyView::Done | ReplyView::Read(_) | ReplyView::Status { .. } => Ok(()),
+        ReplyView::Refused(why) => into.extend_from_slice(why.text().as_bytes()),
+        ReplyView::Aborted(place) => {
             into.extend_from_slice(b"aborted ")?;
             append_decimal(*place, into)
         }

@@ -20,7 +20,8 @@ use Rattle.open_calls.specs.Clients.{IsIdle}
 use Rattle.step_answers.specs.Asked.{IsNow}
 use Rattle.volume_core.specs.State.{State, modes_in, index_at, gave_up_at}
 use Rattle.open_rebuild.specs.declared.rebuilding.Rebuilding.{Rebuilding}
-use Rattle.volume_core.specs.Steps.{with_place, answered, faulted, answer_entry, marked, aborted, has_part, aborted_with, behind_fall}
+use Rattle.volume_core.specs.Steps.{with_place, with_rooms, answered, faulted, answer_entry, marked, aborted}
+use Rattle.volume_core.specs.Steps.{has_part, aborted_with, behind_fall}
 use Rattle.volume_core.specs.Sound.{IsSound}
 use Rattle.volume_core.specs.Answers.{IsAnsweredNow, failed_by, failed_in, after_fail}
 use Rattle.volume_core.specs.Streams.{calls_in, running, commands_in, turning, open_of, MayAppendMark, MayAppend}
@@ -257,10 +258,10 @@ module _ (n : ℕ) (s s2 : State) (r count : ℕ) (is : s2 ≡ faulted s n r cou
       }))
       (behind (marked s its_mark) r))
 
--- ---- nothing but a place
+-- ---- nothing but places
 
-pub nothing_more : (n : ℕ) (s : State) → Appends n s (with_place s)
-nothing_more n s = record {
+pub nothing_more : (n : ℕ) (s : State) (spare room : ℕ) → Appends n s (with_rooms s spare room)
+nothing_more n s spare room = record {
   marks = [];
   entries = sym (append-nil s.book.entries);
   may = tt;

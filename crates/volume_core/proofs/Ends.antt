@@ -37,12 +37,15 @@ use Rattle.open_calls.proofs.FreeLemmas.{not_both, write_no_read, write_no_whole
 use Rattle.open_calls.proofs.Gone.{left_clients, written_clients, seen_clients}
 use Rattle.open_calls.proofs.SeenLemmas.{seen_answer, idle_once_gone, behind_within}
 use Rattle.volume_core.specs.State.{State, opening_of, told_of, modes_in, index_at}
+use Rattle.packed_entries.specs.Plain.{data_in}
+use Rattle.volume_core.specs.Data.{owed_data}
 use Rattle.volume_core.specs.Steps.{with_place, answered, ended}
 use Rattle.volume_core.specs.Sound.{IsSoundOn, IsCalm, is_up, owed_end}
 use Rattle.step_answers.specs.Asked.{IsOnRange}
-use Rattle.volume_core.specs.Answers.{EndsWrite}
+use Rattle.volume_core.specs.Answers.{EndsWrite, placed_for}
 use Rattle.volume_core.proofs.Answered.{no_command, no_add, asks_one, write_free, read_free, refused_plainly, done_plainly, none_answered}
-use Rattle.volume_core.proofs.Rows.{counts, place_sound}
+use Rattle.volume_core.proofs.DataLemmas.{room_left, ended_room}
+use Rattle.volume_core.proofs.Rows.{counts, place_sound, data_sound}
 use Rattle.volume_core.proofs.Told.{answer_told}
 
 -- the same clients of what is the same
@@ -66,8 +69,9 @@ module _ (s : State) (stream saw : ℕ) (c : Call) (r : Reply) where
       → IsAnswered (told_of s) (modes_in s) its_answer
       → AreClients v s.size (length s.indices) s.book.entries (modes_in s) tickets calls ns
       → count_by (λ t. t.started) tickets + length s.commands + count_by is_up (modes_in s) + owed_end s.rebuild + 1 ≤ s.book.spare
+      → owed_data calls + length (data_in c r) ≤ s.book.spare_data
       → IsSoundOn v ns (answered (record s { tickets = tickets; calls = calls }) stream saw c r)
-  answered_on v0 v ns0 ns tickets calls ok idle within past seen none is_own may clients room =
+  answered_on v0 v ns0 ns tickets calls ok idle within past seen none is_own may clients room brings =
       let o = opening_of s in
       let e = entry.Answer its_answer in
       let longer = s.book.entries ++ e ∷ [] in
@@ -81,6 +85,7 @@ module _ (s : State) (stream saw : ℕ) (c : Call) (r : Reply) where
             (seen_clients v s.size (length s.indices) s.book.entries longer (modes_in s) tickets calls ns
             (seen_answer s.book.entries calls clients.seen its_answer idle) clients);
         spare = omega (arith, room, ap (count_by is_up) modes);
+        spare_data = room_left (owed_data calls) s.book.spare_data (data_in c r) brings;
       }
 
   -- the same where no call on the whole volume is started, with those of the volume that it leaves
@@ -90,11 +95,12 @@ module _ (s : State) (stream saw : ℕ) (c : Call) (r : Reply) where
       → (after_entry (told_of s) (entry.Answer its_answer)).volume ≡ v
       → AreClients v s.size (length s.indices) s.book.entries (modes_in s) tickets calls s.nodes
       → count_by (λ t. t.started) tickets + length s.commands + count_by is_up (modes_in s) + owed_end s.rebuild + 1 ≤ s.book.spare
+      → owed_data calls + length (data_in c r) ≤ s.book.spare_data
       → IsCalm (answered (record s { tickets = tickets; calls = calls }) stream saw c r)
-  answered_sound tickets calls v ok idle within past seen none is_own may after clients room =
+  answered_sound tickets calls v ok idle within past seen none is_own may after clients room brings =
       subst (λ (w : Volume). IsSoundOn w s.nodes (answered (record s { tickets = tickets; calls = calls }) stream saw c r))
       (sym after ∙ ap (λ (p : PlainState). p.volume) (sym (replay-push (opening_of s).state s.book.entries (entry.Answer its_answer))))
-      (answered_on (told_of s).volume v s.nodes s.nodes tickets calls ok idle within past seen none is_own may clients room)
+      (answered_on (told_of s).volume v s.nodes s.nodes tickets calls ok idle within past seen none is_own may clients room brings)
 
 -- ---- a call that is refused as it is enrolled
 
@@ -111,15 +117,16 @@ range_no_add (call.Command c) on = absurd on
 pub refused_sound : (v : Volume) (ns : List Node) (s : State) (stream : ℕ) (c : Call) → IsSoundOn v ns s
     → stream < length s.indices → IsIdle stream s.calls → IsOnRange c
     → refusal_of (modes_in s) (told_of s) c ≡ Some OutOfRange
-    → IsSoundOn v ns (answered (with_place s) stream (length s.book.entries) c (reply.Refused OutOfRange))
+    → IsSoundOn v ns (answered (placed_for s c) stream (length s.book.entries) c (reply.Refused OutOfRange))
 refused_sound v ns s stream c ok within idle on refused =
-    let ok2 = place_sound v ns s ok in
-    let a = its_answer (with_place s) stream (length s.book.entries) c (reply.Refused OutOfRange) in
-    answered_on (with_place s) stream (length s.book.entries) c (reply.Refused OutOfRange) v v ns ns s.tickets s.calls ok2
+    let refused_c = data_in c (reply.Refused OutOfRange) in
+    let ok2 = data_sound v ns (with_place s) (length refused_c) (place_sound v ns s ok) in
+    let a = its_answer (placed_for s c) stream (length s.book.entries) c (reply.Refused OutOfRange) in
+    answered_on (placed_for s c) stream (length s.book.entries) c (reply.Refused OutOfRange) v v ns ns s.tickets s.calls ok2
     idle within (behind_within stream s.book.entries) (omega arith)
     (range_no_add c on) (range_own (told_of s) a on)
     (refused_plainly (modes_in s) (told_of s) a OutOfRange refused refl (λ r e. subst IsOnRange e on)) ok.clients
-    (omega (arith, ok.spare))
+    (omega (arith, ok.spare)) (omega arith)
 
 -- ---- a call on a range ends
 
@@ -136,16 +143,18 @@ module _ (s : State) (i : ℕ) (ok : IsCalm s) (h : i < length s.tickets) where
   call_in : i < length s.calls
   call_in = omega (arith, ok.clients.paired)
 
-  pub ended_sound : (r : Reply) (v : Volume) → k ≢ kind.Whole → IsAnswered (told_of s) (modes_in s) (its r)
+  pub ended_sound : (r : Reply) (v : Volume) → k ≢ kind.Whole
+      → ((bytes : List ℕ) → r ≡ reply.Read bytes → bytes ≡ c.buffer) → IsAnswered (told_of s) (modes_in s) (its r)
       → (after_entry (told_of s) (entry.Answer (its r))).volume ≡ v
       → AreClients v s.size (length s.indices) s.book.entries (modes_in s) (remove s.tickets i) (remove s.calls i) s.nodes
       → count_by (λ t. t.started) (remove s.tickets i) + length s.commands + count_by is_up (modes_in s) + owed_end
       s.rebuild + 1 ≤ s.book.spare → IsCalm (ended s i r)
-  ended_sound r v range may after clients room =
+  ended_sound r v range own may after clients room =
       answered_sound s c.stream c.saw (call_asked k c) r (remove s.tickets i) (remove s.calls i) v ok
       (idle_once_gone s.book.entries s.calls ok.clients.seen i call_in) (ok.clients.fits i h).stream
       (ok.clients.seen.past i call_in) (ok.clients.seen.saw i call_in)
       (no_add k c range) (λ name e. absurd (no_command k c (command.Snapshot name) range e)) may after clients room
+      (ended_room s.calls i k r s.book.spare_data call_in range own ok.spare_data)
 
   -- the place that a started call has in the journal
   pub started_room : (ticket_at s.tickets i).started ≡ true
@@ -171,7 +180,7 @@ module _ (s : State) (i : ℕ) (ok : IsCalm s) (h : i < length s.tickets) where
       → count_by (λ t. t.started) (remove s.tickets i) + length s.commands + count_by is_up (modes_in s) + owed_end
       s.rebuild + 1 ≤ s.book.spare → IsCalm (ended s i (reply.Refused NoReplica))
   none_sound range none room =
-      ended_sound (reply.Refused NoReplica) (told_of s).volume range
+      ended_sound (reply.Refused NoReplica) (told_of s).volume range (λ bytes e. absurd cc)
       (none_answered (modes_in s) (told_of s) (its (reply.Refused NoReplica)) (on_range k refl range) (asks_one k c range)
       (λ x e. no_command k c x range e) refl none) refl
       (left_clients (told_of s).volume s.size (length s.indices) s.book.entries (modes_in s) s.tickets s.calls s.nodes i
@@ -185,7 +194,7 @@ module _ (s : State) (i : ℕ) (ok : IsCalm s) (h : i < length s.tickets) where
       let is = as_asked kind.Write w.writes in
       let p = told_of s in
       let v = written p.volume (pos c.at) c.bytes in
-      ended_sound reply.Done v (write_no_whole k w.writes)
+      ended_sound reply.Done v (write_no_whole k w.writes) (λ bytes e. absurd cc)
       (done_plainly (modes_in s) p (its reply.Done)
       (ap (refusal_of (modes_in s) p) is ∙ on_range kind.Write w.writes (λ e. cc))
       (sym (ap (λ x. (step_unless None (modes_in s) p x).1) is)) (λ x e. no_command k c x (write_no_whole k w.writes) e)
@@ -207,7 +216,7 @@ module _ (s : State) (i : ℕ) (ok : IsCalm s) (h : i < length s.tickets) where
       let is = as_asked kind.Read w.reads in
       let p = told_of s in
       let bytes = (ok.clients.reads i h w).read r (subst IsTaken (sym acked) tt) in
-      ended_sound (reply.Read c.buffer) p.volume (read_no_whole k w.reads)
+      ended_sound (reply.Read c.buffer) p.volume (read_no_whole k w.reads) (λ bytes e. cc)
       (done_plainly (modes_in s) p (its (reply.Read c.buffer))
       (ap (refusal_of (modes_in s) p) is ∙ on_range kind.Read w.reads (λ e. cc))
       (ap reply.Read bytes ∙ sym (ap (λ x. (step_unless None (modes_in s) p x).1) is))

@@ -41,10 +41,13 @@ use Rattle.open_rebuild.specs.declared.rebuilding.Rebuilding.{Rebuilding}
 use Rattle.open_rebuild.specs.Claim.{IsApart}
 use Rattle.volume_core.specs.declared.world.EndedRebuild.{EndedRebuild}
 use Rattle.volume_core.specs.State.{State, opening_of, told_of, modes_in, index_at}
+use Rattle.packed_entries.specs.Plain.{data_in}
+use Rattle.volume_core.specs.Data.{owed_data}
 use Rattle.volume_core.specs.Steps.{with_place, answered, marked, aborted, failed}
 use Rattle.volume_core.specs.Sound.{IsOpened, IsOrdered, IsSoundOn, is_up, how_far, owed_end, owed_entries}
 use Rattle.volume_core.specs.Answers.{failed_in, after_fail}
 use Rattle.volume_core.proofs.Answered.{plainly}
+use Rattle.volume_core.proofs.DataLemmas.{room_left}
 use Rattle.volume_core.proofs.Ends.{same_clients, its_answer}
 use Rattle.volume_core.proofs.FarLemmas.{not_in, begun_of, only_of, far_aborted, GoesOn, Aborts, behind}
 use Rattle.volume_core.proofs.Told.{answer_ordered, mark_ordered}
@@ -210,6 +213,7 @@ module _ (v : Volume) (ns : List Node) (s : State) (stream r count : ℕ) (ok : 
     };
     clients = clients_fell v ns s r m ok falls rise;
     spare = omega (arith, room_fell v ns s r m ok falls rise up);
+    spare_data = omega (arith, ok.spare_data);
   }
 
   pub fault_over : (b : Rebuilding) → s.rebuild ≡ Some b → IsSoundOn v ns (aborted (marked s m) b.target)
@@ -226,6 +230,7 @@ module _ (v : Volume) (ns : List Node) (s : State) (stream r count : ℕ) (ok : 
         };
         clients = clients_over v ns s r m ok falls rise b;
         spare = omega (arith, room_over v ns s r m ok falls rise b begun up);
+        spare_data = omega (arith, ok.spare_data);
       }
 
 -- ---- a call is answered where the journal is in order, and legal with the answer
@@ -237,8 +242,8 @@ pub answered_legal : (v : Volume) (ns : List Node) (s : State) (stream : ℕ) (c
     → AreClients v s.size (length s.indices) s.book.entries (modes_in s) s.tickets s.calls ns → IsIdle stream s.calls
     → stream < length s.indices → behind_last stream s.book.entries ≤ saw → saw ≤ length s.book.entries
     → added_by c ≡ None → IsOwn (told_of s) (entry.Answer (its_answer s stream saw c r)) → owed_entries s + 1 ≤ s.book.spare
-    → IsSoundOn v ns (answered s stream saw c r)
-answered_legal v ns s stream c r saw opened legal ordered clients idle within past seen none own room =
+    → owed_data s.calls + length (data_in c r) ≤ s.book.spare_data → IsSoundOn v ns (answered s stream saw c r)
+answered_legal v ns s stream c r saw opened legal ordered clients idle within past seen none own room brings =
     let a = its_answer s stream saw c r in
     let longer = s.book.entries ++ entry.Answer a ∷ [] in
     let o = opening_of s in
@@ -256,6 +261,7 @@ answered_legal v ns s stream c r saw opened legal ordered clients idle within pa
           (seen_clients v s.size (length s.indices) s.book.entries longer (modes_in s) s.tickets s.calls ns
           (seen_answer s.book.entries s.calls clients.seen a idle) clients);
       spare = omega (arith, room, ap (count_by is_up) modes);
+      spare_data = room_left (owed_data s.calls) s.book.spare_data (data_in c r) brings;
     }
 
 -- ---- a replica is told to fail, and had not
@@ -304,6 +310,7 @@ module _ (v : Volume) (ns : List Node) (s : State) (stream r : ℕ) (ok : IsSoun
       (ordered_fell v ns s r mf ok falls_told rise_told) (clients_fell v ns s r mf ok falls_told rise_told) idle within
       past_one (omega (arith, length-append es (entry.Mark mf ∷ [])))
       refl (λ name e. absurd cc) (omega (arith, room_fell v ns s r mf ok falls_told rise_told up))
+      (omega (arith, ok.spare_data))
 
   fail_over : (b : Rebuilding) → s.rebuild ≡ Some b
       → IsSoundOn v ns (answered (aborted (marked (with_place s) mf) b.target) stream (length es) c reply.Done)
@@ -320,6 +327,7 @@ module _ (v : Volume) (ns : List Node) (s : State) (stream r : ℕ) (ok : IsSoun
       (subst (λ xs. place_behind 0 xs ≤ length es) (sym (mark_more longer e stream)) past_one)
       (omega (arith, length-append es (entry.Mark mf ∷ []), length-append longer (entry.Mark e ∷ [])))
       refl (λ name f. absurd cc) (omega (arith, room_over v ns s r mf ok falls_told rise_told b begun up))
+      (omega (arith, ok.spare_data))
 
   pub fails_on : IsSoundOn v ns (answered (failed (with_place s) r) stream (length es) c reply.Done)
   fails_on = ⊎_elim

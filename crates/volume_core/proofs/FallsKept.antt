@@ -50,12 +50,21 @@ use Rattle.volume_core.proofs.FarLemmas.{begun_of, GoesOn, Aborts, behind}
 use Rattle.volume_core.proofs.Keep.{same_whole, same_maint, on_same, quiet_kept, told_next}
 use Rattle.volume_core.proofs.Now.{now_on}
 
+-- a mark brings no bytes, nor does a command
+abbrev unpaid : ℕ → ℕ
+unpaid room = room - 0
+
 -- ---- the journal has more entries, of which marks let replicas fail, and no other changes modes or volume
 
-module _ (s : State) (ok : IsSound s) (indices : List ℕ) (es : List Entry) (spare : ℕ) (o : Option Rebuilding)
+module _ (s : State) (ok : IsSound s) (indices : List ℕ) (es : List Entry) (spare room : ℕ) (o : Option Rebuilding)
     (g : Option EndedRebuild) where
   abbrev pub fallen_to : State
-  fallen_to = record s { indices = indices; book = record s.book { entries = es; spare = spare }; rebuild = o; ended = g }
+  fallen_to = record s {
+    indices = indices;
+    book = record s.book { entries = es; spare = spare; spare_data = room };
+    rebuild = o;
+    ended = g;
+  }
 
   pub fallen : (ms : List Mode) → ms ≡ modes_in fallen_to → told_of s ≡ told_of fallen_to
       → length s.indices ≡ length indices → IsWhole (told_of s) ms s.tickets s.calls s.nodes s.whole
@@ -145,7 +154,7 @@ module _ (s : State) (stream r count : ℕ) (ok : IsSound s) (up : mode_of (mode
 
   fault_alone : IsApart s.rebuild r → IsSound (marked s m)
   fault_alone apart =
-      fallen s ok s.indices longer (s.book.spare - 1) s.rebuild s.ended (one_fell s ok r up)
+      fallen s ok s.indices longer (s.book.spare - 1) (unpaid s.book.spare_data) s.rebuild s.ended (one_fell s ok r up)
       (sym (modes_after-push (opening_of s).modes s.book.entries (entry.Mark m)))
       (sym (replay-push (opening_of s).state s.book.entries (entry.Mark m))) refl
       (whole_one s ok r up) (fewer_one s ok r up)
@@ -159,7 +168,7 @@ module _ (s : State) (stream r count : ℕ) (ok : IsSound s) (up : mode_of (mode
   fault_ends : (b : Rebuilding) → s.rebuild ≡ Some b → (r ≡ b.target) ⊎ (r ≡ b.source) → IsSound (aborted (marked s m) b.target)
   fault_ends b begun part =
       let e = mark.Aborted b.target in
-      fallen s ok s.indices (longer ++ entry.Mark e ∷ []) (s.book.spare - 1 - 1) None
+      fallen s ok s.indices (longer ++ entry.Mark e ∷ []) (s.book.spare - 1 - 1) (unpaid (unpaid s.book.spare_data)) None
       (Some (record { target = b.target; place = length longer })) (both_fell s ok r up b)
       (sym (modes_after-push (opening_of s).modes longer (entry.Mark e)
       ∙ ap (λ (ms : List Mode). set ms b.target Err)
@@ -210,7 +219,8 @@ module _ (s : State) (stream r : ℕ) (ok : IsSound s) (within : stream < length
   fail_alone : IsApart s.rebuild r → IsSoundOn (due s.whole (told_of s).volume) (forms s.whole s.nodes)
       (after (marked (with_place s) mf)) → IsSound (after (marked (with_place s) mf))
   fail_alone apart on =
-      fallen s ok counted (told_longer ++ entry.Answer a ∷ []) (s.book.spare + 1 - 1 - 1) s.rebuild s.ended (one_fell s ok r up)
+      fallen s ok counted (told_longer ++ entry.Answer a ∷ []) (s.book.spare + 1 - 1 - 1)
+      (unpaid (unpaid s.book.spare_data)) s.rebuild s.ended (one_fell s ok r up)
       (sym (modes_after-push (opening_of s).modes told_longer (entry.Answer a)
       ∙ modes_after-push (opening_of s).modes s.book.entries (entry.Mark mf)))
       (sym (replay-push (opening_of s).state told_longer (entry.Answer a)
@@ -230,7 +240,8 @@ module _ (s : State) (stream r : ℕ) (ok : IsSound s) (within : stream < length
   fail_ends b begun part on =
       let e = mark.Aborted b.target in
       let over = told_longer ++ entry.Mark e ∷ [] in
-      fallen s ok counted (over ++ entry.Answer a ∷ []) (s.book.spare + 1 - 1 - 1 - 1) None
+      fallen s ok counted (over ++ entry.Answer a ∷ []) (s.book.spare + 1 - 1 - 1 - 1)
+      (unpaid (unpaid (unpaid s.book.spare_data))) None
       (Some (record { target = b.target; place = length told_longer })) (both_fell s ok r up b)
       (sym (modes_after-push (opening_of s).modes over (entry.Answer a) ∙ modes_after-push (opening_of s).modes told_longer (entry.Mark e)
       ∙ ap (λ (ms : List Mode). set ms b.target Err) (modes_after-push (opening_of s).modes s.book.entries (entry.Mark mf))))
@@ -278,7 +289,8 @@ now_sound s stream c ok within idle none now =
         → IsSound (answered (with_place s) stream (length s.book.entries) c (plain_step (modes_in s) (told_of s) c).1)
     quiet c same on =
         let r = (plain_step (modes_in s) (told_of s) c).1 in
-        quiet_kept s ok stream c r within none (told_next s ok stream c r within none (same (is_refusal r))) on
+        let room = s.book.spare_data in
+        quiet_kept s ok stream c r within none room (told_next s ok stream c r within none room (same (is_refusal r))) on
 
     rw≢err : Rw ≢ Err
     rw≢err e = cc

@@ -92,6 +92,7 @@ module _ (s : State) (stream : ℕ) (b : Rebuilding) (ok : IsSound s) (within : 
         (seen_mark s.book.entries s.calls on.clients.seen its)
         (failed_again v s.size (length s.indices) b.target s.book.entries (modes_in s) s.tickets s.calls ns on.clients));
     spare = omega (arith, on.spare, ap owed_end begun, fewer_up (modes_in s) b.target, ap (count_by is_up) modes);
+    spare_data = omega (arith, on.spare_data);
   }
 
   pub given_up_kept : IsSound next

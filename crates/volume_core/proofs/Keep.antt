@@ -48,12 +48,13 @@ use Rattle.open_calls.specs.Maint.{HasNoCommand, FitsMaint, AreMaint}
 use Rattle.open_calls.proofs.Kept.{none_whole, whole_enrolled, whole_left, each_push, each_left, each_set}
 use Rattle.open_calls.proofs.Kept.{queued_answer, fits_still, fits_range, range_alone}
 use Rattle.volume_core.specs.State.{State, opening_of, told_of, modes_in, index_at}
-use Rattle.volume_core.specs.Steps.{with_place, answered, enrolled, without_call, started, wrote, has_read, acked, ended}
+use Rattle.volume_core.specs.Steps.{with_place, with_rooms, with_data, answered, enrolled, without_call, started}
+use Rattle.volume_core.specs.Steps.{wrote, has_read, acked, ended}
 use Rattle.volume_core.specs.Sound.{IsSound, IsSoundOn, IsCalm, AreAdds, AreCaused, NoneGaveUp}
 use Rattle.volume_core.proofs.Caused.{caused_answer}
 use Rattle.volume_core.proofs.RebuildKept.{roomed}
 use Rattle.step_answers.specs.Asked.{IsOnRange}
-use Rattle.volume_core.specs.Answers.{IsRoomier, BeginsBy, EndsWrite}
+use Rattle.volume_core.specs.Answers.{IsRoomier, BeginsBy, EndsWrite, placed_for}
 use Rattle.volume_core.proofs.Ends as ends
 use Rattle.volume_core.proofs.Rows as rows
 
@@ -134,14 +135,34 @@ place_kept s ok = record {
   streams = ok.streams;
 }
 
+pub data_kept : (s : State) (n : ℕ) → IsSound s → IsSound (with_data s n)
+data_kept s n ok = record {
+  on = rows.data_sound (due s.whole (told_of s).volume) (forms s.whole s.nodes) s n ok.on;
+  whole = ok.whole;
+  maint = record { queued = ok.maint.queued; fits = ok.maint.fits };
+  disk = ok.disk;
+  rebuild = ok.rebuild;
+  adds = ok.adds;
+  caused = ok.caused;
+  streams = ok.streams;
+}
+
 same_layers : (s : State) (nodes : List Node) → KeepsNodes s.nodes nodes → (r : ℕ) → (node_at nodes r).layers ≡ (node_at s.nodes r).layers
 same_layers s nodes keeps r = ap (λ (n : Node). n.layers) (keeps.same r)
 
 pub roomier_kept : (s s2 : State) → IsSound s → s.whole ≡ None → IsRoomier s s2 → IsSound s2
 roomier_kept s s2 ok none is =
-    let s_changed_here = record s { nodes = is.nodes; book = record s.book { spare = is.spare } } in
+    let s_changed_here = record (with_rooms s is.spare is.spare_data) { nodes = is.nodes } in
     let calm = rows.roomier_sound s s_changed_here (calm_of s ok none)
-    (record { nodes = is.nodes; spare = is.spare; keeps = is.keeps; more = is.more; state = refl }) in
+    (record {
+      nodes = is.nodes;
+      spare = is.spare;
+      spare_data = is.spare_data;
+      keeps = is.keeps;
+      more = is.more;
+      more_data = is.more_data;
+      state = refl;
+    }) in
     subst IsSound (sym is.state) (of_calm s_changed_here none calm (none_of s ok none)
     (record {
       queued = ok.maint.queued;
@@ -153,7 +174,15 @@ roomier_kept s s2 ok none is =
 
 -- and one place more before that
 pub roomier_place : (s s2 : State) → IsRoomier (with_place s) s2 → IsRoomier s s2
-roomier_place s s2 is = record { nodes = is.nodes; spare = is.spare; keeps = is.keeps; more = omega (arith, is.more); state = is.state }
+roomier_place s s2 is = record {
+  nodes = is.nodes;
+  spare = is.spare;
+  spare_data = is.spare_data;
+  keeps = is.keeps;
+  more = omega (arith, is.more);
+  more_data = is.more_data;
+  state = is.state;
+}
 
 -- ---- a call is enrolled
 
@@ -184,7 +213,7 @@ pub call_enrolled : (s : State) (k : Kind) (number stream at n : ℕ) (range : B
     → k ≢ kind.Whole → HasNoCommand stream s.commands → s.size % 2097152 ≡ 0
     → range ≡ blocks_around at n → at + n ≤ s.size → (k ≡ kind.Read → n ≤ longest_call)
     → (k ≡ kind.Write → length bytes ≡ n) → stream < length s.indices → IsIdle stream s.calls → IsFresh s.tickets number
-    → IsSound (enrolled s (record { number = number; range = range; kind = k; started = false })
+    → IsSound (enrolled (with_data s (length bytes)) (record { number = number; range = range; kind = k; started = false })
     (record {
       stream = stream;
       saw = length s.book.entries;
@@ -199,10 +228,12 @@ pub call_enrolled : (s : State) (k : Kind) (number stream at n : ℕ) (range : B
       op = None;
     }))
 call_enrolled s k number stream at n range bytes ok call none whole is good short count within idle fresh =
-    enrolled_kept s _ _ ok call none refl fresh
-    (rows.enrolled_sound (due s.whole (told_of s).volume) (forms s.whole s.nodes) s _ _ ok.on refl fresh
+    let roomy = with_data s (length bytes) in
+    let ok2 = data_kept s (length bytes) ok in
+    enrolled_kept roomy _ _ ok2 call none refl fresh
+    (rows.enrolled_sound (due s.whole (told_of s).volume) (forms s.whole s.nodes) roomy _ _ ok2.on refl fresh
     (enrolled_fits s.size (length s.indices) (length (forms s.whole s.nodes)) _ _ whole is refl good short count within)
-    idle (behind_within stream s.book.entries) (at_most (length s.book.entries)))
+    idle (behind_within stream s.book.entries) (at_most (length s.book.entries)) (omega arith))
 
 -- ---- a call that waits is taken back
 
@@ -228,9 +259,9 @@ withdrawn_kept s i ok h waits = record {
 -- ---- an answer that changes nothing, of a stream with no call open
 
 module _ (s : State) (ok : IsSound s) (stream : ℕ) (c : Call) (r : Reply) (within : stream < length s.indices)
-    (none : HasNoCommand stream s.commands) where
+    (none : HasNoCommand stream s.commands) (room : ℕ) where
   abbrev pub next : State
-  next = answered (with_place s) stream (length s.book.entries) c r
+  next = answered (with_rooms s (s.book.spare + 1) room) stream (length s.book.entries) c r
 
   pub quiet_kept : told_of next ≡ told_of s → IsSoundOn (due s.whole (told_of s).volume) (forms s.whole s.nodes) next → IsSound next
   quiet_kept same on =
@@ -262,9 +293,11 @@ module _ (s : State) (ok : IsSound s) (stream : ℕ) (c : Call) (r : Reply) (wit
 
 pub refused_kept : (s : State) (stream : ℕ) (c : Call) → IsSound s → stream < length s.indices → IsIdle stream s.calls
     → HasNoCommand stream s.commands → IsOnRange c → refusal_of (modes_in s) (told_of s) c ≡ Some OutOfRange
-    → IsSound (answered (with_place s) stream (length s.book.entries) c (reply.Refused OutOfRange))
+    → IsSound (answered (placed_for s c) stream (length s.book.entries) c (reply.Refused OutOfRange))
 refused_kept s stream c ok within idle none on refused =
-    quiet_kept s ok stream c (reply.Refused OutOfRange) within none (told_next s ok stream c (reply.Refused OutOfRange) within none refl)
+    let room = (placed_for s c).book.spare_data in
+    quiet_kept s ok stream c (reply.Refused OutOfRange) within none room
+    (told_next s ok stream c (reply.Refused OutOfRange) within none room refl)
     (ends.refused_sound (due s.whole (told_of s).volume) (forms s.whole s.nodes) s stream c ok.on within idle on refused)
 
 -- ---- the steps of a started call on a range
@@ -345,17 +378,18 @@ begins_kept s s2 i source ok h waits clear read k is b =
     none = calm_by s i ok h clear (λ w. waits)
 
     begun_kept : (k : Kind) → (ticket_at s.tickets i).kind ≡ k → k ≢ kind.Whole
-        → (ns : List Node) (front back buffer : List ℕ) → KeepsNodes s.nodes ns
-        → s2 ≡ started (with_place s) i ns front back buffer → IsCalm s2 → IsSound s2
-    begun_kept k is range ns front back buffer room state calm =
+        → (ns : List Node) (front back buffer : List ℕ) (room : ℕ) → KeepsNodes s.nodes ns
+        → s2 ≡ started (with_rooms s (s.book.spare + 1) room) i ns front back buffer → IsCalm s2 → IsSound s2
+    begun_kept k is range ns front back buffer room more state calm =
         let c = begun (open_at s.calls i) (modes_in s) front back buffer in
         let t = record (ticket_at s.tickets i) { started = true } in
         let Q = FitsMaint (told_of s).volume.snapshots (modes_in s) ns s.maint s.commands in
         let each = λ (j : ℕ) (l : j < length s.tickets). fits_still (told_of s).volume.snapshots (modes_in s) (modes_in s)
-        s.nodes ns s.maint s.commands (ticket_at s.tickets j) (open_at s.calls j) (λ r e. e) (same_layers s ns room)
+        s.nodes ns s.maint s.commands (ticket_at s.tickets j) (open_at s.calls j) (λ r e. e) (same_layers s ns more)
         (ok.maint.fits j l) in
         let in_range : (ticket_at s.tickets i).kind ≢ kind.Whole = λ e. range (sym is ∙ e) in
-        subst IsSound (sym state) (of_calm (started (with_place s) i ns front back buffer) none (subst IsCalm state calm)
+        let next = started (with_rooms s (s.book.spare + 1) room) i ns front back buffer in
+        subst IsSound (sym state) (of_calm next none (subst IsCalm state calm)
         (started_none in_range)
         (record {
           queued = ok.maint.queued;
@@ -365,7 +399,7 @@ begins_kept s s2 i source ok h waits clear read k is b =
               (open_at s.calls i) in_range (ok.maint.fits i h)));
         })
         (keeps.call_started s.size (modes_in s) s.tickets s.calls s.nodes ns s.rebuild i front back buffer
-        (omega (arith, h, ok.on.clients.paired)) h room (rebuild_of_none s ok none))
+        (omega (arith, h, ok.on.clients.paired)) h more (rebuild_of_none s ok none))
         ok.adds ok.caused ok.streams)
       where
         started_none : (ticket_at s.tickets i).kind ≢ kind.Whole → (j : ℕ) → j < length (with_started s.tickets i)
@@ -380,8 +414,9 @@ begins_kept s s2 i source ok h waits clear read k is b =
 
     by : (k : Kind) → (ticket_at s.tickets i).kind ≡ k → BeginsBy k (with_place s) i source s2 → IsCalm s2 → IsSound s2
     by kind.Read is b calm = begun_kept kind.Read is (λ e. cc) s.nodes [] [] b.buffer
+        (with_data s (open_at s.calls i).length).book.spare_data
         (Rattle.open_calls.proofs.Started.same_keeps s.nodes) b.state calm
-    by kind.Write is b calm = begun_kept kind.Write is (λ e. cc) b.nodes b.front b.back [] b.keeps b.state calm
+    by kind.Write is b calm = begun_kept kind.Write is (λ e. cc) b.nodes b.front b.back [] s.book.spare_data b.keeps b.state calm
     by kind.Whole is b calm = absurd b
 
 -- ---- a call on a range ends
@@ -414,11 +449,11 @@ module _ (s : State) (i : ℕ) (ok : IsSound s) (h : i < length s.tickets) (rang
       by false = refl
   same_snapshots kind.Whole r n = absurd (n refl)
 
-  pub ended_kept : (spare : ℕ) (r : Reply) → IsRebuilding s.size (modes_in s) (remove s.tickets i) (remove s.calls i) None s.nodes s.rebuild
-      → IsCalm (ended (record s { book = record s.book { spare = spare } }) i r)
-      → IsSound (ended (record s { book = record s.book { spare = spare } }) i r)
-  ended_kept spare r rebuild calm =
-      let next : State = ended (record s { book = record s.book { spare = spare } }) i r in
+  pub ended_kept : (spare room : ℕ) (r : Reply)
+      → IsRebuilding s.size (modes_in s) (remove s.tickets i) (remove s.calls i) None s.nodes s.rebuild
+      → IsCalm (ended (with_rooms s spare room) i r) → IsSound (ended (with_rooms s spare room) i r)
+  ended_kept spare room r rebuild calm =
+      let next : State = ended (with_rooms s spare room) i r in
       let c = open_at s.calls i in
       let a : Answer = record {
         call = call_asked (ticket_at s.tickets i).kind c;
@@ -462,7 +497,7 @@ write_kept s i ok h w r end =
     let range = write_no_whole (ticket_at s.tickets i).kind w.writes in
     let none = started_calm s i ok h w.started range in
     let calm = calm_of s ok none in
-    ended_kept s i ok h range none s.book.spare r
+    ended_kept s i ok h range none s.book.spare s.book.spare_data r
     (keeps.write_ended (told_of s).volume s.size (length s.indices) s.book.entries (modes_in s) s.tickets s.calls s.nodes i
     calm.clients h w end.acknowledged s.rebuild (rebuild_of_none s ok none))
     (ends.write_sound s i calm h w r end)
@@ -473,7 +508,7 @@ pub read_kept : (s : State) (i : ℕ) → IsSound s → i < length s.tickets →
 read_kept s i ok h w r acked =
     let range = read_no_whole (ticket_at s.tickets i).kind w.reads in
     let none = started_calm s i ok h w.started range in
-    ended_kept s i ok h range none s.book.spare (reply.Read (open_at s.calls i).buffer)
+    ended_kept s i ok h range none s.book.spare s.book.spare_data (reply.Read (open_at s.calls i).buffer)
     (gone_kept s i ok h range none (λ v. write_no_read (ticket_at s.tickets i).kind v.writes w.reads))
     (ends.read_sound s i (calm_of s ok none) h w r acked)
 
@@ -484,7 +519,7 @@ none_kept s i ok h w gone =
     let range = read_no_whole (ticket_at s.tickets i).kind w.reads in
     let none = started_calm s i ok h w.started range in
     let calm = calm_of s ok none in
-    ended_kept s i ok h range none s.book.spare (reply.Refused NoReplica)
+    ended_kept s i ok h range none s.book.spare s.book.spare_data (reply.Refused NoReplica)
     (gone_kept s i ok h range none (λ v. write_no_read (ticket_at s.tickets i).kind v.writes w.reads))
     (ends.none_sound s i calm h range gone (ends.started_room s i calm h w.started))
 
@@ -493,6 +528,6 @@ pub refused_start_kept : (s : State) (i : ℕ) → IsSound s → i < length s.ti
     → IsSound (ended (with_place s) i (reply.Refused NoReplica))
 refused_start_kept s i ok h clear waits range gone =
     let none = calm_by s i ok h clear (λ w. waits) in
-    ended_kept s i ok h range none (s.book.spare + 1) (reply.Refused NoReplica)
+    ended_kept s i ok h range none (s.book.spare + 1) s.book.spare_data (reply.Refused NoReplica)
     (gone_kept s i ok h range none (λ w. not_both (ticket_at s.tickets i).started waits w.started))
     (ends.refused_start_sound s i (calm_of s ok none) h range gone)

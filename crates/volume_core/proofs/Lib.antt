@@ -1,3 +1,4 @@
+pub mod DataLemmas
 pub mod Told
 pub mod FarLemmas
 pub mod RebuildKept

@@ -19,7 +19,7 @@ use Rattle.step_answers.specs.declared.parts.Part.{Part}
 use Rattle.open_calls.specs.Clients.{IsIdle}
 use Rattle.open_calls.proofs.FreeLemmas.{write_no_whole, read_no_whole}
 use Rattle.volume_core.specs.State.{State, modes_in, index_at, gave_up_at}
-use Rattle.volume_core.specs.Steps.{with_place, ended, without_call, started, answer_entry}
+use Rattle.volume_core.specs.Steps.{with_place, with_rooms, with_data, ended, without_call, started, answer_entry}
 use Rattle.volume_core.specs.Sound.{IsSound}
 use Rattle.volume_core.specs.Answers.{IsRoomier, IsBehind, Completes, BeginsBy}
 use Rattle.volume_core.specs.Streams.{running, turning, Open, open_of, opens, IsOpen, MayGo, Stays, Begun}
@@ -115,12 +115,12 @@ module _ (n : ℕ) (c : Call) (s : State) (i : ℕ) (ok : IsSound s) (h : i < le
   call_in : i < length s.calls
   call_in = omega (arith, h, ok.on.clients.paired)
 
-  -- with its ticket, on these replicas, with places for so many entries
-  pub may_set : (s2 : State) (t : Ticket) (y : OpenCall) (nodes : List Node) (spare : ℕ)
+  -- with its ticket, on these replicas, with places for so many entries and so much data
+  pub may_set : (s2 : State) (t : Ticket) (y : OpenCall) (nodes : List Node) (spare room : ℕ)
       → y.stream ≡ (open_at s.calls i).stream → length nodes ≡ length s.nodes
-      → s2 ≡ record s { nodes = nodes; tickets = set s.tickets i t; calls = set s.calls i y; book = record s.book { spare = spare } }
+      → s2 ≡ record (with_rooms s spare room) { nodes = nodes; tickets = set s.tickets i t; calls = set s.calls i y }
       → IsSound s2 → MayGo n s s2
-  may_set s2 t y nodes spare same many is ok2 = record {
+  may_set s2 t y nodes spare room same many is ok2 = record {
     sound = ok2;
     origin = ap origin_of is
         ∙ ap (λ k. record { first = s.first; opening = s.book.opening; size = s.size; streams = length s.indices; replicas = k })
@@ -134,10 +134,10 @@ module _ (n : ℕ) (c : Call) (s : State) (i : ℕ) (ok : IsSound s) (h : i < le
   }
 
   -- what the stream then has open
-  pub opens_set : (s2 : State) (t : Ticket) (y : OpenCall) (nodes : List Node) (spare : ℕ) → y.stream ≡ (open_at s.calls i).stream
-      → s2 ≡ record s { nodes = nodes; tickets = set s.tickets i t; calls = set s.calls i y; book = record s.book { spare = spare } }
+  pub opens_set : (s2 : State) (t : Ticket) (y : OpenCall) (nodes : List Node) (spare room : ℕ) → y.stream ≡ (open_at s.calls i).stream
+      → s2 ≡ record (with_rooms s spare room) { nodes = nodes; tickets = set s.tickets i t; calls = set s.calls i y }
       → opens s2 n ≡ open_of (t, y) ∷ []
-  opens_set s2 t y nodes spare same is =
+  opens_set s2 t y nodes spare room same is =
       ap (λ (x : State). opens x n) is ∙ ap (map open_of)
       (calls-set_own n s.tickets s.calls i t y own.x own.runs h call_in own.stream (same ∙ own.stream))
 
@@ -150,27 +150,26 @@ module _ (n : ℕ) (c : Call) (s : State) (i : ℕ) (ok : IsSound s) (h : i < le
 
   -- where the ticket stays
   with_ticket : (y : OpenCall) (nodes : List Node) → record s { nodes = nodes; calls = set s.calls i y }
-      ≡ record s {
+      ≡ record (with_rooms s s.book.spare s.book.spare_data) {
         nodes = nodes;
         tickets = set s.tickets i (ticket_at s.tickets i);
         calls = set s.calls i y;
-        book =
-            record s.book { spare = s.book.spare };
       }
   with_ticket y nodes =
-      ap (λ ts. record s { nodes = nodes; tickets = ts; calls = set s.calls i y; book = record s.book { spare = s.book.spare } })
+      ap (λ ts. record (with_rooms s s.book.spare s.book.spare_data) { nodes = nodes; tickets = ts; calls = set s.calls i y })
       (sym same_ticket)
 
   pub may_step : (s2 : State) (y : OpenCall) (nodes : List Node) → y.stream ≡ (open_at s.calls i).stream → length nodes ≡ length s.nodes
       → s2 ≡ record s { nodes = nodes; calls = set s.calls i y } → IsSound s2 → MayGo n s s2
-  may_step s2 y nodes same many is ok2 = may_set s2 (ticket_at s.tickets i) y nodes s.book.spare same many (is ∙ with_ticket y nodes) ok2
+  may_step s2 y nodes same many is ok2 = may_set s2 (ticket_at s.tickets i) y nodes s.book.spare s.book.spare_data same many
+      (is ∙ with_ticket y nodes) ok2
 
   pub stays_step : (s2 : State) (y : OpenCall) (nodes : List Node) → y.stream ≡ (open_at s.calls i).stream
       → open_of (ticket_at s.tickets i, y) ≡ open_of (ticket_at s.tickets i, open_at s.calls i)
       → s2 ≡ record s { nodes = nodes; calls = set s.calls i y } → Stays n s s2
   stays_step s2 y nodes same alike is = record {
     entries = ap (λ (x : State). x.book.entries) is;
-    same = opens_set s2 (ticket_at s.tickets i) y nodes s.book.spare same (is ∙ with_ticket y nodes)
+    same = opens_set s2 (ticket_at s.tickets i) y nodes s.book.spare s.book.spare_data same (is ∙ with_ticket y nodes)
         ∙ ap (λ o. o ∷ []) alike ∙ sym opens_had;
   }
 
@@ -194,12 +193,12 @@ module _ (n : ℕ) (c : Call) (s : State) (i : ℕ) (ok : IsSound s) (h : i < le
   pub idle_without : (s2 : State) → s2 ≡ without_call s i → opens s2 n ≡ []
   idle_without s2 is = ap (λ (x : State). opens x n) is ∙ ap (map open_of) none_left
 
-  -- ---- it ends, with places for so many entries
+  -- ---- it ends, with places for so many entries and so much data
 
   -- unless it is a removal that was done
-  pub may_ended : (s2 : State) (spare : ℕ) (r : Reply) → IsNoRemoval s i r
-      → s2 ≡ ended (record s { book = record s.book { spare = spare } }) i r → IsSound s2 → MayGo n s s2
-  may_ended s2 spare r stays is ok2 = record {
+  pub may_ended : (s2 : State) (spare room : ℕ) (r : Reply) → IsNoRemoval s i r
+      → s2 ≡ ended (with_rooms s spare room) i r → IsSound s2 → MayGo n s s2
+  may_ended s2 spare room r stays is ok2 = record {
     sound = ok2;
     origin = ap origin_of is
         ∙ ap (λ k. record { first = s.first; opening = s.book.opening; size = s.size; streams = k; replicas = length s.nodes })
@@ -217,9 +216,9 @@ module _ (n : ℕ) (c : Call) (s : State) (i : ℕ) (ok : IsSound s) (h : i < le
     removes = λ m other turn name. (stays name, tt);
   }
 
-  pub answered_ended : (s2 : State) (spare : ℕ) (r : Reply)
-      → s2 ≡ ended (record s { book = record s.book { spare = spare } }) i r → IsAnsweredTo n c s s2
-  answered_ended s2 spare r is = record {
+  pub answered_ended : (s2 : State) (spare room : ℕ) (r : Reply)
+      → s2 ≡ ended (with_rooms s spare room) i r → IsAnsweredTo n c s s2
+  answered_ended s2 spare room r is = record {
     marks = [];
     answer = record {
       call = call_asked (ticket_at s.tickets i).kind (open_at s.calls i);
@@ -260,24 +259,24 @@ module _ (s s2 : State) (t i : ℕ) (ok : IsSound s) (ok2 : IsSound s2) (stands 
     idle = idle_without n c s i ok stands.within (own_at n t c s i ok o stands) s2 is;
   }
 
-  pub ended_may : (spare : ℕ) (r : Reply) → IsNoRemoval s i r → s2 ≡ ended (record s { book = record s.book { spare = spare } }) i r
+  pub ended_may : (spare room : ℕ) (r : Reply) → IsNoRemoval s i r → s2 ≡ ended (with_rooms s spare room) i r
       → ForOwner t s (λ n c. MayGo n s s2)
-  ended_may spare r stays is = λ n c o. may_ended n c s i ok stands.within (own_at n t c s i ok o stands) s2 spare r stays is ok2
+  ended_may spare room r stays is = λ n c o. may_ended n c s i ok stands.within (own_at n t c s i ok o stands) s2 spare room r stays is ok2
 
-  pub ended_sees : (spare : ℕ) (r : Reply) → s2 ≡ ended (record s { book = record s.book { spare = spare } }) i r
+  pub ended_sees : (spare room : ℕ) (r : Reply) → s2 ≡ ended (with_rooms s spare room) i r
       → ForOwner t s (λ n c. IsAnsweredTo n c s s2)
-  ended_sees spare r is = λ n c o. answered_ended n c s i ok stands.within (own_at n t c s i ok o stands) s2 spare r is
+  ended_sees spare room r is = λ n c o. answered_ended n c s i ok stands.within (own_at n t c s i ok o stands) s2 spare room r is
 
   -- and of one that starts
-  pub started_may : (nodes : List Node) (front back buffer : List ℕ) → length nodes ≡ length s.nodes
-      → s2 ≡ started (with_place s) i nodes front back buffer → ForOwner t s (λ n c. MayGo n s s2)
-  started_may nodes front back buffer many is = λ n c o. may_set n c s i ok stands.within (own_at n t c s i ok o stands) s2
+  pub started_may : (nodes : List Node) (front back buffer : List ℕ) (room : ℕ) → length nodes ≡ length s.nodes
+      → s2 ≡ started (with_rooms s (s.book.spare + 1) room) i nodes front back buffer → ForOwner t s (λ n c. MayGo n s s2)
+  started_may nodes front back buffer room many is = λ n c o. may_set n c s i ok stands.within (own_at n t c s i ok o stands) s2
       (record (ticket_at s.tickets i) { started = true })
-      (begun (open_at s.calls i) (modes_in s) front back buffer) nodes (s.book.spare + 1) refl many is ok2
+      (begun (open_at s.calls i) (modes_in s) front back buffer) nodes (s.book.spare + 1) room refl many is ok2
 
-  pub started_sees : (nodes : List Node) (front back buffer : List ℕ)
-      → s2 ≡ started (with_place s) i nodes front back buffer → ForOwner t s (λ n c. Begun n t c s s2)
-  started_sees nodes front back buffer is = λ n c o. let own = own_at n t c s i ok o stands in
+  pub started_sees : (nodes : List Node) (front back buffer : List ℕ) (room : ℕ)
+      → s2 ≡ started (with_rooms s (s.book.spare + 1) room) i nodes front back buffer → ForOwner t s (λ n c. Begun n t c s s2)
+  started_sees nodes front back buffer room is = λ n c o. let own = own_at n t c s i ok o stands in
       let y = begun (open_at s.calls i) (modes_in s) front back buffer in
       record {
         entries = ap (λ (x : State). x.book.entries) is;
@@ -286,7 +285,7 @@ module _ (s s2 : State) (t i : ℕ) (ok : IsSound s) (ok2 : IsSound s2) (stands 
           whole = whole_of y;
           is =
               let ticket_here = ticket_at s.tickets i in
-              opens_set n c s i ok stands.within own s2 (record ticket_here { started = true }) y nodes (s.book.spare + 1) refl is
+              opens_set n c s i ok stands.within own s2 (record ticket_here { started = true }) y nodes (s.book.spare + 1) room refl is
               ∙ one_open ticket_here.number t (call_asked ticket_here.kind y) c ticket_here.range (whole_of y) stands.is
               (asked_same ticket_here.kind ∙ own.asked);
         };
@@ -333,30 +332,34 @@ behind_sees n t c s s2 b idle ok = record {
 
 pub complete_may : (s s2 : State) (t : ℕ) → Completes s t s2 → IsSound s → IsSound s2 → ForOwner t s (λ n c. MayGo n s s2)
 complete_may s s2 t done ok ok2 = ⊎_elim
-    (λ w. ended_may s s2 t done.0 ok ok2 w.0.stands s.book.spare done.1
+    (λ w. ended_may s s2 t done.0 ok ok2 w.0.stands s.book.spare s.book.spare_data done.1
     (no_removal s done.0 done.1 (write_no_whole (ticket_at s.tickets done.0).kind w.0.writes.writes)) done.2)
-    (λ r. ended_may s s2 t done.0 ok ok2 r.0.stands s.book.spare done.1
+    (λ r. ended_may s s2 t done.0 ok ok2 r.0.stands s.book.spare s.book.spare_data done.1
     (no_removal s done.0 done.1 (read_no_whole (ticket_at s.tickets done.0).kind r.0.reads.reads)) done.2)
     done.3
 
 pub complete_sees : (s s2 : State) (t : ℕ) → Completes s t s2 → IsSound s → IsSound s2 → ForOwner t s (λ n c. IsAnsweredTo n c s s2)
 complete_sees s s2 t done ok ok2 = ⊎_elim
-    (λ w. ended_sees s s2 t done.0 ok ok2 w.0.stands s.book.spare done.1 done.2)
-    (λ r. ended_sees s s2 t done.0 ok ok2 r.0.stands s.book.spare done.1 done.2)
+    (λ w. ended_sees s s2 t done.0 ok ok2 w.0.stands s.book.spare s.book.spare_data done.1 done.2)
+    (λ r. ended_sees s s2 t done.0 ok ok2 r.0.stands s.book.spare s.book.spare_data done.1 done.2)
     done.3
 
 -- ---- the start of a call
 
 pub begins_may : (s s2 : State) (t i source : ℕ) → IsSound s → IsSound s2 → StandsAt s.tickets t i → (k : Kind)
     → BeginsBy k (with_place s) i source s2 → ForOwner t s (λ n c. MayGo n s s2)
-begins_may s s2 t i source ok ok2 stands kind.Read b = started_may s s2 t i ok ok2 stands s.nodes [] [] b.buffer refl b.state
-begins_may s s2 t i source ok ok2 stands kind.Write b = started_may s s2 t i ok ok2 stands b.nodes b.front b.back [] b.keeps.count b.state
+begins_may s s2 t i source ok ok2 stands kind.Read b = started_may s s2 t i ok ok2 stands s.nodes [] [] b.buffer
+    (with_data s (open_at s.calls i).length).book.spare_data refl b.state
+begins_may s s2 t i source ok ok2 stands kind.Write b = started_may s s2 t i ok ok2 stands b.nodes b.front b.back []
+    s.book.spare_data b.keeps.count b.state
 begins_may s s2 t i source ok ok2 stands kind.Whole b = absurd b
 
 pub begins_sees : (s s2 : State) (t i source : ℕ) → IsSound s → IsSound s2 → StandsAt s.tickets t i → (k : Kind)
     → BeginsBy k (with_place s) i source s2 → ForOwner t s (λ n c. Begun n t c s s2)
-begins_sees s s2 t i source ok ok2 stands kind.Read b = started_sees s s2 t i ok ok2 stands s.nodes [] [] b.buffer b.state
-begins_sees s s2 t i source ok ok2 stands kind.Write b = started_sees s s2 t i ok ok2 stands b.nodes b.front b.back [] b.state
+begins_sees s s2 t i source ok ok2 stands kind.Read b = started_sees s s2 t i ok ok2 stands s.nodes [] [] b.buffer
+    (with_data s (open_at s.calls i).length).book.spare_data b.state
+begins_sees s s2 t i source ok ok2 stands kind.Write b = started_sees s s2 t i ok ok2 stands b.nodes b.front b.back []
+    s.book.spare_data b.state
 begins_sees s s2 t i source ok ok2 stands kind.Whole b = absurd b
 
 -- ---- how far the replicas are of a call does not show

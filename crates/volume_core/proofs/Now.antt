@@ -25,6 +25,7 @@ use Rattle.volume_core.specs.Sound.{IsSound, IsSoundOn}
 use Rattle.step_answers.specs.Asked.{IsNow}
 use Rattle.volume_core.specs.Answers.{failed_by, failed_in, after_fail}
 use Rattle.volume_core.proofs.Answered.{plainly}
+use Rattle.volume_core.proofs.DataLemmas.{none_now}
 use Rattle.volume_core.proofs.Ends.{its_answer, answered_on}
 use Rattle.volume_core.proofs.Falls.{fails_on}
 use Rattle.volume_core.proofs.Rows.{place_sound}
@@ -37,9 +38,9 @@ layers_told s ok = ap (λ n. layers_after n s.book.entries) ok.on.opened.layers 
 
 quiet_sound : (v : Volume) (ns : List Node) (s : State) (stream : ℕ) (c : Call) → IsSoundOn v ns s
     → stream < length s.indices → IsIdle stream s.calls → added_by c ≡ None → is_change c ≡ false
-    → ((r : ℕ) → c ≡ call.Command (command.Fail r) → mode_of (modes_in s) r ≡ Err)
+    → ((r : ℕ) → c ≡ call.Command (command.Fail r) → mode_of (modes_in s) r ≡ Err) → IsNow c
     → IsSoundOn v ns (answered (with_place s) stream (length s.book.entries) c (plain_step (modes_in s) (told_of s) c).1)
-quiet_sound v ns s stream c ok within idle none quiet fails =
+quiet_sound v ns s stream c ok within idle none quiet fails now =
     let ok2 = place_sound v ns s ok in
     let r = (plain_step (modes_in s) (told_of s) c).1 in
     let a = its_answer (with_place s) stream (length s.book.entries) c r in
@@ -48,6 +49,7 @@ quiet_sound v ns s stream c ok within idle none quiet fails =
     none (λ name e. absurd (not_both (is_change c) quiet (ap is_change e)))
     (plainly (modes_in s) (told_of s) a refl fails (λ change. absurd (not_both (is_change c) quiet change))
     (λ e. absurd (not_both (is_change c) quiet (ap is_change e)))) ok.clients (omega (arith, ok.spare))
+    (omega (arith, ok.spare_data, ap length (none_now (modes_in s) (told_of s) c now)))
 
 -- ---- the step
 
@@ -56,11 +58,11 @@ pub now_on : (v : Volume) (ns : List Node) (s : State) (stream : ℕ) (c : Call)
     → IsSoundOn v ns (answered (after_fail (with_place s) (failed_by c)) stream (length s.book.entries) c
     (plain_step (modes_in s) (told_of s) c).1)
 now_on v ns s stream (call.Read offset n) ok within idle now =
-    quiet_sound v ns s stream (call.Read offset n) ok within idle refl refl (λ r e. absurd cc)
+    quiet_sound v ns s stream (call.Read offset n) ok within idle refl refl (λ r e. absurd cc) now
 now_on v ns s stream (call.Write offset bytes) ok within idle now = absurd now
-now_on v ns s stream call.Ping ok within idle now = quiet_sound v ns s stream call.Ping ok within idle refl refl (λ r e. absurd cc)
+now_on v ns s stream call.Ping ok within idle now = quiet_sound v ns s stream call.Ping ok within idle refl refl (λ r e. absurd cc) now
 now_on v ns s stream (call.Other k) ok within idle now =
-    quiet_sound v ns s stream (call.Other k) ok within idle refl refl (λ r e. absurd cc)
+    quiet_sound v ns s stream (call.Other k) ok within idle refl refl (λ r e. absurd cc) now
 now_on v ns s stream (call.Command (command.Snapshot name)) ok within idle now = absurd now
 now_on v ns s stream (call.Command (command.Remove name)) ok within idle now = absurd now
 now_on v ns s stream (call.Command (command.Revert name)) ok within idle now = absurd now
@@ -68,7 +70,7 @@ now_on v ns s stream (call.Command command.Purge) ok within idle now = absurd no
 now_on v ns s stream (call.Command (command.Add r)) ok within idle now = absurd now
 now_on v ns s stream (call.Command (command.Backup backup snapshot)) ok within idle now = absurd now
 now_on v ns s stream (call.Command command.Status) ok within idle now =
-    quiet_sound v ns s stream (call.Command command.Status) ok within idle refl refl (λ r e. absurd cc)
+    quiet_sound v ns s stream (call.Command command.Status) ok within idle refl refl (λ r e. absurd cc) now
 now_on v ns s stream (call.Command (command.Fail r)) ok within idle now = by_mode (mode_of (modes_in s) r) refl
   where
     same_replica : (q : ℕ) → call.Command (command.Fail r) ≡ call.Command (command.Fail q) → r ≡ q
@@ -84,6 +86,6 @@ now_on v ns s stream (call.Command (command.Fail r)) ok within idle now = by_mod
         → IsSoundOn v ns (answered (failed_in m (with_place s) r) stream (length s.book.entries)
         (call.Command (command.Fail r)) reply.Done)
     by_mode Err e = quiet_sound v ns s stream (call.Command (command.Fail r)) ok within idle refl refl
-        (λ q f. subst (λ n. mode_of (modes_in s) n ≡ Err) (same_replica q f) e)
+        (λ q f. subst (λ n. mode_of (modes_in s) n ≡ Err) (same_replica q f) e) now
     by_mode Rw e = fails_on v ns s stream r ok within idle (λ f. rw≢err (sym e ∙ f))
     by_mode Wo e = fails_on v ns s stream r ok within idle (λ f. wo≢err (sym e ∙ f))

@@ -73,6 +73,7 @@ opened_sound size streams opening nodes s may is whole =
           };
         };
         spare = omega (arith, count_by-le-length is_up opening.modes, may.as_many);
+        spare_data = omega arith;
       };
       whole = λ i l. absurd (omega arith);
       maint = record {

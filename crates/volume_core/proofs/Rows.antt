@@ -13,7 +13,8 @@ use Rattle.range_turns.specs.Order.{ticket_at, no_ticket, with_started, IsFresh,
 use Rattle.replica_node.specs.Node.{Node}
 use Rattle.open_calls.specs.declared.open_call.OpenCall.{OpenCall}
 use Rattle.step_answers.specs.Parts.{part_at, IsTaken}
-use Rattle.open_calls.specs.Calls.{open_at, begun}
+use Rattle.open_calls.specs.Calls.{open_at, node_at, begun, with_part_at, read_from}
+use Rattle.step_answers.specs.declared.parts.Part.TheVariants.{Taken, Acked}
 use Rattle.open_calls.specs.Clients.{AreClients, IsWriting, IsReading, Fits, IsIdle, behind_last}
 use Rattle.open_calls.proofs.Enrolled.{enrolled_clients}
 use Rattle.open_calls.proofs.FreeLemmas.{not_both, write_no_read}
@@ -21,9 +22,11 @@ use Rattle.open_calls.proofs.Gone.{left_clients}
 use Rattle.open_calls.proofs.OneCall.{acked_clients, wrote_clients, read_clients}
 use Rattle.open_calls.proofs.Started.{same_keeps, roomed_clients, begun_clients}
 use Rattle.volume_core.specs.State.{State, told_of, modes_in}
-use Rattle.volume_core.specs.Steps.{with_place, enrolled, started, without_call, acked, wrote, has_read}
+use Rattle.volume_core.specs.Data.{owed_call, owed_data}
+use Rattle.volume_core.specs.Steps.{with_place, with_rooms, with_data, enrolled, started, without_call, acked, wrote, has_read}
 use Rattle.volume_core.specs.Sound.{IsSoundOn, IsCalm}
 use Rattle.volume_core.specs.Answers.{IsRoomier, BeginsBy}
+use Rattle.volume_core.proofs.DataLemmas.{owed_push, owed_set, owed_less, owed_gone, read_no_more}
 
 abbrev pub as_number : Bool → ℕ
 as_number b = cond b 1 0
@@ -42,6 +45,16 @@ place_sound v ns s ok = record {
   told = record { legal = ok.told.legal; ordered = ok.told.ordered };
   clients = ok.clients;
   spare = omega (arith, ok.spare);
+  spare_data = ok.spare_data;
+}
+
+pub data_sound : (v : Volume) (ns : List Node) (s : State) (n : ℕ) → IsSoundOn v ns s → IsSoundOn v ns (with_data s n)
+data_sound v ns s n ok = record {
+  opened = ok.opened;
+  told = record { legal = ok.told.legal; ordered = ok.told.ordered };
+  clients = ok.clients;
+  spare = ok.spare;
+  spare_data = omega (arith, ok.spare_data);
 }
 
 pub roomier_sound : (s s2 : State) → IsCalm s → IsRoomier s s2 → IsCalm s2
@@ -51,10 +64,19 @@ roomier_sound s s2 ok is = subst IsCalm (sym is.state) (record {
   clients = roomed_clients (told_of s).volume s.size (length s.indices) s.book.entries (modes_in s) s.tickets s.calls
       s.nodes is.nodes ok.clients is.keeps;
   spare = omega (arith, ok.spare, is.more);
+  spare_data = omega (arith, ok.spare_data, is.more_data);
 })
 
 pub same_room : (s : State) → IsRoomier s s
-same_room s = record { nodes = s.nodes; spare = s.book.spare; keeps = same_keeps s.nodes; more = omega arith; state = refl }
+same_room s = record {
+  nodes = s.nodes;
+  spare = s.book.spare;
+  spare_data = s.book.spare_data;
+  keeps = same_keeps s.nodes;
+  more = omega arith;
+  more_data = omega arith;
+  state = refl;
+}
 
 pub on_err : {A E : Type 0} (r : Result A E) (P : Type 0) → P → OnErr r P
 on_err (Ok a) P p = tt
@@ -66,6 +88,9 @@ same_err (Failed x) s s2 e = subst (IsRoomier s) (sym e) (same_room s)
 
 -- ---- a replica has its step, and acknowledges it
 
+call_in : (s : State) (i : ℕ) → IsCalm s → i < length s.tickets → i < length s.calls
+call_in s i ok h = omega (arith, ok.clients.paired, h)
+
 pub acked_sound : (s : State) (i r : ℕ) → IsCalm s → i < length s.tickets → IsTaken (part_at (open_at s.calls i).parts r)
     → IsCalm (acked s i r)
 acked_sound s i r ok h mine = record {
@@ -74,6 +99,8 @@ acked_sound s i r ok h mine = record {
   clients = acked_clients (told_of s).volume s.size (length s.indices) s.book.entries (modes_in s) s.tickets s.calls s.nodes
       i r ok.clients h mine;
   spare = ok.spare;
+  spare_data = owed_less s.calls i (with_part_at (open_at s.calls i) r Acked) s.book.spare_data (call_in s i ok h)
+      (omega arith) ok.spare_data;
 }
 
 pub wrote_sound : (s : State) (i r : ℕ) → IsCalm s → i < length s.tickets → IsWriting (ticket_at s.tickets i)
@@ -84,6 +111,8 @@ wrote_sound s i r ok h w up = record {
   clients = wrote_clients (told_of s).volume s.size (length s.indices) s.book.entries (modes_in s) s.tickets s.calls s.nodes
       i r ok.clients h w up;
   spare = ok.spare;
+  spare_data = owed_less s.calls i (with_part_at (open_at s.calls i) r Taken) s.book.spare_data (call_in s i ok h)
+      (omega arith) ok.spare_data;
 }
 
 pub has_read_sound : (s : State) (i r : ℕ) → IsCalm s → i < length s.tickets → IsReading (ticket_at s.tickets i)
@@ -94,6 +123,8 @@ has_read_sound s i r ok h w read = record {
   clients = read_clients (told_of s).volume s.size (length s.indices) s.book.entries (modes_in s) s.tickets s.calls s.nodes
       i r ok.clients h w read;
   spare = ok.spare;
+  spare_data = owed_less s.calls i (read_from (open_at s.calls i) r (node_at s.nodes r)) s.book.spare_data
+      (call_in s i ok h) (read_no_more (open_at s.calls i) r (node_at s.nodes r)) ok.spare_data;
 }
 
 -- ---- a call is enrolled, starts, is withdrawn
@@ -101,13 +132,14 @@ has_read_sound s i r ok h w read = record {
 pub enrolled_sound : (v : Volume) (ns : List Node) (s : State) (t : Ticket) (c : OpenCall) → IsSoundOn v ns s
     → t.started ≡ false → IsFresh s.tickets t.number → Fits s.size (length s.indices) (length ns) t c
     → IsIdle c.stream s.calls → behind_last c.stream s.book.entries ≤ c.saw → c.saw ≤ length s.book.entries
-    → IsSoundOn v ns (enrolled s t c)
-enrolled_sound v ns s t c ok new fresh fit idle past saw = record {
+    → owed_data s.calls + owed_call c ≤ s.book.spare_data → IsSoundOn v ns (enrolled s t c)
+enrolled_sound v ns s t c ok new fresh fit idle past saw room = record {
   opened = ok.opened;
   told = ok.told;
   clients = enrolled_clients v s.size (length s.indices) s.book.entries (modes_in s) s.tickets s.calls ns t c ok.clients new
       fresh fit idle past saw;
   spare = omega (arith, ok.spare, sum_by-append (λ (x : Ticket). cond x.started 1 0) s.tickets (t ∷ []), counts_not t.started new);
+  spare_data = omega (arith, room, owed_push s.calls c);
 }
 
 started_room : (tickets : List Ticket) (i : ℕ) → i < length tickets → (ticket_at tickets i).started ≡ false
@@ -121,15 +153,17 @@ started_room tickets i h waits =
     )
 
 begun_sound : (s s2 : State) (i : ℕ) → IsCalm s → i < length s.tickets → (ticket_at s.tickets i).started ≡ false
-    → (nodes : List Node) (front back buffer : List ℕ)
+    → (nodes : List Node) (front back buffer : List ℕ) (room : ℕ)
     → AreClients (told_of s).volume s.size (length s.indices) s.book.entries (modes_in s) (with_started s.tickets i)
     (set s.calls i (begun (open_at s.calls i) (modes_in s) front back buffer)) nodes
-    → s2 ≡ started (with_place s) i nodes front back buffer → IsCalm s2
-begun_sound s s2 i ok h waits nodes front back buffer clients is = subst IsCalm (sym is) (record {
+    → owed_data (set s.calls i (begun (open_at s.calls i) (modes_in s) front back buffer)) ≤ room
+    → s2 ≡ started (with_rooms s (s.book.spare + 1) room) i nodes front back buffer → IsCalm s2
+begun_sound s s2 i ok h waits nodes front back buffer room clients owed is = subst IsCalm (sym is) (record {
   opened = ok.opened;
   told = record { legal = ok.told.legal; ordered = ok.told.ordered };
   clients = clients;
   spare = omega (arith, ok.spare, started_room s.tickets i h waits);
+  spare_data = owed;
 })
 
 pub begins_sound : (s s2 : State) (i source : ℕ) → IsCalm s → i < length s.tickets → (ticket_at s.tickets i).started ≡ false
@@ -137,19 +171,22 @@ pub begins_sound : (s s2 : State) (i source : ℕ) → IsCalm s → i < length s
     → (k : Kind) → (ticket_at s.tickets i).kind ≡ k → BeginsBy k (with_place s) i source s2 → IsCalm s2
 begins_sound s s2 i source ok h waits clear read kind.Read is b =
     let v = (told_of s).volume in
-    begun_sound s s2 i ok h waits s.nodes [] [] b.buffer
+    let c = open_at s.calls i in
+    begun_sound s s2 i ok h waits s.nodes [] [] b.buffer (with_data s c.length).book.spare_data
     (begun_clients v s.size (length s.indices) s.book.entries (modes_in s) s.tickets s.calls s.nodes i [] [] b.buffer
     ok.clients h waits clear source s.nodes ok.clients read
     (λ _. b.count) (λ w. absurd (write_no_read (ticket_at s.tickets i).kind w is))
     (λ w. absurd (write_no_read (ticket_at s.tickets i).kind w is)))
-    b.state
+    (omega (arith, owed_set s.calls i (begun c (modes_in s) [] [] b.buffer) (call_in s i ok h), b.count)) b.state
 begins_sound s s2 i source ok h waits clear read kind.Write is b =
     let v = (told_of s).volume in
-    begun_sound s s2 i ok h waits b.nodes b.front b.back []
+    let c = open_at s.calls i in
+    begun_sound s s2 i ok h waits b.nodes b.front b.back [] s.book.spare_data
     (begun_clients v s.size (length s.indices) s.book.entries (modes_in s) s.tickets s.calls b.nodes i b.front b.back []
     (roomed_clients v s.size (length s.indices) s.book.entries (modes_in s) s.tickets s.calls s.nodes b.nodes ok.clients b.keeps) h
     waits clear source s.nodes ok.clients read
     (λ w. absurd (write_no_read (ticket_at s.tickets i).kind is w)) (λ _. b.edges) (λ _. b.room))
+    (owed_less s.calls i (begun c (modes_in s) b.front b.back []) s.book.spare_data (call_in s i ok h) (omega arith) ok.spare_data)
     b.state
 begins_sound s s2 i source ok h waits clear read kind.Whole is b = absurd b
 
@@ -161,4 +198,5 @@ withdrawn_sound v ns s i ok h waits = record {
   clients = left_clients v s.size (length s.indices) s.book.entries (modes_in s) s.tickets s.calls ns i ok.clients h
       (λ r e w. not_both (ticket_at s.tickets i).started waits w.started);
   spare = omega (arith, ok.spare, sum_by-remove (λ (x : Ticket). cond x.started 1 0) s.tickets i no_ticket h);
+  spare_data = omega (arith, ok.spare_data, owed_gone s.calls i (omega (arith, ok.clients.paired, h)));
 }

@@ -1,5 +1,5 @@
 -- What the answers of the steps say.
-use Rattle.std.specs.Prelude.{◌≡◌, ◌≢◌, ℕ, ◌+◌, ◌<◌, ◌≤◌, ◌⊎◌, Bool, List, [], length, Option, None, Some, All, is_some, true, false}
+use Rattle.std.specs.Prelude.{◌≡◌, ◌≢◌, ℕ, ◌+◌, ◌<◌, ◌≤◌, ◌⊎◌, List, [], length, Option, None, Some, All, is_some, true, false}
 use Rattle.vol_units.specs.declared.range.BlockRange.{BlockRange}
 use Rattle.volume_model.specs.declared.command.Command.TheVariants as command
 use Rattle.volume_model.specs.declared.call.Call.{Call}
@@ -11,6 +11,7 @@ use Rattle.volume_model.specs.declared.mode.Mode.{Mode}
 use Rattle.volume_model.specs.declared.mode.Mode.TheVariants.{Err}
 use Rattle.volume_model.specs.Modes.{mode_of, HasSource, HasNoSource, IsSource}
 use Rattle.volume_model.specs.PlainStep.{refusal_of, plain_step}
+use Rattle.packed_entries.specs.Plain.{data_in}
 use Rattle.range_turns.specs.declared.ticket.Kind.{Kind}
 use Rattle.range_turns.specs.declared.ticket.Kind.TheVariants as kind
 use Rattle.range_turns.specs.declared.ticket.Ticket.{Ticket}
@@ -29,11 +30,11 @@ use Rattle.step_answers.specs.declared.answers.Enrolled.TheVariants as enrol
 use Rattle.step_answers.specs.declared.answers.Job.{Job}
 use Rattle.volume_core.specs.Places.{IsWriteAt, IsReadAt, IsWaitingAt}
 use Rattle.volume_core.specs.State.{State, modes_in, told_of}
-use Rattle.volume_core.specs.Steps.{with_place, answered, failed, enrolled, started, ended}
+use Rattle.volume_core.specs.Steps.{with_place, with_rooms, with_data, answered, failed, enrolled, started, ended}
 
 -- ---- enrolled
 
--- the call of that stream stands behind all others, under a number that none of them has
+-- the call of that stream stands behind all others, under a number that none of them has, with place for its bytes
 pub record IsBehind (s : State) (stream : ℕ) (c : Call) (number : ℕ) (s2 : State) : Type 0 where
   pub range : BlockRange
   pub kind : Kind
@@ -42,14 +43,19 @@ pub record IsBehind (s : State) (stream : ℕ) (c : Call) (number : ℕ) (s2 : S
   pub is : call_asked kind new ≡ c
   pub by : new.stream ≡ stream
   pub saw : new.saw ≡ length s.book.entries
-  pub state : s2 ≡ enrolled s (record { number = number; range = range; kind = kind; started = false }) new
+  pub state : s2 ≡ enrolled (with_data s (length new.bytes))
+      (record { number = number; range = range; kind = kind; started = false }) new
+
+-- a place more for that call, refused, and for its data
+abbrev pub placed_for : State → Call → State
+placed_for s c = with_data (with_place s) (length (data_in c (reply.Refused OutOfRange)))
 
 -- what an enrolment comes to
 abbrev pub EnrolsAs : State → ℕ → Call → Enrolled → State → Type 0
 EnrolsAs s stream c (enrol.Ticket number) s2 =
     (refusal_of (modes_in s) (told_of s) c ≡ None) × IsBehind s stream c number s2
 EnrolsAs s stream c (enrol.OutOfRange place) s2 = (refusal_of (modes_in s) (told_of s) c ≡ Some OutOfRange)
-    × (place ≡ length s.book.entries) × (s2 ≡ answered (with_place s) stream place c (reply.Refused OutOfRange))
+    × (place ≡ length s.book.entries) × (s2 ≡ answered (placed_for s c) stream place c (reply.Refused OutOfRange))
 
 -- ---- more places
 
@@ -57,9 +63,11 @@ EnrolsAs s stream c (enrol.OutOfRange place) s2 = (refusal_of (modes_in s) (told
 pub record IsRoomier (s s2 : State) : Type 0 where
   pub nodes : List Node
   pub spare : ℕ
+  pub spare_data : ℕ
   pub keeps : KeepsNodes s.nodes nodes
   pub more : s.book.spare ≤ spare
-  pub state : s2 ≡ record s { nodes = nodes; book = record s.book { spare = spare } }
+  pub more_data : s.book.spare_data ≤ spare_data
+  pub state : s2 ≡ record (with_rooms s spare spare_data) { nodes = nodes }
 
 -- ---- started
 
@@ -76,11 +84,11 @@ HasEdges s i source front back =
     AreEdges (from_of (ticket_at s.tickets i)) (until_of (ticket_at s.tickets i)) (open_at s.calls i).at
     (length (open_at s.calls i).bytes) (node_at s.nodes source).disk front back
 
--- the read at i starts, with a buffer for its bytes
+-- the read at i starts, with a buffer for its bytes, and with place for them in the journal
 pub record BeginsRead (s : State) (i : ℕ) (s2 : State) : Type 0 where
   pub buffer : List ℕ
   pub count : length buffer ≡ (open_at s.calls i).length
-  pub state : s2 ≡ started s i s.nodes [] [] buffer
+  pub state : s2 ≡ started (with_data s (open_at s.calls i).length) i s.nodes [] [] buffer
 
 -- the write at i starts, with places on each replica that has not failed, and with edges from that one
 pub record BeginsWrite (s : State) (i source : ℕ) (s2 : State) : Type 0 where

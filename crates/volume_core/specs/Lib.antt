@@ -1,4 +1,5 @@
 pub mod State
+pub mod Data
 pub mod Steps
 pub mod Sound
 pub mod Opened

@@ -35,7 +35,7 @@ pub record MayOpen (size : ℕ) (opening : Opening) (nodes : List Node) : Type 0
   pub agree : (r q : ℕ) → mode_of opening.modes r ≡ Rw → mode_of opening.modes q ≡ Rw
       → volume_of_node (node_at nodes r) ≡ volume_of_node (node_at nodes q)
 
--- no call, no rebuild, and a place for each replica to fail
+-- no call, no rebuild, and a place for each replica to fail, but none for data
 pub record IsOpenedOn (size : ℕ) (opening : Opening) (nodes : List Node) (streams : ℕ) (s : State) : Type 0 where
   pub source : ℕ
   pub first : IsSource opening.modes source
@@ -52,7 +52,7 @@ pub record IsOpenedOn (size : ℕ) (opening : Opening) (nodes : List Node) (stre
     ended = None;
     gave_up = replicate streams false;
     indices = replicate streams 0;
-    book = record { opening = opening; entries = []; spare = length nodes };
+    book = record { opening = opening; entries = []; spare = length nodes; spare_data = 0 };
   }
 
 -- how a run on so many blank replicas begins

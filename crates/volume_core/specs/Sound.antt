@@ -29,6 +29,7 @@ use Rattle.open_calls.specs.Maint.{AreMaint, HasTurn, command_at}
 use Rattle.open_rebuild.specs.declared.rebuilding.Rebuilding.{Rebuilding}
 use Rattle.open_rebuild.specs.Claim.{IsRebuilding}
 use Rattle.volume_core.specs.declared.world.EndedRebuild.{EndedRebuild}
+use Rattle.volume_core.specs.Data.{owed_data}
 use Rattle.volume_core.specs.State.{State, opening_of, told_of, modes_in, index_at, gave_up_at}
 
 -- the largest number that a volume's head may begin with
@@ -125,6 +126,7 @@ pub record IsSoundOn (volume : Volume) (nodes : List Node) (s : State) : Type 0 
   pub told : IsTold (opening_of s) s.book.entries s.indices s.rebuild s.ended
   pub clients : AreClients volume s.size (length s.indices) s.book.entries (modes_in s) s.tickets s.calls nodes
   pub spare : owed_entries s ≤ s.book.spare
+  pub spare_data : owed_data s.calls ≤ s.book.spare_data
 
 -- while no call on the whole volume is started: the replicas as they are, and the plain volume
 abbrev pub IsCalm : State → Type 0

@@ -1,5 +1,5 @@
 -- What each step makes of a World.
-use Rattle.std.specs.Prelude.{ℕ, ◌+◌, ◌-◌, ◌==◌, Bool, false, true, ◌||◌, List, [], ◌∷◌, ◌++◌, length, slice_set}
+use Rattle.std.specs.Prelude.{ℕ, ◌+◌, ◌-◌, ◌==◌, max, Bool, false, true, ◌||◌, List, [], ◌∷◌, ◌++◌, length, slice_set}
 use Rattle.std.specs.Prelude.{remove, Option, None, Some, if◌then◌else◌}
 use Rattle.volume_model.specs.declared.call.Call.{Call}
 use Rattle.volume_model.specs.declared.call.Reply.{Reply}
@@ -8,6 +8,8 @@ use Rattle.volume_model.specs.declared.entry.Entry.TheVariants as entry
 use Rattle.volume_model.specs.declared.mark.Mark.{Mark}
 use Rattle.volume_model.specs.declared.mark.Mark.TheVariants as mark
 use Rattle.journal_book.specs.Book.{Book}
+use Rattle.packed_bytes.specs.Packed.{packed}
+use Rattle.packed_entries.specs.Plain.{data_of}
 use Rattle.range_turns.specs.declared.ticket.Ticket.{Ticket}
 use Rattle.range_turns.specs.Order.{ticket_at, with_started}
 use Rattle.replica_node.specs.Node.{Node}
@@ -16,17 +18,30 @@ use Rattle.open_calls.specs.declared.open_call.OpenCall.{OpenCall}
 use Rattle.step_answers.specs.declared.parts.Part.TheVariants.{Taken, Acked}
 use Rattle.open_calls.specs.Calls.{open_at, node_at, call_asked, whole_of, with_part_at, read_from, begun}
 use Rattle.open_rebuild.specs.declared.rebuilding.Rebuilding.{Rebuilding}
+use Rattle.volume_core.specs.Data.{owed_data}
 use Rattle.volume_core.specs.State.{State, modes_in, index_at}
 
 -- ---- the journal
 
--- one entry more, in a place that was made before
+-- one entry more, in a place that was made before, and of its data what they are packed to
 abbrev pub with_entry : Book → Entry → Book
-with_entry b e = record b { entries = b.entries ++ e ∷ []; spare = b.spare - 1 }
+with_entry b e = record b {
+  entries = b.entries ++ e ∷ [];
+  spare = b.spare - 1;
+  spare_data = b.spare_data - length (packed (data_of e));
+}
+
+-- places for so many entries, and for so much data
+abbrev pub with_rooms : State → ℕ → ℕ → State
+with_rooms s spare spare_data = record s { book = record s.book { spare = spare; spare_data = spare_data } }
 
 -- a place more
 abbrev pub with_place : State → State
 with_place s = record s { book = record s.book { spare = s.book.spare + 1 } }
+
+-- place for so many bytes beyond those that the open calls bring, where there was less
+abbrev pub with_data : State → ℕ → State
+with_data s count = record s { book = record s.book { spare_data = max s.book.spare_data (owed_data s.calls + count) } }
 
 -- the answer of a stream's next call
 abbrev pub answer_entry : State → ℕ → ℕ → Call → Reply → Entry

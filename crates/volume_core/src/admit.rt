@@ -74,7 +74,9 @@ impl World {
         ensures job { IfOk result (IsJobOf (state_of self.new) i) }
         ensures err { OnErr result (state_of self.new ≡ state_of self.old) }
     {
-        let buffer = Buffer::of_length(alloc, self.calls[i].length as usize)?;
+        let count = self.calls[i].length;
+        let buffer = Buffer::of_length(alloc, count as usize)?;
+        self.make_data(count)?;
         self.start_at(i, Buffer::none(alloc), Buffer::none(alloc), buffer);
         Ok(self.job_of(i, Buffer::none(alloc), Buffer::none(alloc)))
     }

@@ -4,7 +4,9 @@ ghost use Rattle.std.specs.Prelude.{◌≡◌, ◌≢◌, ℕ, ◌<◌, ◌≤�
 ghost use Rattle.volume_model.specs.declared.call.Reply.{Reply};
 ghost use Rattle.range_turns.specs.declared.ticket.Kind.TheVariants as kind;
 ghost use Rattle.range_turns.specs.Order.{ticket_at};
-ghost use Rattle.open_calls.specs.Calls.{open_at};
+ghost use Rattle.open_calls.specs.Calls.{open_at, call_asked};
+ghost use Rattle.packed_entries.specs.Plain.{data_in};
+ghost use Rattle.volume_core.specs.Data.{owed_call};
 ghost use Rattle.volume_core.specs.State.{state_of, index_at};
 ghost use Rattle.volume_core.specs.Steps.{ended, without_call};
 ghost use Rattle.volume_core.specs.Sound.{IsSound, IsCalm};
@@ -101,6 +103,7 @@ impl World {
         requires few { index_at self.old.indices.items (open_at self.old.calls.items i).stream
             ≤ length self.old.journal.entries }
         requires spare { 0 < self.old.journal.spare }
+        requires spare_data { owed_call (open_at self.old.calls.items i) ≤ self.old.journal.spare_data }
         ensures place { result ≡ length self.old.journal.entries }
         ensures state { state_of self.new
             ≡ ended (state_of self.old) i (Reply.Read (open_at self.old.calls.items i).buffer) }
@@ -124,6 +127,8 @@ impl World {
         requires few { index_at self.old.indices.items (open_at self.old.calls.items i).stream
             ≤ length self.old.journal.entries }
         requires spare { 0 < self.old.journal.spare }
+        requires spare_data { length (data_in (call_asked (ticket_at self.old.turns.tickets i).kind
+            (open_at self.old.calls.items i)) reply) ≤ self.old.journal.spare_data }
         ensures place { result ≡ length self.old.journal.entries }
         ensures state { state_of self.new ≡ ended (state_of self.old) i reply }
     {

@@ -1,12 +1,14 @@
 //! A read or a write is enrolled.
 
-ghost use Rattle.std.specs.Prelude.{◌≡◌, ◌<◌, ◌≤◌, length, false, Some, IfOk, OnErr};
+ghost use Rattle.std.specs.Prelude.{◌≡◌, ◌<◌, ◌≤◌, ◌^◌, length, false, Some, IfOk, OnErr};
 ghost use Rattle.volume_model.specs.PlainStep.{longest_call, refusal_of};
 ghost use Rattle.range_turns.specs.Order.{IsFresh};
 ghost use Rattle.open_calls.specs.Clients.{IsIdle};
 ghost use Rattle.open_calls.specs.Maint.{HasNoCommand};
+ghost use Rattle.packed_entries.specs.Plain.{data_in};
+ghost use Rattle.volume_core.specs.Data.{owed_data};
 ghost use Rattle.volume_core.specs.State.{state_of, modes_in, told_of};
-ghost use Rattle.volume_core.specs.Steps.{enrolled};
+ghost use Rattle.volume_core.specs.Steps.{with_data, enrolled};
 ghost use Rattle.volume_core.specs.Sound.{IsSound};
 ghost use Rattle.step_answers.specs.Asked.{IsOnRange};
 ghost use Rattle.volume_core.specs.Answers.{EnrolsAs};
@@ -75,6 +77,7 @@ impl World {
                     offset,
                     length: count,
                 },
+                0,
             );
         };
         let range = BlockRange::around(self.size, offset, count).unwrap();
@@ -108,7 +111,7 @@ impl World {
         let size = self.size.bytes() as usize;
         let count = bytes.len();
         let Some(at) = place_within(offset, count, size) else {
-            return self.refuse_range(stream, Call::Write { offset, bytes });
+            return self.refuse_range(stream, Call::Write { offset, bytes }, count as u32);
         };
         let range = BlockRange::around(self.size, offset, count as u32).unwrap();
         let saw = self.journal.len();
@@ -117,28 +120,31 @@ impl World {
         Ok(Enrolled::Ticket(number))
     }
 
-    /// Puts a call behind all others.
+    /// Puts a call behind all others, with place in the journal for the bytes that it has.
     fn put_behind(
         &mut self,
         range: BlockRange,
         kind: Kind,
         call: OpenCall,
     ) -> Result<TicketNumber, AllocError>
+        requires few { length call.bytes < 2 ^ 32 }
+        requires owed { owed_data self.old.calls.items ≤ self.old.journal.spare_data }
         ensures fresh { IfOk result (IsFresh self.old.turns.tickets) }
         ensures ok { IfOk result (λ number. state_of self.new
-            ≡ enrolled (state_of self.old)
+            ≡ enrolled (with_data (state_of self.old) (length call.bytes))
             (record { number = number; range = range; kind = kind; started = false }) call) }
         ensures err { OnErr result (state_of self.new ≡ state_of self.old) }
     {
         self.calls.reserve(1)?;
         self.turns.reserve(1)?;
+        self.make_data(call.bytes.len() as u32)?;
         let number = self.turns.enrol(range, kind);
         self.calls.push(call).unwrap();
         Ok(number)
     }
 
-    /// Answers a call whose range is not good.
-    fn refuse_range(&mut self, stream: u8, call: Call) -> Result<Enrolled, AllocError>
+    /// Answers a call whose range is not good, and which has so many bytes.
+    fn refuse_range(&mut self, stream: u8, call: Call, count: u32) -> Result<Enrolled, AllocError>
         requires sound { IsSound (state_of self.old) }
         requires stream { stream < length self.old.indices.items }
         requires idle { IsIdle stream self.old.calls.items }
@@ -146,6 +152,7 @@ impl World {
         requires refused { refusal_of (modes_in (state_of self.old)) (told_of (state_of self.old)) call
             ≡ Some Refusal.OutOfRange }
         requires range { IsOnRange call }
+        requires count { count ≡ length (data_in call (Reply.Refused Refusal.OutOfRange)) }
         ensures sound { IsSound (state_of self.new) }
         ensures ok { IfOk result (λ e. EnrolsAs (state_of self.old) stream call e (state_of self.new)) }
         ensures err { OnErr result (state_of self.new ≡ state_of self.old) }
@@ -155,7 +162,7 @@ impl World {
         ensures stays { OnErr result (Stays stream (state_of self.old) (state_of self.new)) }
     {
         let saw = self.journal.len();
-        self.make_place()?;
+        self.make_place_for(count)?;
         let refused = Reply::Refused(Refusal::OutOfRange);
         Ok(Enrolled::OutOfRange(self.push_answer(stream, saw, call, refused)))
     }

@@ -14,8 +14,8 @@ mod turn;
 mod world;
 
 pub use journal_book::{
-    Bytes, Call, Command, Entry, Journal, Mode, ModeTable, Opening, Refusal, Reply, Shown,
-    TakenNames,
+    Bytes, Call, Command, Entry, EntryView, Journal, Mode, ModeTable, Opening, Refusal, Reply,
+    Shown, TakenNames,
 };
 pub use open_calls::{Buffer, OpenCall, Part, Parts};
 pub use open_rebuild::Rebuilding;

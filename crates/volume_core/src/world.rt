@@ -1,9 +1,12 @@
-ghost use Rattle.std.specs.Prelude.{◌≡◌, ◌+◌, ◌<◌, ◌≤◌, length, slice_get, Some, None, OnOk, OnErr, MatchOption};
+ghost use Rattle.std.specs.Prelude.{◌≡◌, ◌+◌, ◌<◌, ◌≤◌, ◌^◌, length, slice_get, Some, None, OnOk, OnErr, MatchOption};
 ghost use Rattle.volume_model.specs.Modes.{mode_of};
+ghost use Rattle.packed_entries.specs.Plain.{data_in};
+ghost use Rattle.packed_entries.specs.View.{entry_seen};
+ghost use Rattle.volume_core.specs.Data.{owed_data};
 ghost use Rattle.volume_core.specs.State.{state_of, modes_in, index_at};
-ghost use Rattle.volume_core.specs.Steps.{with_place, answered};
+ghost use Rattle.volume_core.specs.Steps.{with_place, with_data, answered};
 
-use journal_book::{Answer, Call, Entry, Journal, Mode, Reply, Shown};
+use journal_book::{Answer, Call, Entry, EntryView, Journal, Mode, Reply, Shown};
 use open_calls::{MaintCall, OpenCall, Whole};
 use open_rebuild::Rebuilding;
 use range_turns::Turns;
@@ -46,9 +49,9 @@ pub struct EndedRebuild {
 
 impl World {
     /// The entry at a place, once it is there.
-    pub fn after(&self, place: u64) -> Option<&Entry>
+    pub fn after(&self, place: u64) -> Option<EntryView<'_>>
         ensures { MatchOption result (length self.now.journal.entries ≤ place)
-            (λ entry. slice_get self.now.journal.entries place ≡ Some entry.now) }
+            (λ entry. slice_get self.now.journal.entries place ≡ Some (entry_seen entry)) }
     {
         if place < self.journal.len() {
             Some(self.journal.entry(place))
@@ -72,6 +75,45 @@ impl World {
         self.journal.reserve(self.journal.spare() + 1)
     }
 
+    /// For how many bytes the open calls need place in the journal.
+    fn owed_data(&self) -> u64
+        requires { owed_data self.now.calls.items ≤ self.now.journal.spare_data }
+        ensures value { result ≡ owed_data self.now.calls.items }
+        ensures most { result < 2 ^ 32 }
+    {
+        // How many these can be, a proof learns here.
+        let _most = self.journal.spare_data();
+        let mut owed = 0;
+        for call in &self.calls {
+            owed += (call.bytes.len() + call.buffer.as_slice().len()) as u64;
+        }
+        owed
+    }
+
+    /// Makes place in the journal for so many bytes beyond those that the open calls need: what they leave, since packed they
+    /// are fewer, counts for it too, or it would grow with each call.
+    pub(crate) fn make_data(&mut self, count: u32) -> Result<(), AllocError>
+        requires { owed_data self.old.calls.items ≤ self.old.journal.spare_data }
+        ensures ok { OnOk result (state_of self.new ≡ with_data (state_of self.old) count) }
+        ensures same { self.new ≡ record self.old { journal = self.new.journal } }
+        ensures err { OnErr result (state_of self.new ≡ state_of self.old) }
+    {
+        let owed = self.owed_data();
+        self.journal.reserve_data(owed + u64::from(count))
+    }
+
+    /// Makes a place in the journal beyond those that there are, and place for so many bytes, or neither.
+    pub(crate) fn make_place_for(&mut self, count: u32) -> Result<(), AllocError>
+        requires { owed_data self.old.calls.items ≤ self.old.journal.spare_data }
+        ensures ok { OnOk result (state_of self.new ≡ with_data (with_place (state_of self.old)) count) }
+        ensures err { OnErr result (state_of self.new ≡ state_of self.old) }
+    {
+        let owed = self.owed_data();
+        let spare = self.journal.spare();
+        self.journal
+            .reserve_both(spare + 1, owed + u64::from(count))
+    }
+
     /// The answer of a stream's next call, in a place that was made before. It is no step, but a part of those that end
     /// a call, here and in volume_maint, and for them alone: whether the call may be answered so, they know. It takes
     /// no memory.
@@ -79,6 +121,7 @@ impl World {
         requires stream { stream < length self.old.indices.items }
         requires few { index_at self.old.indices.items stream ≤ length self.old.journal.entries }
         requires spare { 0 < self.old.journal.spare }
+        requires spare_data { length (data_in call reply) ≤ self.old.journal.spare_data }
         ensures place { result ≡ length self.old.journal.entries }
         ensures state { state_of self.new ≡ answered (state_of self.old) stream saw call reply }
     {

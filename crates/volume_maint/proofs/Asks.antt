@@ -71,7 +71,7 @@ asked_sound s number stream op ok size fresh within idle may can =
     record {
       on = rows.enrolled_sound (due s.whole (told_of s).volume) (forms s.whole s.nodes) s t c ok.on refl fresh
           (whole_fits s.size (length s.indices) (length (forms s.whole s.nodes)) stream (seen_by s op) t op size refl refl refl within)
-          idle saw.0 saw.1;
+          idle saw.0 saw.1 (omega (arith, ok.on.spare_data));
       whole = whole_enrolled (told_of s) (modes_in s) s.tickets s.calls s.nodes s.whole t c ok.whole ok.on.clients.paired refl fresh;
       maint = maint_enrolled (snapshots_told s) (length s.indices) s.book.entries (modes_in s) s.tickets s.calls s.nodes
           s.maint s.commands t c ok.on.clients.paired (asked_fits s number stream op may can) ok.maint;

@@ -203,6 +203,7 @@ module _ (s : State) (i : ℕ) (b : Rebuilding) (spares : List (Option Tables)) 
             one_up (modes_in s) b.target in_modes,
             ap (count_by is_up) modes,
           );
+          spare_data = omega (arith, ok.on.spare_data);
         };
         whole = subst (λ (x : List Mode). Rattle.open_calls.specs.Whole.IsStarted (told_of next) x
             (with_started s.tickets i) s.calls (barrier_nodes s b) w) (sym modes)

@@ -228,6 +228,7 @@ module _ (s : State) (i : ℕ) (ok : IsSound s) (h : i < length s.tickets) (is :
           clients = begun_whole op p s.size (length s.indices) s.book.entries (modes_in s) s.tickets s.calls s.nodes i
               calm.clients may starts h is waits clear named;
           spare = omega (arith, ok.on.spare, started_room);
+          spare_data = ok.on.spare_data;
         };
         whole = begun_is op p s.size (length s.indices) s.book.entries (modes_in s) s.tickets s.calls s.nodes i calm.clients
             may starts h is waits clear w refl refl refl spared asks

@@ -212,6 +212,7 @@ module _ (s : State) (r : ℕ) (ok : IsSound s) (purging : IsPurging s) (read : 
           clients = folded_clients (told_of s) s.size (length s.indices) s.book.entries (modes_in s) s.tickets s.calls
               s.nodes s.whole r p c (told_named s ok) can ok.whole beside ok.on.clients page read;
           spare = ok.on.spare;
+          spare_data = ok.on.spare_data;
         };
         whole = folded_whole (told_of s) (modes_in s) s.tickets s.calls s.nodes s.whole r p c page within beside ok.whole;
         maint = record {

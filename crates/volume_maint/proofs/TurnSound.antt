@@ -67,6 +67,7 @@ enrolled_kept s number c ok within idle none wants saw fresh =
         told = record { legal = ok.on.told.legal; ordered = ok.on.told.ordered };
         clients = ok.on.clients;
         spare = omega (arith, ok.on.spare, length_push s.commands c);
+        spare_data = ok.on.spare_data;
       };
       whole = ok.whole;
       maint = turns.turn_enrolled (told_of s).volume.snapshots (length s.indices) s.book.entries (modes_in s) s.tickets
@@ -85,7 +86,13 @@ pub begun_kept : (s : State) → IsSound s → 0 < length s.maint → IsSound (t
 begun_kept s ok some =
     let stays = turns.first_started s.maint s.commands some in
     record {
-      on = record { opened = ok.on.opened; told = ok.on.told; clients = ok.on.clients; spare = ok.on.spare };
+      on = record {
+        opened = ok.on.opened;
+        told = ok.on.told;
+        clients = ok.on.clients;
+        spare = ok.on.spare;
+        spare_data = ok.on.spare_data;
+      };
       whole = ok.whole;
       maint = turns.turn_started (told_of s).volume.snapshots (length s.indices) s.book.entries (modes_in s) s.tickets
           s.calls s.nodes s.maint s.commands some ok.maint;
@@ -110,6 +117,7 @@ on_less v ns s k gave_up ok h = record {
   clients = ok.clients;
   spare =
       omega (arith, ok.spare, length-remove s.commands k h);
+  spare_data = ok.spare_data;
 }
 
 less_kept : (s : State) (k : ℕ) (gave_up : List Bool) → IsSound s → k < length s.maint
@@ -190,6 +198,7 @@ module _ (s : State) (t : ℕ) (r : Reply) (ok : IsSound s) (at : IsFreeTurn s t
         (seen_clients v s.size (length s.indices) s.book.entries longer (modes_in s) s.tickets s.calls ns
         (seen_answer s.book.entries s.calls on.clients.seen answer at.idle) on.clients);
     spare = omega (arith, on.spare, length-remove s.commands 0 here, ap (count_by is_up) modes);
+    spare_data = omega (arith, on.spare_data);
   }
 
   -- no rebuild is open then, and what the plain volume is, stays

@@ -51,6 +51,7 @@ use Rattle.volume_core.specs.Sound.{IsSound, IsSoundOn, IsTold, AreAdds, AreCaus
 use Rattle.volume_core.proofs.Answered.{not_replicas, replicas_not_store}
 use Rattle.volume_core.proofs.Caused.{caused_answer, caused_ended}
 use Rattle.volume_core.proofs.Ends.{same_clients}
+use Rattle.volume_core.proofs.DataLemmas.{owed_gone}
 use Rattle.volume_core.proofs.Keep.{of_calm}
 use Rattle.open_rebuild.specs.Claim.{IsRebuilding}
 use Rattle.volume_core.proofs.Told.{answer_told}
@@ -274,6 +275,7 @@ module _ (s : State) (ok : IsSound s) (i : ℕ) (op : WholeOp) (h : i < length s
               (seen_answer s.book.entries (remove s.calls i) can.clients.seen its
               (idle_once_gone s.book.entries s.calls ok.on.clients.seen i call_in)) can.clients);
           spare = omega (arith, can.room, fewer, ap (count_by is_up) modes);
+          spare_data = omega (arith, ok.on.spare_data, owed_gone s.calls i call_in);
         } in
         of_calm s2 refl (subst (λ (x : Volume). IsSoundOn x s.nodes s2) told on) can.none
         (subst (λ (x : Snapshots). AreMaint x (length s2.indices) s2.book.entries (modes_in s2) s2.tickets s2.calls s2.nodes

@@ -39,9 +39,11 @@ use Rattle.open_calls.proofs.Kept.{whole_left}
 use Rattle.open_calls.proofs.Ops.{IsPlain}
 use Rattle.volume_core.specs.State.{State, opening_of, told_of, modes_in, index_at}
 use Rattle.volume_core.specs.Steps.{with_place}
+use Rattle.volume_core.specs.Data.{owed_data}
 use Rattle.volume_core.specs.Sound.{IsSound, IsSoundOn, is_up, owed_end}
 use Rattle.volume_core.proofs.Caused.{caused_mark}
 use Rattle.volume_core.proofs.Ends.{same_clients}
+use Rattle.volume_core.proofs.DataLemmas.{owed_gone}
 use Rattle.volume_core.proofs.Keep.{place_kept, calm_by, calm_of, of_calm, rebuild_of_none}
 use Rattle.open_rebuild.specs.Claim.{IsRebuilding}
 use Rattle.open_rebuild.proofs.RangeSteps.{call_gone}
@@ -125,6 +127,9 @@ module _ (s : State) (w : Whole) (ok : IsSound s) (has : s.whole ≡ Some w) whe
         its_start.stands.within,
     counts (ticket_at s.tickets at).started its_start.started,
   )
+
+  gone_data : owed_data (remove s.calls at) ≤ s.book.spare_data
+  gone_data = omega (arith, ok.on.spare_data, owed_gone s.calls at (omega (arith, its_start.stands.within, ok.on.clients.paired)))
 
   gone_lost : HasNoSource (modes_in s) → AreClients p.volume s.size (length s.indices) s.book.entries (modes_in s)
       (remove s.tickets at) (remove s.calls at) s.nodes
@@ -229,6 +234,7 @@ module _ (s : State) (w : Whole) (ok : IsSound s) (has : s.whole ≡ Some w) whe
             (seen_clients v s.size length_here es longer (modes_in s) s2.tickets s2.calls s.nodes
             (seen_mark es s2.calls clients.seen (mark.Purged f)) clients);
         spare = omega (arith, gone_room, ap (count_by is_up) modes);
+        spare_data = omega (arith, gone_data);
       } in
       of_calm s2 refl (subst (λ (x : Volume). IsSoundOn x s.nodes s2) told on) gone_none
       (subst (λ (x : Snapshots). AreMaint x (length s2.indices) s2.book.entries (modes_in s2) s2.tickets s2.calls s2.nodes
@@ -247,7 +253,13 @@ module _ (s : State) (w : Whole) (ok : IsSound s) (has : s.whole ≡ Some w) whe
   gone_ends : HasNoSource (modes_in s) → IsSound (without_whole s at)
   gone_ends none =
       of_calm (without_whole s at) refl
-      (record { opened = ok.on.opened; told = ok.on.told; clients = gone_lost none; spare = omega (arith, gone_room) })
+      (record {
+        opened = ok.on.opened;
+        told = ok.on.told;
+        clients = gone_lost none;
+        spare = omega (arith, gone_room);
+        spare_data = gone_data;
+      })
       gone_none
       (unmarked_maint p.volume.snapshots p.volume.snapshots (length s.indices) s.book.entries (modes_in s) s.tickets s.calls
       s.nodes s.maint s.commands at w.op ok.on.clients.seen ok.on.clients.paired its_start.stands.within its_start.kind
@@ -268,6 +280,7 @@ module _ (s : State) (w : Whole) (ok : IsSound s) (has : s.whole ≡ Some w) whe
             ok.on.told;
         clients = clients;
         spare = omega (arith, gone_room, past_owed s.rebuild);
+        spare_data = gone_data;
       })
       gone_none
       (unmarked_maint p.volume.snapshots p.volume.snapshots (length s.indices) s.book.entries (modes_in s) s.tickets s.calls

@@ -69,6 +69,7 @@ module _ (s : State) (w : Whole) (ok : IsSound s) (is : s.whole ≡ Some w) wher
         clients = parted_clients (told_of s) (modes_in s) s.tickets s.calls s.nodes w r is_started
             (due_of w.op (told_of s).volume) s.size (length s.indices) s.book.entries owed on_due.clients;
         spare = on_due.spare;
+        spare_data = on_due.spare_data;
       };
       whole = part_taken (told_of s) (modes_in s) s.tickets s.calls s.nodes w r is_started owed;
       maint = record {
@@ -93,6 +94,7 @@ module _ (s : State) (w : Whole) (ok : IsSound s) (is : s.whole ≡ Some w) wher
       clients = told_clients (told_of s) (modes_in s) s.tickets s.calls s.nodes w r is_started
           (due_of w.op (told_of s).volume) s.size (length s.indices) s.book.entries taken on_due.clients;
       spare = on_due.spare;
+      spare_data = on_due.spare_data;
     };
     whole = part_told (told_of s) (modes_in s) s.tickets s.calls s.nodes w r is_started taken;
     maint = record { queued = ok.maint.queued; fits = ok.maint.fits };

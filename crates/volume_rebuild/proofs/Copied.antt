@@ -57,6 +57,7 @@ module _ (s : State) (b : Rebuilding) (page : PageRef) (after : Node) (table : T
           clients = page_clients s.size (modes_in s) s.tickets s.calls s.whole s.nodes b after page.layer page.page table
               many may there puts begun (due s.whole (told_of s).volume) (length s.indices) s.book.entries ok.on.clients;
           spare = omega (arith, ok.on.spare, ap owed_end is.begun);
+          spare_data = ok.on.spare_data;
         };
         whole = page_whole s.size (modes_in s) s.tickets s.calls s.whole s.nodes b after page.layer page.page table many may
             there puts begun (told_of s) ok.whole;

@@ -227,6 +227,7 @@ module _ (s : State) (t : ℕ) (b : Rebuilding) (n m : ℕ) (ok : IsSound s) (tu
       as_many_up (modes_in s) b.target begun.roles.target,
       ap (count_by is_up) same_modes,
     );
+    spare_data = omega (arith, ok.on.spare_data);
   }
 
   -- ---- the calls on the whole volume, and the turn

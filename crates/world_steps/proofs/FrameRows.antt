@@ -31,10 +31,10 @@ use Rattle.step_answers.specs.declared.parts.Part.TheVariants.{Taken, Acked}
 use Rattle.open_calls.proofs.Forms.{length-forms}
 use Rattle.step_answers.specs.declared.answers.Enrolled.{Enrolled}
 use Rattle.step_answers.specs.Asked.{IsOnRange, IsNow, AsksReplica}
-use Rattle.volume_core.specs.Answers.{EnrolsAs, Completes, IsAnsweredNow, failed_by, after_fail}
+use Rattle.volume_core.specs.Answers.{EnrolsAs, Completes, IsAnsweredNow, failed_by, after_fail, placed_for}
 use Rattle.volume_core.specs.Answers.{IsRoomier}
 use Rattle.volume_core.specs.State.{State, spot_of, modes_in, index_at, told_of}
-use Rattle.volume_core.specs.Steps.{acked, ended, with_place, answered, wrote, has_read}
+use Rattle.volume_core.specs.Steps.{acked, ended, with_place, with_rooms, answered, wrote, has_read}
 use Rattle.volume_core.specs.Streams.{IsTakenBack}
 use Rattle.volume_core.specs.Streams.{MayGo, IsAnsweredTo, SeesEnrolled, running, turning, opens, open_of}
 use Rattle.volume_core.specs.Sound.{IsSound}
@@ -128,11 +128,11 @@ module _ (a : Bool) (n t : ℕ) (o : OwnCall) (s : State) (ok : IsSound s) (own 
       ∙ ap (λ (x : OwnCall). x ∷ []) (read_own (ticket_at s.tickets i) (open_at s.calls i) r (node_at s.nodes r)
       ∙ (λ k. record (here.is k) { buffer = buffer k; parts = set (here.is k).parts r Taken })))
 
-  -- it is answered, with places for so many entries
-  pub end_row : (s2 : State) (spare : ℕ) (r : Reply) → MayGo n s s2 → IsAnsweredTo n o.call s s2
-      → s2 ≡ ended (record s { book = record s.book { spare = spare } }) i r → IsBacked (length s.nodes) (modes_in s) o r
+  -- it is answered, with places for so many entries and so much data
+  pub end_row : (s2 : State) (spare room : ℕ) (r : Reply) → MayGo n s s2 → IsAnsweredTo n o.call s s2
+      → s2 ≡ ended (with_rooms s spare room) i r → IsBacked (length s.nodes) (modes_in s) o r
       → (ends : Answers o (view a n s) (view a n s2)) × (ends.answer.reply ≡ r) × (ends.spot ≡ spot_of s)
-  end_row s2 spare r may sees e backed =
+  end_row s2 spare room r may sees e backed =
       let call = open_at s.calls i in
       let answer : Answer = record {
         call = call_asked (ticket_at s.tickets i).kind call;
@@ -192,15 +192,15 @@ complete_row a n t o s s2 ok own blocks may d sees = ⊎_elim
     is stands = (own_stands a n t o s ok own blocks d.0 stands).is
 
     ends : StandsAt s.tickets t d.0 → IsBacked (length s.nodes) (modes_in s) o d.1 → Answers o (view a n s) (view a n s2)
-    ends stands backed = (end_row a n t o s ok own blocks d.0 stands s2 s.book.spare d.1 may sees d.2 backed).0
+    ends stands backed = (end_row a n t o s ok own blocks d.0 stands s2 s.book.spare s.book.spare_data d.1 may sees d.2 backed).0
 
 -- ---- enrolled, and answered at once
 
--- with places for so many entries
-now_row : (a : Bool) (n : ℕ) (c : Call) (r : Reply) (s s2 : State) (spare : ℕ) → MayGo n s s2 → IsAnsweredTo n c s s2
-    → turning s n ≡ [] → s2 ≡ answered (record s { book = record s.book { spare = spare } }) n (length s.book.entries) c r
+-- with places for so many entries and so much data
+now_row : (a : Bool) (n : ℕ) (c : Call) (r : Reply) (s s2 : State) (spare room : ℕ) → MayGo n s s2 → IsAnsweredTo n c s s2
+    → turning s n ≡ [] → s2 ≡ answered (with_rooms s spare room) n (length s.book.entries) c r
     → IsUncarried c r → AnswersNow c (view a n s) (view a n s2)
-now_row a n c r s s2 spare may sees turns e un =
+now_row a n c r s s2 spare room may sees turns e un =
     let answer : Answer = record { call = c; reply = r; index = index_at s.indices n; saw = length s.book.entries; stream = n } in
     record {
       spot = spot_of s;
@@ -245,7 +245,7 @@ pub now_rows : (a : Bool) (n : ℕ) (c : Call) (place : ℕ) (s s2 : State) → 
     → MayGo n s s2 → IsAnsweredNow s n c place s2 → IsAnsweredTo n c s s2 → AnswersNow c (view a n s) (view a n s2)
 now_rows a n c place s s2 now frame idle may is sees =
     let reply = (plain_step (modes_in s) (told_of s) c).1 in
-    now_row a n c reply s s2 (s.book.spare + 1) may sees (has_none n s idle).turns
+    now_row a n c reply s s2 (s.book.spare + 1) s.book.spare_data may sees (has_none n s idle).turns
     (is.state ∙ ap (λ x. answered (after_fail (with_place s) x) n (length s.book.entries) c reply) (no_failed c frame))
     (now_uncarried (modes_in s) (told_of s) c now frame)
 
@@ -304,8 +304,9 @@ enrol_rows a n c (enrol.Ticket t) s s2 ok size range idle may is sees =
     known true e = e
     known false e = tt
 enrol_rows a n c (enrol.OutOfRange place) s s2 ok size range idle may is sees =
-    now_row a n c (reply.Refused OutOfRange) s s2 (s.book.spare + 1) may sees (has_none n s idle).turns
-    (is.2 ∙ ap (λ p. answered (with_place s) n p c (reply.Refused OutOfRange)) is.1) (uncarried c OutOfRange)
+    now_row a n c (reply.Refused OutOfRange) s s2 (placed_for s c).book.spare (placed_for s c).book.spare_data may sees
+    (has_none n s idle).turns
+    (is.2 ∙ ap (λ p. answered (placed_for s c) n p c (reply.Refused OutOfRange)) is.1) (uncarried c OutOfRange)
 
 -- ---- where it has no step
 

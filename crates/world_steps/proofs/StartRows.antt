@@ -1,5 +1,5 @@
 -- What a stream knows of its read or write that asks to start.
-use Rattle.std.proofs.Common.{◌≡◌, ⊎_elim, ℕ, Bool, [], subst, sym, ap, ◌∙◌, ◌+◌, true, ◌++◌, ◌<◌, false, List, ◌∷◌}
+use Rattle.std.proofs.Common.{◌≡◌, ⊎_elim, ℕ, Bool, [], subst, sym, ap, ◌∙◌, ◌+◌, true, ◌++◌, ◌<◌, false, List, ◌∷◌, set}
 use Rattle.std.proofs.Common.{length, map, IfSome, refl, arith, ◌*◌, length-append}
 use Rattle.std.proofs.lemmas.Bool.{cases_eq}
 use Rattle.std.proofs.lemmas.List.{get_or-set_same, get_or_default}
@@ -27,7 +27,7 @@ use Rattle.open_calls.specs.Due.{forms}
 use Rattle.volume_core.specs.State.{State, modes_in}
 use Rattle.volume_core.specs.Streams.{MayGo, SeesAdmit}
 use Rattle.volume_core.specs.Sound.{IsSound}
-use Rattle.volume_core.specs.Steps.{with_place, started}
+use Rattle.volume_core.specs.Steps.{with_place, with_rooms, with_data, started}
 use Rattle.volume_core.specs.Places.{IsWaitingAt}
 use Rattle.step_answers.specs.declared.answers.Admit.{Admit}
 use Rattle.step_answers.specs.declared.answers.Job.{Job}
@@ -68,23 +68,24 @@ module _ (a : Bool) (n t : ℕ) (o : OwnCall) (job : Job) (s : State) (i : ℕ) 
   source_known false = tt
 
   module _ (nodes : List Node) (front back buffer : List ℕ) where
-    abbrev goes : State
-    goes = started (with_place s) i nodes front back buffer
+    -- with so much room for data
+    abbrev goes : ℕ → State
+    goes room = started (with_rooms s (s.book.spare + 1) room) i nodes front back buffer
 
     abbrev its_call : OpenCall
     its_call = begun (open_at s.calls i) (modes_in s) front back buffer
 
-    there : open_at goes.calls i ≡ its_call
+    there : open_at (set s.calls i its_call) i ≡ its_call
     there = get_or-set_same s.calls i its_call no_call inside
 
-    starts_with : MayGo n s goes → IsJobOf goes i job → IsStarted o.call (own_call (new, its_call))
-        → IsJobFor o.call job (own_call (new, its_call)) → StartsCall o job (view a n s) (view a n goes)
-    starts_with may tells of j =
+    starts_with : (room : ℕ) → MayGo n s (goes room) → IsJobOf (goes room) i job → IsStarted o.call (own_call (new, its_call))
+        → IsJobFor o.call job (own_call (new, its_call)) → StartsCall o job (view a n s) (view a n (goes room))
+    starts_with room may tells of j =
         let whole = (front ++ (open_at s.calls i).bytes) ++ back in
         let parts = map part_for (modes_in s) in
         record {
           own = own_call (new, its_call);
-          is = only_open n s goes may a (own_call (new, its_call) ∷ []) refl
+          is = only_open n s (goes room) may a (own_call (new, its_call) ∷ []) refl
               (runs_put a n t o s ok own blocks i waits.stands s.whole new its_call refl refl);
           same = ap (λ (c : Call). record (own_call (ticket_at s.tickets i, open_at s.calls i))
               { started = true; call = c; whole = whole; buffer = buffer; parts = parts })
@@ -103,12 +104,12 @@ module _ (a : Bool) (n t : ℕ) (o : OwnCall) (job : Job) (s : State) (i : ℕ) 
         → BeginsBy k (with_place s) i first s2 → StartsCall o job (view a n s) (view a n s2)
     starts_by kind.Read first is asked b =
         subst (λ (z : State). MayGo n s z → IsJobOf z i job → StartsCall o job (view a n s) (view a n z)) (sym b.state)
-        (λ go tells. starts_with s.nodes [] [] b.buffer go tells
+        (λ go tells. starts_with s.nodes [] [] b.buffer (with_data s (open_at s.calls i).length).book.spare_data go tells
         (subst (λ c. IsStarted c (own_call (new, its_call s.nodes [] [] b.buffer))) asked b.count)
         (subst (λ c. IsJobFor c job (own_call (new, its_call s.nodes [] [] b.buffer))) asked tt)) may of_job
     starts_by kind.Write first is asked b =
         subst (λ (z : State). MayGo n s z → IsJobOf z i job → StartsCall o job (view a n s) (view a n z)) (sym b.state)
-        (λ go tells. starts_with b.nodes b.front b.back [] go tells
+        (λ go tells. starts_with b.nodes b.front b.back [] s.book.spare_data go tells
         (subst (λ c. IsStarted c (own_call (new, its_call b.nodes b.front b.back []))) asked (record {
           front = b.front;
           back = b.back;
@@ -127,10 +128,10 @@ module _ (a : Bool) (n t : ℕ) (o : OwnCall) (job : Job) (s : State) (i : ℕ) 
             → from + length ((f ++ m) ++ k) ≡ until
         sum f m k from until e = ap (λ x. from + x) (length-append (f ++ m) k ∙ ap (λ x. x + length k) (length-append f m)) ∙ e
 
-        front_is : IsJobOf (goes b.nodes b.front b.back []) i job → b.front ≡ job.front
+        front_is : IsJobOf (goes b.nodes b.front b.back [] s.book.spare_data) i job → b.front ≡ job.front
         front_is tells = sym (tells.front ∙ ap (λ (x : OpenCall). x.front) (there b.nodes b.front b.back []))
 
-        back_is : IsJobOf (goes b.nodes b.front b.back []) i job → b.back ≡ job.back
+        back_is : IsJobOf (goes b.nodes b.front b.back [] s.book.spare_data) i job → b.back ≡ job.back
         back_is tells = sym (tells.back ∙ ap (λ (x : OpenCall). x.back) (there b.nodes b.front b.back []))
     starts_by kind.Whole first is asked b = absurd b
 
@@ -145,7 +146,7 @@ admit_rows a n t o (admit.Go job) s s2 ok own blocks may is sees =
 admit_rows a n t o (admit.After k) s s2 ok own blocks may is sees = ap (view a n) is.3
 admit_rows a n t o (admit.NoReplica place) s s2 ok own blocks may is sees =
     let refused = reply.Refused NoReplica in
-    let done = end_row a n t o s ok own blocks is.0 is.1.stands s2 (s.book.spare + 1) refused may sees is.5
+    let done = end_row a n t o s ok own blocks is.0 is.1.stands s2 (s.book.spare + 1) s.book.spare_data refused may sees is.5
     (refused_backed (length s.nodes) (modes_in s) o refused refl) in
     record {
       ends = done.0;
@@ -156,10 +157,10 @@ admit_rows a n t o (admit.NoReplica place) s s2 ok own blocks may is sees =
 -- ---- what it asks and waits for
 
 -- the parts of a call that starts, and the modes, which stay as they are
-begun_in : (s s2 : State) (i : ℕ) (nodes : List Node) (front back buffer : List ℕ) → i < length s.calls
-    → s2 ≡ started (with_place s) i nodes front back buffer
+begun_in : (s s2 : State) (i : ℕ) (nodes : List Node) (front back buffer : List ℕ) (room : ℕ) → i < length s.calls
+    → s2 ≡ started (with_rooms s (s.book.spare + 1) room) i nodes front back buffer
     → ((open_at s2.calls i).parts ≡ map part_for (modes_in s)) × (modes_in s2 ≡ modes_in s)
-begun_in s s2 i nodes front back buffer below e = (
+begun_in s s2 i nodes front back buffer room below e = (
   ap (λ (x : State). (open_at x.calls i).parts) e ∙ ap (λ (c : OpenCall). c.parts)
       (get_or-set_same s.calls i (begun (open_at s.calls i) (modes_in s) front back buffer) no_call below),
   ap modes_in e,
@@ -167,8 +168,9 @@ begun_in s s2 i nodes front back buffer below e = (
 
 begun_parts : (k : Kind) (s s2 : State) (i first : ℕ) → i < length s.calls → BeginsBy k (with_place s) i first s2
     → ((open_at s2.calls i).parts ≡ map part_for (modes_in s)) × (modes_in s2 ≡ modes_in s)
-begun_parts kind.Read s s2 i first below b = begun_in s s2 i s.nodes [] [] b.buffer below b.state
-begun_parts kind.Write s s2 i first below b = begun_in s s2 i b.nodes b.front b.back [] below b.state
+begun_parts kind.Read s s2 i first below b = begun_in s s2 i s.nodes [] [] b.buffer
+    (with_data s (open_at s.calls i).length).book.spare_data below b.state
+begun_parts kind.Write s s2 i first below b = begun_in s s2 i b.nodes b.front b.back [] s.book.spare_data below b.state
 begun_parts kind.Whole s s2 i first below b = absurd b
 
 pub asks_all : (t : ℕ) (ad : Admit) (s s2 : State) → IsSound s → IsAdmit s t ad s2 → AsksAll ad (modes_in s2)

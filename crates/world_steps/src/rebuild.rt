@@ -22,7 +22,7 @@ ghost use Rattle.world_steps.specs.Rebuild.{AdmitsBarrierIn, IsToldBegun, IsEndO
 
 use std::alloc::{AllocError, Global};
 use stream_steps::{Added, AdmitBarrier, NextPage, Page, PageIn, PageOut, PageRef};
-use volume_core::{Entry, Reply, TicketNumber, World};
+use volume_core::{EntryView, Reply, TicketNumber, World};
 use volume_maint::AdmitWhole;
 use volume_model::Mark;
 
@@ -58,7 +58,7 @@ fn begun_in(world: &World) -> Added
     ensures { IsToldBegun result (state_of world.now) }
 {
     match world.journal.entry(world.journal.len() - 1) {
-        Entry::Mark(Mark::Added { source, name, .. }) => Added {
+        EntryView::Mark(Mark::Added { source, name, .. }) => Added {
             source: *source,
             name: *name,
         },

@@ -5,6 +5,7 @@ use Rattle.run_report.specs.Report.{journal_lines}
 use Rattle.run_report.proofs.ReportLemmas.{next_line}
 use Rattle.outer_traits.specs.Passing.{WritesPrefix}
 use Rattle.outer_traits.proofs.Passing.{Passes-trans, WritesPrefix-after, WritesPrefix-more}
+use Rattle.packed_entries.specs.View.{entry_seen}
 use Rattle.report_writer.proofs.report.pass_entries.Goals as goal
 
 pub loop-place-preserved : goal.loop-place-preserved
@@ -12,7 +13,7 @@ loop-place-preserved g c =
     let i = c.loop-place.invariant in
     let entries = c.args.journal.now.entries in
     let place = c.loop-place.place in
-    let e = c.entry.result.now in
+    let e = entry_seen c.entry.result in
     let inside : place < length entries = omega (arith, c.len-place-end.ensures) in
     let t = next_line i.0 (journal_lines 0 entries) place entries e inside
     (get_or_from_slice_get entries place e e c.entry.ensures) i.2 in (
@@ -27,7 +28,7 @@ returns-in_err-pass_entry-clause-prefix g c =
     let i = c.loop-place.invariant in
     let entries = c.args.journal.now.entries in
     let place = c.loop-place.place in
-    let e = c.entry.result.now in
+    let e = entry_seen c.entry.result in
     let rest = journal_lines (place + 1) (drop (place + 1) entries) in
     let inside : place < length entries = omega (arith, c.len-place-end.ensures) in
     let t = next_line i.0 (journal_lines 0 entries) place entries e inside (get_or_from_slice_get entries place e e c.entry.ensures) i.2 in

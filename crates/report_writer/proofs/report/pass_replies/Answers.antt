@@ -7,6 +7,7 @@ use Rattle.run_report.specs.Report.{reply_lines}
 use Rattle.run_report.proofs.ReportLemmas.{next_reply, skip_mark, skip_other, skip_past, no_reply}
 use Rattle.outer_traits.specs.Passing.{WritesPrefix, Passes}
 use Rattle.outer_traits.proofs.Passing.{Passes-trans, WritesPrefix-after, WritesPrefix-more, WritesPrefix-passed}
+use Rattle.packed_entries.specs.View.{entry_seen, answer_seen}
 use Rattle.report_writer.proofs.report.pass_replies.Goals as goal
 use Rattle.report_writer.proofs.report.pass_replies.Goals.{in-Some-head_for+in_ok-pass_reply, in_default-head_for}
 
@@ -16,11 +17,11 @@ loop-place-preserved g c =
     let heads = c.args.heads.now in
     let s = c.loop-place in
     let i = s.invariant in
-    let a = c.in-Some.answer.now in
+    let a = answer_seen c.in-Some.answer in
     let whole = reply_lines heads (answers_from c.args.stream 0 entries) in
     let inside : s.place < length entries = omega (arith, c.len-place-end.ensures) in
     let is : get_or entries s.place (entry.Answer a) ≡ entry.Answer a =
-    get_or_from_slice_get entries s.place c.entry.result.now (entry.Answer a) c.entry.ensures ∙ c.in-Some.ensures in
+    get_or_from_slice_get entries s.place (entry_seen c.entry.result) (entry.Answer a) c.entry.ensures ∙ c.in-Some.ensures in
     elim c.match-head_for.branch [
       | in-Some-head_for+in_ok-pass_reply w ↦
           let h = w.in-Some-head_for.asked.now in
@@ -49,7 +50,7 @@ loop-place-preserved-in_default g c =
     let heads = c.args.heads.now in
     let s = c.loop-place in
     let i = s.invariant in
-    let e = c.entry.result.now in
+    let e = (entry_seen c.entry.result) in
     let inside : s.place < length entries = omega (arith, c.len-place-end.ensures) in
     let t = skip_mark reply_line i.0 (reply_lines heads (answers_from c.args.stream 0 entries)) c.args.stream s.next s.place heads entries e
     inside (get_or_from_slice_get entries s.place e e c.entry.ensures) c.in_default.ensures i.2 in (i.0, i.1, t, i.3)
@@ -61,14 +62,14 @@ returns-in_err-pass_reply-clause-prefix g c =
     let had = c.args.buffer.now.items in
     let s = c.loop-place in
     let i = s.invariant in
-    let a = c.in-Some.answer.now in
+    let a = answer_seen c.in-Some.answer in
     let h = c.in-Some-head_for.asked.now in
     let found = c.in-Some-head_for.ensures.some in
     let whole = reply_lines heads (answers_from c.args.stream 0 entries) in
     let rest = reply_lines (drop (s.next + 1) heads) (answers_from c.args.stream (s.place + 1) (drop (s.place + 1) entries)) in
     let inside : s.place < length entries = omega (arith, c.len-place-end.ensures) in
     let is : get_or entries s.place (entry.Answer a) ≡ entry.Answer a =
-    get_or_from_slice_get entries s.place c.entry.result.now (entry.Answer a) c.entry.ensures ∙ c.in-Some.ensures in
+    get_or_from_slice_get entries s.place (entry_seen c.entry.result) (entry.Answer a) c.entry.ensures ∙ c.in-Some.ensures in
     let t = next_reply reply_line i.0 whole c.args.stream s.next s.place heads entries h a inside is found.1
     (get_or_from_slice_get heads s.next h h found.2) found.0 i.2 in
     let prefix = WritesPrefix-after _ _ _ had _ i.0 (reply_line h a) i.1 c.in_err-pass_reply.ensures.prefix in

@@ -5,6 +5,7 @@ use Rattle.volume_model.specs.History.{answers_from}
 use Rattle.volume_model.specs.declared.entry.Entry.TheVariants as entry
 use Rattle.run_report.specs.Summary.{replying_frame, replying_frames}
 use Rattle.run_report.proofs.ReportLemmas.{next_reply, skip_mark, skip_other, skip_past, no_reply}
+use Rattle.packed_entries.specs.View.{entry_seen, answer_seen}
 use Rattle.report_writer.proofs.summary.digest_of_replies.Goals as goal
 use Rattle.report_writer.proofs.summary.digest_of_replies.Goals.{in-Some-head_for+in_ok-digest_reply, in_default-head_for}
 
@@ -14,12 +15,12 @@ loop-place-preserved c =
     let heads = c.args.heads.now in
     let stream = c.args.stream in
     let s = c.loop-place in
-    let a = c.in-Some.answer.now in
+    let a = answer_seen c.in-Some.answer in
     let whole = replying_frames heads (answers_from stream 0 entries) in
     let behind = answers_from stream (s.place + 1) (drop (s.place + 1) entries) in
     let inside : s.place < length entries = omega (arith, c.len-place-end.ensures) in
     let is : get_or entries s.place (entry.Answer a) ≡ entry.Answer a =
-    get_or_from_slice_get entries s.place c.entry.result.now (entry.Answer a) c.entry.ensures ∙ c.in-Some.ensures in
+    get_or_from_slice_get entries s.place (entry_seen c.entry.result) (entry.Answer a) c.entry.ensures ∙ c.in-Some.ensures in
     elim c.match-head_for.branch [
       | in-Some-head_for+in_ok-digest_reply w ↦
           let h = w.in-Some-head_for.asked.now in
@@ -41,7 +42,7 @@ loop-place-preserved-in_default c =
     let entries = c.args.journal.now.entries in
     let heads = c.args.heads.now in
     let s = c.loop-place in
-    let e = c.entry.result.now in
+    let e = (entry_seen c.entry.result) in
     let inside : s.place < length entries = omega (arith, c.len-place-end.ensures) in
     skip_mark replying_frame s.digest (replying_frames heads (answers_from c.args.stream 0 entries)) c.args.stream s.next s.place heads
     entries e inside (get_or_from_slice_get entries s.place e e c.entry.ensures) c.in_default.ensures s.invariant

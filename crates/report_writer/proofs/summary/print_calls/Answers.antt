@@ -1,8 +1,7 @@
 use Rattle.std.proofs.Common.{◌≡◌, ◌++◌, length, map, ap, ◌∙◌}
-use Rattle.std.specs.Borrow.{Bor}
 use Rattle.load_laws.specs.Result.{replies_of}
 use Rattle.journal_book.specs.Book.{modes_of}
-use Rattle.volume_model.specs.declared.call.Reply.{Reply}
+use Rattle.packed_entries.specs.View.{reply_seen}
 use Rattle.run_report.specs.Summary.{stream_lines, control_line, modes_line, frames_from}
 use Rattle.report_writer.proofs.SummaryLemmas.{three_parts}
 use Rattle.report_writer.proofs.summary.print_calls.Goals as goal
@@ -13,8 +12,8 @@ returns c =
     let modes = modes_of c.args.journal.now in
     let streams = stream_lines 0 (frames_from 0 c.args.heads.now entries) in
     let commands = replies_of (length c.args.heads.now) entries in
-    let answered : map (λ (r : Bor Reply). r.now) c.deref.result.now ≡ commands =
-    ap (map (λ (r : Bor Reply). r.now)) c.deref.ensures.value ∙ c.in_ok-replies_to.ensures in
+    let answered : map reply_seen c.deref.result.now ≡ commands =
+    ap (map reply_seen) c.deref.ensures.value ∙ c.in_ok-replies_to.ensures in
     let control : c.print_control.new.into.items ≡ c.print_streams.new.into.items ++ control_line commands =
     c.in_ok-print_control.ensures.ok ∙ ap (λ rs. c.print_streams.new.into.items ++ control_line rs) answered in
     let left : c.print_modes.new.into.items ≡ c.print_control.new.into.items ++ modes_line modes =

@@ -1,5 +1,4 @@
-use Rattle.std.proofs.Common.{◌≡◌, [], ◌∷◌, ◌++◌, cond, ap, ◌∙◌, arith}
-use Rattle.std.specs.Result.{is_ok}
+use Rattle.std.proofs.Common.{[], ◌∷◌, length, length-append, ap, arith}
 use Rattle.journal_book.proofs.LeftLemmas.{modes_left, layers_left, names_left, lines_left}
 use Rattle.journal_book.proofs.journal.Journal.push_reserved.Goals as goal
 
@@ -7,10 +6,9 @@ pub invariant_of-self : goal.invariant_of-self
 invariant_of-self c =
     let j = c.self.inside in
     let left = c.self.invariant.0 in
-    let es = j.entries.items in
+    let es = j.entries.entries in
     let e = c.args.entry in
-    let pushed : c.push.new.self.items ≡ es ++ e ∷ [] = c.push.ensures.items
-    ∙ ap (λ o. cond (is_ok o) (es ++ e ∷ []) es) c.unwrap.ensures in (
+    let pushed = c.push.ensures.entries in (
       record {
         modes = modes_left j.opening.value.modes j.modes _ es _ e left.modes c.follow_modes.ensures pushed;
         layers = layers_left j.opening.value.layers j.layers _ es _ e left.layers c.layers_after-self-inside.ensures.layers pushed;
@@ -18,9 +16,8 @@ invariant_of-self c =
         lines = lines_left j.lines.items _ es _ e left.lines c.follow_faults.ensures.counts pushed;
       },
       record {
-        entries = omega arith;
         names = omega arith;
         lines = omega arith;
-        layers = omega (arith, rw c.unwrap.ensures at c.push.ensures.len);
+        layers = omega (arith, ap length pushed, length-append es (e ∷ []));
       },
     )

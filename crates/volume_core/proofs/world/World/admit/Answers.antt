@@ -61,14 +61,15 @@ returns-in-None-clause-may c =
     let s : State = state_of c.args.self.now in
     let e : state_of c.end_at.new.self ≡ ended (with_place s) c.waiting_at-i.result (reply.Refused NoReplica) = search rules in
     ended_may s (state_of c.end_at.new.self) c.args.t c.waiting_at-i.result c.requires.sound
-    (returns-in-None-clause-sound c) c.waiting_at-i.ensures.stands (s.book.spare + 1) (reply.Refused NoReplica) (λ name removes. refl) e
+    (returns-in-None-clause-sound c) c.waiting_at-i.ensures.stands (s.book.spare + 1) s.book.spare_data
+    (reply.Refused NoReplica) (λ name removes. refl) e
 
 pub returns-in-None-clause-sees : goal.returns-in-None-clause-sees
 returns-in-None-clause-sees c =
     let s : State = state_of c.args.self.now in
     let e : state_of c.end_at.new.self ≡ ended (with_place s) c.waiting_at-i.result (reply.Refused NoReplica) = search rules in
     ended_sees s (state_of c.end_at.new.self) c.args.t c.waiting_at-i.result c.requires.sound
-    (returns-in-None-clause-sound c) c.waiting_at-i.ensures.stands (s.book.spare + 1) (reply.Refused NoReplica) e
+    (returns-in-None-clause-sound c) c.waiting_at-i.ensures.stands (s.book.spare + 1) s.book.spare_data (reply.Refused NoReplica) e
 
 -- ---- where nothing is in its way, no call on the whole volume is started
 

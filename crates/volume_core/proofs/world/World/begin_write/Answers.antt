@@ -30,9 +30,10 @@ returns-in_err-make_rooms-clause-err c =
     record {
       nodes = c.make_rooms.new.nodes.items;
       spare = s.book.spare;
+      spare_data = s.book.spare_data;
       keeps = subst (λ (ns : List Node). KeepsNodes ns c.make_rooms.new.nodes.items) c.edges_in.ensures.same c.make_rooms.ensures.keeps;
-      more =
-          at_most s.book.spare;
+      more = at_most s.book.spare;
+      more_data = at_most s.book.spare_data;
       state = refl;
     } in
     on_err _ _ more

@@ -3,7 +3,7 @@ use Rattle.std.proofs.Common.{◌≡◌, ◌+◌, ◌≤◌, [], length, false, 
 use Rattle.vol_units.specs.Range.{blocks_around}
 use Rattle.range_turns.specs.declared.ticket.Kind.TheVariants as kind
 use Rattle.volume_core.specs.State.{state_of}
-use Rattle.volume_core.specs.Steps.{enrolled}
+use Rattle.volume_core.specs.Steps.{with_data, enrolled}
 use Rattle.volume_core.specs.Sound.{IsSound}
 use Rattle.volume_core.proofs.Keep.{call_enrolled}
 use Rattle.volume_model.specs.declared.call.Call.TheVariants as call
@@ -24,7 +24,7 @@ returns-clause-sound c =
     let at = c.in-Some.at in
     let around : range ≡ blocks_around at c.args.count = search rules in
     let good : at + c.args.count ≤ s.size = search rules in
-    let e : state_of c.put_behind.new.self ≡ enrolled s
+    let e : state_of c.put_behind.new.self ≡ enrolled (with_data s 0)
     (record { number = c.in_ok-number.number; range = range; kind = kind.Read; started = false })
     (record {
       stream = c.args.stream;
