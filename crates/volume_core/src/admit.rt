@@ -40,42 +40,65 @@ impl World {
         if let Some(j) = self.turns.in_way(i) {
             return Ok(Admit::After(self.turns.ticket(j).number));
         }
+        let buffer = self.buffer_for(alloc, i)?;
         self.make_place()?;
         match self.journal.source() {
-            Some(source) => Ok(Admit::Go(self.begin(alloc, i, source)?)),
+            Some(source) => Ok(Admit::Go(self.begin(alloc, i, source, buffer)?)),
             None => Ok(Admit::NoReplica(self.end_at(i, Reply::Refused(Refusal::NoReplica)))),
         }
     }
 
-    /// The call at i starts, on a volume of which that replica is read.
-    fn begin(&mut self, alloc: Global, i: usize, source: u8) -> Result<Job, AllocError>
+    /// What the call at i reads into. It is made before all that stays of the call, so that it finds the memory which the
+    /// read before it had.
+    fn buffer_for(&self, alloc: Global, i: usize) -> Result<Buffer, AllocError>
+        requires paired { length self.now.calls.items ≡ length self.now.turns.tickets }
+        requires place { i < length self.now.turns.tickets }
+        ensures { IfOk result (λ buffer. (ticket_at self.now.turns.tickets i).kind ≡ Kind.Read
+            → length buffer ≡ (open_at self.now.calls.items i).length) }
+    {
+        match self.turns.ticket(i).kind {
+            Kind::Read => Buffer::of_length(alloc, self.calls[i].length as usize),
+            Kind::Write | Kind::Whole => Ok(Buffer::none(alloc)),
+        }
+    }
+
+    /// The call at i starts, on a volume of which that replica is read; a read has this buffer.
+    fn begin(
+        &mut self,
+        alloc: Global,
+        i: usize,
+        source: u8,
+        buffer: Buffer,
+    ) -> Result<Job, AllocError>
         requires calm { IsCalm (state_of self.old) }
         requires place { i < length self.old.turns.tickets }
         requires range { (ticket_at self.old.turns.tickets i).kind ≢ Kind.Whole }
         requires clear { IsClear self.old.turns.tickets i }
         requires source { mode_of (modes_in (state_of self.old)) source ≡ Mode.Rw }
+        requires buffer { (ticket_at self.old.turns.tickets i).kind ≡ Kind.Read
+            → length buffer ≡ (open_at self.old.calls.items i).length }
         ensures ok { OnOk result (Begins (state_of self.old) i source (state_of self.new)) }
         ensures job { IfOk result (IsJobOf (state_of self.new) i) }
         ensures err { OnErr result (IsRoomier (state_of self.old) (state_of self.new)) }
     {
         match self.turns.ticket(i).kind {
-            Kind::Read => self.begin_read(alloc, i),
+            Kind::Read => self.begin_read(alloc, i, buffer),
             Kind::Write => self.begin_write(alloc, i, source),
             Kind::Whole => unreachable!(),
         }
     }
 
-    fn begin_read(&mut self, alloc: Global, i: usize) -> Result<Job, AllocError>
+    fn begin_read(&mut self, alloc: Global, i: usize, buffer: Buffer) -> Result<Job, AllocError>
         requires calm { IsCalm (state_of self.old) }
         requires place { i < length self.old.turns.tickets }
         requires kind { (ticket_at self.old.turns.tickets i).kind ≡ Kind.Read }
+        requires buffer { length buffer ≡ (open_at self.old.calls.items i).length }
         requires clear { IsClear self.old.turns.tickets i }
         ensures ok { OnOk result (BeginsRead (state_of self.old) i (state_of self.new)) }
         ensures job { IfOk result (IsJobOf (state_of self.new) i) }
         ensures err { OnErr result (state_of self.new ≡ state_of self.old) }
     {
         let count = self.calls[i].length;
-        let buffer = Buffer::of_length(alloc, count as usize)?;
         self.make_data(count)?;
         self.start_at(i, Buffer::none(alloc), Buffer::none(alloc), buffer);
         Ok(self.job_of(i, Buffer::none(alloc), Buffer::none(alloc)))

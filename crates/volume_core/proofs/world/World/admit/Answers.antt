@@ -105,6 +105,9 @@ returns-in_err-begin-in-Some-source-clause-may c =
 pub returns-in-Some-clause-may : goal.returns-in-Some-clause-may
 returns-in-Some-clause-may c = refused_may c.args.t (state_of c.args.self.now) c.requires.sound
 
+pub returns-in_err-buffer-clause-may : goal.returns-in_err-buffer-clause-may
+returns-in_err-buffer-clause-may c = refused_may c.args.t (state_of c.args.self.now) c.requires.sound
+
 pub returns-in_err-make_place-clause-may : goal.returns-in_err-make_place-clause-may
 returns-in_err-make_place-clause-may c = still_may c.args.t (state_of c.args.self.now) (state_of c.make_place.new.self) c.requires.sound
     (search rules)
