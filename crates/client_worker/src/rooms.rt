@@ -11,6 +11,11 @@ use sparse_image::Blocks;
 use std::alloc::{AllocError, Global};
 use vol_units::BLOCK_BYTES;
 
+/// A piece of memory, in bytes, and how many boxes it has place for.
+const PIECE: usize = 122_880;
+
+const PIECE_BOXES: usize = 28;
+
 /// What the calls of a stream are carried in, one after another. It grows as a call needs, and what it has stays for
 /// the next: a call that needs no more takes no memory.
 #[derive(Drop)]
@@ -23,6 +28,8 @@ pub struct Rooms {
     pub(crate) arrivals: Vec<u8>,
     /// Boxes for a write's blocks, for each replica.
     pub(crate) sets: Vec<Blocks>,
+    /// How many boxes the last piece that was asked for has place for still.
+    ahead: usize,
 }
 
 impl Rooms {
@@ -33,6 +40,7 @@ impl Rooms {
             reply: Vec::new(alloc),
             arrivals: Vec::new(alloc),
             sets: Vec::new(alloc),
+            ahead: 0,
         }
     }
 
@@ -47,11 +55,24 @@ impl Rooms {
         ensures { OnOk result (HasWriteRoom count replicas self.new) }
     {
         let most = HEADER_LENGTH + count * BLOCK_BYTES as usize;
+        self.ask_ahead(alloc, count.saturating_mul(replicas))?;
         self.request.clear();
         self.request.reserve_exact(most)?;
         self.arrivals.clear();
         self.arrivals.reserve_exact(HEADER_LENGTH + most)?;
         make_sets(alloc, &mut self.sets, count, replicas)
+    }
+
+    /// Has the allocator ask the system for a piece at once, where the last one has no place for these boxes. For one box
+    /// after another it asks for each by itself, for which threads wait for one another.
+    fn ask_ahead(&mut self, alloc: Global, boxes: usize) -> Result<(), AllocError> {
+        if self.ahead < boxes {
+            // It is let go at once, and the allocator has it for the boxes.
+            let _piece: Vec<u8> = Vec::with_capacity(alloc, PIECE)?;
+            self.ahead = PIECE_BOXES;
+        }
+        self.ahead = self.ahead.saturating_sub(boxes);
+        Ok(())
     }
 
     /// Makes room for a read of so many bytes.

@@ -43,12 +43,7 @@ returns-clause-ok g c =
     let many : c.len-2.result ≡ length c.self.inside.channels.items = search rules in
     let all = many ∙ ap (λ (w : Work g.row.C.Denot g.row.L.Denot). length w.channels) c.self.view_is in
     let fits : HasWriteRoom (range.end - range.first) c.len-2.result made = search rules in
-    let filled : Rooms = record {
-      request = c.fill_request.new.request;
-      reply = made.reply;
-      arrivals = made.arrivals;
-      sets = made.sets;
-    } in
+    let filled : Rooms = record made { request = c.fill_request.new.request } in
     subst (λ x. BeginsIn x c.in-Some.start.answer (length c.args.self.now.channels) filled before after)
     (sym (only_own c.args.write.now.ticket before op.0 o op.1 own))
     (begins_in op.0 c.in-Some.start.answer before after s c.args.write.now.offset c.args.write.now.bytes.now op.3 range (search rules)
