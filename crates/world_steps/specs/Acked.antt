@@ -16,17 +16,17 @@ pub record Ends (s : State) (t : ℕ) (s2 : State) : Type 0 where
   pub may : ForOwner t s (λ n c. MayGo n s s2)
   pub sees : ForOwner t s (λ n c. IsAnsweredTo n c s s2)
 
--- it cannot
-pub record CannotEnd (s : State) (t : ℕ) (s2 : State) : Type 0 where
+-- it goes on, and this stands against its end
+pub record GoesOnAcked (s : State) (t : ℕ) (s2 : State) : Type 0 where
   pub same : s2 ≡ s
   pub against : NotThis
   pub why : AgainstEnd s t against
 
 abbrev pub EndsOrNot : State → ℕ → Bool → State → Type 0
 EndsOrNot s t true s2 = Ends s t s2
-EndsOrNot s t false s2 = CannotEnd s t s2
+EndsOrNot s t false s2 = GoesOnAcked s t s2
 
--- a replica, which had its step of the call, has acknowledged it, and there it ends or cannot end
+-- a replica, which had its step of the call, has acknowledged it, and there it ends or goes on
 pub record AcksThen (s : State) (t r : ℕ) (ended : Bool) (s2 : State) : Type 0 where
   pub between : State
   pub acks : (i : ℕ) × IsCallAt s t i × IsTaken (part_at (open_at s.calls i).parts r) × (between ≡ acked s i r)
