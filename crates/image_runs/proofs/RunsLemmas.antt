@@ -62,12 +62,12 @@ runs-lone (suc n) (b ∷ c ∷ rest) inside differ =
     ∙ ap (λ l. lone b ∷ l) (runs-lone n (c ∷ rest) (omega arith) (λ k below. differ (suc k) (omega arith)))
 
 -- their text is the table's
-with_commas-lone : (bytes : List ℕ) → with_commas (map lone bytes) ≡ flat_map lone_text bytes
+pub with_commas-lone : (bytes : List ℕ) → with_commas (map lone bytes) ≡ flat_map lone_text bytes
 unfolding digits
 with_commas-lone [] = refl
 with_commas-lone (b ∷ bs) = ap (λ l. lone_text b ++ l) (with_commas-lone bs)
 
-with_commas-append : (rs qs : List ByteRun) → with_commas (rs ++ qs) ≡ with_commas rs ++ with_commas qs
+pub with_commas-append : (rs qs : List ByteRun) → with_commas (rs ++ qs) ≡ with_commas rs ++ with_commas qs
 with_commas-append = flat_map-append (λ r. run_text r ++ codes ",")
 
 -- ---- what is printed first, and the text of what is left

@@ -7,5 +7,6 @@ mod print;
 mod run;
 mod table;
 
+pub use lone::{append_lone, lone_bytes};
 pub use print::{append_runs, print_runs};
 pub use run::{append_run, run_length};

@@ -1,4 +1,5 @@
 pub mod RunLemmas
 pub mod PartLemmas
 pub mod PlaceLemmas
+pub mod LoneLemmas
 mod ByteLemmas

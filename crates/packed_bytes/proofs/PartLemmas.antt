@@ -1,7 +1,7 @@
 -- Parts of what is kept.
 use Rattle.std.proofs.Common.{◌≡◌, ◌≢◌, ℕ, zero, suc, ◌+◌, ◌-◌, ◌<◌, ◌≤◌, Bool, cond, eqb, List, [], ◌∷◌, ◌++◌, length, get_or}
 use Rattle.std.proofs.Common.{take, drop, min, Some, slice_get, sym, ap, ◌∙◌, arith, length-take, length-drop, length-append, add-zero}
-use Rattle.std.proofs.Common.{append_assoc, codes}
+use Rattle.std.proofs.Common.{append_assoc, codes, refl}
 use Rattle.std.specs.List.{prefix_len}
 use Rattle.std.proofs.lemmas.List.{get_or-take, nil_from_length, drop-drop, drop-take, take-take, take-append-drop, take-append-le}
 use Rattle.std.proofs.lemmas.List.{get_or_append_left}
@@ -49,6 +49,27 @@ first_part_of store piece at until n is below inside cut =
           sym (take-append-drop n whole) ∙ ap (λ l. l ++ drop n whole) taken
           ∙ ap (λ l. take n piece ++ l) (drop-drop n at (take until store) ∙ ap (λ k. drop (at + k) (take until store)) (sym long));
     }
+
+-- and with fewer bytes
+pub first_part_within : (store bytes : List ℕ) (at until n : ℕ) → IsFirstPart store at until bytes → n ≤ length bytes
+    → part store at until ≡ take n bytes ++ part store (at + n) until
+first_part_within store bytes at until n first within =
+    let whole = part store at until in
+    let rest = part store (at + length bytes) until in
+    sym (take-append-drop n whole)
+    ∙ ap (λ l. l ++ drop n whole) (ap (take n) first.is ∙ take-append-le n bytes rest within)
+    ∙ ap (λ l. take n bytes ++ l) (drop-drop n at (take until store))
+
+-- a code at the head of a piece
+pub code_of_piece : (store piece : List ℕ) (at until : ℕ) → IsPiece at store piece → 5 ≤ length piece → at + 5 ≤ until
+    → until ≤ length store → part store at until ≡ take 5 piece ++ part store (at + 5) until
+code_of_piece store piece at until is long fits inside =
+    let n = min (length piece) (until - at) in
+    let first = first_part_of store piece at until n is (omega arith) inside refl in
+    let some : 5 ≤ n = omega arith in
+    let within : 5 ≤ length (take n piece) = omega (arith, length-take n piece) in
+    first_part_within store (take n piece) at until 5 first within
+    ∙ ap (λ l. l ++ part store (at + 5) until) (take-take 5 n piece some)
 
 -- the runs of a part, up to where one ends
 pub part_apart : (store bytes : List ℕ) (at until k : ℕ) → IsFirstPart store at until bytes → k < length bytes

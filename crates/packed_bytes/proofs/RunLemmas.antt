@@ -3,6 +3,8 @@ use mir.Val.{bool_byte}
 use Rattle.std.proofs.Common.{◌≡◌, ◌≢◌, ℕ, zero, suc, ◌+◌, ◌*◌, ◌^◌, ◌<◌, ◌≤◌, Bool, true, false, cond, not, eqb, List, [], ◌∷◌, ◌++◌}
 use Rattle.std.proofs.Common.{length, get_or, take, drop, refl, sym, ap, subst, ◌∙◌, arith, one-add, length-append}
 use Rattle.std.specs.List.{prefix_len}
+use Rattle.std.specs.Int.{from_le_bytes}
+use mir.Syntax.{w32}
 use Rattle.std.proofs.lemmas.Bool.{eq-eqb, ne_eqb, ltb-true}
 use Rattle.std.proofs.lemmas.Nat.{from_le_bytes-to_le_bytes_4}
 use Rattle.image_runs.specs.Runs.{ByteRun, run_of, put_byte, runs}
@@ -102,6 +104,18 @@ runs_apart (suc k) (a ∷ b ∷ l) inside differ =
 
 pub coded_code : (r : ByteRun) (rest : List ℕ) → r.count < 2 ^ 32 → coded_runs (run_code r ++ rest) ≡ r ∷ coded_runs rest
 coded_code r rest small = ap (λ n. run_of r.byte n ∷ coded_runs rest) (from_le_bytes-to_le_bytes_4 r.count small)
+
+-- a code is read as its run
+pub code_read : (code rest : List ℕ) (n : ℕ) → length code ≡ 5
+    → n ≡ from_le_bytes w32 (get_or code 1 0 ∷ get_or code 2 0 ∷ get_or code 3 0 ∷ get_or code 4 0 ∷ [])
+    → coded_runs (code ++ rest) ≡ run_of (get_or code 0 0) n ∷ coded_runs rest
+code_read [] rest n long is = absurd (omega arith)
+code_read (a ∷ []) rest n long is = absurd (omega arith)
+code_read (a ∷ b ∷ []) rest n long is = absurd (omega arith)
+code_read (a ∷ b ∷ c ∷ []) rest n long is = absurd (omega arith)
+code_read (a ∷ b ∷ c ∷ d ∷ []) rest n long is = absurd (omega arith)
+code_read (a ∷ b ∷ c ∷ d ∷ e ∷ []) rest n long is = ap (λ k. run_of a k ∷ coded_runs rest) (sym is)
+code_read (a ∷ b ∷ c ∷ d ∷ e ∷ f ∷ more) rest n long is = absurd (omega arith)
 
 length-code : (r : ByteRun) → length (run_code r) ≡ 5
 length-code r = refl

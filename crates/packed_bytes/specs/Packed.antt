@@ -13,6 +13,10 @@ run_code r = r.byte ∷ to_le_bytes w32 r.count
 abbrev pub run_codes : List ByteRun → List ℕ
 run_codes rs = flat_map run_code rs
 
+-- the same of a byte that stands alone
+abbrev pub lone_code : ℕ → List ℕ
+lone_code b = b ∷ 1 ∷ 0 ∷ 0 ∷ 0 ∷ []
+
 -- the runs that some bytes are the codes of
 abbrev pub coded_runs : List ℕ → List ByteRun
 coded_runs (a ∷ b ∷ c ∷ d ∷ e ∷ rest) = run_of a (from_le_bytes w32 (b ∷ c ∷ d ∷ e ∷ [])) ∷ coded_runs rest

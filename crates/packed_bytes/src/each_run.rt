@@ -1,4 +1,4 @@
-ghost use Rattle.std.specs.Prelude.{◌≡◌, ℕ, ◌+◌, ◌<◌, ◌≤◌, ◌==◌, ◌∷◌, length};
+ghost use Rattle.std.specs.Prelude.{◌≡◌, ℕ, List, ◌+◌, ◌<◌, ◌≤◌, ◌==◌, ◌∷◌, ◌++◌, length};
 ghost use Rattle.std.specs.List.{prefix_len};
 ghost use Rattle.std.specs.Iterator.{YieldsFirstBy, item_count};
 ghost use Rattle.image_runs.specs.Runs.{run_of, runs};
@@ -77,7 +77,7 @@ impl<'a> Iterator for EachRun<'a> {
 }
 
 /// The run whose code stands there.
-fn coded_run(store: &Data, at: usize) -> (u8, usize)
+pub(crate) fn coded_run(store: &Data, at: usize) -> (u8, usize)
     requires { at + 5 ≤ length store.now.items }
     ensures { (until : ℕ) → at + 5 ≤ until → until ≤ length store.now.items
         → coded_runs (part store.now.items at until)
@@ -85,14 +85,26 @@ fn coded_run(store: &Data, at: usize) -> (u8, usize)
 {
     // How much there is, a proof learns here.
     let _length = store.len();
-    let byte = *store.get(at);
-    let count = u32::from_le_bytes([
+    if let Some(code) = store.piece(at).first_chunk() {
+        return code_run(code);
+    }
+    // The code lies over the end of a chunk.
+    code_run(&[
+        *store.get(at),
         *store.get(at + 1),
         *store.get(at + 2),
         *store.get(at + 3),
         *store.get(at + 4),
-    ]);
-    (byte, count as usize)
+    ])
+}
+
+/// The run that a code is of.
+fn code_run(code: &[u8; 5]) -> (u8, usize)
+    ensures { (rest : List ℕ) → coded_runs (code.now ++ rest)
+        ≡ run_of result.0 result.1 ∷ coded_runs rest }
+{
+    let [byte, a, b, c, d] = *code;
+    (byte, u32::from_le_bytes([a, b, c, d]) as usize)
 }
 
 /// The first run of bytes that are kept as they are.

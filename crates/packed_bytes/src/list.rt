@@ -108,13 +108,14 @@ impl<'a> PackedList<'a> {
         ensures ok { OnOk result (into.new.items ≡ into.old.items ++ with_commas (runs self.now)) }
         ensures kept { IsPrefixOf into.old.items into.new.items }
     {
+        // How much there is, a proof learns here.
+        let _length = self.store.len();
+        let at = self.place.at as usize;
+        let until = at + self.place.taken as usize;
         if self.is_packed() {
-            append_coded(self.runs(), into)
+            append_coded(self.store, at, until, into)
         } else {
-            // How much there is, a proof learns here.
-            let _length = self.store.len();
-            let at = self.place.at as usize;
-            append_plain(self.store, at, at + self.place.taken as usize, into)
+            append_plain(self.store, at, until, into)
         }
     }
 }
