@@ -3,6 +3,7 @@
 
 mod end_lines;
 mod entry_line;
+mod gathered;
 mod list;
 mod mark_line;
 mod opening_line;

@@ -1,9 +1,10 @@
 ghost use Rattle.std.specs.Prelude.{◌≡◌, ◌++◌, ◌∷◌, OnOk, OnErr, take, length, flat_map};
-ghost use Rattle.std.specs.Fmt.{decimal, signed_decimal};
+ghost use Rattle.std.specs.Fmt.{decimal};
 ghost use Rattle.frame_stream.specs.Replies.{error_text};
 ghost use Rattle.packed_entries.specs.View.{reply_seen};
 ghost use Rattle.run_report.specs.Lines.{word, replica_text, mode_text, modes_text};
 
+use crate::gathered::{NUMBER, put_number};
 use itoa::Buffer;
 use packed_entries::ReplyView;
 use std::alloc::AllocError;
@@ -46,20 +47,9 @@ pub fn append_number(n: u64, into: &mut Vec<u8>) -> Result<(), AllocError>
     ensures ok { OnOk result (into.new.items ≡ into.old.items ++ word (decimal n)) }
     ensures kept { take (length into.old.items) into.new.items ≡ into.old.items }
 {
-    append_decimal(n, into)?;
-    into.push(b' ')?;
-    Ok(())
-}
-
-/// Appends an offset and a space.
-pub fn append_offset(offset: i64, into: &mut Vec<u8>) -> Result<(), AllocError>
-    ensures ok { OnOk result (into.new.items ≡ into.old.items ++ word (signed_decimal offset)) }
-    ensures kept { take (length into.old.items) into.new.items ≡ into.old.items }
-{
-    let mut buffer = Buffer::new();
-    into.extend_from_slice(buffer.format(offset).as_bytes())?;
-    into.push(b' ')?;
-    Ok(())
+    let mut text = [0; NUMBER];
+    let start = put_number(n, &mut text, NUMBER);
+    into.extend_from_slice(&text[start..])
 }
 
 /// Appends a replica's number behind its letter.
