@@ -1,4 +1,4 @@
-ghost use Rattle.std.specs.Prelude.{◌≡◌, ◌↔◌, ℕ, ◌+◌, ◌*◌, ◌/◌, ◌^◌, ◌<◌, ◌≤◌, length, Some, IfOk, IfSome, OnOk, OnErr, MatchOption, All, IsTrue, is_some, true, false};
+ghost use Rattle.std.specs.Prelude.{◌≡◌, ◌↔◌, ℕ, ◌+◌, ◌*◌, ◌/◌, ◌^◌, ◌<◌, ◌≤◌, ◌++◌, length, Some, IfOk, IfSome, OnOk, OnErr, MatchOption, All, IsTrue, is_some, true, false};
 ghost use Rattle.std.specs.Option.{option_copied};
 ghost use Rattle.vol_units.specs.Bytes.{zeros, bytes_at, with_bytes_at};
 ghost use Rattle.vol_units.specs.declared.size.TheConstants.{LARGEST_SIZE, PAGE_BYTES};
@@ -20,7 +20,7 @@ use crate::fold::fold_pages;
 use crate::images::learn_images;
 use crate::names::names_in;
 use crate::own::{has_block, has_block_of};
-use crate::reading::{block_of, reads_same};
+use crate::reading::{append_part, block_of, reads_same, zero_block};
 use crate::swap::swap_into;
 use layer_chain::{LayerMeta, LayerTree};
 use snapshot_ops::Spare;
@@ -413,6 +413,50 @@ impl ReplicaNode {
             self.read_piece(&layer, block, start, &mut into[done..done + piece]);
             done += piece;
         }
+    }
+
+    /// Appends so many bytes of what the head reads as, from a place on.
+    pub fn append_bytes(
+        &mut self,
+        at: usize,
+        count: usize,
+        into: &mut Vec<u8>,
+    ) -> Result<(), AllocError>
+        requires { at + count ≤ length self.old.disk }
+        ensures bytes { OnOk result (into.new.items ≡ into.old.items ++ bytes_at self.old.disk at count) }
+        ensures same { self.new ≡ self.old }
+    {
+        // What the largest size is, a proof learns here.
+        let _size = self.size();
+        let mut done = 0;
+        while done < count {
+            let place = at + done;
+            let start = place % BLOCK_BYTES;
+            let piece = (BLOCK_BYTES - start).min(count - done);
+            self.append_piece((place / BLOCK_BYTES) as u32, start, piece, into)?;
+            done += piece;
+        }
+        Ok(())
+    }
+
+    /// Appends a part of what the head reads as at a block.
+    fn append_piece(
+        &mut self,
+        block: u32,
+        start: usize,
+        count: usize,
+        into: &mut Vec<u8>,
+    ) -> Result<(), AllocError>
+        requires inside { block * BLOCK_BYTES < length self.old.disk }
+        requires part { start + count ≤ BLOCK_BYTES }
+        ensures bytes { OnOk result (into.new.items
+            ≡ into.old.items ++ bytes_at self.old.disk (block * BLOCK_BYTES + start) count) }
+        ensures same { self.new ≡ self.old }
+    {
+        if !self.locate(&None, block) {
+            return append_part(zero_block(), start, count, into);
+        }
+        append_part(self.block(&None, block), start, count, into)
     }
 
     /// Reads a part of what a layer, or the head, reads as at a block.

@@ -1,4 +1,4 @@
-ghost use Rattle.std.specs.Prelude.{◌≡◌, ◌↔◌, IsTrue};
+ghost use Rattle.std.specs.Prelude.{◌≡◌, ◌↔◌, ◌+◌, ◌≤◌, ◌++◌, length, slice_range, IsTrue, OnOk};
 ghost use Rattle.std.specs.Option.{option_copied};
 ghost use Rattle.vol_units.specs.Bytes.{zeros};
 ghost use Rattle.sparse_image.specs.Disk.{bytes_of};
@@ -6,6 +6,7 @@ ghost use Rattle.replica_node.specs.Node.{block_in};
 
 use layer_chain::LayerTree;
 use sparse_image::{BLOCK_BYTES, Block};
+use std::alloc::AllocError;
 use vol_units::LayerName;
 
 /// What a block that is not there reads as.
@@ -43,8 +44,22 @@ fn bytes_or_zeros(found: Option<&Block>) -> &[u8]
 }
 
 #[tactic(auto, unfolding(vol_units::specs::Bytes::zeros))]
-fn zero_block() -> &'static [u8]
-    ensures { result.now ≡ zeros BLOCK_BYTES }
+pub(crate) fn zero_block() -> &'static [u8]
+    ensures value { result.now ≡ zeros BLOCK_BYTES }
+    ensures whole { length result.now ≡ BLOCK_BYTES }
 {
     &ZEROS
+}
+
+/// Appends a part of a block.
+pub(crate) fn append_part(
+    block: &[u8],
+    start: usize,
+    count: usize,
+    into: &mut Vec<u8>,
+) -> Result<(), AllocError>
+    requires { start + count ≤ length block.now }
+    ensures { OnOk result (into.new.items ≡ into.old.items ++ slice_range block.now start (start + count)) }
+{
+    into.extend_from_slice(&block[start..start + count])
 }
