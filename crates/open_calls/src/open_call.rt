@@ -20,9 +20,9 @@ pub struct OpenCall {
     /// Of a write its bytes, and of a read none.
     pub bytes: Bytes,
     /// Of a started write, what stays before it in its first block.
-    pub front: Buffer,
+    pub front: Bytes,
     /// Of a started write, what stays behind it in its last block.
-    pub back: Buffer,
+    pub back: Bytes,
     /// Of a started read, its bytes once a replica gave them.
     pub buffer: Buffer,
     pub parts: Parts,
@@ -52,8 +52,8 @@ impl OpenCall {
             at,
             length,
             bytes,
-            front: Buffer::none(alloc),
-            back: Buffer::none(alloc),
+            front: Bytes::new(),
+            back: Bytes::new(),
             buffer: Buffer::none(alloc),
             parts: Parts::none(),
             op: None,

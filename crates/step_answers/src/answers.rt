@@ -1,7 +1,6 @@
-use crate::buffer::Buffer;
 use crate::parts::Parts;
 use range_turns::{BlockRange, TicketNumber};
-use volume_model::{FoldOrDrop, Mode, Refusal};
+use volume_model::{Bytes, FoldOrDrop, Mode, Refusal};
 
 /// What stood against a step: it changed nothing.
 #[derive(Clone, Copy, Debug, PartialEq, Eq)]
@@ -36,9 +35,9 @@ pub struct Job {
     /// Which replicas are asked: those that owe their part.
     pub parts: Parts,
     /// Of a write, what stays before it in its first block.
-    pub front: Buffer,
+    pub front: Bytes,
     /// Of a write, what stays behind it in its last block.
-    pub back: Buffer,
+    pub back: Bytes,
 }
 
 /// What asking to start comes to.

@@ -43,15 +43,6 @@ impl Buffer {
         &self.bytes
     }
 
-    /// The same bytes in memory of their own.
-    pub fn copied(&self, alloc: Global) -> Result<Buffer, AllocError>
-        ensures { IfOk result (λ b. b ≡ self.now) }
-    {
-        Ok(Buffer {
-            bytes: Vec::from_slice(alloc, &self.bytes)?,
-        })
-    }
-
     /// The bytes as a list that does not change. It takes no memory.
     pub fn into_sequence(self) -> Sequence<u8>
         ensures { result ≡ self }

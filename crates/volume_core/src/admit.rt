@@ -14,7 +14,7 @@ ghost use Rattle.volume_core.specs.Answers.{IsAdmit, IsRoomier, IsJobOf, Begins,
 ghost use Rattle.volume_core.specs.Streams.{ForOwner, MayGo, Stays, SeesAdmit};
 
 use crate::world::World;
-use journal_book::{Mode, Refusal, Reply};
+use journal_book::{Bytes, Mode, Refusal, Reply};
 use open_calls::{Buffer, Parts, read_of};
 use range_turns::{BlockRange, Kind, TicketNumber};
 use replica_node::{BLOCK_BYTES, ReplicaNode};
@@ -100,8 +100,8 @@ impl World {
     {
         let count = self.calls[i].length;
         self.make_data(count)?;
-        self.start_at(i, Buffer::none(alloc), Buffer::none(alloc), buffer);
-        Ok(self.job_of(i, Buffer::none(alloc), Buffer::none(alloc)))
+        self.start_at(i, Bytes::new(), Bytes::new(), buffer);
+        Ok(self.job_of(i, Bytes::new(), Bytes::new()))
     }
 
     fn begin_write(&mut self, alloc: Global, i: usize, source: u8) -> Result<Job, AllocError>
@@ -117,13 +117,13 @@ impl World {
         let range = self.turns.ticket(i).range;
         let (at, count) = (self.calls[i].at as usize, self.calls[i].length as usize);
         let (front, back) = edges_in(alloc, &mut self.nodes, source, range, at, count)?;
-        let (front_copy, back_copy) = (front.copied(alloc)?, back.copied(alloc)?);
+        let (front_too, back_too) = (front.clone()?, back.clone()?);
         make_rooms(alloc, &mut self.nodes, self.journal.modes(), range)?;
         self.start_at(i, front, back, Buffer::none(alloc));
-        Ok(self.job_of(i, front_copy, back_copy))
+        Ok(self.job_of(i, front_too, back_too))
     }
 
-    fn start_at(&mut self, i: usize, front: Buffer, back: Buffer, buffer: Buffer)
+    fn start_at(&mut self, i: usize, front: Bytes, back: Bytes, buffer: Buffer)
         requires call { i < length self.old.calls.items }
         requires ticket { i < length self.old.turns.tickets }
         requires clear { IsClear self.old.turns.tickets i }
@@ -140,7 +140,7 @@ impl World {
     }
 
     /// What is carried of the call at i, of which these are the edges.
-    fn job_of(&self, i: usize, front: Buffer, back: Buffer) -> Job
+    fn job_of(&self, i: usize, front: Bytes, back: Bytes) -> Job
         requires call { i < length self.now.calls.items }
         requires ticket { i < length self.now.turns.tickets }
         requires front { front ≡ (open_at self.now.calls.items i).front }
@@ -164,7 +164,7 @@ fn edges_in(
     range: BlockRange,
     at: usize,
     count: usize,
-) -> Result<(Buffer, Buffer), AllocError>
+) -> Result<(Bytes, Bytes), AllocError>
     requires there { source < length nodes.old.items }
     requires inside { range.end * BLOCK_BYTES ≤ length (node_at nodes.old.items source).disk }
     requires covers { (k : ℕ) → at ≤ k → k < at + count
@@ -185,7 +185,7 @@ fn edges(
     range: BlockRange,
     at: usize,
     count: usize,
-) -> Result<(Buffer, Buffer), AllocError>
+) -> Result<(Bytes, Bytes), AllocError>
     requires inside { range.end * BLOCK_BYTES ≤ length node.old.disk }
     requires covers { (k : ℕ) → at ≤ k → k < at + count
         → (range.first * BLOCK_BYTES ≤ k) × (k < range.end * BLOCK_BYTES) }
@@ -198,7 +198,7 @@ fn edges(
     // What the largest size is, a proof learns here.
     let _size = node.size();
     if count == 0 {
-        return Ok((Buffer::none(alloc), Buffer::none(alloc)));
+        return Ok((Bytes::new(), Bytes::new()));
     }
     let from = range.first as usize * BLOCK_BYTES;
     let until = range.end as usize * BLOCK_BYTES;

@@ -16,12 +16,12 @@ read_room s nodes same = subst (λ (ns : List Node). IsRoomier s (record s { nod
 pub returns-in_err-front-clause-err : goal.returns-in_err-front-clause-err
 returns-in_err-front-clause-err c = on_err _ _ (read_room (state_of c.args.self.now) c.edges_in.new.nodes.items c.edges_in.ensures.same)
 
-pub returns-in_err-front_copy-inside-clause-err : goal.returns-in_err-front_copy-inside-clause-err
-returns-in_err-front_copy-inside-clause-err c =
+pub returns-in_err-front_too-inside-clause-err : goal.returns-in_err-front_too-inside-clause-err
+returns-in_err-front_too-inside-clause-err c =
     on_err _ _ (read_room (state_of c.args.self.now) c.edges_in.new.nodes.items c.edges_in.ensures.same)
 
-pub returns-in_err-back_copy-clause-err : goal.returns-in_err-back_copy-clause-err
-returns-in_err-back_copy-clause-err c = on_err _ _ (read_room (state_of c.args.self.now) c.edges_in.new.nodes.items c.edges_in.ensures.same)
+pub returns-in_err-back_too-clause-err : goal.returns-in_err-back_too-clause-err
+returns-in_err-back_too-clause-err c = on_err _ _ (read_room (state_of c.args.self.now) c.edges_in.new.nodes.items c.edges_in.ensures.same)
 
 pub returns-in_err-make_rooms-clause-err : goal.returns-in_err-make_rooms-clause-err
 returns-in_err-make_rooms-clause-err c =
