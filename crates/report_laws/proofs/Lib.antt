@@ -7,4 +7,4 @@ mod Begins
 mod JournalTells
 mod OpeningTells
 mod ReportTells
-mod Knowing
+pub mod Knowing

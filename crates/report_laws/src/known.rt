@@ -16,7 +16,8 @@ pub fn know_journal(journal: &Journal)
     }
 }
 
-fn know_entry(entry: &EntryView<'_>)
+/// The same of one entry.
+pub fn know_entry(entry: &EntryView<'_>)
     ensures { EntryFits (entry_seen entry.now) }
 {
     match entry {

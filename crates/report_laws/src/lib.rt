@@ -4,4 +4,4 @@
 mod known;
 pub mod laws;
 
-pub use known::know_journal;
+pub use known::{know_entry, know_journal};

@@ -1,4 +1,4 @@
-ghost use Rattle.std.specs.Prelude.{◌≡◌, ◌+◌, ◌<◌, ◌++◌, length, map, OnOk};
+ghost use Rattle.std.specs.Prelude.{◌≡◌, ◌+◌, ◌<◌, ◌++◌, length, map, IfOk, OnOk};
 ghost use Rattle.run_report.specs.Report.{mode_lines};
 ghost use Rattle.replica_node.specs.Volume.{volume_of_node};
 ghost use Rattle.report_writer.specs.Written.{end_text, replica_line, replica_lines};
@@ -17,22 +17,21 @@ pub(crate) enum EndLine {
     Digest,
 }
 
-/// Prints what a run leaves of replicas of these modes: the mode of each, and the chain and the head's digest of each
+/// The text of what a run leaves of replicas of these modes: the mode of each, and the chain and the head's digest of each
 /// that is read and written.
 pub(crate) fn print_end(
     alloc: Global,
     modes: &[Mode],
     replicas: &[ReplicaNode],
-    into: &mut Vec<u8>,
-) -> Result<(), AllocError>
+) -> Result<Vec<u8>, AllocError>
     requires few { length modes.now < 256 }
     requires each { length replicas.now ≡ length modes.now }
-    ensures { OnOk result (into.new.items
-        ≡ into.old.items ++ end_text modes.now (map volume_of_node replicas.now)) }
+    ensures { IfOk result (λ text. text.items ≡ end_text modes.now (map volume_of_node replicas.now)) }
 {
+    let mut text = Vec::new(alloc);
     // The memory for the digests is taken first: from there on no digest takes any.
     let mut digests = Digests::with_capacity(alloc, replicas.len())?;
-    print_modes(0, modes, into)?;
+    print_modes(0, modes, &mut text)?;
     print_each(
         alloc,
         EndLine::Chain,
@@ -40,7 +39,7 @@ pub(crate) fn print_end(
         modes,
         replicas,
         &mut digests,
-        into,
+        &mut text,
     )?;
     print_each(
         alloc,
@@ -49,8 +48,9 @@ pub(crate) fn print_end(
         modes,
         replicas,
         &mut digests,
-        into,
-    )
+        &mut text,
+    )?;
+    Ok(text)
 }
 
 /// The modes of the replicas, the first of which is `r`.

@@ -1,15 +1,16 @@
-ghost use Rattle.std.specs.Prelude.{◌≡◌, ◌<◌, ◌++◌, length, map, OnOk, vec_len};
+ghost use Rattle.std.specs.Prelude.{◌≡◌, ◌<◌, ◌++◌, length, map, IfOk, OnOk, vec_len};
 ghost use Rattle.std.specs.Io.KnownBytes.{Appends};
 ghost use Rattle.outer_traits.specs.Causes.{HasOuterCause};
 ghost use Rattle.outer_traits.specs.Passing.{WritesPrefix, Passes};
 ghost use Rattle.outer_traits.specs.declared.output.TheConstants.{PIECE};
 ghost use Rattle.run_report.specs.Lines.{entry_line, reply_line};
-ghost use Rattle.run_report.specs.Report.{journal_lines, reply_lines, replies_from};
+ghost use Rattle.run_report.specs.Report.{call_lines, journal_lines, reply_lines, replies_from};
 ghost use Rattle.journal_book.specs.Book.{modes_of};
 ghost use Rattle.packed_entries.specs.View.{entry_seen, answer_seen};
 ghost use Rattle.volume_model.specs.History.{answers_of};
 ghost use Rattle.replica_node.specs.Volume.{volume_of_node};
-ghost use Rattle.report_writer.specs.Written.{written_text};
+ghost use Rattle.report_laws.specs.Fits.{AllFit};
+ghost use Rattle.report_writer.specs.Written.{end_text, written_text};
 
 use crate::end::print_end;
 use crate::heads::head_for;
@@ -17,14 +18,19 @@ use frame_wire::Head;
 use journal_book::{AnswerView, EntryView, Journal};
 use outer_traits::{Outer, Sink, pass_on, write_all};
 use replica_node::ReplicaNode;
+use report_laws::know_entry;
 use run_report::{print_entry, print_reply};
-use std::alloc::Global;
+use std::alloc::{AllocError, Global};
+use std::thread;
+use std::thread::Threads;
 use volume_model::Sequence;
 
 /// Writes the report of a run on these replicas, at most 255, as they are at its end. It begins with what was opened: the
 /// lines of the replicas whose folders were, and nothing where none was. The headers are those of each stream's frames: a
-/// control stream has none.
-pub fn write_report<K: Sink>(
+/// control stream has none. The heads are digested beside the lines of the calls, in a thread of its own where one can be
+/// made. Once all is written, what the entries hold is known.
+pub fn write_report<R: Threads + Sync, K: Sink>(
+    rt: &R,
     alloc: Global,
     opened: Vec<u8>,
     heads: &[Sequence<Head>],
@@ -39,25 +45,85 @@ pub fn write_report<K: Sink>(
     ensures prefix { WritesPrefix (K.contents sink.old) (K.contents sink.new)
         (written_text opened.items heads.now journal.now (map volume_of_node replicas.now)) }
     ensures cause { HasOuterCause (K.faults sink.old) (K.faults sink.new) result }
+    ensures fits { OnOk result (AllFit journal.now.entries) }
 {
     // The lines of the opening go out first, with those behind them.
     let mut buffer = opened;
-    pass_entries(journal, sink, &mut buffer)?;
-    pass_streams(heads, journal, sink, &mut buffer)?;
-    print_end(alloc, journal.modes(), replicas, &mut buffer)?;
+    let (end, passed) = print_beside(rt, alloc, heads, journal, replicas, sink, &mut buffer);
+    passed?;
+    buffer.append(&mut end?)?;
     write_all(sink, &buffer)
 }
 
-/// Prints the lines of all entries.
+/// Prints the lines of the calls, and beside that the text of what the run leaves: the heads are digested while the sink
+/// takes lines.
+fn print_beside<R: Threads + Sync, K: Sink>(
+    rt: &R,
+    alloc: Global,
+    heads: &[Sequence<Head>],
+    journal: &Journal,
+    replicas: &[ReplicaNode],
+    sink: &mut K,
+    buffer: &mut Vec<u8>,
+) -> (Result<Vec<u8>, AllocError>, Outer<()>)
+    requires few { length (modes_of journal.now) < 256 }
+    requires each { length replicas.now ≡ length (modes_of journal.now) }
+    ensures end { IfOk result.0 (λ text. text.items
+        ≡ end_text (modes_of journal.now) (map volume_of_node replicas.now)) }
+    ensures passed { OnOk result.1 (Passes (K.contents sink.old) (K.contents sink.new)
+        buffer.old.items buffer.new.items (call_lines heads.now journal.now.entries)) }
+    ensures prefix { WritesPrefix (K.contents sink.old) (K.contents sink.new)
+        (buffer.old.items ++ call_lines heads.now journal.now.entries) }
+    ensures cause { HasOuterCause (K.faults sink.old) (K.faults sink.new) result.1 }
+    ensures fits { OnOk result.1 (AllFit journal.now.entries) }
+{
+    let modes = journal.modes();
+    let mut end = || -> Result<Vec<u8>, AllocError>
+        requires { (length modes.now < 256) × (length replicas.now ≡ length modes.now) }
+        ensures { IfOk result (λ text. text.items ≡ end_text modes.entry.now (map volume_of_node replicas.entry.now)) }
+    { print_end(alloc, modes, replicas) };
+    let mut calls = || -> Outer<()>
+        ensures passed { OnOk result (Passes (K.contents sink.entry.now) (K.contents sink.exit.now)
+            buffer.entry.now.items buffer.exit.now.items (call_lines heads.entry.now journal.entry.now.entries)) }
+        ensures prefix { WritesPrefix (K.contents sink.entry.now) (K.contents sink.exit.now)
+            (buffer.entry.now.items ++ call_lines heads.entry.now journal.entry.now.entries) }
+        ensures cause { HasOuterCause (K.faults sink.entry.now) (K.faults sink.exit.now) result }
+        ensures fits { OnOk result (AllFit journal.entry.now.entries) }
+    { pass_calls(heads, journal, sink, buffer) };
+    thread::join_mut(rt, &mut end, &mut calls)
+}
+
+/// Prints the lines of all entries, and then the replies of each stream in turn, to frames with these headers.
+fn pass_calls<K: Sink>(
+    heads: &[Sequence<Head>],
+    journal: &Journal,
+    sink: &mut K,
+    buffer: &mut Vec<u8>,
+) -> Outer<()>
+    ensures passed { OnOk result (Passes (K.contents sink.old) (K.contents sink.new)
+        buffer.old.items buffer.new.items (call_lines heads.now journal.now.entries)) }
+    ensures prefix { WritesPrefix (K.contents sink.old) (K.contents sink.new)
+        (buffer.old.items ++ call_lines heads.now journal.now.entries) }
+    ensures cause { HasOuterCause (K.faults sink.old) (K.faults sink.new) result }
+    ensures fits { OnOk result (AllFit journal.now.entries) }
+{
+    pass_entries(journal, sink, buffer)?;
+    pass_streams(heads, journal, sink, buffer)
+}
+
+/// Prints the lines of all entries, and learns what they hold.
 fn pass_entries<K: Sink>(journal: &Journal, sink: &mut K, buffer: &mut Vec<u8>) -> Outer<()>
     ensures passed { OnOk result (Passes (K.contents sink.old) (K.contents sink.new)
         buffer.old.items buffer.new.items (journal_lines 0 journal.now.entries)) }
     ensures prefix { WritesPrefix (K.contents sink.old) (K.contents sink.new)
         (buffer.old.items ++ journal_lines 0 journal.now.entries) }
     ensures cause { HasOuterCause (K.faults sink.old) (K.faults sink.new) result }
+    ensures fits { OnOk result (AllFit journal.now.entries) }
 {
     for place in 0..journal.len() {
-        pass_entry(place, &journal.entry(place), sink, buffer)?;
+        let entry = journal.entry(place);
+        know_entry(&entry);
+        pass_entry(place, &entry, sink, buffer)?;
     }
     Ok(())
 }

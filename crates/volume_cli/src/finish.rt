@@ -22,6 +22,7 @@ use report_writer::write_report;
 use run_report::print_opening;
 use shelf_traits::Shelves;
 use std::alloc::{AllocError, Global};
+use std::thread::Threads;
 use stream_turns::ServedStreams;
 use vol_units::TimeText;
 use volume_folders::{OpenedHead, Reason, save_replicas};
@@ -39,7 +40,8 @@ pub struct ServedRun {
 }
 
 /// Prints the report of a run, and saves its replicas, also where the sink fails, and behind a fault of the target.
-pub(crate) fn finish<K: Sink, H: Shelves>(
+pub(crate) fn finish<R: Threads + Sync, K: Sink, H: Shelves>(
+    rt: &R,
     alloc: Global,
     run: &ServedRun,
     sink: &mut K,
@@ -60,7 +62,7 @@ pub(crate) fn finish<K: Sink, H: Shelves>(
     ensures counts { FinishCounts (ended result) run.now.served.target_fault
         (K.faults sink.old) (K.faults sink.new) (H.faults shelves.old) (H.faults shelves.new) }
 {
-    let written = write_output(alloc, run, sink);
+    let written = write_output(rt, alloc, run, sink);
     if let Err(OuterError::NoMemory) = written {
         return Err(Status::NoMemory);
     }
@@ -83,7 +85,12 @@ fn end_of(target_fault: bool, written: &Outer<()>, saved: &Outer<()>) -> Result<
 }
 
 /// Writes the report. Where that fails, the sink has taken a prefix of it.
-fn write_output<K: Sink>(alloc: Global, run: &ServedRun, sink: &mut K) -> Outer<()>
+fn write_output<R: Threads + Sync, K: Sink>(
+    rt: &R,
+    alloc: Global,
+    run: &ServedRun,
+    sink: &mut K,
+) -> Outer<()>
     requires few { length (modes_of run.now.served.world.journal) < 256 }
     requires each { length run.now.served.world.nodes.items ≡ length (modes_of run.now.served.world.journal) }
     requires reasons { length run.now.reasons.items < 256 }
@@ -92,11 +99,34 @@ fn write_output<K: Sink>(alloc: Global, run: &ServedRun, sink: &mut K) -> Outer<
     ensures cause { HasOuterCause (K.faults sink.old) (K.faults sink.new) result }
     ensures fits { AllFit run.now.served.world.journal.entries }
 {
+    let written = write_lines(rt, alloc, run, sink);
+    if written.is_err() {
+        // Who wrote the entries knew them; here they may not all have been written.
+        know_journal(&run.served.world.journal);
+    }
+    written
+}
+
+/// The same. Once all is written, it is known what the entries hold.
+fn write_lines<R: Threads + Sync, K: Sink>(
+    rt: &R,
+    alloc: Global,
+    run: &ServedRun,
+    sink: &mut K,
+) -> Outer<()>
+    requires few { length (modes_of run.now.served.world.journal) < 256 }
+    requires each { length run.now.served.world.nodes.items ≡ length (modes_of run.now.served.world.journal) }
+    requires reasons { length run.now.reasons.items < 256 }
+    ensures whole { OnOk result (Appends (K.contents sink.old) (K.contents sink.new) (text_of run.now)) }
+    ensures prefix { WritesPrefix (K.contents sink.old) (K.contents sink.new) (text_of run.now) }
+    ensures cause { HasOuterCause (K.faults sink.old) (K.faults sink.new) result }
+    ensures fits { OnOk result (AllFit run.now.served.world.journal.entries) }
+{
     let world = &run.served.world;
-    know_journal(&world.journal);
     let mut opened = Vec::new(alloc);
     print_openings(0, &run.reasons, &mut opened)?;
     write_report(
+        rt,
         alloc,
         opened,
         &run.served.heads,

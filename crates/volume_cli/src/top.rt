@@ -40,6 +40,7 @@ use program_words::{Words, WordsError, Workers, read_words};
 use script_text::{Script, read_script};
 use shelf_traits::Shelves;
 use std::alloc::{AllocError, Global};
+use std::mem::forget;
 use std::sync::Wait;
 use std::thread::Threads;
 use stream_turns::{ServedStreams, World};
@@ -259,7 +260,9 @@ fn run<
         heads,
         saving,
     };
-    finish(alloc, &run, sink, shelves)
+    let finished = finish(rt, alloc, &run, sink, shelves);
+    forget(run);
+    finished
 }
 
 /// The status of a run that ended so.

@@ -66,30 +66,30 @@ returns-in_err-served-clause-spared g c =
     (had_script _ _ c.in_ok-input.input c.in_ok-script.script c.in_ok-input.ensures.bytes c.in_ok-input.ensures.whole
     c.in_ok-script.ensures.found) c.in_err-served.ensures.unasked
 
-pub finish-requires-clause-each : goal.finish-requires-clause-each
-finish-requires-clause-each g c =
+pub finish-finished-requires-clause-each : goal.finish-finished-requires-clause-each
+finish-finished-requires-clause-each g c κs within =
     let begin = begin_of c.in_ok-world.field-0 in
     (c.in_ok-served.ensures.served begin.spot c.in_ok-world.ensures.world).many
 
 pub returns-clause-counts : goal.returns-clause-counts
 returns-clause-counts g c =
-    run_counts (ended c.finish.result) c.in_ok-served.served.target_fault
+    run_counts (ended c.finish-finished.result) c.in_ok-served.served.target_fault
     (g.S.Source.faults c.args.source.now) (g.S.Source.faults c.read_input.new.source)
-    (g.K.Sink.faults c.args.sink.now) (g.K.Sink.faults c.finish.new.sink)
-    (g.H.Shelves.faults c.args.shelves.now) (g.H.Shelves.faults c.finish.new.shelves)
+    (g.K.Sink.faults c.args.sink.now) (g.K.Sink.faults c.finish-finished.new.sink)
+    (g.H.Shelves.faults c.args.shelves.now) (g.H.Shelves.faults c.finish-finished.new.shelves)
     (g.T.Target.faults c.args.target.now) (g.T.Target.faults c.serve_by.new.target) c.in_ok-input.ensures.counts
-    (subst (λ h. FinishCounts (ended c.finish.result) c.in_ok-served.served.target_fault
-    (g.K.Sink.faults c.args.sink.now) (g.K.Sink.faults c.finish.new.sink)
-    h (g.H.Shelves.faults c.finish.new.shelves)) c.in_ok-world.ensures.end c.finish.ensures.counts)
+    (subst (λ h. FinishCounts (ended c.finish-finished.result) c.in_ok-served.served.target_fault
+    (g.K.Sink.faults c.args.sink.now) (g.K.Sink.faults c.finish-finished.new.sink)
+    h (g.H.Shelves.faults c.finish-finished.new.shelves)) c.in_ok-world.ensures.end c.finish-finished.ensures.counts)
     c.in_ok-served.ensures.fault
 
 pub returns-clause-found : goal.returns-clause-found
 returns-clause-found g c =
-    run_found _ _ c.in_ok-script.script (begin_of c.in_ok-world.field-0) (ended c.finish.result)
-    c.in_ok-served.served.target_fault (g.K.Sink.faults c.args.sink.now) (g.K.Sink.faults c.finish.new.sink)
-    (g.H.Shelves.faults c.begin.new.shelves) (g.H.Shelves.faults c.finish.new.shelves)
+    run_found _ _ c.in_ok-script.script (begin_of c.in_ok-world.field-0) (ended c.finish-finished.result)
+    c.in_ok-served.served.target_fault (g.K.Sink.faults c.args.sink.now) (g.K.Sink.faults c.finish-finished.new.sink)
+    (g.H.Shelves.faults c.begin.new.shelves) (g.H.Shelves.faults c.finish-finished.new.shelves)
     (had_script _ _ c.in_ok-input.input c.in_ok-script.script c.in_ok-input.ensures.bytes c.in_ok-input.ensures.whole
-    c.in_ok-script.ensures.found) c.in_ok-world.ensures.begun c.finish.ensures.counts
+    c.in_ok-script.ensures.found) c.in_ok-world.ensures.begun c.finish-finished.ensures.counts
 
 pub returns-clause-whole : goal.returns-clause-whole
 returns-clause-whole g c = λ done. c.in_ok-input.ensures.whole c.in_ok-script.ensures.found.headed.cut.most
@@ -117,39 +117,39 @@ returns-clause-printed g c =
     } in
     let journal = c.in_ok-served.served.world.journal.entries in
     let sized = c.in_ok-world.ensures.many in
-    let ends = ended c.finish.result in
+    let ends = ended c.finish-finished.result in
     let same = written_is script begin counts carried run sized served refl in
     run_leaves (script_purpose (g.S.Source.left c.args.source.now)) (IsRunOf (Some (Run c.args.workers))
     (g.W.Wiring.asked c.args.wiring.now) (g.W.Wiring.asked c.serve_by.new.wiring)
-    counts carried (g.H.Shelves.holds c.args.shelves.now) (g.H.Shelves.holds c.finish.new.shelves)
-    (Rose (g.H.Shelves.faults c.args.shelves.now) (g.H.Shelves.faults c.finish.new.shelves) → ⊥)
+    counts carried (g.H.Shelves.holds c.args.shelves.now) (g.H.Shelves.holds c.finish-finished.new.shelves)
+    (Rose (g.H.Shelves.faults c.args.shelves.now) (g.H.Shelves.faults c.finish-finished.new.shelves) → ⊥)
     (λ volume spot entries. g.T.Target.tells ≡ true → StoreOfRun (g.T.Target.holds c.args.target.now)
     (g.T.Target.faults c.args.target.now) (g.T.Target.holds c.serve_by.new.target) (g.T.Target.faults c.serve_by.new.target)
     volume spot entries) (c.serve_by.new.target ≡ c.args.target.now)) _ _ _ _ _ _
     script begin journal
     (had_script _ _ c.in_ok-input.input script c.in_ok-input.ensures.bytes c.in_ok-input.ensures.whole c.in_ok-script.ensures.found)
-    ends c.in_ok-served.served.target_fault (g.K.Sink.faults c.args.sink.now) (g.K.Sink.faults c.finish.new.sink)
-    (g.H.Shelves.faults c.begin.new.shelves) (g.H.Shelves.faults c.finish.new.shelves)
+    ends c.in_ok-served.served.target_fault (g.K.Sink.faults c.args.sink.now) (g.K.Sink.faults c.finish-finished.new.sink)
+    (g.H.Shelves.faults c.begin.new.shelves) (g.H.Shelves.faults c.finish-finished.new.shelves)
     (record {
       begun = c.in_ok-world.ensures.begun;
       run = served.run;
-      fits = c.finish.ensures.fits;
+      fits = c.finish-finished.ensures.fits;
       lines = c.in_ok-served.ensures.asked;
       turns = λ asked. c.in_ok-served.ensures.turns begin.spot begun (same_workers c.args.workers One asked);
-      saved = saved_of script begin counts carried run sized served (g.H.Shelves.holds c.finish.new.shelves)
-          (g.H.Shelves.faults c.args.shelves.now) (g.H.Shelves.faults c.finish.new.shelves) ends refl
-          (subst (λ h. IfSome run.saving (λ time. (Rose h (g.H.Shelves.faults c.finish.new.shelves) → ⊥) → ends ≢ NoMemory
-          → Told (g.H.Shelves.holds c.finish.new.shelves) (λ files. AreSavedOf files time run)))
-          c.in_ok-world.ensures.end c.finish.ensures.saved) c.in_ok-saving.ensures.saves;
+      saved = saved_of script begin counts carried run sized served (g.H.Shelves.holds c.finish-finished.new.shelves)
+          (g.H.Shelves.faults c.args.shelves.now) (g.H.Shelves.faults c.finish-finished.new.shelves) ends refl
+          (subst (λ h. IfSome run.saving (λ time. (Rose h (g.H.Shelves.faults c.finish-finished.new.shelves) → ⊥) → ends ≢ NoMemory
+          → Told (g.H.Shelves.holds c.finish-finished.new.shelves) (λ files. AreSavedOf files time run)))
+          c.in_ok-world.ensures.end c.finish-finished.ensures.saved) c.in_ok-saving.ensures.saves;
       kept = kept_of script begin counts carried run sized served _ (g.H.Shelves.holds c.begin.new.shelves) _
-          c.finish.ensures.kept c.in_ok-saving.ensures.none c.in_ok-world.ensures.still;
+          c.finish-finished.ensures.kept c.in_ok-saving.ensures.none c.in_ok-world.ensures.still;
       only = only_of script begin counts carried run sized served _ (g.H.Shelves.holds c.begin.new.shelves) _
-          c.finish.ensures.only c.in_ok-world.ensures.still;
+          c.finish-finished.ensures.only c.in_ok-world.ensures.still;
       store = c.in_ok-served.ensures.store begin.spot begun;
       unasked = c.in_ok-served.ensures.unasked;
     })
-    (subst (λ text. HasPrinted ends (g.K.Sink.faults c.args.sink.now) (g.K.Sink.faults c.finish.new.sink)
-    (Appends (g.K.Sink.contents c.args.sink.now) (g.K.Sink.contents c.finish.new.sink) text)) same
-    c.finish.ensures.whole)
-    (subst (WritesPrefix (g.K.Sink.contents c.args.sink.now) (g.K.Sink.contents c.finish.new.sink)) same c.finish.ensures.prefix)
-    c.finish.ensures.counts
+    (subst (λ text. HasPrinted ends (g.K.Sink.faults c.args.sink.now) (g.K.Sink.faults c.finish-finished.new.sink)
+    (Appends (g.K.Sink.contents c.args.sink.now) (g.K.Sink.contents c.finish-finished.new.sink) text)) same
+    c.finish-finished.ensures.whole)
+    (subst (WritesPrefix (g.K.Sink.contents c.args.sink.now) (g.K.Sink.contents c.finish-finished.new.sink)) same c.finish-finished.ensures.prefix)
+    c.finish-finished.ensures.counts
