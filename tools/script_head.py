@@ -3,6 +3,7 @@ import json
 import re
 from typing import NamedTuple
 
+import json_text
 from byte_text import Wrong, quote
 
 PAGE = 1 << 21
@@ -154,20 +155,41 @@ def read_head(line):
 def understand_head(line):
     """What a first line says that is good, however it is spelled; else None."""
     try:
-        members = json.loads(line)
-        streams = tuple(stream['frames'] if 'frames' in stream else tuple(stream['control']) for stream in members['streams'])
-        faults = tuple(PlannedFault(fault['worker'], fault['replica'], tuple(fault['fail']))
-                       for fault in members.get('lines', []))
-        head = Head(members['volume'], members['size'], members['replicas'], members.get('open', False),
+        members = json_text.read(line)
+        if not isinstance(members, dict):
+            return None
+        streams = tuple(read_stream(stream) for stream in read_list(members['streams']))
+        faults = tuple(PlannedFault(read_whole(fault['worker']), read_whole(fault['replica']), tuple(map(read_whole, read_list(fault['fail']))))
+                       for fault in read_list(members.get('lines', [])))
+        head = Head(members['volume'], read_whole(members['size']), read_whole(members['replicas']), members.get('open', False),
                     members.get('save', False), members.get('now', ''), streams, faults)
-        wholes = [head.size, head.replicas, *(stream for stream in streams if not isinstance(stream, tuple)),
-                  *(number for fault in faults for number in (fault.worker, fault.replica, *fault.carries))]
-        if not all(type(number) is int for number in wholes):
+        if not all(type(flag) is bool for flag in (head.open, head.save)):
             return None
         check_head(head)
         return head
-    except (Wrong, ValueError, TypeError, KeyError, AttributeError, RecursionError):
+    except (Wrong, ValueError, TypeError, KeyError):
         return None
+
+
+def read_whole(value):
+    """A whole number, spelled as one."""
+    if not json_text.is_whole(value):
+        raise ValueError
+    return value
+
+
+def read_list(value):
+    """A list."""
+    if not isinstance(value, list):
+        raise ValueError
+    return value
+
+
+def read_stream(stream):
+    """A stream: it has bytes of frames or commands, and not both."""
+    if ('frames' in stream) == ('control' in stream):
+        raise ValueError
+    return read_whole(stream['frames']) if 'frames' in stream else tuple(read_list(stream['control']))
 
 
 def frame_lengths(line):
