@@ -1,4 +1,5 @@
-ghost use Rattle.std.specs.Prelude.{◌≡◌, ◌≤◌, ◌<◌, ◌↔◌, [], ◌++◌, length, drop, slice_range, IsTrue, IfOk, OnOk, OnErr};
+ghost use Rattle.std.specs.Prelude.{◌≡◌, ◌≤◌, ◌<◌, ◌↔◌, [], ◌++◌, length, take, drop};
+ghost use Rattle.std.specs.Prelude.{slice_range, IsTrue, IfOk, OnOk, OnErr};
 ghost use Rattle.frame_wire.specs.Spelling.{header_length};
 ghost use Rattle.frame_wire.specs.Decoding.{Decodes};
 ghost use Rattle.frame_stream.specs.Reading.{GivesNext, fed_more, front_of, IsWithin};
@@ -62,6 +63,16 @@ impl FrameReader {
         self.held.extend_from_slice(self.piece.as_slice())?;
         self.piece = piece;
         Ok(())
+    }
+
+    /// Takes a piece that begins with all that is left, in place of it. Where the pieces are views of the same bytes, a
+    /// frame over the end of one is then no copy either.
+    pub fn refill(&mut self, piece: Bytes)
+        requires { self.old.left ≡ take (length self.old.left) piece }
+        ensures { self.new ≡ fed_more self.old (drop (length self.old.left) piece) }
+    {
+        self.held.clear();
+        self.piece = piece;
     }
 
     /// The next frame, which is then no longer left. Its data shares the bytes that were fed, or those held.
