@@ -75,7 +75,7 @@ impl<C: ClientSteps + Drop, L: Line + Drop> Worker<C, L> {
     {
         // What holds of the worker between its calls, a proof learns here.
         let _ = &self.carrier;
-        let mut left = frames.left()?;
+        let mut left = frames.left(alloc)?;
         while let Some(frame) = left.next()? {
             self.serve_call(rt, alloc, call_in(frame))?;
         }

@@ -1,3 +1,4 @@
 pub mod Written
 pub mod SameVolume
 pub mod SummaryLemmas
+pub mod HeadsLemmas

@@ -1,23 +1,24 @@
-ghost use Rattle.std.specs.Prelude.{◌≡◌, ◌≢◌, ◌<◌, ◌≤◌, ◌⊎◌, length, slice_get, Some, IfSome, IfNone};
+ghost use Rattle.std.specs.Prelude.{◌≡◌, ◌≢◌, ◌⊎◌, ◌∷◌, [], IfOk, IfSome, IfNone};
 
 use frame_wire::Head;
 use journal_book::AnswerView;
+use script_text::HeadsLeft;
+use std::alloc::AllocError;
 
-/// The next header, where the answer is one of the stream and there is one.
-pub(crate) fn head_for<'a>(
+/// The next header, where the answer is one of the stream and one is left. It is then no longer left.
+pub(crate) fn head_for(
     stream: usize,
-    heads: &'a [Head],
-    next: usize,
+    left: &mut HeadsLeft,
     answer: &AnswerView<'_>,
-) -> Option<&'a Head>
-    ensures some { IfSome result (λ asked.
-        (answer.now.stream ≡ stream) × (next < length heads.now)
-        × (slice_get heads.now next ≡ Some asked.now)) }
-    ensures none { IfNone result ((answer.now.stream ≢ stream) ⊎ (length heads.now ≤ next)) }
+) -> Result<Option<Head>, AllocError>
+    ensures some { IfOk result (λ next. IfSome next (λ asked.
+        (answer.now.stream ≡ stream) × (left.old ≡ asked ∷ left.new))) }
+    ensures none { IfOk result (λ next. IfNone next (((answer.now.stream ≢ stream) × (left.new ≡ left.old))
+        ⊎ ((left.old ≡ []) × (left.new ≡ [])))) }
 {
     if usize::from(answer.stream) == stream {
-        heads.get(next)
+        left.next()
     } else {
-        None
+        Ok(None)
     }
 }

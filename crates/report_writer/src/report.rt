@@ -20,10 +20,10 @@ use outer_traits::{Outer, Sink, pass_on, write_all};
 use replica_node::ReplicaNode;
 use report_laws::know_entry;
 use run_report::{print_entry, print_reply};
+use script_text::Heads;
 use std::alloc::{AllocError, Global};
 use std::thread;
 use std::thread::Threads;
-use volume_model::Sequence;
 
 /// Writes the report of a run on these replicas, at most 255, as they are at its end. It begins with what was opened: the
 /// lines of the replicas whose folders were, and nothing where none was. The headers are those of each stream's frames: a
@@ -33,7 +33,7 @@ pub fn write_report<R: Threads + Sync, K: Sink>(
     rt: &R,
     alloc: Global,
     opened: Vec<u8>,
-    heads: &[Sequence<Head>],
+    heads: &[Heads],
     journal: &Journal,
     replicas: &[ReplicaNode],
     sink: &mut K,
@@ -60,7 +60,7 @@ pub fn write_report<R: Threads + Sync, K: Sink>(
 fn print_beside<R: Threads + Sync, K: Sink>(
     rt: &R,
     alloc: Global,
-    heads: &[Sequence<Head>],
+    heads: &[Heads],
     journal: &Journal,
     replicas: &[ReplicaNode],
     sink: &mut K,
@@ -89,13 +89,14 @@ fn print_beside<R: Threads + Sync, K: Sink>(
             (buffer.entry.now.items ++ call_lines heads.entry.now journal.entry.now.entries) }
         ensures cause { HasOuterCause (K.faults sink.entry.now) (K.faults sink.exit.now) result }
         ensures fits { OnOk result (AllFit journal.entry.now.entries) }
-    { pass_calls(heads, journal, sink, buffer) };
+    { pass_calls(alloc, heads, journal, sink, buffer) };
     thread::join_mut(rt, &mut end, &mut calls)
 }
 
 /// Prints the lines of all entries, and then the replies of each stream in turn, to frames with these headers.
 fn pass_calls<K: Sink>(
-    heads: &[Sequence<Head>],
+    alloc: Global,
+    heads: &[Heads],
     journal: &Journal,
     sink: &mut K,
     buffer: &mut Vec<u8>,
@@ -108,7 +109,7 @@ fn pass_calls<K: Sink>(
     ensures fits { OnOk result (AllFit journal.now.entries) }
 {
     pass_entries(journal, sink, buffer)?;
-    pass_streams(heads, journal, sink, buffer)
+    pass_streams(alloc, heads, journal, sink, buffer)
 }
 
 /// Prints the lines of all entries, and learns what they hold.
@@ -130,7 +131,8 @@ fn pass_entries<K: Sink>(journal: &Journal, sink: &mut K, buffer: &mut Vec<u8>) 
 
 /// Prints the replies of each stream in turn, to frames with these headers.
 fn pass_streams<K: Sink>(
-    streams: &[Sequence<Head>],
+    alloc: Global,
+    streams: &[Heads],
     journal: &Journal,
     sink: &mut K,
     buffer: &mut Vec<u8>,
@@ -142,15 +144,16 @@ fn pass_streams<K: Sink>(
     ensures cause { HasOuterCause (K.faults sink.old) (K.faults sink.new) result }
 {
     for (stream, heads) in streams.iter().enumerate() {
-        pass_replies(stream, heads.as_slice(), journal, sink, buffer)?;
+        pass_replies(alloc, stream, heads, journal, sink, buffer)?;
     }
     Ok(())
 }
 
 /// Prints the replies of a stream to frames with these headers, in one walk over the journal.
 fn pass_replies<K: Sink>(
+    alloc: Global,
     stream: usize,
-    heads: &[Head],
+    heads: &Heads,
     journal: &Journal,
     sink: &mut K,
     buffer: &mut Vec<u8>,
@@ -165,15 +168,15 @@ fn pass_replies<K: Sink>(
         // A control stream has no frames, and the journal may be long.
         return Ok(());
     }
-    let mut next = 0;
+    let mut left = heads.left(alloc)?;
     for place in 0..journal.len() {
         // A mark has no reply.
         let Some(answer) = journal.entry(place).into_answer() else {
             continue;
         };
-        if let Some(asked) = head_for(stream, heads, next, &answer) {
-            pass_reply(asked, &answer, sink, buffer)?;
-            next += 1;
+        match head_for(stream, &mut left, &answer)? {
+            Some(asked) => pass_reply(&asked, &answer, sink, buffer)?,
+            None => {}
         }
     }
     Ok(())

@@ -14,15 +14,14 @@ ghost use Rattle.report_writer.specs.Written.{calls_text, source_volume, written
 use crate::digests::digest_of_head;
 use crate::heads::head_for;
 use digest::Digest;
-use frame_wire::Head;
 use journal_book::{Journal, ReplyView};
 use outer_traits::{Outer, Sink, write_all};
 use replica_node::ReplicaNode;
 use run_report::{digest_reply, print_chain, print_control, print_disk, print_modes, print_stream};
+use script_text::Heads;
 use std::alloc::{AllocError, Global};
 use std::thread;
 use std::thread::Threads;
-use volume_model::Sequence;
 
 /// Writes the summary of a run of a generated load on these replicas, as they are at its end. The headers are those of the
 /// frames of each stream of frames; the next stream is the control stream. The disk is digested beside the replies, in a
@@ -30,7 +29,7 @@ use volume_model::Sequence;
 pub fn write_summary<R: Threads + Sync, K: Sink>(
     rt: &R,
     alloc: Global,
-    heads: &[Sequence<Head>],
+    heads: &[Heads],
     journal: &Journal,
     replicas: &[ReplicaNode],
     sink: &mut K,
@@ -51,7 +50,7 @@ pub fn write_summary<R: Threads + Sync, K: Sink>(
 fn print_summary<R: Threads + Sync>(
     rt: &R,
     alloc: Global,
-    heads: &[Sequence<Head>],
+    heads: &[Heads],
     journal: &Journal,
     replicas: &[ReplicaNode],
 ) -> Result<Vec<u8>, AllocError>
@@ -79,11 +78,7 @@ fn print_summary<R: Threads + Sync>(
 }
 
 /// The line of each stream, and that of the modes.
-fn print_calls(
-    alloc: Global,
-    heads: &[Sequence<Head>],
-    journal: &Journal,
-) -> Result<Vec<u8>, AllocError>
+fn print_calls(alloc: Global, heads: &[Heads], journal: &Journal) -> Result<Vec<u8>, AllocError>
     requires { length heads.now < 256 }
     ensures { IfOk result (λ text. text.items ≡ calls_text heads.now journal.now) }
 {
@@ -97,7 +92,7 @@ fn print_calls(
 /// The line of each stream of frames.
 fn print_streams(
     alloc: Global,
-    streams: &[Sequence<Head>],
+    streams: &[Heads],
     journal: &Journal,
     into: &mut Vec<u8>,
 ) -> Result<(), AllocError>
@@ -106,7 +101,7 @@ fn print_streams(
         ≡ into.old.items ++ stream_lines 0 (frames_from 0 streams.now journal.now.entries)) }
 {
     for (stream, heads) in streams.iter().enumerate() {
-        let digest = digest_of_replies(alloc, stream, heads.as_slice(), journal)?;
+        let digest = digest_of_replies(alloc, stream, heads, journal)?;
         print_stream(stream as u8, &digest, into)?;
     }
     Ok(())
@@ -117,22 +112,22 @@ fn print_streams(
 fn digest_of_replies(
     alloc: Global,
     stream: usize,
-    heads: &[Head],
+    heads: &Heads,
     journal: &Journal,
 ) -> Result<[u8; 64], AllocError>
     ensures { IfOk result (λ digest. digest
         ≡ digest_text (replying_frames heads.now (answers_of stream journal.now.entries))) }
 {
     let mut digest = Digest::new();
-    let mut next = 0;
+    let mut left = heads.left(alloc)?;
     for place in 0..journal.len() {
         // A mark has no reply.
         let Some(answer) = journal.entry(place).into_answer() else {
             continue;
         };
-        if let Some(asked) = head_for(stream, heads, next, &answer) {
-            digest_reply(alloc, asked, &answer, &mut digest)?;
-            next += 1;
+        match head_for(stream, &mut left, &answer)? {
+            Some(asked) => digest_reply(alloc, &asked, &answer, &mut digest)?,
+            None => {}
         }
     }
     Ok(digest.text())

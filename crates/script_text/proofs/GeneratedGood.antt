@@ -18,7 +18,6 @@ use Rattle.script_text.specs.Generated.{CanGenerate, drawn_behind, state_behind,
 use Rattle.script_text.specs.Generated.{frames_behind, frames_of, control_commands, streams_from, generated, LieInPage, KeepsToPage}
 use Rattle.script_text.specs.Good.{backs_up, IsGoodCommand, IsGoodStream, IsGoodPlan, IsGood}
 use Rattle.script_text.specs.Streams.{stream_length}
-use Rattle.script_text.proofs.GeneratedLemmas.{HasItsData}
 
 -- ---- one frame
 
@@ -88,10 +87,6 @@ calls_behind page seq x (suc more) low short =
 
 pub calls_of_page : (number calls page : ℕ) → page < 15 → calls ≤ 4096 → All IsCall (frames_of number calls page)
 calls_of_page number calls page low few = calls_behind page 1 ((number + page) % 2 ^ 64) calls low (omega arith)
-
--- calls have the data that their headers say
-pub with_data : (frames : List Frame) → All IsCall frames → All HasItsData frames
-with_data frames calls = All-weaker IsCall HasItsData (λ f call. call.0.body) frames calls
 
 keep_behind : (page seq x more : ℕ) → All (λ f. KeepsToPage page (call_of f)) (frames_behind page seq x more)
 keep_behind page seq x zero = All-nil (λ f. KeepsToPage page (call_of f))

@@ -1,39 +1,37 @@
 -- Lemmas on specs/Kept.antt.
-use Rattle.std.proofs.Common.{◌≡◌, ◌∙◌, ℕ, suc, ◌≤◌, List, [], ◌∷◌, ◌++◌, length, map, drop, refl, sym, ap}
-use Rattle.std.proofs.Common.{subst}
+use Rattle.std.proofs.Common.{◌≡◌, ◌∙◌, ℕ, ℤ, zero, suc, ◌-◌, ◌≤◌, List, [], ◌∷◌, ◌++◌, length, drop, refl, sym, ap, ap₂, subst, arith}
+use Rattle.std.proofs.Common.{append_assoc, length-append}
+use Rattle.std.specs.Int.{w64, cast_signed}
+use Rattle.std.specs.List.{All}
+use Rattle.std.proofs.lemmas.List.Elements.{All-head, All-tail, All-weaker}
+use Rattle.std.proofs.lemmas.Nat.{from_le_bytes-to_le_bytes_4, from_le_bytes-to_le_bytes_8}
+use Rattle.std.proofs.Math.Facts.{Fits-of_z, Fits-lt-pow, to_z-of_z}
 use Rattle.frame_wire.specs.declared.head.Head.{Head}
-use Rattle.frame_wire.specs.Decoding.{HoldsFrame}
+use Rattle.frame_wire.specs.Spelling.{header, IsHead}
+use Rattle.frame_wire.specs.Decoding.{BeginsWith, HoldsFrame}
 use Rattle.volume_model.specs.PlainStep.{longest_call}
 use Rattle.frame_stream.specs.declared.frame.Frame.{Frame}
-use Rattle.frame_stream.specs.Frames.{IsClose, BeginsWithFrame, BeginWithCalls, span, frame_under}
+use Rattle.frame_stream.specs.Frames.{spelled, spellings, IsCall, IsWholeFrame, BeginsWithFrame, HasNoFrame, BeginWithCalls, span, frame_under}
 use Rattle.frame_stream.proofs.FramesLemmas.{data_of_frame, frame_and_rest}
-use Rattle.script_text.specs.Kept.{frames_under, behind_frames, HoldFrames}
-use Rattle.script_text.proofs.FramesLemmas.{one_call_more}
+use Rattle.script_text.specs.Kept.{header_in, first_frame, behind_first, first_frames, HoldFrames}
+use Rattle.script_text.proofs.FramesLemmas.{one_front}
 
--- one more header takes the frame that stands behind those before
-pub behind_frames-push : (hs : List Head) (h : Head) (bytes : List ℕ)
-    → behind_frames (hs ++ h ∷ []) bytes ≡ drop (span h) (behind_frames hs bytes)
-behind_frames-push [] h bytes = refl
-behind_frames-push (g ∷ gs) h bytes = behind_frames-push gs h (drop (span g) bytes)
+-- ---- a header
 
-pub frames-push : (hs : List Head) (h : Head) (bytes : List ℕ) → frames_under (hs ++ h ∷ []) bytes ≡ frames_under hs bytes
-    ++ frame_under h (behind_frames hs bytes) ∷ []
-frames-push [] h bytes = refl
-frames-push (g ∷ gs) h bytes = ap (λ fs. frame_under g bytes ∷ fs) (frames-push gs h (drop (span g) bytes))
+abbrev head_of : ℕ → ℕ → ℤ → ℕ → ℕ → Head
+head_of seq kind offset size len = record { seq = seq; kind = kind; offset = offset; size = size; len = len }
 
-pub holds-push : (hs : List Head) (h : Head) (bytes : List ℕ) → HoldFrames hs bytes
-    → span h ≤ length (behind_frames hs bytes) → HoldFrames (hs ++ h ∷ []) bytes
-holds-push [] h bytes holds more = (more, tt)
-holds-push (g ∷ gs) h bytes holds more = (holds.0, holds-push gs h (drop (span g) bytes) holds.1 more)
+same_fields : {s t k l z y m n : ℕ} {o p : ℤ} → s ≡ t → k ≡ l → o ≡ p → z ≡ y → m ≡ n → head_of s k o z m ≡ head_of t l p y n
+same_fields a b c d e = cc
 
--- there are as many frames as headers, and these are theirs
-pub length-frames : (hs : List Head) (bytes : List ℕ) → length (frames_under hs bytes) ≡ length hs
-length-frames [] bytes = refl
-length-frames (h ∷ hs) bytes = ap suc (length-frames hs (drop (span h) bytes))
+pub header_in_header : (h : Head) (rest : List ℕ) → IsHead h → header_in (header h ++ rest) ≡ h
+unfolding header_in
+header_in_header h rest is =
+    same_fields (from_le_bytes-to_le_bytes_4 h.seq is.seq) (from_le_bytes-to_le_bytes_4 h.kind is.kind)
+    (ap (cast_signed w64) (from_le_bytes-to_le_bytes_8 _ (Fits-lt-pow (Fits-of_z is.offset))) ∙ to_z-of_z is.offset)
+    (from_le_bytes-to_le_bytes_4 h.size is.size) (from_le_bytes-to_le_bytes_4 h.len is.len)
 
-pub heads-frames : (hs : List Head) (bytes : List ℕ) → map (λ (f : Frame). f.head) (frames_under hs bytes) ≡ hs
-heads-frames [] bytes = refl
-heads-frames (h ∷ hs) bytes = ap (λ l. h ∷ l) (heads-frames hs (drop (span h) bytes))
+-- ---- a frame
 
 -- bytes that hold a frame begin with the one of its header
 pub front_frame : (bytes : List ℕ) (h : Head) → HoldsFrame bytes longest_call h
@@ -43,20 +41,59 @@ front_frame bytes h holds = record {
   text = frame_and_rest bytes longest_call h holds;
 }
 
--- one call more is kept by its header
-pub one_frame_more : (bytes : List ℕ) (hs : List Head) (h : Head) (rest : List ℕ)
-    → BeginWithCalls bytes (frames_under hs bytes) rest → HoldFrames hs bytes → rest ≡ behind_frames hs bytes
-    → BeginsWithFrame rest (frame_under h rest) (drop (span h) rest) → span h ≤ length rest → (IsClose (frame_under h rest) → ⊥)
-    → BeginWithCalls bytes (frames_under (hs ++ h ∷ []) bytes) (drop (span h) rest) × HoldFrames (hs ++ h ∷ []) bytes
-    × (drop (span h) rest ≡ behind_frames (hs ++ h ∷ []) bytes)
-one_frame_more bytes hs h rest begin holds is front within calls =
-    let at = behind_frames hs bytes in
-    let begins = subst (λ r. BeginWithCalls bytes (frames_under hs bytes) r) is begin in
-    let stands = subst (λ r. BeginsWithFrame r (frame_under h r) (drop (span h) r)) is front in
-    let more =
-    subst (λ fs. BeginWithCalls bytes fs (drop (span h) at)) (sym (frames-push hs h bytes))
-    (one_call_more bytes (frames_under hs bytes) (frame_under h at) at (drop (span h) at) begins stands calls) in (
-      subst (λ r. BeginWithCalls bytes (frames_under (hs ++ h ∷ []) bytes) (drop (span h) r)) (sym is) more,
-      holds-push hs h bytes holds (subst (λ r. span h ≤ length r) is within),
-      ap (drop (span h)) is ∙ sym (behind_frames-push hs h bytes),
+-- the frame that bytes begin with is the only one that they can
+pub first_is : (bytes rest : List ℕ) (f : Frame) → BeginsWithFrame bytes f rest
+    → (first_frame bytes ≡ f) × (behind_first bytes ≡ rest)
+first_is bytes rest f front =
+    let behind = f.body ++ rest in
+    let begins : BeginsWith bytes f.head behind =
+    record { head = front.whole.head; whole = front.text ∙ append_assoc (header f.head) f.body rest } in
+    let same : header_in bytes ≡ f.head = ap header_in begins.whole ∙ header_in_header f.head behind begins.head in
+    let long : f.head.len ≤ length behind = omega (arith, front.whole.body, length-append f.body rest) in
+    let holds : HoldsFrame bytes longest_call f.head = (behind, begins, long, front.whole.most) in
+    let one = one_front bytes (drop (span f.head) bytes) rest (frame_under f.head bytes) f (front_frame bytes f.head holds) front in
+    (ap (λ h. frame_under h bytes) same ∙ one.0, ap (λ h. drop (span h) bytes) same ∙ one.1)
+
+-- ---- frames
+
+pub length-first_frames : (n : ℕ) (bytes : List ℕ) → length (first_frames n bytes) ≡ n
+length-first_frames zero bytes = refl
+length-first_frames (suc n) bytes = ap suc (length-first_frames n (behind_first bytes))
+
+-- bytes hold the whole frames that they begin with
+pub kept_frames : (fs : List Frame) (bytes rest : List ℕ) → All IsWholeFrame fs → bytes ≡ spellings fs ++ rest
+    → HoldFrames (length fs) bytes × (first_frames (length fs) bytes ≡ fs)
+kept_frames [] bytes rest whole is = (tt, refl)
+kept_frames (f ∷ fs) bytes rest whole is =
+    let front : BeginsWithFrame bytes f (spellings fs ++ rest) =
+    record { whole = All-head IsWholeFrame f fs whole; text = is ∙ append_assoc (spelled f) (spellings fs) rest } in
+    let first = first_is bytes (spellings fs ++ rest) f front in
+    let others = kept_frames fs (behind_first bytes) rest (All-tail IsWholeFrame f fs whole) first.1 in
+    let begins = subst (λ b. BeginsWithFrame bytes (first_frame bytes) b) (sym first.1)
+    (subst (λ g. BeginsWithFrame bytes g (spellings fs ++ rest)) (sym first.0) front) in
+    ((begins, others.0), ap₂ (λ (g : Frame) (gs : List Frame). g ∷ gs) first.0 others.1)
+
+pub kept_calls : (count : ℕ) (fs : List Frame) (bytes rest : List ℕ) → BeginWithCalls bytes fs rest → count ≡ length fs
+    → HoldFrames count bytes × (first_frames count bytes ≡ fs)
+kept_calls count fs bytes rest begin is =
+    subst (λ n. HoldFrames n bytes × (first_frames n bytes ≡ fs)) (sym is)
+    (kept_frames fs bytes rest (All-weaker IsCall IsWholeFrame (λ f call. call.0) fs begin.calls) begin.text)
+
+-- ---- the first of them
+
+-- bytes that hold some frames begin with one
+pub some_kept : (n : ℕ) (bytes : List ℕ) → (n ≡ 0 → ⊥) → HoldFrames n bytes → HasNoFrame bytes → ⊥
+some_kept zero bytes some holds none = some refl
+some_kept (suc n) bytes some holds none = none (first_frame bytes) (behind_first bytes) holds.0
+
+-- the frame that they begin with is the first of those
+pub next_kept : (n : ℕ) (bytes rest : List ℕ) (f : Frame) → (n ≡ 0 → ⊥) → HoldFrames n bytes → BeginsWithFrame bytes f rest
+    → HoldFrames (n - 1) rest × (first_frames n bytes ≡ f ∷ first_frames (n - 1) rest)
+next_kept zero bytes rest f some holds front = absurd (some refl)
+next_kept (suc n) bytes rest f some holds front =
+    let first = first_is bytes rest f front in
+    let less : n ≡ suc n - 1 = omega arith in
+    subst (λ m. HoldFrames m rest × (first_frames (suc n) bytes ≡ f ∷ first_frames m rest)) less (
+      subst (HoldFrames n) first.1 holds.1,
+      ap₂ (λ (g : Frame) (gs : List Frame). g ∷ gs) first.0 (ap (first_frames n) first.1),
     )

@@ -27,33 +27,11 @@ use Rattle.script_text.specs.declared.what.What.TheVariants as what
 use Rattle.frame_stream.specs.Frames.{spelled, IsClose, IsCall, BeginsWithFrame, BeginWithCalls, span, frame_under}
 use Rattle.script_text.specs.Streams.{IsStream, IsNoStream, IsStreamOf, IsNoStreamOf, AreStreams, AreNoStreams, frame_count}
 use Rattle.script_text.proofs.FramesLemmas.{one_call_more}
-use Rattle.script_text.proofs.KeptLemmas.{front_frame}
+use Rattle.script_text.specs.Kept.{header_in}
+use Rattle.script_text.proofs.KeptLemmas.{header_in_header, front_frame}
 use Rattle.script_text.proofs.StreamLemmas.{bad_here, bad_behind_close, call_too_many}
 
 -- ---- a header
-
--- the only header that bytes can begin with
-header_in : List ℕ → Head
-header_in bytes = record {
-  seq = from_le_bytes w32 (take 4 (drop 2 bytes));
-  kind = from_le_bytes w32 (take 4 (drop 6 bytes));
-  offset = cast_signed w64 (from_le_bytes w64 (take 8 (drop 10 bytes)));
-  size = from_le_bytes w32 (take 4 (drop 18 bytes));
-  len = from_le_bytes w32 (take 4 (drop 22 bytes));
-}
-
-abbrev head_of : ℕ → ℕ → ℤ → ℕ → ℕ → Head
-head_of seq kind offset size len = record { seq = seq; kind = kind; offset = offset; size = size; len = len }
-
-same_fields : {s t k l z y m n : ℕ} {o p : ℤ} → s ≡ t → k ≡ l → o ≡ p → z ≡ y → m ≡ n → head_of s k o z m ≡ head_of t l p y n
-same_fields a b c d e = cc
-
-header_in_header : (h : Head) (rest : List ℕ) → IsHead h → header_in (header h ++ rest) ≡ h
-unfolding header_in
-header_in_header h rest is =
-    same_fields (from_le_bytes-to_le_bytes_4 h.seq is.seq) (from_le_bytes-to_le_bytes_4 h.kind is.kind)
-    (ap (cast_signed w64) (from_le_bytes-to_le_bytes_8 _ (Fits-lt-pow (Fits-of_z is.offset))) ∙ to_z-of_z is.offset)
-    (from_le_bytes-to_le_bytes_4 h.size is.size) (from_le_bytes-to_le_bytes_4 h.len is.len)
 
 known_is_head : (h : Head) → Known (IsHead h)
 known_is_head h =

@@ -5,6 +5,7 @@ pub mod StreamsLemmas
 pub mod OneStream
 pub mod OneAnswer
 pub mod KeptLemmas
+pub mod FedLemmas
 pub mod GoodLemmas
 pub mod KnownFrames
 pub mod EachInput

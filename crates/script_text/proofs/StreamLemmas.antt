@@ -1,7 +1,9 @@
 -- Lemmas on specs/Streams.antt, for one stream.
-use Rattle.std.proofs.Common.{◌≡◌, ◌≢◌, ◌==◌, ◌∙◌, ℕ, ◌+◌, ◌-◌, ◌≤◌, Bool, true, false, cond, List, [], ◌∷◌, length}
-use Rattle.std.proofs.Common.{refl, sym, ap, inl, inr, arith, length-append}
-use Rattle.std.proofs.lemmas.Bool.{eqb-false, eqb-true, ne_eqb}
+use Rattle.std.proofs.Common.{◌≡◌, ◌≢◌, ◌∙◌, ℕ, ◌+◌, ◌-◌, ◌<◌, ◌≤◌, Bool, cond, Option, Some, List, [], ◌∷◌, ◌++◌, length}
+use Rattle.std.proofs.Common.{refl, ap, subst, inl, inr, arith, length-append}
+use Rattle.std.specs.Prelude.{IfSome}
+use Rattle.std.proofs.lemmas.Bool.{ne_eqb}
+use Rattle.std.proofs.lemmas.List.{length_push}
 use Rattle.std.specs.List.{All}
 use Rattle.std.proofs.lemmas.List.Elements.{All-weaker}
 use Rattle.frame_stream.specs.declared.asked.Asked.TheVariants.{Call, End}
@@ -10,15 +12,32 @@ use Rattle.script_text.specs.declared.what.What.TheVariants as what
 use Rattle.frame_stream.specs.Frames.{spelled, spellings, IsClose, IsCall, BeginsWithFrame, HasNoFrame, BeginWithCalls}
 use Rattle.frame_stream.specs.Asked.{close_kind, asked_of, call_of}
 use Rattle.script_text.specs.Streams.{IsNoStream}
+use Rattle.script_text.proofs.FramesLemmas.{one_call_more}
 
--- some bytes are no empty list
-pub some_bytes : (bytes : List ℕ) (empty : Bool) → empty ≡ (length bytes == 0) → empty ≡ false → bytes ≢ []
-some_bytes bytes empty is none = λ nothing. eqb-false _ _ (sym is ∙ none) (ap length nothing)
-
--- and none are
-pub no_bytes : (bytes : List ℕ) → true ≡ (length bytes == 0) → bytes ≡ []
+-- bytes of no length are none
+pub no_bytes : (bytes : List ℕ) → length bytes ≡ 0 → bytes ≡ []
 no_bytes [] is = refl
-no_bytes (b ∷ bs) is = absurd (omega (arith, eqb-true _ _ (sym is)))
+no_bytes (b ∷ bs) is = absurd (omega (arith, is))
+
+-- the calls that were read, so many, and what is left behind them
+abbrev pub AreRead : ℕ → List ℕ → ℕ → List ℕ → Type 0
+AreRead room bytes count rest =
+    (frames : List Frame) × BeginWithCalls bytes frames rest × (count ≡ length frames) × (length frames ≤ room)
+
+-- the frame that stands first, where one does
+pub in_front : (rest more : List ℕ) (next : Option Frame) (f : Frame) → next ≡ Some f
+    → IfSome next (λ frame. BeginsWithFrame rest frame more) → BeginsWithFrame rest f more
+in_front rest more next f is front = subst (λ n. IfSome n (λ frame. BeginsWithFrame rest frame more)) is front
+
+-- one call more is read
+pub one_more_read : (room : ℕ) (bytes : List ℕ) (count : ℕ) (rest more : List ℕ) (f : Frame) → AreRead room bytes count rest
+    → BeginsWithFrame rest f more → (IsClose f → ⊥) → count < room → AreRead room bytes (count + 1) more
+one_more_read room bytes count rest more f (frames, begin, is, few) front calls left = (
+  frames ++ f ∷ [],
+  one_call_more bytes frames f rest more begin front calls,
+  omega (arith, is, length_push frames f),
+  omega (arith, is, length_push frames f, left),
+)
 
 module _ (room place end : ℕ) (bytes : List ℕ) (frames : List Frame) (rest : List ℕ) (begin : BeginWithCalls bytes frames rest)
     (few : length frames ≤ room) (to : end ≡ place + length bytes) where

@@ -4,5 +4,6 @@ pub mod Streams
 pub mod Script
 pub mod Refusals
 pub mod Kept
+pub mod Fed
 pub mod Good
 pub mod Generated

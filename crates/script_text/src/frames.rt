@@ -1,113 +1,104 @@
-ghost use Rattle.std.specs.Prelude.{◌≡◌, ◌≤◌, ◌∷◌, ◌+◌, ◌++◌, [], length, drop, map, IfOk, IfSome, IfNone};
-ghost use Rattle.frame_stream.specs.Frames.{BeginsWithFrame, HasNoFrame, span, frame_under};
-ghost use Rattle.script_text.specs.Kept.{frames_under, HoldFrames};
+ghost use Rattle.std.specs.Prelude.{◌≡◌, ◌∷◌, [], length, IfOk, IfSome, IfNone};
+ghost use Rattle.script_text.specs.Kept.{first_frames, HoldFrames};
 
+use crate::fed_reader::FedReader;
 use frame_stream::{Bytes, Frame};
-use frame_wire::{Decoded, HEADER_LENGTH, Head, decode};
-use std::alloc::AllocError;
+use std::alloc::{AllocError, Global};
 use std::marker::Model;
-use vol_units::LONGEST_CALL;
 
-/// The frames of a stream: their headers, and the stream's bytes, from which each frame's data is taken as it is wanted.
+/// The frames of a stream: how many they are, and the stream's bytes, from which they are read as they are wanted.
 /// A contract sees it as the list of the frames.
 #[derive(Debug, Drop)]
 pub struct Frames {
-    heads: Vec<Head>,
+    count: usize,
     bytes: Bytes,
 }
 
 impl Model for Frames {
     ghost use Rattle.std.specs.Prelude.{List};
     ghost use Rattle.frame_stream.specs.declared.frame.Frame.{Frame as Item};
-    ghost use Rattle.script_text.specs.Kept.{frames_under, HoldFrames};
+    ghost use Rattle.script_text.specs.Kept.{first_frames, HoldFrames};
 
     ghost Value = { List Item };
 
-    ghost view = { λ f. frames_under f.heads.items f.bytes };
+    ghost view = { λ f. first_frames f.count f.bytes };
 
-    ghost invariant = { λ f. HoldFrames f.heads.items f.bytes };
+    ghost invariant = { λ f. HoldFrames f.count f.bytes };
 }
 
 impl Frames {
-    /// The frames that have these headers and begin the bytes, one after another.
-    pub(crate) fn of(heads: Vec<Head>, bytes: Bytes) -> Frames
-        requires { HoldFrames heads.items bytes }
-        ensures { result ≡ frames_under heads.items bytes }
+    /// The frames that begin the bytes, one after another, so many.
+    pub(crate) fn of(count: usize, bytes: Bytes) -> Frames
+        requires { HoldFrames count bytes }
+        ensures { result ≡ first_frames count bytes }
     {
-        Frames { heads, bytes }
+        Frames { count, bytes }
     }
 
     pub fn len(&self) -> usize
         ensures { result ≡ length self.now }
     {
-        self.heads.len()
+        self.count
     }
 
     /// The frames, to be taken one after another from the first. Their data shares the stream's bytes.
-    pub fn left(&self) -> Result<FramesLeft<'_>, AllocError>
+    pub fn left(&self, alloc: Global) -> Result<FramesLeft, AllocError>
         ensures { IfOk result (λ left. left ≡ self.now) }
     {
         Ok(FramesLeft {
-            heads: &self.heads,
-            bytes: self.bytes.slice(..)?,
+            count: self.count,
+            reader: FedReader::of(alloc, self.bytes.slice(..)?),
         })
-    }
-
-    /// The headers alone. No memory is taken.
-    pub fn into_heads(self) -> Vec<Head>
-        ensures { result.items ≡ map (λ f. f.head) self }
-    {
-        let Frames { heads, bytes: _ } = self;
-        heads
     }
 }
 
 /// The frames of a stream that are left. A contract sees it as their list.
 #[derive(Drop)]
-pub struct FramesLeft<'a> {
-    heads: &'a [Head],
-    bytes: Bytes,
+pub struct FramesLeft {
+    count: usize,
+    reader: FedReader,
 }
 
-impl<'a> Model for FramesLeft<'a> {
+impl Model for FramesLeft {
     ghost use Rattle.std.specs.Prelude.{List};
     ghost use Rattle.frame_stream.specs.declared.frame.Frame.{Frame as Item};
-    ghost use Rattle.script_text.specs.Kept.{frames_under, HoldFrames};
+    ghost use Rattle.script_text.specs.Kept.{first_frames, HoldFrames};
 
     ghost Value = { List Item };
 
-    ghost view = { λ r. frames_under r.heads.now r.bytes };
+    ghost view = { λ r. first_frames r.count r.reader };
 
-    ghost invariant = { λ r. HoldFrames r.heads.now r.bytes };
+    ghost invariant = { λ r. HoldFrames r.count r.reader };
 }
 
-impl<'a> FramesLeft<'a> {
+impl FramesLeft {
     /// The first of them, which is then no longer left.
     pub fn next(&mut self) -> Result<Option<Frame>, AllocError>
         ensures some { IfOk result (λ next. IfSome next (λ frame. self.old ≡ frame ∷ self.new)) }
         ensures none { IfOk result (λ next. IfNone next (self.old ≡ [])) }
+        ensures end { IfOk result (λ next. IfNone next (self.new ≡ [])) }
     {
-        let [head, more @ ..] = self.heads else {
-            return Ok(None);
-        };
-        let used = HEADER_LENGTH + head.len as usize;
-        let body = self.bytes.slice(HEADER_LENGTH..used)?;
-        self.bytes.advance(used);
-        self.heads = more;
-        Ok(Some(Frame { head: *head, body }))
+        next_of(&mut self.count, &mut self.reader)
     }
 }
 
-/// The header of the whole frame that the bytes begin with, if they do.
-pub(crate) fn front(bytes: &[u8]) -> Option<Head>
-    ensures some { IfSome result (λ head.
-        BeginsWithFrame bytes.now (frame_under head bytes.now) (drop (span head) bytes.now)) }
-    ensures within { IfSome result (λ head. span head ≤ length bytes.now) }
-    ensures none { IfNone result (HasNoFrame bytes.now) }
+/// The first of so many frames that are left to a reader, which is then gone.
+fn next_of(count: &mut usize, reader: &mut FedReader) -> Result<Option<Frame>, AllocError>
+    requires { HoldFrames count.old reader.old }
+    ensures hold { HoldFrames count.new reader.new }
+    ensures some { IfOk result (λ next. IfSome next (λ frame.
+        first_frames count.old reader.old ≡ frame ∷ first_frames count.new reader.new)) }
+    ensures none { IfOk result (λ next. IfNone next (count.old ≡ 0)) }
+    ensures end { IfOk result (λ next. IfNone next (count.new ≡ 0)) }
 {
-    // A frame has as much data as a call may have.
-    match decode(bytes, LONGEST_CALL) {
-        Decoded::Frame(head, _) => Some(head),
-        Decoded::Short | Decoded::BadMagic(_) | Decoded::TooLong(_) => None,
+    if *count == 0 {
+        return Ok(None);
+    }
+    match reader.next()? {
+        None => Ok(None),
+        Some(frame) => {
+            *count -= 1;
+            Ok(Some(frame))
+        }
     }
 }

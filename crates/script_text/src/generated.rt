@@ -69,15 +69,13 @@ fn make_frames(alloc: Global, number: u64, page: u8, calls: u32) -> Result<Frame
     let mut generator = Generator {
         state: number.wrapping_add(u64::from(page)),
     };
-    let mut heads = Vec::with_capacity(alloc, calls as usize)?;
     let mut bytes = Vec::new(alloc);
     for index in 0..calls {
         let drawn = generator.draw_frame();
         let head = head_in(page, index + 1, &drawn);
         append_frame(&head, drawn.byte, &mut bytes)?;
-        heads.push(head)?;
     }
-    Ok(Frames::of(heads, Bytes::from_vec(bytes)?))
+    Ok(Frames::of(calls as usize, Bytes::from_vec(bytes)?))
 }
 
 /// Appends a frame whose data is one byte, over and over.

@@ -2,10 +2,10 @@ ghost use Rattle.std.specs.Prelude.{◌+◌, ◌^◌, ◌<◌, length};
 ghost use Rattle.script_text.specs.Refusals.{AnswersStream};
 
 use crate::error::ScriptError;
-use crate::frames::{Frames, front};
+use crate::fed_reader::FedReader;
+use crate::frames::Frames;
 use crate::what::What;
 use frame_stream::{Bytes, CLOSE};
-use frame_wire::HEADER_LENGTH;
 use std::alloc::Global;
 
 /// The frames of a stream whose bytes begin at a place of the input. There may be so many calls.
@@ -20,34 +20,35 @@ pub(crate) fn read_stream(
     ensures { AnswersStream room place bytes result }
 {
     let end = place + bytes.len() as u64;
-    let mut heads = Vec::new(alloc);
-    let mut rest = bytes.as_slice();
-    while !rest.is_empty() {
-        let at = end - rest.len() as u64;
-        let Some(head) = front(rest) else {
-            return Err(ScriptError::Bad {
-                place: at,
-                what: What::Frame,
-            });
+    let mut left = FedReader::of(alloc, bytes.slice(..)?);
+    let mut count = 0;
+    while left.len() > 0 {
+        let at = end - left.len() as u64;
+        let frame = match left.next()? {
+            Some(frame) => frame,
+            None => {
+                return Err(ScriptError::Bad {
+                    place: at,
+                    what: What::Frame,
+                });
+            }
         };
-        let (_, behind) = rest.split_at(HEADER_LENGTH + head.len as usize);
-        if head.kind == CLOSE {
-            if behind.is_empty() {
+        if frame.head.kind == CLOSE {
+            if left.len() == 0 {
                 break;
             }
             return Err(ScriptError::Bad {
-                place: end - behind.len() as u64,
+                place: end - left.len() as u64,
                 what: What::Frame,
             });
         }
-        if heads.len() >= room {
+        if count >= room {
             return Err(ScriptError::Bad {
                 place: at,
                 what: What::Calls,
             });
         }
-        heads.push(head)?;
-        rest = behind;
+        count += 1;
     }
-    Ok(Frames::of(heads, bytes))
+    Ok(Frames::of(count, bytes))
 }

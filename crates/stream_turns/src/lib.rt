@@ -5,8 +5,7 @@ mod lines;
 mod serving;
 mod stream;
 
-pub use frame_wire::Head;
 pub use outer_traits::Wiring;
-pub use script_text::{Script, Sequence};
+pub use script_text::{Heads, Script, Sequence};
 pub use serving::{ServedStreams, blank_world, heads_in, serve};
 pub use world_holder::World;

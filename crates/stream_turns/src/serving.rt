@@ -11,9 +11,8 @@ ghost use Rattle.stream_turns.specs.Serving.{IsBegun, IsServed, IsServedInTurn};
 ghost use Rattle.stream_turns.specs.Volume.{asks_from, asks_in, blank_spot, stream_calls, heads_of};
 
 use crate::stream::serve_stream;
-use frame_wire::Head;
 use outer_traits::Wiring;
-use script_text::{LinePlan, Script, Sequence, Stream};
+use script_text::{Heads, LinePlan, Script, Stream};
 use std::alloc::{AllocError, Global};
 use std::sync::Wait;
 use target_traits::Target;
@@ -24,7 +23,7 @@ use world_holder::World;
 #[derive(Drop)]
 pub struct ServedStreams {
     /// The headers of each stream's frames. A control stream has none.
-    pub heads: Vec<Sequence<Head>>,
+    pub heads: Vec<Heads>,
     /// The World at the end: its journal, and its replicas.
     pub world: World,
     /// Whether the target of backups failed in some stream.
@@ -131,7 +130,7 @@ fn serve_streams<R: Wait, W: Wiring, T: Target>(
         )?;
         world = turned.world;
         target_fault |= turned.target_fault;
-        heads.push(heads_in(alloc, stream))?;
+        heads.push(heads_in(stream))?;
         number += 1;
     }
     Ok(ServedStreams {
@@ -142,11 +141,11 @@ fn serve_streams<R: Wait, W: Wiring, T: Target>(
 }
 
 /// The headers of a stream's frames. A control stream has none.
-pub fn heads_in(alloc: Global, stream: Stream) -> Sequence<Head>
+pub fn heads_in(stream: Stream) -> Heads
     ensures { result ≡ heads_of stream }
 {
     match stream {
-        Stream::Frames(frames) => Sequence::of(frames.into_heads()),
-        Stream::Control(_) => Sequence::of(Vec::new(alloc)),
+        Stream::Frames(frames) => Heads::of(frames),
+        Stream::Control(_) => Heads::none(),
     }
 }

@@ -134,9 +134,7 @@ fn serve_streams<
         give_back(wiring, wrapping, tasks);
         return Err(AllocError);
     }
-    if take_all_in(
-        alloc, &desk, &mut first, wiring, wrapping, tasks, &mut heads,
-    ) {
+    if take_all_in(&desk, &mut first, wiring, wrapping, tasks, &mut heads) {
         let world = Box::into_inner(take_up(desk, first));
         Ok(ServedStreams {
             heads,

@@ -20,7 +20,7 @@ use std::alloc::{AllocError, Global};
 use std::sync::Wait;
 use std::thread;
 use std::thread::Threads;
-use stream_turns::{Head, Sequence, heads_in};
+use stream_turns::{Heads, heads_in};
 use target_traits::Target;
 use vol_units::{PlainName, TimeText};
 use world_holder::{AtSeat, Desk, Seat, WorldOnDesk};
@@ -275,13 +275,12 @@ pub(crate) fn give_back<W: Wiring, V: Wrapping<W>>(
 
 /// Takes all lines back, and joins all seats. Says whether memory sufficed for the headers.
 pub(crate) fn take_all_in<W: Wiring, V: Wrapping<W>>(
-    alloc: Global,
     desk: &Desk<WorldOnDesk>,
     first: &mut Seat<WorldOnDesk>,
     wiring: &mut W,
     wrapping: &V,
     tasks: Vec<Task<V::Wrapped>>,
-    heads: &mut Vec<Sequence<Head>>,
+    heads: &mut Vec<Heads>,
 ) -> bool
     requires first { IsSeatOf desk.now first.old × (number_of first.old ≡ None) }
     requires back { All (IsBack V.Wrapped.ends V.Wrapped.count
@@ -298,7 +297,7 @@ pub(crate) fn take_all_in<W: Wiring, V: Wrapping<W>>(
     let mut well = true;
     for task in tasks {
         let stream = take_in(desk, first, wiring, wrapping, task);
-        let kept = keep_heads(alloc, heads, stream);
+        let kept = keep_heads(heads, stream);
         well = both(well, kept);
     }
     well
@@ -336,10 +335,10 @@ fn take_in<W: Wiring, V: Wrapping<W>>(
 }
 
 /// Keeps the headers of a stream's frames, and says whether memory sufficed.
-fn keep_heads(alloc: Global, heads: &mut Vec<Sequence<Head>>, stream: Stream) -> bool
+fn keep_heads(heads: &mut Vec<Heads>, stream: Stream) -> bool
     ensures { result ≡ true → heads.new.items ≡ heads.old.items ++ heads_of stream ∷ [] }
 {
-    heads.push(heads_in(alloc, stream)).is_ok()
+    heads.push(heads_in(stream)).is_ok()
 }
 
 fn both(a: bool, b: bool) -> bool

@@ -8,6 +8,6 @@ use Rattle.report_writer.proofs.report.pass_replies.Given as goal
 abbrev pub invariant-loop-place : goal.invariant-loop-place
 invariant-loop-place g l = (printed : List ℕ)
     × Passes (g.K.Sink.contents l.fn.sink) (g.K.Sink.contents l.sink) l.fn.buffer.items l.buffer.items printed
-    × (printed ++ reply_lines (drop l.next l.heads) (answers_from l.stream l.place (drop l.place l.journal.entries))
+    × (printed ++ reply_lines l.left (answers_from l.stream l.place (drop l.place l.journal.entries))
     ≡ reply_lines l.heads (answers_from l.stream 0 l.journal.entries))
     × (g.K.Sink.faults l.sink ≡ g.K.Sink.faults l.fn.sink)

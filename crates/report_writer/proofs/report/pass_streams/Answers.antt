@@ -1,5 +1,4 @@
-use Rattle.std.proofs.Common.{◌≡◌, ◌<◌, ◌+◌, List, ◌++◌, length, get_or, drop, sym, ap, subst, ◌∙◌, arith, append_assoc}
-use Rattle.frame_wire.specs.declared.head.Head.{Head}
+use Rattle.std.proofs.Common.{◌≡◌, ◌<◌, ◌+◌, ◌++◌, length, get_or, drop, sym, ap, subst, ◌∙◌, arith, append_assoc}
 use Rattle.volume_model.specs.History.{answers_of}
 use Rattle.run_report.specs.Report.{reply_lines, replies_from}
 use Rattle.run_report.proofs.ReportLemmas.{next_stream}
@@ -13,11 +12,11 @@ loop-stream-preserved g c =
     let entries = c.args.journal.now.entries in
     let streams = c.args.streams.now in
     let stream = c.loop-stream.stream in
-    let heads = c.as_slice.result.now in
+    let heads = c.index-streams-stream.result in
     let text = reply_lines heads (answers_of stream entries) in
     let inside : stream < length streams = omega arith in
     let at : get_or streams stream heads ≡ heads =
-    subst (λ (hs : List Head). get_or streams stream hs ≡ hs) (sym c.as_slice.ensures) (sym c.index-streams-stream.is) in (
+    sym c.index-streams-stream.is in (
       i.0 ++ text,
       Passes-trans _ _ _ _ _ _ i.0 text i.1 c.in_ok-pass_replies.ensures.passed,
       next_stream i.0 (replies_from 0 streams entries) stream streams entries heads inside at i.2,
@@ -31,12 +30,12 @@ returns-in_err-pass_replies-clause-prefix g c =
     let streams = c.args.streams.now in
     let had = c.args.buffer.now.items in
     let stream = c.loop-stream.stream in
-    let heads = c.as_slice.result.now in
+    let heads = c.index-streams-stream.result in
     let text = reply_lines heads (answers_of stream entries) in
     let rest = replies_from (stream + 1) (drop (stream + 1) streams) entries in
     let inside : stream < length streams = omega arith in
     let at : get_or streams stream heads ≡ heads =
-    subst (λ (hs : List Head). get_or streams stream hs ≡ hs) (sym c.as_slice.ensures) (sym c.index-streams-stream.is) in
+    sym c.index-streams-stream.is in
     let t = next_stream i.0 (replies_from 0 streams entries) stream streams entries heads inside at i.2 in
     let prefix = WritesPrefix-after _ _ _ had _ i.0 text i.1 c.in_err-pass_replies.ensures.prefix in
     subst (WritesPrefix _ _) (append_assoc had (i.0 ++ text) rest ∙ ap (λ l. had ++ l) t) (WritesPrefix-more _ _ _ rest prefix)

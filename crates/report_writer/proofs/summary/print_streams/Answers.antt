@@ -1,5 +1,4 @@
-use Rattle.std.proofs.Common.{◌≡◌, ◌<◌, ◌≤◌, ◌++◌, ◌+◌, List, length, get_or, sym, ap, subst, ◌∙◌, arith}
-use Rattle.frame_wire.specs.declared.head.Head.{Head}
+use Rattle.std.proofs.Common.{◌≡◌, ◌<◌, ◌≤◌, ◌++◌, ◌+◌, length, get_or, sym, ap, ◌∙◌, arith}
 use Rattle.digest.specs.Digest.{digest_text}
 use Rattle.volume_model.specs.History.{answers_of}
 use Rattle.run_report.specs.Summary.{stream_line, stream_lines, replying_frames, frames_from}
@@ -11,11 +10,11 @@ loop-stream-preserved c =
     let s = c.loop-stream in
     let entries = c.args.journal.now.entries in
     let streams = c.args.streams.now in
-    let heads = c.as_slice.result.now in
+    let heads = c.index-streams-stream.result in
     let whole = c.args.into.now.items ++ stream_lines 0 (frames_from 0 streams entries) in
     let inside : s.stream < length streams = omega arith in
     let at : get_or streams s.stream heads ≡ heads =
-    subst (λ (hs : List Head). get_or streams s.stream hs ≡ hs) (sym c.as_slice.ensures) (sym c.index-streams-stream.is) in
+    sym c.index-streams-stream.is in
     let line = stream_line s.stream (digest_text (replying_frames heads (answers_of s.stream entries))) in
     let put : c.print_stream.new.into.items ≡ s.into.items ++ line =
     c.in_ok-print_stream.ensures.ok ∙ ap (λ d. s.into.items ++ stream_line s.stream d) c.in_ok-digest.ensures in

@@ -1,4 +1,4 @@
-use Rattle.std.proofs.Common.{◌≡◌, ◌+◌, ◌*◌, ◌/◌, ◌%◌, ◌++◌, ◌∙◌, ap, replicate, arith}
+use Rattle.std.proofs.Common.{◌≡◌, ◌+◌, ◌*◌, ◌%◌, ◌++◌, ◌∙◌, ap, replicate, arith}
 use Rattle.std.proofs.lemmas.List.{take-replicate}
 use Rattle.script_text.proofs.GeneratedLemmas.{more_same, all_same}
 use Rattle.script_text.proofs.generated.append_same.Goals as goal
