@@ -1,11 +1,8 @@
 -- How a generated script is made: frames and streams one after another, until none is left.
-use Rattle.std.proofs.Common.{◌≡◌, ◌∙◌, ℕ, ◌+◌, ◌-◌, ◌<◌, ◌≤◌, List, [], ◌∷◌, ◌++◌, length, map, take, drop, replicate, cond}
-use Rattle.std.proofs.Common.{Result, Ok, Err, is_ok, refl, suc, sym, ap, ap₂, subst, arith, append_assoc, append-nil, OnOk}
-use Rattle.std.proofs.lemmas.List.{take_at, drop_at, length-append, replicate-append-replicate}
-use Rattle.std.proofs.lemmas.List.Elements.{All-head, All-tail}
+use Rattle.std.proofs.Common.{◌≡◌, ◌∙◌, ℕ, ◌+◌, ◌-◌, ◌<◌, List, [], ◌∷◌, ◌++◌, replicate, cond}
+use Rattle.std.proofs.Common.{Result, Ok, Err, is_ok, suc, sym, ap, subst, arith, append_assoc, append-nil, OnOk}
+use Rattle.std.proofs.lemmas.List.{replicate-append-replicate}
 use Rattle.std.specs.List.{All}
-use Rattle.frame_wire.specs.declared.head.Head.{Head}
-use Rattle.frame_wire.specs.Spelling.{header_length, header}
 use Rattle.frame_stream.specs.declared.frame.Frame.{Frame}
 use Rattle.script_text.specs.declared.script.Stream.{Stream}
 use Rattle.script_text.specs.declared.script.Stream.TheVariants as stream

@@ -11,7 +11,8 @@ use Rattle.frame_wire.specs.Spelling.{header, IsHead}
 use Rattle.frame_wire.specs.Decoding.{BeginsWith, HoldsFrame}
 use Rattle.volume_model.specs.PlainStep.{longest_call}
 use Rattle.frame_stream.specs.declared.frame.Frame.{Frame}
-use Rattle.frame_stream.specs.Frames.{spelled, spellings, IsCall, IsWholeFrame, BeginsWithFrame, HasNoFrame, BeginWithCalls, span, frame_under}
+use Rattle.frame_stream.specs.Frames.{spelled, spellings, span, frame_under}
+use Rattle.frame_stream.specs.Frames.{IsCall, IsWholeFrame, BeginsWithFrame, HasNoFrame, BeginWithCalls}
 use Rattle.frame_stream.proofs.FramesLemmas.{data_of_frame, frame_and_rest}
 use Rattle.script_text.specs.Kept.{header_in, first_frame, behind_first, first_frames, HoldFrames}
 use Rattle.script_text.proofs.FramesLemmas.{one_front}

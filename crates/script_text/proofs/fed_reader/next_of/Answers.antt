@@ -40,7 +40,8 @@ loop-frame-preserved c =
     let piece : c.in_ok-slice-in-Short.field-0 ≡ take c.min-more.result l.bytes =
     c.in_ok-slice-in-Short.ensures.ok ∙ between_is l.bytes 0 c.min-more.result in
     record {
-      fed = fed_front c.next.new.self c.refill.new.self l.count c.min-more.result l.bytes still (omega (arith, c.min-more.ensures, c.more_than.ensures, still.within, c.len-in-Short.ensures.value))
+      fed = fed_front c.next.new.self c.refill.new.self l.count c.min-more.result l.bytes still
+          (omega (arith, c.min-more.ensures, c.more_than.ensures, still.within, c.len-in-Short.ensures.value))
           (omega (arith, c.min-more.ensures, c.len-in-Short.ensures.value))
           (c.refill.ensures ∙ ap (λ p. fed_more c.next.new.self (drop (length c.next.new.self.left) p)) piece);
       same = l.invariant.same;

@@ -21,10 +21,12 @@ returns-in-None-clause-end c =
 
 pub returns-in-Some-clause-hold : goal.returns-in-Some-clause-hold
 returns-in-Some-clause-hold c =
-    let front = subst (λ next. IfSome next (λ frame. BeginsWithFrame c.args.reader.now frame c.next.new.self)) c.in-Some.is c.in_ok-next.ensures.some in
+    let front = subst (λ next. IfSome next (λ frame. BeginsWithFrame c.args.reader.now frame c.next.new.self))
+    c.in-Some.is c.in_ok-next.ensures.some in
     (next_kept c.args.count.now c.args.reader.now c.next.new.self c.in-Some.frame c.if-count-eq0.false c.requires front).0
 
 pub returns-in-Some-clause-some : goal.returns-in-Some-clause-some
 returns-in-Some-clause-some c =
-    let front = subst (λ next. IfSome next (λ frame. BeginsWithFrame c.args.reader.now frame c.next.new.self)) c.in-Some.is c.in_ok-next.ensures.some in
+    let front = subst (λ next. IfSome next (λ frame. BeginsWithFrame c.args.reader.now frame c.next.new.self))
+    c.in-Some.is c.in_ok-next.ensures.some in
     (next_kept c.args.count.now c.args.reader.now c.next.new.self c.in-Some.frame c.if-count-eq0.false c.requires front).1

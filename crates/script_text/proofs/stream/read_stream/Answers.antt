@@ -9,7 +9,8 @@ use Rattle.script_text.specs.Streams.{IsEnd}
 use Rattle.script_text.proofs.KeptLemmas.{kept_calls}
 use Rattle.script_text.proofs.StreamLemmas.{no_bytes, in_front, one_more_read, bad_here, bad_behind_close, call_too_many}
 use Rattle.script_text.proofs.stream.read_stream.Goals as goal
-use Rattle.script_text.proofs.stream.read_stream.Goals.{else-loop-left-test, then-loop-left-test+in_ok-frame+in-Some+then-frame-eq-CLOSE+then-len-eq0}
+use Rattle.script_text.proofs.stream.read_stream.Goals.{else-loop-left-test}
+use Rattle.script_text.proofs.stream.read_stream.Goals.{then-loop-left-test+in_ok-frame+in-Some+then-frame-eq-CLOSE+then-len-eq0}
 
 pub loop-left-init : goal.loop-left-init
 loop-left-init c =
