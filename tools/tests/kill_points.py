@@ -64,11 +64,12 @@ def begin(command, given, room):
 
 
 def end(child):
-    """Kills a child, and waits for its end."""
+    """Kills a child, and waits for its end. A thread that has ended and was not told of yet would hold it back."""
     try:
         os.kill(child, signal.SIGKILL)
-        while not os.WIFSIGNALED(os.waitpid(child, ALL_THREADS)[1]):
-            pass
+        thread, status = os.waitpid(-1, ALL_THREADS)
+        while thread != child or os.WIFSTOPPED(status):
+            thread, status = os.waitpid(-1, ALL_THREADS)
     except (ProcessLookupError, ChildProcessError):
         pass
 
