@@ -1,5 +1,5 @@
 -- What a new desk meets, and what one that is closed met.
-use Rattle.std.proofs.Common.{◌≡◌, ◌≢◌, ℕ, zero, suc, ◌<◌, true, false, List, [], ◌∷◌, Option, Some, None, refl, sym}
+use Rattle.std.proofs.Common.{◌≡◌, ◌≢◌, ℕ, zero, suc, ◌<◌, ◌≤◌, true, false, List, [], ◌∷◌, length, Option, Some, None, refl, sym}
 use Rattle.std.proofs.Common.{ap, ◌∙◌, subst, inl, inr, ⊎_elim, arith}
 use mathlib.Core.Option.{some, some-injective}
 use mathlib.Core.Option as maybe
@@ -13,52 +13,55 @@ use Rattle.desk_lock.specs.declared.views.View.TheVariants.{Knows}
 use Rattle.desk_lock.specs.declared.views.Stage.TheVariants.{Idle}
 use Rattle.desk_lock.specs.Account.{Account, Each, IsSilent}
 use Rattle.desk_lock.specs.Known.{known_with, HasNumber, Fits}
-use Rattle.desk_lock.specs.Rule.{holds_it, starting, Placed}
-use Rattle.desk_lock.proofs.Stages.{knows_is, R, Sits, finds, finds_self}
+use Rattle.desk_lock.specs.Rule.{holds_it, SaysAt, starting, Placed}
+use Rattle.desk_lock.proofs.Stages.{knows_is, one_view, R, Sits, finds, finds_self, heard_of}
 
 module _ {S Entry OpenCall Origin : Type 0} (account : Account S Entry OpenCall Origin) where
-  pub opens : (x : S) → account.sound x → ((n : ℕ) → IsSilent account n x) → R account (opening (0 ∷ 0 ∷ []) (Some x ∷ []) (starting x))
-  opens x ok silent = record {
+  pub opens : (x : S) → account.sound x → account.journal x ≡ [] → ((n : ℕ) → IsSilent account n x)
+      → R account (opening (0 ∷ 0 ∷ 0 ∷ []) (Some x ∷ []) (starting x))
+  opens x ok none silent = record {
     served = 0;
     drawn = 0;
     made = 0;
     seat_of = λ n. 0;
     now = x;
-    words = refl;
+    words = ap (λ (es : List Entry). 0 ∷ 0 ∷ length es ∷ []) (sym none);
     counted = refl;
     wide = refl;
     few = omega arith;
     lies = inl refl;
     sound = ok;
     each_seat = at_first;
+    told = (omega arith, tt);
     apart = λ i j v w a at there vt wt. sym (first_only i v at) ∙ first_only j w there;
     silent = λ n le. silent n;
   }
     where
-      first_only : (j : ℕ) (v : Known S) → get_elem? (starting x ∷ []) j ≡ some (Knows v) → 0 ≡ j
+      first_only : (j : ℕ) (v : Known S) → SaysAt (starting x ∷ []) j v → 0 ≡ j
       first_only zero v e = refl
-      first_only (suc j) v e = absurd (maybe.some-ne-none (Knows v) (sym e))
+      first_only (suc j) v e = absurd (maybe.some-ne-none (Knows v e.0) (sym e.1))
 
-      at_first : (j : ℕ) (v : Known S) → get_elem? (starting x ∷ []) j ≡ some (Knows v)
+      at_first : (j : ℕ) (v : Known S) → SaysAt (starting x ∷ []) j v
           → Sits account 0 0 0 (λ n. 0) x (some (Some x) ∷ []) j v
       at_first zero v e = subst (Sits account 0 0 0 (λ n. 0) x (some (Some x) ∷ []) 0)
-          (knows_is (known_with None x Idle 0 []) v (some-injective _ _ e))
+          (knows_is (known_with None x Idle 0 []) 0 v (e.0, some-injective _ _ e.1))
           record { finds = finds_self account None x; on_stage = tt; placed = (refl, refl, tt, tt, λ n le. silent n) }
-      at_first (suc j) v e = absurd (maybe.some-ne-none (Knows v) (sym e))
+      at_first (suc j) v e = absurd (maybe.some-ne-none (Knows v e.0) (sym e.1))
 
-  pub closes : (id : ℕ) (v : Known S) (ws : List ℕ) (xs : List (Option S)) → v.number ≡ None → v.stage ≡ Idle
-      → ((n : ℕ) → n < v.made → HasNumber n v.joined) → Final (Seen (R account) id (Knows v)) ws xs
-      → (x : S) × (get_elem? xs 0 ≡ some (Some x)) × Fits account x v
-  closes id v ws xs first idle all_joined fin =
+  pub closes : (id : ℕ) (v : Known S) (told : ℕ) (ws : List ℕ) (xs : List (Option S)) → v.number ≡ None → v.stage ≡ Idle
+      → ((n : ℕ) → n < v.made → HasNumber n v.joined) → Final (Seen (R account) id (Knows v told)) ws xs
+      → (x : S) × (get_elem? xs 0 ≡ some (Some x)) × Fits account x v × (told ≤ length (account.journal x))
+  closes id v told ws xs first idle all_joined fin =
       let s : State (Option S) (View S) = fin.0 in
       let r : R account s = fin.1.0 in
-      let at : get_elem? s.views id ≡ some (Knows v) = fin.1.1 in
+      let at : SaysAt s.views id v = (told, fin.1.1) in
       let mine = r.each_seat id v at in
       let place = subst (Placed account r.made r.seat_of r.now id v) first mine.placed in
       let home : s.homes ≡ some (Some r.now) ∷ [] = at_home s r at mine.placed in (
         r.now,
         fin.4 0 (Some r.now) (ap (λ (hs : List (maybe.Option (Option S))). get_elem? hs 0) home),
         finds account r.served r.drawn r.made r.seat_of r.now s.homes id v mine r.sound r.silent,
+        heard_of account s r id v at,
       )
     where
       joined_is : (seat_of : ℕ → ℕ) (made n : ℕ) (js : List (ℕ × S))
@@ -74,14 +77,14 @@ module _ {S Entry OpenCall Origin : Type 0} (account : Account S Entry OpenCall 
       no_holder s r j u ne zero_is top each (Some m) p = let h = p.0 in
           p.2 (sym p.1 ∙ joined_is r.seat_of r.made m v.joined each (all_joined m (omega arith)))
 
-      at_home : (s : State (Option S) (View S)) (r : R account s) → get_elem? s.views id ≡ some (Knows v)
+      at_home : (s : State (Option S) (View S)) (r : R account s) → SaysAt s.views id v
           → Placed account r.made r.seat_of r.now id v v.number
           → s.homes ≡ some (Some r.now) ∷ []
       at_home s r at placed = let place = subst (Placed account r.made r.seat_of r.now id v) first placed in ⊎_elim (λ h. h)
           (λ (h : (s.homes ≡ maybe.none ∷ [])
-          × ((j : ℕ) × (u : Known S) × (get_elem? s.views j ≡ some (Knows u)) × (holds_it u.stage ≡ true))).
+          × ((j : ℕ) × (u : Known S) × SaysAt s.views j u × (holds_it u.stage ≡ true))).
           absurd (dite (ℕ_discrete h.1.0 id)
-          (λ e. let same : h.1.1 ≡ v = knows_is h.1.1 v (some-injective _ _ (sym h.1.2 ∙ (ap (λ (z : ℕ). get_elem? s.views z) e ∙ at))) in
+          (λ e. let same : h.1.1 ≡ v = one_view s.views id h.1.1 v (subst (λ (z : ℕ). SaysAt s.views z h.1.1) e h.1.2) at in
           let f : true ≡ false = sym h.1.3 ∙ (ap (λ (z : Known S). holds_it z.stage) same ∙ ap holds_it idle) in cc)
           (λ ne. no_holder s r h.1.0 h.1.1 ne place.0 place.1 place.3 h.1.1.number (r.each_seat h.1.0 h.1.1 h.1.2).placed)))
           r.lies

@@ -1,5 +1,5 @@
 -- Facts of a stage, of a view and of where the state lies.
-use Rattle.std.proofs.Common.{◌≡◌, ℕ, ◌+◌, ◌%◌, ◌^◌, ◌<◌, ◌≤◌, true, false, List, [], ◌∷◌, get_or, Option, Some, None}
+use Rattle.std.proofs.Common.{◌≡◌, ℕ, ◌+◌, ◌%◌, ◌^◌, ◌<◌, ◌≤◌, true, false, List, [], ◌∷◌, length, set, get_or, Option, Some, None}
 use Rattle.std.proofs.Common.{refl, sym, ap, ◌∙◌, subst, inl, inr, arith}
 use mathlib.Core.Option.{some, some-injective}
 use mathlib.Core.Option as maybe
@@ -13,11 +13,11 @@ use Rattle.desk_lock.specs.declared.views.Known.{Known}
 use Rattle.desk_lock.specs.declared.views.View.{View}
 use Rattle.desk_lock.specs.declared.views.View.TheVariants.{Spent, Knows}
 use Rattle.desk_lock.specs.declared.views.Stage.{Stage}
-use Rattle.desk_lock.specs.declared.views.Stage.TheVariants.{Idle, Waits, Holds}
-use Rattle.desk_lock.specs.Account.{Account, running_in, Finds, IsSilent}
+use Rattle.desk_lock.specs.declared.views.Stage.TheVariants.{Idle, Waits, Holds, Back}
+use Rattle.desk_lock.specs.Account.{Account, Each, running_in, Finds, IsSilent}
 use Rattle.desk_lock.specs.Known.{known_with, FindsEach, Fits}
-use Rattle.desk_lock.specs.Rule.{ticket, holds_it, OnStage, Placed, Seated, Lies, Ruled}
-use Rattle.desk_lock.proofs.Lists.{begins_self, Each-all}
+use Rattle.desk_lock.specs.Rule.{ticket, holds_it, told_in, Says, SaysAt, OnStage, Placed, Seated, Lies, Ruled}
+use Rattle.desk_lock.proofs.Lists.{begins_self, Each-all, Each-map, Each-set, Each-at}
 
 pub wraps : (n : ℕ) → (n % 2 ^ 64 + 1) % 2 ^ 64 ≡ (n + 1) % 2 ^ 64
 wraps n = omega arith
@@ -26,10 +26,21 @@ pub ticket_of_holder : (st : Stage) → holds_it st ≡ true → (a : ℕ) × (s
 ticket_of_holder Idle h = let f : false ≡ true = h in absurd (cc)
 ticket_of_holder (Waits a) h = let f : false ≡ true = h in absurd (cc)
 ticket_of_holder (Holds a) h = (a, refl)
+ticket_of_holder (Back a) h = let f : false ≡ true = h in absurd (cc)
 
 module _ {S : Type 0} where
-  pub knows_is : (v w : Known S) → Knows v ≡ Knows w → v ≡ w
-  knows_is v w e = cc
+  pub knows_is : (v : Known S) (told : ℕ) (w : Known S) → Says (Knows v told) w → v ≡ w
+  knows_is v told w e = let f : Knows v told ≡ Knows w e.0 = e.1 in cc
+
+  pub told_is : (v w : Known S) (told other : ℕ) → Knows v told ≡ Knows w other → told ≡ other
+  told_is v w told other e = cc
+
+  pub same_known : (v w : Known S) (told other : ℕ) → Knows v told ≡ Knows w other → v ≡ w
+  same_known v w told other e = cc
+
+  -- at one place two views say the same
+  pub one_view : (vs : List (View S)) (j : ℕ) (v w : Known S) → SaysAt vs j v → SaysAt vs j w → v ≡ w
+  one_view vs j v w e f = same_known v w e.0 f.0 (some-injective _ _ (sym e.1 ∙ f.1))
 
   pub ticket_within : (served drawn : ℕ) (now : S) (homes : List (maybe.Option (Option S))) (last : S) (st : Stage) (a : ℕ)
       → OnStage served drawn now homes last st → ticket st ≡ Some a → (served ≤ a) × (a < drawn)
@@ -38,12 +49,15 @@ module _ {S : Type 0} where
       let h = on.0 in let h' = on.1 in (omega arith, omega arith)
   ticket_within served drawn now homes last (Holds b) a on e = let f : Some b ≡ Some a = e in let g : b ≡ a = cc in
       let h = on.0 in let h' = on.1 in (omega arith, omega arith)
+  ticket_within served drawn now homes last (Back b) a on e = let f : Some b ≡ Some a = e in let g : b ≡ a = cc in
+      let h = on.0 in let h' = on.1 in (omega arith, omega arith)
 
   pub more_drawn : (served drawn : ℕ) (now : S) (homes : List (maybe.Option (Option S))) (last : S) (st : Stage)
       → OnStage served drawn now homes last st → OnStage served (drawn + 1) now homes last st
   more_drawn served drawn now homes last Idle on = tt
   more_drawn served drawn now homes last (Waits b) on = let h' = on.1 in (on.0, omega arith)
   more_drawn served drawn now homes last (Holds b) on = let h' = on.1 in (on.0, omega arith, on.2, on.3)
+  more_drawn served drawn now homes last (Back b) on = let h' = on.1 in (on.0, omega arith)
 
   abbrev second : S → List (ℕ × Option S) → Option S
   second d [] = Some d
@@ -62,14 +76,15 @@ module _ {S : Type 0} where
   taken served drawn now homes last Idle homes' e on = tt
   taken served drawn now homes last (Waits b) homes' e on = on
   taken served drawn now homes last (Holds b) homes' e on = (on.0, on.1, e, on.3)
+  taken served drawn now homes last (Back b) homes' e on = on
 
-  pub spent_not_known : (u : Known S) → Spent ≡ Knows u → ⊥
-  spent_not_known u e = cc
+  pub spent_not_known : (u : Known S) → Says Spent u → ⊥
+  spent_not_known u e = let f : Spent ≡ Knows u e.0 = e.1 in cc
 
   -- the state stays where it lies, where each seat that holds it is still among the views
   pub lies_moved : (now : S) (ws : List ℕ) (hs : List (maybe.Option (Option S))) (vs ws' : List (View S))
-      → ((j : ℕ) (u : Known S) → get_elem? vs j ≡ some (Knows u) → holds_it u.stage ≡ true → (i : ℕ) × (x : Known S)
-      × (get_elem? ws' i ≡ some (Knows x)) × (holds_it x.stage ≡ true))
+      → ((j : ℕ) (u : Known S) → SaysAt vs j u → holds_it u.stage ≡ true → (i : ℕ) × (x : Known S)
+      × SaysAt ws' i x × (holds_it x.stage ≡ true))
       → Lies now record { words = ws; homes = hs; views = vs } → Lies now record { words = ws; homes = hs; views = ws' }
   lies_moved now ws hs vs ws' f (inl h) = inl h
   lies_moved now ws hs vs ws' f (inr h) = inr (h.0, f h.1.0 h.1.1 h.1.2 h.1.3)
@@ -77,7 +92,7 @@ module _ {S : Type 0} where
   -- the state stays where it lies, while a seat that does not hold it changes
   pub lies_still : (now : S) (s : State (Option S) (View S)) (i n id : ℕ) (cs : List (ℕ × Option S)) (v w : View S)
       → Lies now s → get_elem? s.views id ≡ some v
-      → ((u : Known S) → v ≡ Knows u → holds_it u.stage ≡ false) → Lies now (stepped s i n id cs w keeps)
+      → ((u : Known S) → Says v u → holds_it u.stage ≡ false) → Lies now (stepped s i n id cs w keeps)
   lies_still now s i n id cs v w (inl h) at not = inl h
   lies_still now s i n id cs v w (inr h) at not = inr (
     h.0,
@@ -85,9 +100,9 @@ module _ {S : Type 0} where
       h.1.0,
       h.1.1,
       dite (ℕ_discrete h.1.0 id)
-          (λ e. let there = subst (λ (z : ℕ). get_elem? s.views z ≡ some (Knows h.1.1)) e h.1.2 in
-          let f : true ≡ false = sym h.1.3 ∙ not h.1.1 (some-injective _ _ (sym at ∙ there)) in absurd (cc))
-          (λ ne. set_else s.views id h.1.0 w ne ∙ h.1.2),
+          (λ e. let there = subst (λ (z : ℕ). SaysAt s.views z h.1.1) e h.1.2 in
+          let f : true ≡ false = sym h.1.3 ∙ not h.1.1 (there.0, some-injective _ _ (sym at ∙ there.1)) in absurd (cc))
+          (λ ne. (h.1.2.0, set_else s.views id h.1.0 w ne ∙ h.1.2.1)),
       h.1.3,
     ),
   )
@@ -133,3 +148,20 @@ module _ {S Entry OpenCall Origin : Type 0} (account : Account S Entry OpenCall 
       → get_elem? s.views id ≡ some x → R (stepped s i (get_or s.words i 0) id cs x keeps)
   unmoved s i id cs x r at = subst (λ (z : List ℕ × List (View S)). R (record { words = z.0; homes = s.homes; views = z.1 }))
       (λ h. (sym (set-get_or s.words i 0) h, sym (set_again s.views id x at) h)) r
+
+  -- no seat was told of a longer journal than there is, where one view changes and the journal gets no shorter
+  pub told_stays : (x y : S) (vs : List (View S)) (id : ℕ) (v w : View S)
+      → Each (λ (z : View S). told_in z ≤ length (account.journal x)) vs → get_elem? vs id ≡ some v
+      → ((n : ℕ) → n ≤ length (account.journal x) → n ≤ length (account.journal y))
+      → (told_in v ≤ length (account.journal y) → told_in w ≤ length (account.journal y))
+      → Each (λ (z : View S). told_in z ≤ length (account.journal y)) (set vs id w)
+  told_stays x y vs id v w each at longer mine =
+      let all = Each-map (λ (z : View S). told_in z ≤ length (account.journal x)) (λ (z : View S). told_in z ≤ length (account.journal y))
+      (λ z. longer (told_in z)) vs each in
+      Each-set (λ (z : View S). told_in z ≤ length (account.journal y)) vs id w all
+      (mine (Each-at (λ (z : View S). told_in z ≤ length (account.journal y)) vs id v all at))
+
+  -- a seat was told of no longer a journal than there is
+  pub heard_of : (s : State (Option S) (View S)) (r : R s) (id : ℕ) (v : Known S) (at : SaysAt s.views id v)
+      → at.0 ≤ length (account.journal r.now)
+  heard_of s r id v at = Each-at (λ (z : View S). told_in z ≤ length (account.journal r.now)) s.views id (Knows v at.0) r.told at.1

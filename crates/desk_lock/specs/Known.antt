@@ -1,5 +1,5 @@
 -- What a seat knows, and what its holder finds in a state.
-use Rattle.std.specs.Prelude.{◌≡◌, ◌⊎◌, ℕ, ◌+◌, ◌≤◌, List, [], ◌∷◌, Option, Some, None}
+use Rattle.std.specs.Prelude.{◌≡◌, ◌⊎◌, ℕ, ◌+◌, ◌≤◌, List, [], ◌∷◌, length, Option, Some, None}
 use Rattle.desk_lock.specs.declared.views.Known.{Known}
 use Rattle.desk_lock.specs.declared.views.Stage.{Stage}
 use Rattle.desk_lock.specs.Account.{Account, Each, Finds, IsSilent}
@@ -43,3 +43,8 @@ module _ {S Entry OpenCall Origin : Type 0} (account : Account S Entry OpenCall 
     pub finds : Finds account v.number x v.last
     pub joined : FindsEach x v.joined
     pub rest : v.number ≡ None → (stream : ℕ) → v.made ≤ stream → IsSilent account stream x
+
+  -- a journal of that length has room for all that the seat has seen, and each that was joined into it
+  pub record ReachesSeen (reach : ℕ) (v : Known S) : Type 0 where
+    pub seen : length (account.journal v.last) ≤ reach
+    pub joined : Each (λ (p : ℕ × S). length (account.journal p.1) ≤ reach) v.joined

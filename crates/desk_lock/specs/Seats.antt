@@ -5,7 +5,7 @@ use Rattle.desk_lock.specs.declared.views.Stage.TheVariants.{Idle, Holds}
 use Rattle.desk_lock.specs.declared.seats.Desk.{Desk}
 use Rattle.desk_lock.specs.declared.seats.Seat.{Seat}
 use Rattle.desk_lock.specs.Known.{knowing, HasNumber}
-use Rattle.desk_lock.specs.Rule.{known_of, in_turn}
+use Rattle.desk_lock.specs.Rule.{known_of, in_turn, told_in}
 
 module _ {S : Type 0} where
   -- all that a seat knows
@@ -24,19 +24,24 @@ module _ {S : Type 0} where
   abbrev pub made_of : Seat S → ℕ
   made_of s = (known s).made
 
+  -- the length of the journal that the seat was told last
+  abbrev pub told_of : Seat S → ℕ
+  told_of s = told_in s.pass.me.0
+
 module _ {S : Type 0} where
   -- no ticket is out with the seat
   abbrev pub IsAtRest : Seat S → Type 0
   IsAtRest s = ((known s).stage ≡ Idle) × (s.pass.me.1 ≡ [])
 
-  -- the seat s is t now: out with a guard, having seen the state x
+  -- the seat s is t now: out with a guard, having seen the state x, and told no more
   abbrev pub IsInTurn : Seat S → S → Seat S → Type 0
   IsInTurn s x t = (t.pass.table_id ≡ s.pass.table_id) × ((a : ℕ) × (known t ≡ knowing (known s) x (Holds a)))
-      × (t.pass.me.1 ≡ (0, None) ∷ [])
+      × (t.pass.me.1 ≡ (0, None) ∷ []) × (told_of t ≡ told_of s)
 
-  -- the seat s is t now: at rest, having seen the state x
+  -- the seat s is t now: at rest, having seen the state x, and told no more
   abbrev pub HasLeft : Seat S → S → Seat S → Type 0
   HasLeft s x t = (t.pass.table_id ≡ s.pass.table_id) × (known t ≡ knowing (known s) x Idle) × (t.pass.me.1 ≡ [])
+      × (told_of t ≡ told_of s)
 
   -- each seat that was split off was joined
   abbrev pub HasAll : Seat S → Type 0

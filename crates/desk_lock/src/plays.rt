@@ -1,6 +1,7 @@
 //! The rule of a desk's table, and what each step on it tells. These types are for proofs alone.
 ghost use Rattle.desk_lock.specs.declared.views.View.TheVariants.{Spent};
-ghost use Rattle.desk_lock.specs.Rule.{Ruled, starting, drew, looked, passed, recalled, first_after, newcomer, both_of};
+ghost use Rattle.desk_lock.specs.Rule.{Ruled, starting, drew, looked, compared, passed, published, ended};
+ghost use Rattle.desk_lock.specs.Rule.{learned, recalled, first_after, newcomer, both_of};
 
 use crate::kept::Kept;
 use crate::views::{Start, View};
@@ -28,11 +29,39 @@ impl<S: Kept> Play<Option<S>, View<S>> for Look {
     ghost then = { looked S.account };
 }
 
+/// A look at the published length by who has the state.
+pub struct Compare;
+
+impl<S: Kept> Play<Option<S>, View<S>> for Compare {
+    ghost then = { compared S.account };
+}
+
+/// The state is put back, and the length of its journal published.
+pub struct Publish;
+
+impl<S: Kept> Play<Option<S>, View<S>> for Publish {
+    ghost then = { published };
+}
+
+/// The turn is passed on, once the state is back.
+pub struct End;
+
+impl<S: Kept> Play<Option<S>, View<S>> for End {
+    ghost then = { ended };
+}
+
 /// The state is put back, and the turn passed on.
 pub struct PassOn;
 
 impl<S: Kept> Play<Option<S>, View<S>> for PassOn {
     ghost then = { passed };
+}
+
+/// A look at the published length by a seat, which is told it.
+pub struct Learn;
+
+impl<S: Kept> Play<Option<S>, View<S>> for Learn {
+    ghost then = { learned S.account };
 }
 
 /// The first seat is told again what it knew of the numbers not yet given.

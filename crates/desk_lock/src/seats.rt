@@ -15,7 +15,7 @@ pub(crate) type Pass<S> = atomic_table::Seat<Option<S>, View<S>>;
 #[derive(Drop)]
 pub struct Desk<S: Kept> {
     pub(crate) table: Table<Option<S>, View<S>, Start<S>, InTurn, Global>,
-    ghost sized: { (table.shared.table_id.words ≡ 2) × (table.shared.table_id.slots ≡ 1) },
+    ghost sized: { (table.shared.table_id.words ≡ 3) × (table.shared.table_id.slots ≡ 1) },
     ghost few: { table.shared.key.seats < 2 ^ 64 },
 }
 

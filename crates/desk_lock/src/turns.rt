@@ -1,23 +1,26 @@
 //! One turn at a desk, as steps on its table.
-ghost use Rattle.std.specs.Prelude.{◌≡◌, [], ◌∷◌, None};
+ghost use Rattle.std.specs.Prelude.{◌≡◌, ℕ, [], ◌∷◌, None};
 ghost use Rattle.desk_lock.specs.declared.views.Known.{Known};
 ghost use Rattle.desk_lock.specs.declared.views.View.TheVariants.{Knows};
 ghost use Rattle.desk_lock.specs.declared.views.Stage.TheVariants.{Idle, Holds};
 ghost use Rattle.desk_lock.specs.Account.{MayLeave};
 ghost use Rattle.desk_lock.specs.Known.{knowing};
+ghost use Rattle.desk_lock.specs.Rule.{Says};
 ghost use Rattle.desk_lock.specs.Turns.{IsIdle, Draws, Takes};
 
 use crate::kept::Kept;
-use crate::plays::{Draw, Look, PassOn};
+use crate::plays::{Compare, Draw, End, Look, PassOn, Publish};
 use crate::seats::{Desk, Pass};
 use std::hint::spin_loop;
 use std::sync::Wait;
 use std::time::Duration;
 
-// The words of the table: tickets drawn, and turns ended.
+// The words of the table: tickets drawn, turns ended, and the length of the journal that was last put back.
 const DRAWN: usize = 0;
 
 pub(crate) const SERVED: usize = 1;
+
+pub(crate) const LENGTH: usize = 2;
 
 // How often one who waits looks before it sleeps: some 30 microseconds, which is longer than most turns take.
 const LOOKS: u32 = 10_000;
@@ -76,19 +79,27 @@ impl<S: Kept> Desk<S> {
         unreachable!()
     }
 
-    // Puts the state back, and passes the turn on.
+    // Puts the state back, and passes the turn on. Between the two the journal's length is published, where the turn
+    // made it longer: so one without an entry stores nothing.
     pub(crate) fn put(&self, pass: &mut Pass<S>, state: S)
         requires turn { (pass.old.table_id ≡ self.now.table.shared.table_id) × (pass.old.me.1 ≡ (0, None) ∷ []) }
-        requires may { (v : Known S) × (a : _) × (pass.old.me.0 ≡ Knows v) × (v.stage ≡ Holds a)
+        requires may { (v : Known S) × (a : _) × Says pass.old.me.0 v × (v.stage ≡ Holds a)
             × MayLeave S.account v.number v.last state }
         ensures same { (pass.new.table_id ≡ pass.old.table_id) × (pass.new.id ≡ pass.old.id) }
-        ensures left { (v : Known S) → pass.old.me.0 ≡ Knows v → pass.new.me ≡ (Knows (knowing v state Idle), []) }
+        ensures left { (v : Known S) (told : ℕ) → pass.old.me.0 ≡ Knows v told
+            → pass.new.me ≡ (Knows (knowing v state Idle) told, []) }
     {
         let shared = &self.table.shared;
+        let length = state.length();
         match shared.exchange(pass, 0, Some(state)) {
             None => {}
             Some(_) => unreachable!(),
         }
-        shared.fetch_add::<PassOn>(pass, SERVED, 1);
+        if shared.load::<Compare>(pass, LENGTH) == length {
+            shared.fetch_add::<PassOn>(pass, SERVED, 1);
+        } else {
+            shared.store::<Publish>(pass, LENGTH, length);
+            shared.fetch_add::<End>(pass, SERVED, 1);
+        }
     }
 }

@@ -2,11 +2,13 @@
 use std::collections::LinkedList;
 use std::snapshot::Snapshot;
 
-/// Whether a ticket is out with a seat: its number, counted from the first, and whether the holder has the state.
+/// Whether a ticket is out with a seat: its number, counted from the first, and whether the holder waits, has the state,
+/// or has put it back.
 pub enum Stage {
     Idle,
     Waits(u64),
     Holds(u64),
+    Back(u64),
 }
 
 /// What a seat knows that was not joined into another.
@@ -22,10 +24,10 @@ pub struct Known<S> {
     pub joined: LinkedList<(u64, S)>,
 }
 
-/// A seat that was joined into another is spent.
+/// A seat that was joined into another is spent. Else it knows something, and was told of so long a journal.
 pub enum View<S> {
     Spent,
-    Knows(Known<S>),
+    Knows(Known<S>, u64),
 }
 
 /// The state that a desk was made with, and how many seats may be split off the first.

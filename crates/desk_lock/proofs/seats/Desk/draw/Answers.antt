@@ -6,5 +6,5 @@ pub compare_exchange-requires : goal.compare_exchange-requires
 compare_exchange-requires g c = let idle = c.requires.1 in (
   search rules,
   search rules,
-  draws g.S.Kept.account _ _ _ _ _ idle.0 refl (ap (λ m. m.0) c.loop.invariant.2 ∙ idle.1) idle.2,
+  draws g.S.Kept.account _ _ _ _ _ idle.0 refl (idle.1.0, ap (λ m. m.0) c.loop.invariant.2 ∙ idle.1.1) idle.2,
 )

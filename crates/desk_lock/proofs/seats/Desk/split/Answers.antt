@@ -1,7 +1,7 @@
 use Rattle.std.proofs.Common.{rules, ap, arith}
 use Rattle.desk_lock.proofs.Looks.{recalls}
 use Rattle.desk_lock.proofs.Turned.{is_known, splits_at}
-use Rattle.desk_lock.specs.Seats.{known}
+use Rattle.desk_lock.specs.Seats.{known, told_of}
 use Rattle.desk_lock.proofs.seats.Desk.split.Goals as goal
 
 pub load-requires : goal.load-requires
@@ -16,4 +16,4 @@ split_seat-pass-requires g c = let room = c.requires.room in let few = c.args.se
 
 pub returns-clause-silent : goal.returns-clause-silent
 returns-clause-silent g c = let s = c.args.seat.now in
-    c.load.ensures.2.1 (known s) (is_known s.pass.me.0 s.live) c.requires.seat.1 _ (search rules)
+    c.load.ensures.2.1 (known s) (told_of s) (is_known s.pass.me.0 s.live) c.requires.seat.1 _ (search rules)
