@@ -60,7 +60,7 @@ pair_fits b (p ∷ ps) n x fits (inl e) = subst (λ (z : ℕ × Book). notes_in 
 pair_fits b (p ∷ ps) n x fits (inr has) = pair_fits b ps n x fits.1 has
 
 module _ {A : Type 0} where
-  element : (xs : List A) (k : ℕ) → k < length xs → A
+  pub element : (xs : List A) (k : ℕ) → k < length xs → A
   element [] k lt = absurd (omega arith)
   element (x ∷ xs) zero lt = x
   element (x ∷ xs) (suc k) lt = element xs k (omega arith)

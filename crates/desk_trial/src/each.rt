@@ -5,6 +5,7 @@ ghost use Rattle.desk_trial.specs.Books.{note_of, notes_in, streams_of, call_of}
 ghost use Rattle.desk_trial.specs.Jobs.{IsJob, IsDone, HasPair};
 
 use crate::book::Book;
+use crate::looks::look_on;
 use crate::workers::serve_all;
 use desk_lock::{Desk, Seat};
 use std::alloc::{AllocError, Global};
@@ -18,6 +19,8 @@ pub struct Job {
     pub seat: Seat<Book>,
     pub stream: u64,
     pub values: Vec<u64>,
+    /// How many looks come after the calls.
+    pub looks: u64,
 }
 
 /// What is left of a job: its seat, and whether memory sufficed.
@@ -27,12 +30,14 @@ pub struct Done {
     pub ok: bool,
 }
 
-/// As many threads as there are lists serve a stream each. The book has the notes of each, in order, and no others.
+/// As many threads as there are lists serve a stream each. One whose list is empty only looks, so many times. The book has
+/// the notes of each, in order, and no others.
 pub fn serve_each<R: Threads + Wait + Sync>(
     rt: &R,
     alloc: Global,
     book: Book,
     lists: Vec<Vec<u64>>,
+    looks: u64,
 ) -> Result<Book, AllocError>
     requires blank { (book.notes.items ≡ []) × ((n : ℕ) → call_of book n ≡ None) }
     requires streams { (streams_of book ≡ length lists.items) × (1 ≤ length lists.items) }
@@ -42,7 +47,7 @@ pub fn serve_each<R: Threads + Wait + Sync>(
 {
     let seats = lists.len() as u64;
     let (desk, mut seat) = Desk::new(alloc, book, seats)?;
-    let jobs = deal(alloc, &desk, &mut seat, lists)?;
+    let jobs = deal(alloc, &desk, &mut seat, lists, looks)?;
     let dones = run_jobs(rt, &desk, jobs)?;
     let ok = gather(&desk, &mut seat, dones);
     let book = desk.close(seat);
@@ -57,8 +62,10 @@ fn run_job<R: Wait>(rt: &R, desk: &Desk<Book>, job: Job) -> Done
         seat,
         stream,
         values,
+        looks,
     } = job;
     let (seat, ok) = serve_all(rt, desk, seat, stream, values.as_slice());
+    let seat = look_on(desk, seat, looks);
     Done { seat, ok }
 }
 
@@ -88,6 +95,7 @@ fn deal(
     desk: &Desk<Book>,
     seat: &mut Seat<Book>,
     lists: Vec<Vec<u64>>,
+    looks: u64,
 ) -> Result<Vec<Job>, AllocError>
     requires seat { IsSeatOf desk.now seat.old × (number_of seat.old ≡ None) × (made_of seat.old ≡ 0)
         × ((known seat.old).joined ≡ []) }
@@ -102,10 +110,12 @@ fn deal(
     let mut stream = 0;
     for values in lists {
         let seat = desk.split(seat);
+        let looks = if values.is_empty() { looks } else { 0 };
         jobs.push(Job {
             seat,
             stream,
             values,
+            looks,
         })?;
         stream += 1;
     }

@@ -14,9 +14,9 @@ close-book-requires-clause-all g c = let made : made_of c.gather-ok.new.seat ≡
 pub returns-then-ok-clause-each : goal.returns-then-ok-clause-each
 returns-then-ok-clause-each g c = each_done c.in_ok-desk.desk c.in_ok-jobs.jobs.items c.in_ok-dones.dones.items
     c.in_ok-dones.ensures.len c.in_ok-jobs.ensures.jobs c.in_ok-dones.ensures.each
-    c.close-book.result _ _ c.in_ok-jobs.ensures.values c.close-book.ensures.joined c.gather-ok.ensures.pairs
+    c.close-book.result _ _ c.in_ok-jobs.ensures.values c.close-book.ensures.state.joined c.gather-ok.ensures.pairs
     (c.gather-ok.ensures.ok c.if-ok.true)
 
 pub returns-then-ok-clause-others : goal.returns-then-ok-clause-others
 returns-then-ok-clause-others g c = let made : made_of c.gather-ok.new.seat ≡ length c.args.lists.items = search rules in
-    λ n le. (c.close-book.ensures.rest (search rules) n (omega arith)).entries
+    λ n le. (c.close-book.ensures.state.rest (search rules) n (omega arith)).entries
