@@ -39,6 +39,11 @@ pub record GivesNext (old new : Fed) (given : Next) : Type 0 where
   pub gives : given ≡ next_by old found
   pub leaves : new ≡ fed_after old found
 
+-- or that itself, which has the frame's header and how many bytes it takes
+pub record TakesNext (old new : Fed) (found : Decoded) : Type 0 where
+  pub decodes : Decodes old.left old.most found
+  pub leaves : new ≡ fed_after old found
+
 -- a whole frame within the limit stands before what is left then, and the place is counted on by its length
 pub record StandsFirst (old new : Fed) (f : Item) : Type 0 where
   pub head : IsHead f.head

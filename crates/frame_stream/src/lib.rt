@@ -8,6 +8,6 @@ mod reader;
 
 pub use asked::{Asked, of_frame};
 pub use frame::{CLOSE, ERROR, Frame, PING, READ, RESPONSE, WRITE};
-pub use frame_wire::Head;
+pub use frame_wire::{Decoded, Head};
 pub use reader::{FrameReader, Next};
 pub use volume_model::{Bytes, Call};

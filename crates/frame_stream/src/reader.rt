@@ -2,7 +2,7 @@ ghost use Rattle.std.specs.Prelude.{◌≡◌, ◌≤◌, ◌<◌, ◌↔◌, []
 ghost use Rattle.std.specs.Prelude.{slice_range, IsTrue, IfOk, OnOk, OnErr};
 ghost use Rattle.frame_wire.specs.Spelling.{header_length};
 ghost use Rattle.frame_wire.specs.Decoding.{Decodes};
-ghost use Rattle.frame_stream.specs.Reading.{GivesNext, fed_more, front_of, IsWithin};
+ghost use Rattle.frame_stream.specs.Reading.{GivesNext, TakesNext, fed_more, front_of, IsWithin};
 
 use crate::frame::Frame;
 use bytes::BytesMut;
@@ -90,6 +90,20 @@ impl FrameReader {
         Ok(Next::Frame(Frame { head, body }))
     }
 
+    /// The header of the next frame, and how many bytes the frame takes, or why none is there. A frame is then no longer
+    /// left. No view of its data is made.
+    pub fn next_head(&mut self) -> Result<Decoded, AllocError>
+        ensures next { IfOk result (TakesNext self.old self.new) }
+        ensures err { OnErr result (self.new ≡ self.old) }
+    {
+        let found = find(&mut self.held, &mut self.piece, self.most)?;
+        if let Decoded::Frame(_, count) = found {
+            pass(&mut self.held, &mut self.piece, count);
+            self.place = self.place.wrapping_add(count as u64);
+        }
+        Ok(found)
+    }
+
     /// Whether all that was fed is given.
     pub fn is_empty(&self) -> bool
         ensures { IsTrue result ↔ (self.now.left ≡ []) }
@@ -156,4 +170,16 @@ fn cut(held: &mut BytesMut, piece: &mut Bytes, used: usize) -> Result<Bytes, All
     let mut body = held.freeze_to(used)?;
     body.advance(HEADER_LENGTH);
     Ok(body)
+}
+
+/// Passes over so many bytes.
+fn pass(held: &mut BytesMut, piece: &mut Bytes, count: usize)
+    requires { count ≤ length (front_of held.old.items piece.old) }
+    ensures { held.new.items ++ piece.new ≡ drop count (held.old.items ++ piece.old) }
+{
+    if held.is_empty() {
+        piece.advance(count);
+    } else {
+        held.advance(count);
+    }
 }
