@@ -6,7 +6,7 @@ mod frame;
 pub mod laws;
 mod reader;
 
-pub use asked::{Asked, of_frame};
+pub use asked::{Asked, call_of, of_frame};
 pub use frame::{CLOSE, ERROR, Frame, PING, READ, RESPONSE, WRITE};
 pub use frame_wire::{Decoded, Head};
 pub use reader::{FrameReader, Next};

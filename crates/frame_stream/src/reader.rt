@@ -90,8 +90,8 @@ impl FrameReader {
         Ok(Next::Frame(Frame { head, body }))
     }
 
-    /// The header of the next frame, and how many bytes the frame takes, or why none is there. A frame is then no longer
-    /// left. No view of its data is made.
+    /// The header of the next frame, and how many bytes the frame takes, or why none is there. The frame is then no
+    /// longer left. No view of its data is made.
     pub fn next_head(&mut self) -> Result<Decoded, AllocError>
         ensures next { IfOk result (TakesNext self.old self.new) }
         ensures err { OnErr result (self.new ≡ self.old) }
@@ -127,8 +127,19 @@ fn find(held: &mut BytesMut, piece: &mut Bytes, most: u32) -> Result<Decoded, Al
     ensures same { held.new.items ++ piece.new ≡ held.old.items ++ piece.old }
 {
     if held.is_empty() {
-        return Ok(decode(piece.as_slice(), most));
+        // So most frames are found, with no piece's end in them.
+        Ok(decode(piece.as_slice(), most))
+    } else {
+        find_behind(held, piece, most)
     }
+}
+
+/// The same, where some bytes are held.
+fn find_behind(held: &mut BytesMut, piece: &mut Bytes, most: u32) -> Result<Decoded, AllocError>
+    ensures means { IfOk result (Decodes (held.old.items ++ piece.old) most) }
+    ensures within { IfOk result (IsWithin (front_of held.new.items piece.new)) }
+    ensures same { held.new.items ++ piece.new ≡ held.old.items ++ piece.old }
+{
     let mut found = decode(held.as_slice(), most);
     while found == Decoded::Short && !piece.is_empty() {
         let count = lacking(held.as_slice()).min(piece.len());

@@ -1,6 +1,6 @@
 use Rattle.std.proofs.Common.{◌≡◌, ◌++◌, length}
 use Rattle.frame_wire.specs.Decoding.{Decodes}
-use Rattle.frame_stream.proofs.reader.find.Given as goal
+use Rattle.frame_stream.proofs.reader.find_behind.Given as goal
 
 abbrev pub invariant-loop-piece : goal.invariant-loop-piece
 invariant-loop-piece l = record {

@@ -3,7 +3,7 @@ use Rattle.frame_wire.specs.declared.decoded.Decoded.TheVariants.{Short}
 use Rattle.frame_wire.specs.Decoding.{Decodes}
 use Rattle.std.proofs.lemmas.Grind.{common_steps}
 use Rattle.frame_stream.proofs.ReadingLemmas.{decodes_on}
-use Rattle.frame_stream.proofs.reader.find.Goals as goal
+use Rattle.frame_stream.proofs.reader.find_behind.Goals as goal
 
 pub returns-after-loop-piece-clause-means : goal.returns-after-loop-piece-clause-means
 returns-after-loop-piece-clause-means c =
