@@ -1,5 +1,5 @@
 -- Lemmas on specs/Kept.antt.
-use Rattle.std.proofs.Common.{◌≡◌, ◌∙◌, ℕ, ℤ, zero, suc, ◌-◌, ◌≤◌, List, [], ◌∷◌, ◌++◌, length, drop, refl, sym, ap, ap₂, subst, arith}
+use Rattle.std.proofs.Common.{◌≡◌, ◌∙◌, ℕ, ℤ, zero, suc, ◌-◌, ◌≤◌, List, [], ◌∷◌, ◌++◌, length, drop, map, refl, sym, ap, ap₂, subst, arith}
 use Rattle.std.proofs.Common.{append_assoc, length-append}
 use Rattle.std.specs.Int.{w64, cast_signed}
 use Rattle.std.specs.List.{All}
@@ -15,6 +15,7 @@ use Rattle.frame_stream.specs.Frames.{spelled, spellings, span, frame_under}
 use Rattle.frame_stream.specs.Frames.{IsCall, IsWholeFrame, BeginsWithFrame, HasNoFrame, BeginWithCalls}
 use Rattle.frame_stream.proofs.FramesLemmas.{data_of_frame, frame_and_rest}
 use Rattle.script_text.specs.Kept.{header_in, first_frame, behind_first, first_frames, HoldFrames}
+use Rattle.script_text.specs.Fed.{BeginsWithHead}
 use Rattle.script_text.proofs.FramesLemmas.{one_front}
 
 -- ---- a header
@@ -98,3 +99,12 @@ next_kept (suc n) bytes rest f some holds front =
       subst (HoldFrames n) first.1 holds.1,
       ap₂ (λ (g : Frame) (gs : List Frame). g ∷ gs) first.0 (ap (first_frames n) first.1),
     )
+
+-- and a header that they begin with is the first of their headers
+pub next_head_kept : (n : ℕ) (bytes rest : List ℕ) (h : Head) → (n ≡ 0 → ⊥) → HoldFrames n bytes → BeginsWithHead bytes h rest
+    → HoldFrames (n - 1) rest
+    × (map (λ (f : Frame). f.head) (first_frames n bytes) ≡ h ∷ map (λ (f : Frame). f.head) (first_frames (n - 1) rest))
+next_head_kept n bytes rest h some holds (f, is, front) =
+    let kept = next_kept n bytes rest f some holds front in
+    let others = map (λ (g : Frame). g.head) (first_frames (n - 1) rest) in
+    (kept.0, ap (map (λ (g : Frame). g.head)) kept.1 ∙ ap (λ (g : Head). g ∷ others) (sym is))

@@ -1,6 +1,6 @@
 -- Lemmas on specs/Streams.antt, for one stream.
 use Rattle.std.proofs.Common.{◌≡◌, ◌≢◌, ◌∙◌, ℕ, ◌+◌, ◌-◌, ◌<◌, ◌≤◌, Bool, cond, Option, Some, List, [], ◌∷◌, ◌++◌, length}
-use Rattle.std.proofs.Common.{refl, ap, subst, inl, inr, arith, length-append}
+use Rattle.std.proofs.Common.{refl, sym, ap, subst, inl, inr, arith, length-append}
 use Rattle.std.specs.Prelude.{IfSome}
 use Rattle.std.proofs.lemmas.Bool.{ne_eqb}
 use Rattle.std.proofs.lemmas.List.{length_push}
@@ -8,9 +8,11 @@ use Rattle.std.specs.List.{All}
 use Rattle.std.proofs.lemmas.List.Elements.{All-weaker}
 use Rattle.frame_stream.specs.declared.asked.Asked.TheVariants.{Call, End}
 use Rattle.frame_stream.specs.declared.frame.Frame.{Frame}
+use Rattle.frame_wire.specs.declared.head.Head.{Head}
 use Rattle.script_text.specs.declared.what.What.TheVariants as what
 use Rattle.frame_stream.specs.Frames.{spelled, spellings, IsClose, IsCall, BeginsWithFrame, HasNoFrame, BeginWithCalls}
 use Rattle.frame_stream.specs.Asked.{close_kind, asked_of, call_of}
+use Rattle.script_text.specs.Fed.{BeginsWithHead}
 use Rattle.script_text.specs.Streams.{IsNoStream}
 use Rattle.script_text.proofs.FramesLemmas.{one_call_more}
 
@@ -24,10 +26,17 @@ abbrev pub AreRead : ℕ → List ℕ → ℕ → List ℕ → Type 0
 AreRead room bytes count rest =
     (frames : List Frame) × BeginWithCalls bytes frames rest × (count ≡ length frames) × (length frames ≤ room)
 
--- the frame that stands first, where one does
-pub in_front : (rest more : List ℕ) (next : Option Frame) (f : Frame) → next ≡ Some f
-    → IfSome next (λ frame. BeginsWithFrame rest frame more) → BeginsWithFrame rest f more
-in_front rest more next f is front = subst (λ n. IfSome n (λ frame. BeginsWithFrame rest frame more)) is front
+-- the header that stands first, where one does
+pub in_front : (rest more : List ℕ) (next : Option Head) (h : Head) → next ≡ Some h
+    → IfSome next (λ head. BeginsWithHead rest head more) → BeginsWithHead rest h more
+in_front rest more next h is front = subst (λ n. IfSome n (λ head. BeginsWithHead rest head more)) is front
+
+-- its frame ends the stream where it says so, and only there
+pub closes : (h : Head) (f : Frame) → h ≡ f.head → h.kind ≡ close_kind → IsClose f
+closes h f is kind = sym (ap (λ (g : Head). g.kind) is) ∙ kind
+
+pub is_no_close : (h : Head) (f : Frame) → h ≡ f.head → (h.kind ≡ close_kind → ⊥) → IsClose f → ⊥
+is_no_close h f is other close = other (ap (λ (g : Head). g.kind) is ∙ close)
 
 -- one call more is read
 pub one_more_read : (room : ℕ) (bytes : List ℕ) (count : ℕ) (rest more : List ℕ) (f : Frame) → AreRead room bytes count rest

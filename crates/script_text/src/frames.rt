@@ -1,8 +1,8 @@
-ghost use Rattle.std.specs.Prelude.{◌≡◌, ◌∷◌, [], length, IfOk, IfSome, IfNone};
+ghost use Rattle.std.specs.Prelude.{◌≡◌, ◌∷◌, [], length, map, IfOk, IfSome, IfNone, OnErr};
 ghost use Rattle.script_text.specs.Kept.{first_frames, HoldFrames};
 
 use crate::fed_reader::FedReader;
-use frame_stream::{Bytes, Frame};
+use frame_stream::{Bytes, Frame, Head};
 use std::alloc::{AllocError, Global};
 use std::marker::Model;
 
@@ -77,8 +77,20 @@ impl FramesLeft {
         ensures some { IfOk result (λ next. IfSome next (λ frame. self.old ≡ frame ∷ self.new)) }
         ensures none { IfOk result (λ next. IfNone next (self.old ≡ [])) }
         ensures end { IfOk result (λ next. IfNone next (self.new ≡ [])) }
+        ensures err { OnErr result (self.new ≡ self.old) }
     {
         next_of(&mut self.count, &mut self.reader)
+    }
+
+    /// The header of the first of them, which is then no longer left.
+    pub(crate) fn next_head(&mut self) -> Result<Option<Head>, AllocError>
+        ensures some { IfOk result (λ next. IfSome next (λ head.
+            map (λ f. f.head) self.old ≡ head ∷ map (λ f. f.head) self.new)) }
+        ensures none { IfOk result (λ next. IfNone next (self.old ≡ [])) }
+        ensures end { IfOk result (λ next. IfNone next (self.new ≡ [])) }
+        ensures err { OnErr result (self.new ≡ self.old) }
+    {
+        next_head_of(&mut self.count, &mut self.reader)
     }
 }
 
@@ -90,6 +102,7 @@ fn next_of(count: &mut usize, reader: &mut FedReader) -> Result<Option<Frame>, A
         first_frames count.old reader.old ≡ frame ∷ first_frames count.new reader.new)) }
     ensures none { IfOk result (λ next. IfNone next (count.old ≡ 0)) }
     ensures end { IfOk result (λ next. IfNone next (count.new ≡ 0)) }
+    ensures err { OnErr result ((count.new ≡ count.old) × (reader.new ≡ reader.old)) }
 {
     if *count == 0 {
         return Ok(None);
@@ -99,6 +112,29 @@ fn next_of(count: &mut usize, reader: &mut FedReader) -> Result<Option<Frame>, A
         Some(frame) => {
             *count -= 1;
             Ok(Some(frame))
+        }
+    }
+}
+
+/// The header of the first of so many frames that are left to a reader, which is then gone.
+fn next_head_of(count: &mut usize, reader: &mut FedReader) -> Result<Option<Head>, AllocError>
+    requires { HoldFrames count.old reader.old }
+    ensures hold { HoldFrames count.new reader.new }
+    ensures some { IfOk result (λ next. IfSome next (λ head.
+        map (λ f. f.head) (first_frames count.old reader.old)
+        ≡ head ∷ map (λ f. f.head) (first_frames count.new reader.new))) }
+    ensures none { IfOk result (λ next. IfNone next (count.old ≡ 0)) }
+    ensures end { IfOk result (λ next. IfNone next (count.new ≡ 0)) }
+    ensures err { OnErr result ((count.new ≡ count.old) × (reader.new ≡ reader.old)) }
+{
+    if *count == 0 {
+        return Ok(None);
+    }
+    match reader.next_head()? {
+        None => Ok(None),
+        Some(head) => {
+            *count -= 1;
+            Ok(Some(head))
         }
     }
 }

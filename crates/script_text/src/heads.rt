@@ -1,4 +1,4 @@
-ghost use Rattle.std.specs.Prelude.{◌≡◌, ◌∷◌, ◌↔◌, [], map, IsTrue, IfOk, IfSome, IfNone};
+ghost use Rattle.std.specs.Prelude.{◌≡◌, ◌∷◌, ◌↔◌, [], map, IsTrue, IfOk, IfSome, IfNone, OnErr};
 
 use crate::frames::{Frames, FramesLeft};
 use frame_stream::Bytes;
@@ -75,10 +75,8 @@ impl HeadsLeft {
         ensures some { IfOk result (λ next. IfSome next (λ head. self.old ≡ head ∷ self.new)) }
         ensures none { IfOk result (λ next. IfNone next (self.old ≡ [])) }
         ensures end { IfOk result (λ next. IfNone next (self.new ≡ [])) }
+        ensures err { OnErr result (self.new ≡ self.old) }
     {
-        match self.frames.next()? {
-            Some(frame) => Ok(Some(frame.head)),
-            None => Ok(None),
-        }
+        self.frames.next_head()
     }
 }

@@ -24,8 +24,8 @@ pub(crate) fn read_stream(
     let mut count = 0;
     while left.len() > 0 {
         let at = end - left.len() as u64;
-        let frame = match left.next()? {
-            Some(frame) => frame,
+        let head = match left.next_head()? {
+            Some(head) => head,
             None => {
                 return Err(ScriptError::Bad {
                     place: at,
@@ -33,7 +33,7 @@ pub(crate) fn read_stream(
                 });
             }
         };
-        if frame.head.kind == CLOSE {
+        if head.kind == CLOSE {
             if left.len() == 0 {
                 break;
             }

@@ -5,9 +5,9 @@ use Rattle.script_text.proofs.fed_reader.next_of.Given as goal
 -- the reader has more of the same bytes each time
 abbrev pub invariant-loop-frame : goal.invariant-loop-frame
 invariant-loop-frame l = record {
-  fed : IsFed l.reader l.count l.bytes;
-  same : l.bytes ≡ l.fn.bytes;
+  fed : IsFed l.reader l.end l.bytes;
+  same : l.reader.place ≡ l.fn.reader.place;
 }
 
 abbrev pub decreases-loop-frame : goal.decreases-loop-frame
-decreases-loop-frame l = length l.bytes - l.count
+decreases-loop-frame l = length l.bytes - l.end
