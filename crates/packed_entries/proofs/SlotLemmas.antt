@@ -1,13 +1,14 @@
 -- Slots keep their entries when others come.
-use Rattle.std.proofs.Common.{◌≡◌, ℕ, ◌^◌, ◌<◌, List, [], ◌∷◌, ◌++◌, length, get_or, refl, sym, ap, subst, ◌∙◌, arith}
+use Rattle.std.proofs.Common.{◌≡◌, ℕ, ◌^◌, ◌<◌, List, [], ◌∷◌, ◌++◌, length, get_or, Option, Some, None, refl, sym, ap, ap₂, subst, ◌∙◌, arith}
 use Rattle.std.proofs.Common.{append-nil, length-append}
 use Rattle.std.specs.List.{AllByRecursion}
+use Rattle.std.specs.Prelude.{MatchOption}
 use Rattle.std.proofs.Math.ListN.{get_or-append}
 use Rattle.std.proofs.Math.Seq.{get_or-append_seam}
 use Rattle.segment_list.specs.Listed.{Listed}
 use Rattle.packed_bytes.specs.declared.list.Place.{Place}
-use Rattle.packed_bytes.specs.Packed.{packed}
-use Rattle.packed_bytes.specs.Place.{IsPlace, IsPut, list_at, place_of}
+use Rattle.packed_bytes.specs.Packed.{packed, is_shorter}
+use Rattle.packed_bytes.specs.Place.{IsPlace, IsPut, IsLeft, list_at, place_of}
 use Rattle.packed_bytes.proofs.PlaceLemmas.{place_put, place_stays}
 use Rattle.volume_model.specs.declared.entry.Entry.{Entry}
 use Rattle.volume_model.specs.declared.entry.Entry.TheVariants as entry
@@ -16,7 +17,7 @@ use Rattle.packed_entries.specs.declared.slot.Slot.{Slot}
 use Rattle.packed_entries.specs.declared.slot.Slot.TheVariants as slot
 use Rattle.packed_entries.specs.declared.plain.Plain.{Plain}
 use Rattle.packed_entries.specs.Plain.{data_of, entry_with, IsPlainOf}
-use Rattle.packed_entries.specs.Slots.{entry_of, entries_in, IsSlot, IsKeptAt, IsKept}
+use Rattle.packed_entries.specs.Slots.{entry_of, entries_in, IsSlot, IsKeptPlain, IsKept}
 
 slot_stays : (store more : List ℕ) (rares extra : List Entry) (s : Slot) → IsSlot store rares s
     → IsSlot (store ++ more) (rares ++ extra) s × (entry_of (store ++ more) (rares ++ extra) s ≡ entry_of store rares s)
@@ -43,18 +44,7 @@ slots-push store more rares extra (t ∷ ss) s e all is kept =
       ap (λ x. x ∷ entries_in (store ++ more) (rares ++ extra) (ss ++ s ∷ [])) first.1 ∙ ap (λ l. entry_of store rares t ∷ l) rest.1,
     )
 
--- an entry of which most is kept, and one that is kept as it is
-pub kept_plain : (rares : List Entry) (e : Entry) (at : Place) (p : Plain) → IsPlainOf e at p
-    → IsKeptAt rares rares e at (slot.Plain p)
-kept_plain rares e at p plain = record {
-  extra = [];
-  rares = sym (append-nil rares);
-  slot = λ store there list. (
-    subst (IsPlace store) (sym plain.place) there,
-    plain.is (list_at store p.place) (ap (list_at store) plain.place ∙ list),
-  );
-}
-
+-- an entry that is kept as it is
 kept_last : (rares new : List Entry) (e : Entry) (i : ℕ) → i ≡ length rares → new ≡ rares ++ e ∷ []
     → (i < length new) × (get_or new i (entry.Mark (mark.Failed 0)) ≡ e)
 kept_last rares new e i is pushed =
@@ -62,12 +52,6 @@ kept_last rares new e i is pushed =
       omega (arith, is, ap length pushed, length-append rares (e ∷ [])),
       ap (λ l. get_or l i other) pushed ∙ ap (λ n. get_or (rares ++ e ∷ []) n other) is ∙ get_or-append_seam rares e [] other,
     )
-
-pub kept_whole_at : (rares new : List Entry) (e : Entry) (at : Place) (s : Slot) → s ≡ slot.Rare (length rares)
-    → new ≡ rares ++ e ∷ [] → IsKeptAt rares new e at s
-kept_whole_at rares new e at s is pushed =
-    let last = kept_last rares new e (length rares) refl pushed in
-    subst (IsKeptAt rares new e at) (sym is) (record { extra = e ∷ []; rares = pushed; slot = λ store there list. last })
 
 pub kept_whole : (store store2 : List ℕ) (rares new : List Entry) (e : Entry) (s : Slot) → store2 ≡ store
     → s ≡ slot.Rare (length rares) → new ≡ rares ++ e ∷ [] → IsKept store store2 rares new e s
@@ -82,19 +66,50 @@ kept_whole store store2 rares new e s same is pushed =
       entry = last.1;
     })
 
--- an entry whose list was put
-pub kept_put : (old new : Listed ℕ) (rares rares2 : List Entry) (e : Entry) (at : Place) (s : Slot)
-    → length (data_of e) < 2 ^ 32 → IsPut old new (data_of e) at → IsKeptAt rares rares2 e at s
-    → IsKept old.items new.items rares rares2 e s
-kept_put old new rares rares2 e at s short put kept =
+-- an entry of which most is kept, whose list was put
+pub kept_plain : (old new : Listed ℕ) (rares : List Entry) (e : Entry) (p : Plain) → length (data_of e) < 2 ^ 32
+    → IsKeptPlain old new e p → IsKept old.items new.items rares rares e (slot.Plain p)
+kept_plain old new rares e p short kept =
     let list = data_of e in
+    let put = kept.put in
     let there = place_put old.items list short in
-    let place : IsPlace new.items at = subst (IsPlace new.items) (sym put.place)
+    let place : IsPlace new.items p.place = subst (IsPlace new.items) (sym put.place)
     (subst (λ l. IsPlace l (place_of old.items list)) (sym put.items) there.0) in
-    let read : list_at new.items at ≡ list =
+    let read : list_at new.items p.place ≡ list =
     ap (list_at new.items) put.place ∙ ap (λ l. list_at l (place_of old.items list)) put.items ∙ there.1 in
-    let slot = kept.slot new.items place read in
-    record { more = packed list; stored = put.items; extra = kept.extra; kept = kept.rares; slot = slot.0; entry = slot.1 }
+    record {
+      more = packed list;
+      stored = put.items;
+      extra = [];
+      kept = sym (append-nil rares);
+      slot = place;
+      entry = kept.plain.is (list_at new.items p.place) read;
+    }
+
+-- no list is put where it stands
+same_listed : (old new : Listed ℕ) → new.items ≡ old.items → new.room ≡ old.room → new ≡ old
+same_listed old new items room = ap₂ (λ (l : List ℕ) (n : ℕ). listed_of l n) items room
+  where
+    listed_of : List ℕ → ℕ → Listed ℕ
+    listed_of l n = record { items = l; room = n }
+
+left_empty : (old new : Listed ℕ) (list : List ℕ) (at : Place) → list ≡ [] → IsPut old new list at → IsLeft old new list
+left_empty old new list at none put =
+    let nothing : packed list ≡ [] = ap packed none in record {
+      plain = ap is_shorter none;
+      same = same_listed old new (put.items ∙ ap (λ l. old.items ++ l) nothing ∙ append-nil old.items)
+          (omega (arith, put.room, ap length nothing));
+    }
+
+-- what is kept of an entry whose list was put
+pub kept_by : (old new : Listed ℕ) (e : Entry) (at : Place) (found : Option Plain) → IsPut old new (data_of e) at
+    → MatchOption found (data_of e ≡ []) (IsPlainOf e at)
+    → MatchOption found (IsLeft old new (data_of e)) (IsKeptPlain old new e)
+kept_by old new e at None put none = left_empty old new (data_of e) at none put
+kept_by old new e at (Some p) put plain = record {
+  put = subst (IsPut old new (data_of e)) (sym plain.place) put;
+  plain = subst (λ a. IsPlainOf e a p) (sym plain.place) plain;
+}
 
 -- an entry more is kept
 pub entries-push : (store store2 : List ℕ) (rares rares2 : List Entry) (ss ss2 : List Slot) (s : Slot) (e : Entry)

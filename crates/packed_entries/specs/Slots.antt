@@ -1,15 +1,16 @@
 -- The entries that slots keep, of which some stand among the rare ones as they are.
 use Rattle.std.specs.Prelude.{◌≡◌, ℕ, ◌<◌, ◌≤◌, ◌^◌, List, ◌++◌, length, map}
 use Rattle.std.specs.List.{AllByRecursion, slice_index_or}
-use Rattle.packed_bytes.specs.declared.list.Place.{Place}
-use Rattle.packed_bytes.specs.Place.{IsPlace, list_at}
+use Rattle.segment_list.specs.Listed.{Listed}
+use Rattle.packed_bytes.specs.Place.{IsPlace, IsPut}
 use Rattle.volume_model.specs.declared.entry.Entry.{Entry}
 use Rattle.volume_model.specs.declared.entry.Entry.TheVariants as entry
 use Rattle.volume_model.specs.declared.mark.Mark.TheVariants as mark
+use Rattle.packed_entries.specs.declared.plain.Plain.{Plain}
 use Rattle.packed_entries.specs.declared.slot.Slot.{Slot}
 use Rattle.packed_entries.specs.declared.slot.Slot.TheVariants as slot
 use Rattle.packed_entries.specs.declared.entries.PackedEntries.TheInside.{Inside}
-use Rattle.packed_entries.specs.Plain.{data_of, plain_entry}
+use Rattle.packed_entries.specs.Plain.{data_of, plain_entry, IsPlainOf}
 
 -- the entry that a slot keeps; none is read past the rare ones
 abbrev pub entry_of : List ℕ → List Entry → Slot → Entry
@@ -24,12 +25,10 @@ abbrev pub IsSlot : List ℕ → List Entry → Slot → Type 0
 IsSlot store rares (slot.Plain p) = IsPlace store p.place
 IsSlot store rares (slot.Rare i) = i < length rares
 
--- it keeps that entry, wherever the entry's list stands at that place
-pub record IsKeptAt (old new : List Entry) (e : Entry) (at : Place) (s : Slot) : Type 0 where
-  pub extra : List Entry
-  pub rares : new ≡ old ++ extra
-  pub slot : (store : List ℕ) → IsPlace store at → list_at store at ≡ data_of e
-      → IsSlot store new s × (entry_of store new s ≡ e)
+-- the list of an entry was put, and with it this is the entry
+pub record IsKeptPlain (old new : Listed ℕ) (e : Entry) (p : Plain) : Type 0 where
+  pub put : IsPut old new (data_of e) p.place
+  pub plain : IsPlainOf e p.place p
 
 -- it keeps that entry, and what stood there before stays
 pub record IsKept (store store2 : List ℕ) (rares rares2 : List Entry) (e : Entry) (s : Slot) : Type 0 where

@@ -1,9 +1,10 @@
-ghost use Rattle.std.specs.Prelude.{◌≡◌, ◌+◌, ◌<◌, ◌≤◌, ◌^◌, ◌++◌, ◌∷◌, [], length, max, slice_get, Some, OnOk, OnErr};
+ghost use Rattle.std.specs.Prelude.{◌≡◌, ◌+◌, ◌<◌, ◌≤◌, ◌^◌, ◌++◌, ◌∷◌, [], length, max, true, false, slice_get, Some, OnOk, OnErr};
 ghost use Rattle.packed_bytes.specs.Packed.{packed};
+ghost use Rattle.packed_entries.specs.Listed.{HasPushed};
 ghost use Rattle.packed_entries.specs.Plain.{data_of};
 ghost use Rattle.packed_entries.specs.View.{entry_seen};
 
-use crate::slot::{Slot, keep};
+use crate::slot::{Slot, keep, keep_plain};
 use crate::view::{EntryView, seen_plain, seen_whole};
 use packed_bytes::Data;
 use segment_list::Segments;
@@ -127,7 +128,9 @@ impl PackedEntries {
         self.slots.len() as u64
     }
 
-    /// Puts an entry at the end, in a place that was made before. It takes no memory.
+    /// Puts an entry at the end, in a place that was made before. It takes no memory. Those that `push_plain` leaves are
+    /// few.
+    #[inline(never)]
     pub fn push(&mut self, entry: Entry)
         requires spare { 0 < self.old.spare }
         requires spare_data { length (data_of entry) ≤ self.old.spare_data }
@@ -139,6 +142,23 @@ impl PackedEntries {
         self.slots.push(slot);
         self.spare -= 1;
         self.spare_data -= u64::from(taken);
+    }
+
+    /// Puts an answer of which most is kept at the end, in a place that was made before. Of another entry it does nothing,
+    /// and says no: that one is to be moved. It takes no memory.
+    pub fn push_plain(&mut self, entry: &Entry) -> bool
+        requires spare { 0 < self.old.spare }
+        requires spare_data { length (data_of entry.now) ≤ self.old.spare_data }
+        ensures pushed { result ≡ true → HasPushed self.old self.new entry.now }
+        ensures same { result ≡ false → self.new ≡ self.old }
+    {
+        let Some(plain) = keep_plain(&mut self.store, entry) else {
+            return false;
+        };
+        self.slots.push(Slot::Plain(plain));
+        self.spare -= 1;
+        self.spare_data -= u64::from(plain.place.taken);
+        true
     }
 
     /// The entry at a place.

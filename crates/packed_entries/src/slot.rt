@@ -2,7 +2,7 @@ ghost use Rattle.std.specs.Prelude.{◌≡◌, ◌+◌, ◌<◌, ◌≤◌, ◌^
 ghost use Rattle.packed_bytes.specs.Packed.{packed};
 ghost use Rattle.packed_bytes.specs.Place.{IsPut, IsLeft};
 ghost use Rattle.packed_entries.specs.Plain.{data_of};
-ghost use Rattle.packed_entries.specs.Slots.{IsKept, IsKeptAt};
+ghost use Rattle.packed_entries.specs.Slots.{IsKept, IsKeptPlain};
 
 use crate::plain::{Plain, data_of, plain_of};
 use packed_bytes::{Data, Place, put_plain, put_shorter};
@@ -32,13 +32,25 @@ pub(crate) fn keep(store: &mut Data, rares: &mut Segments<Entry, 256>, entry: En
     ensures room { store.old.room ≤ store.new.room + result.1 }
     ensures places { rares.old.room ≤ rares.new.room + 1 }
 {
-    match put_list(store, &entry) {
-        Some(place) => (keep_at(rares, entry, place), place.taken),
+    match keep_plain(store, &entry) {
+        Some(plain) => (Slot::Plain(plain), plain.place.taken),
         None => {
             let taken = data_of(&entry).len() as u32;
             (keep_whole(rares, entry), taken)
         }
     }
+}
+
+/// Puts the list of an answer of which most is kept, and gives what is kept of it. Of another entry, and of one whose
+/// list is not put, nothing is.
+pub(crate) fn keep_plain(store: &mut Data, entry: &Entry) -> Option<Plain>
+    requires short { length (data_of entry.now) < 2 ^ 32 }
+    requires room { length (data_of entry.now) ≤ store.old.room }
+    ensures { MatchOption result (IsLeft store.old store.new (data_of entry.now))
+        (IsKeptPlain store.old store.new entry.now) }
+{
+    let place = put_list(store, entry)?;
+    plain_of(entry, place)
 }
 
 /// Puts the list of an entry, unless it is a write's whose runs are not shorter: its bytes are shared with its stream.
@@ -61,18 +73,6 @@ fn put_list(store: &mut Data, entry: &Entry) -> Option<Place>
             },
         ) if list.len() > MOST_COPIED => None,
         _ => Some(put_plain(store, list)),
-    }
-}
-
-/// Keeps an entry whose list stands there.
-fn keep_at(rares: &mut Segments<Entry, 256>, entry: Entry, place: Place) -> Slot
-    requires { 0 < rares.old.room }
-    ensures kept { IsKeptAt rares.old.items rares.new.items entry place result }
-    ensures room { rares.old.room ≤ rares.new.room + 1 }
-{
-    match plain_of(&entry, place) {
-        Some(plain) => Slot::Plain(plain),
-        None => keep_whole(rares, entry),
     }
 }
 
