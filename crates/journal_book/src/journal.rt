@@ -136,6 +136,10 @@ impl Journal {
         self.layers = layers_after(self.layers, &entry);
         follow_names(&mut self.names, &entry);
         follow_faults(&mut self.lines, &entry);
+        // Most are answers that are kept without being moved.
+        if self.entries.push_plain(&entry) {
+            return;
+        }
         self.entries.push(entry);
     }
 
