@@ -24,6 +24,7 @@ pub fn of_frame(frame: Frame) -> Asked
 }
 
 /// The call that a frame is, of a frame that is no Close. The data of a read and the size of a write say nothing.
+#[inline]
 pub fn call_of(frame: Frame) -> Call
     ensures { result ≡ call_of frame }
 {

@@ -121,20 +121,21 @@ impl FrameReader {
 
 /// What the bytes held and the piece behind them decode to. Bytes of the piece go behind those that are held, as many
 /// as their frame lacks.
+#[inline]
 fn find(held: &mut BytesMut, piece: &mut Bytes, most: u32) -> Result<Decoded, AllocError>
     ensures means { IfOk result (Decodes (held.old.items ++ piece.old) most) }
     ensures within { IfOk result (IsWithin (front_of held.new.items piece.new)) }
     ensures same { held.new.items ++ piece.new ≡ held.old.items ++ piece.old }
 {
     if held.is_empty() {
-        // So most frames are found, with no piece's end in them.
         Ok(decode(piece.as_slice(), most))
     } else {
         find_behind(held, piece, most)
     }
 }
 
-/// The same, where some bytes are held.
+/// The same, where some bytes are held. Few frames lie over the end of a piece.
+#[inline(never)]
 fn find_behind(held: &mut BytesMut, piece: &mut Bytes, most: u32) -> Result<Decoded, AllocError>
     ensures means { IfOk result (Decodes (held.old.items ++ piece.old) most) }
     ensures within { IfOk result (IsWithin (front_of held.new.items piece.new)) }
