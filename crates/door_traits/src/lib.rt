@@ -1,0 +1,12 @@
+//! Where sessions come from: doors that are opened at an address, let one session after another in, and take each back
+//! when it has ended. How all sessions of a run are let in first, and are taken back.
+#![tactic(auto)]
+
+mod doors;
+mod session;
+mod sessions;
+
+pub use doors::Doors;
+pub use outer_traits::{Failed, Outer, OuterError, Sink, Source};
+pub use session::Session;
+pub use sessions::{accept_all, take_back_all};
