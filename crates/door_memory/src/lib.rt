@@ -1,0 +1,12 @@
+//! Doors in memory, for tests: they let in who was expected, fail at the calls that they were told, and keep each session
+//! that was taken back.
+#![tactic(auto)]
+
+mod door_source;
+mod mem_doors;
+mod taken_back;
+mod visitor;
+
+pub use door_source::DoorSource;
+pub use mem_doors::MemDoors;
+pub use visitor::Visitor;
