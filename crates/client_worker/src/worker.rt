@@ -1,8 +1,7 @@
 //! The worker of a stream, as a value.
 
 ghost use Rattle.std.specs.Prelude.{◌≡◌, map, All, OnOk, OnErr};
-ghost use Rattle.frame_stream.specs.Asked.{asked_of, call_of};
-ghost use Rattle.frame_stream.specs.declared.asked.Asked.TheVariants as asked;
+ghost use Rattle.frame_stream.specs.Asked.{call_of};
 ghost use Rattle.stream_steps.specs.Steps.{IsFrameCall};
 ghost use Rattle.client_worker.specs.Asks.{IsAsked, IsShort};
 ghost use Rattle.client_worker.specs.Serving.{GrewBy, Grew, GrewSome};
@@ -11,7 +10,7 @@ ghost use Rattle.client_worker.specs.Working.{IsIdle, Stays};
 use crate::carrier::Carrier;
 use crate::channel::Channel;
 use crate::rooms::Rooms;
-use frame_stream::{Asked, Frame, of_frame};
+use frame_stream::call_of;
 use outer_traits::Line;
 use script_text::Frames;
 use std::alloc::{AllocError, Global};
@@ -77,7 +76,7 @@ impl<C: ClientSteps + Drop, L: Line + Drop> Worker<C, L> {
         let _ = &self.carrier;
         let mut left = frames.left(alloc)?;
         while let Some(frame) = left.next()? {
-            self.serve_call(rt, alloc, call_in(frame))?;
+            self.serve_call(rt, alloc, call_of(frame))?;
         }
         Ok(())
     }
@@ -96,16 +95,5 @@ impl<C: ClientSteps + Drop, L: Line + Drop> Worker<C, L> {
         ensures err { OnErr result (C.mine self.new.steps ≡ C.mine self.old.steps) }
     {
         self.carrier.serve_one(rt, alloc, call, &mut self.rooms)
-    }
-}
-
-/// The call that a frame is.
-fn call_in(frame: Frame) -> Call
-    requires { asked_of frame ≡ asked.Call (call_of frame) }
-    ensures { result ≡ call_of frame }
-{
-    match of_frame(frame) {
-        Asked::Call(call) => call,
-        Asked::End => unreachable!(),
     }
 }

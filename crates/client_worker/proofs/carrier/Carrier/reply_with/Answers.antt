@@ -1,7 +1,7 @@
 use Rattle.std.proofs.Common.{◌≡◌, map, ap, sym, subst, ◌∙◌}
 use Rattle.stream_steps.specs.Mine.{IsOwn}
 use Rattle.client_worker.specs.Asking.{TellsFrame, WasAsked}
-use Rattle.client_worker.specs.Working.{Work}
+use Rattle.client_worker.specs.Working.{Work, told_by}
 use Rattle.client_worker.proofs.Acked.{shown_acked, replicas_acked, asked_acked}
 use Rattle.client_worker.proofs.carrier.Carrier.reply_with.Given.{Over}
 use Rattle.client_worker.proofs.carrier.Carrier.reply_with.Goals.{After-after}
@@ -23,16 +23,17 @@ invariant_of-self g c =
     let modes = g.C.ClientSteps.modes step.new.self in
     let before = g.C.ClientSteps.mine c.self.inside.steps in
     let after = g.C.ClientSteps.mine step.new.self in
-    let told = subst (λ (w : Work g.row.C.Denot g.row.L.Denot). TellsFrame (map (λ x. g.L.Line.carried x.line) c.args.self.now.channels)
-    (map (λ x. g.L.Line.carried x.line) w.channels) c.args.replica c.args.reply.now) (sym c.self.view_is) c.in_default.ensures.came.carried in
+    let before_told = told_by g.L.Line.carried c.args.self.now in
+    let told = subst (λ (w : Work g.row.C.Denot g.row.L.Denot).
+    TellsFrame before_told (told_by g.L.Line.carried w) c.args.replica c.args.reply.now) (sym c.self.view_is)
+    c.in_default.ensures.came.carried in
     record {
       ready = step.ensures.stands.ready;
       few = has.few;
       lines = has.lines ∙ sym (replicas_acked c.args.t c.args.replica modes op.0 before after (still_own g c) step.result.answer
           step.ensures.does.ok step.ensures.does.err);
       shown = shown_acked c.args.t c.args.replica modes op.0 before after (still_own g c)
-          (map (λ x. g.L.Line.count x.line) c.self.inside.channels.items)
-          (map (λ x. g.L.Line.carried x.line) c.args.self.now.channels)
+          (map (λ x. g.L.Line.count x.line) c.self.inside.channels.items) before_told
           (map (λ x. g.L.Line.carried x.line) c.self.inside.channels.items) c.args.reply.now op.4 told op.2.0 has.shown
           step.result.answer step.ensures.does.ok step.ensures.does.err;
     }

@@ -20,16 +20,10 @@ loop-left-init g c =
       done = ([], same, grew_none (g.C.ClientSteps.mine c.args.self.now.steps) idle);
     }
 
-pub call_in-requires : goal.call_in-requires
-call_in-requires g c =
-    let cut : c.loop-left.left ≡ c.in-Some.frame ∷ c.next.new.self = search rules in
-    (All-head IsAsked c.in-Some.frame c.next.new.self
-    (All-same IsAsked (c.in-Some.frame ∷ c.next.new.self) c.loop-left.left (sym cut) c.loop-left.invariant.asked)).call
-
 pub serve_call-requires-clause-short : goal.serve_call-requires-clause-short
 serve_call-requires-clause-short g c =
     let cut : c.loop-left.left ≡ c.in-Some.frame ∷ c.next.new.self = search rules in
-    subst IsShort (sym c.call_in.ensures)
+    subst IsShort (sym c.call_of.ensures)
     (asked_short c.in-Some.frame
     (All-head IsAsked c.in-Some.frame c.next.new.self
     (All-same IsAsked (c.in-Some.frame ∷ c.next.new.self) c.loop-left.left (sym cut) c.loop-left.invariant.asked)))
@@ -41,7 +35,7 @@ loop-left-preserved g c =
     let cut : c.loop-left.left ≡ c.in-Some.frame ∷ c.next.new.self = search rules in
     let d = c.loop-left.invariant.done in
     let grew : GrewBy (call_of c.in-Some.frame) mine_left mine_serve_call =
-    subst (λ x. GrewBy x mine_left mine_serve_call) c.call_in.ensures c.in_ok-serve_call.ensures.ok in
+    subst (λ x. GrewBy x mine_left mine_serve_call) c.call_of.ensures c.in_ok-serve_call.ensures.ok in
     record {
       stays = stays_then c.args.self.now c.loop-left.self c.serve_call.new.self
           c.loop-left.invariant.stays c.in_ok-serve_call.ensures.stays;
