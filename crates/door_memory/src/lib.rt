@@ -4,9 +4,11 @@
 
 mod door_source;
 mod mem_doors;
+mod no_fault_doors;
 mod taken_back;
 mod visitor;
 
 pub use door_source::DoorSource;
 pub use mem_doors::MemDoors;
+pub use no_fault_doors::NoFaultDoors;
 pub use visitor::Visitor;
