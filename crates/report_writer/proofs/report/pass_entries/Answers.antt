@@ -37,7 +37,8 @@ returns-in_err-pass_entry-clause-prefix g c =
     let e = entry_seen c.entry-entry.result in
     let rest = journal_lines (place + 1) (drop (place + 1) entries) in
     let inside : place < length entries = omega (arith, c.len-place-end.ensures) in
-    let t = next_line i.0 (journal_lines 0 entries) place entries e inside (get_or_from_slice_get entries place e e c.entry-entry.ensures) i.2 in
+    let here = get_or_from_slice_get entries place e e c.entry-entry.ensures in
+    let t = next_line i.0 (journal_lines 0 entries) place entries e inside here i.2 in
     let whole : (c.args.buffer.now.items ++ (i.0 ++ entry_line place e)) ++ rest ≡ c.args.buffer.now.items ++ journal_lines 0 entries =
     append_assoc c.args.buffer.now.items (i.0 ++ entry_line place e) rest ∙ ap (λ l. c.args.buffer.now.items ++ l) t in
     let prefix = WritesPrefix-after _ _ _ c.args.buffer.now.items _ i.0 (entry_line place e) i.1 c.in_err-pass_entry.ensures.prefix in
