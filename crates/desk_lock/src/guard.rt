@@ -7,8 +7,9 @@ use crate::seats::{Desk, Seat};
 
 /// The state, in the hands of one seat's holder for one step. It is not `Drop`: `leave` ends it.
 pub struct Guard<'d, 's, S: Kept> {
-    pub seat: &'s mut Seat<S>,
+    // First, where it is aligned as it is moved: behind the seat a turn took one or two nanoseconds more.
     pub state: S,
+    pub seat: &'s mut Seat<S>,
     pub desk: &'d Desk<S>,
 }
 
@@ -17,7 +18,7 @@ impl<'d, 's, S: Kept> Guard<'d, 's, S> {
     pub fn leave(self)
         requires turn { HasState self.desk.now self.seat.now }
         requires may { MayLeave S.account (number_of self.seat.now) (last_of self.seat.now) self.state }
-        ensures { HasLeft self.entry.seat.now self.entry.state self.exit.0.now }
+        ensures { HasLeft self.entry.seat.now self.entry.state self.exit.1.0.now }
     {
         let Guard { seat, state, desk } = self;
         put_in(desk, seat, state);
