@@ -4,8 +4,9 @@
 Times turns at a desk, by the built program of the crate `desk_trial`, and beside it the same work in C under a mutex of the C
 library, and under a lock of tickets that waits as the desk does. Each call is two turns: in the first it is begun, in the second
 it is noted. One thread alone, two that want it all the time, and sixteen. Nanoseconds of the clock for each turn, of all turns of
-a run together; by turns, medians with the least and the greatest. Then sixteen threads make a thousand calls each, a hundred
-times. The C program is compiled by `cc`.
+a run together; by turns, medians with the least and the greatest. Beside them looks at how long the journal is: while a thread
+has the state, and while none has. Then sixteen threads make a thousand calls each, a hundred times. The C program is compiled
+by `cc`.
 """
 import os
 import statistics
@@ -16,6 +17,9 @@ import time
 
 # How many calls each of so many threads makes.
 CALLS = {1: 4_000_000, 2: 2_000_000, 16: 200_000}
+
+# How many looks one thread takes.
+LOOKS = 200_000_000
 
 LOCKS = r'''
 #define _GNU_SOURCE
@@ -101,6 +105,15 @@ def turn(words, threads):
     return seconds(words, threads, CALLS[threads]) * 1e9 / (threads * CALLS[threads] * 2)
 
 
+def look(program, beside):
+    """The nanoseconds of a look beside a thread that has the state, or waits."""
+    start = time.perf_counter()
+    told = subprocess.run([program, beside, str(LOOKS)], stdout=subprocess.PIPE, check=True).stdout
+    taken = time.perf_counter() - start
+    assert told == b'%d looks\n' % LOOKS, told
+    return taken * 1e9 / LOOKS
+
+
 def told(times):
     return '%6.0f (%.0f to %.0f)' % (statistics.median(times), min(times), max(times))
 
@@ -117,6 +130,12 @@ def main():
                     taken[name].append(turn(words, threads))
             for name in forms:
                 print('%2d threads, %-12s ns a turn %s' % (threads, name, told(taken[name])))
+    looks = {'hold': [], 'wait': []}
+    for _ in range(repeats):
+        for beside in looks:
+            looks[beside].append(look(program, beside))
+    for beside, times in looks.items():
+        print('a look beside a thread that %ss: ns %.2f (%.2f to %.2f)' % (beside, statistics.median(times), min(times), max(times)))
     start = time.perf_counter()
     for _ in range(100):
         seconds([program], 16, 1000)
