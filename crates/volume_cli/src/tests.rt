@@ -1,6 +1,7 @@
 mod backups;
 mod calls;
 mod each;
+mod fails_once;
 mod falls;
 mod faults;
 mod folders;

@@ -7,7 +7,7 @@ use super::stores::{answer, is_told, page_of};
 use crate::status::Status;
 use crate::top::longhorn;
 use fault_lines::PlanWiring;
-use outer_memory::{FaultPlan, NoFaultSink, NoFaultSource};
+use outer_memory::{NoFaultSink, NoFaultSource};
 use outer_real::OpenGate;
 use shelf_memory::NoFaultShelves;
 use std::alloc::{AllocError, Global};
@@ -15,7 +15,7 @@ use std::process::Abort;
 use std::sync::Wait;
 use std::test::Fail;
 use std::thread::Threads;
-use target_memory::{MemoryTarget, NoFaultTarget};
+use target_memory::NoFaultTarget;
 use target_traits::Target;
 
 /// Two snapshots, a write before each, and backups of both.
@@ -28,7 +28,7 @@ const STREAMS: &[Asks] = &[
 ];
 
 /// Runs them on two replicas by one worker over a target, where these carries fail of the lines of the last stream.
-fn run_over<T: Target + Send>(
+pub(crate) fn run_over<T: Target + Send>(
     rt: &(impl AllocGlobal + Threads + Wait + Sync),
     replicas: &str,
     target: &mut T,
@@ -79,7 +79,7 @@ fn restored<T: Target + Send>(
 }
 
 /// Compares what is restored of each backup that was answered `ok` with the copy of its snapshot.
-fn are_restored<T: Target + Send>(
+pub(crate) fn are_restored<T: Target + Send>(
     rt: &(impl AllocGlobal + Abort + Threads + Wait + Sync),
     printed: &[u8],
     target: &mut T,
@@ -110,22 +110,6 @@ fn a_run_makes_backups(rt: HostRuntime) -> Result<(), Fail> {
     let sink = is_told(&rt, &["backups", "v"], &mut target, "", 0)?;
     assert_eq!(rt; sink.bytes(), b"backup b1 s 1\nbackup b2 t 1\n".as_slice());
     Ok(())
-}
-
-#[test]
-fn a_target_that_fails_once_ends_its_backup_alone(rt: HostRuntime) -> Result<(), Fail> {
-    for call in 1..20 {
-        let plan = FaultPlan::new([call].to_vec(rt.alloc())?);
-        let mut target = MemoryTarget::new(rt.alloc(), plan);
-        let (status, sink) = run_over(&rt, "1", &mut target)?;
-        let failed = has(sink.bytes(), " error target fault\n");
-        assert_eq!(rt; status.code() == 7, failed, "{}", call);
-        are_restored(&rt, sink.bytes(), &mut target.target)?;
-        if !failed {
-            return Ok(());
-        }
-    }
-    Err(Fail::new("each of twenty calls failed"))
 }
 
 #[test]

@@ -16,7 +16,7 @@ fn input(alloc: Global) -> Result<Vec<u8>, AllocError> {
 }
 
 /// Compares the note of a status and its code.
-fn is_told(
+pub(crate) fn is_told(
     rt: &(impl AllocGlobal + Abort),
     ended: &Status,
     note: &str,

@@ -1,11 +1,10 @@
 //! Runs that open folders and save them.
 
 use super::row::ONE;
-use super::runs::{end_on, ends};
+use super::runs::end_on;
 use super::script::{Asks, Frame, script};
-use outer_memory::{FaultPlan, LimitedSink, NoFaultSource};
 use outer_real::OpenGate;
-use shelf_memory::{MemoryShelves, NoFaultShelves};
+use shelf_memory::NoFaultShelves;
 use shelf_traits::Shelves;
 use std::process::Abort;
 use std::sync::Wait;
@@ -168,41 +167,4 @@ fn what_is_told_of_a_head_is_kept(rt: HostRuntime) -> Result<(), Fail> {
         Some(made.as_slice())
     );
     Ok(())
-}
-
-/// How a run ends on shelves of which the call of that number fails, and whether the sink got anything.
-fn fails(
-    rt: &(impl AllocGlobal + Abort + Threads + Wait + Sync),
-    replicas: &str,
-    call: u64,
-    note: &str,
-) -> Result<bool, Fail> {
-    let plan = FaultPlan::new(Vec::from_slice(rt.alloc(), &[call])?);
-    let mut shelves = MemoryShelves::new(rt.alloc(), plan);
-    let input = script(rt.alloc(), replicas, READ)?;
-    let (status, sink) = end_on(rt, ONE, input, &mut shelves, &OpenGate)?;
-    assert_eq!(rt; status.to_string(rt.alloc())?.as_str(), note);
-    Ok(!sink.bytes().is_empty())
-}
-
-#[test]
-fn shelves_that_fail_end_a_run(rt: HostRuntime) -> Result<(), Fail> {
-    assert!(rt; !fails(&rt, "1,\"open\":true", 1, "shelf fault")?);
-    assert!(rt; fails(&rt, "1,\"save\":true", 1, "shelf fault")?);
-    Ok(())
-}
-
-#[test]
-fn a_run_saves_behind_a_fault_of_the_sink(rt: HostRuntime) -> Result<(), Fail> {
-    let mut shelves = NoFaultShelves::new(rt.alloc());
-    let input = script(rt.alloc(), "1,\"save\":true", WRITES)?;
-    let mut source = NoFaultSource::new(input, 4096);
-    let mut sink = LimitedSink::new(rt.alloc(), 10);
-    let ended = ends(&rt, ONE, &mut source, &mut sink, &mut shelves, &OpenGate)?;
-    assert_eq!(rt; ended.code(), 5);
-    let told = Told {
-        printed: "open r0 RW\n0 0 0 0 read 0 1 ok 61*1\n",
-        ..DONE
-    };
-    holds(&rt, "1,\"open\":true", READ, &mut shelves, &told)
 }

@@ -5,7 +5,7 @@ use super::runs::owned;
 use crate::status::Status;
 use crate::top::longhorn;
 use fault_lines::PlanWiring;
-use outer_memory::{FaultPlan, NoFaultSink, NoFaultSource};
+use outer_memory::{NoFaultSink, NoFaultSource};
 use outer_real::OpenGate;
 use shelf_memory::NoFaultShelves;
 use std::alloc::{AllocError, Global};
@@ -13,7 +13,7 @@ use std::process::Abort;
 use std::sync::Wait;
 use std::test::Fail;
 use std::thread::Threads;
-use target_memory::{MemoryTarget, NoFaultTarget};
+use target_memory::NoFaultTarget;
 use target_traits::Target;
 
 /// A block of 4,096 bytes `61` and zeros behind them.
@@ -163,15 +163,4 @@ fn the_first_object_that_is_bad_is_refused(rt: HostRuntime) -> Result<(), Fail> 
     is_refused(&rt, &list, &mut target, "compressed", B2)?;
     target.hold(B0, b"{}")?;
     is_refused(&rt, &list, &mut target, "syntax", B0)
-}
-
-#[test]
-fn a_target_that_fails_ends_what_is_asked_of_it(rt: HostRuntime) -> Result<(), Fail> {
-    for words in [["restore", "b1", "v"].as_slice(), &["backups", "v"]] {
-        let first = FaultPlan::new([1].to_vec(rt.alloc())?);
-        let mut target = MemoryTarget::new(rt.alloc(), first);
-        let sink = is_told(&rt, words, &mut target, "target fault", 7)?;
-        assert_eq!(rt; sink.bytes(), b"".as_slice());
-    }
-    Ok(())
 }
