@@ -5,6 +5,7 @@ mod fails_once;
 mod falls;
 mod faults;
 mod folders;
+mod malicious;
 mod purges;
 mod row;
 mod runs;

@@ -26,6 +26,14 @@ const WITH_BLOCK: &str = "{\"Blocks\":[{\"BlockChecksum\":\
     \"CompressionMethod\":\"none\",\"CreatedTime\":\"\",\"DiskSize\":\"2097152\",\"Name\":\"b1\",\
     \"Size\":\"2097152\",\"SnapshotName\":\"s\",\"VolumeName\":\"v\"}";
 
+/// One that lists it twice.
+const TWICE: &str = "{\"Blocks\":[{\"BlockChecksum\":\
+    \"4a9f57490812dc05ac2f1db013433a0a7fc5341777cc237c4e00a13ffc5d449a\",\"Offset\":0},\
+    {\"BlockChecksum\":\
+    \"4a9f57490812dc05ac2f1db013433a0a7fc5341777cc237c4e00a13ffc5d449a\",\"Offset\":0}],\
+    \"CompressionMethod\":\"none\",\"DiskSize\":\"2097152\",\"Name\":\"b1\",\
+    \"SnapshotName\":\"s\",\"VolumeName\":\"v\"}";
+
 /// The cfg of a backup of zeros, and one of a backup that is compressed.
 const ZEROS: &str =
     "{\"Blocks\":[],\"CompressionMethod\":\"none\",\"DiskSize\":\"2097152\",\"Name\":\"b0\",\
@@ -155,6 +163,9 @@ fn the_first_object_that_is_bad_is_refused(rt: HostRuntime) -> Result<(), Fail> 
     is_refused(&rt, &["restore", "b1", "v"], &mut target, "damaged", BLOCK)?;
     target.take_away(BLOCK);
     is_refused(&rt, &["restore", "b1", "v"], &mut target, "missing", BLOCK)?;
+    target.hold(B1, TWICE.as_bytes())?;
+    is_refused(&rt, &["restore", "b1", "v"], &mut target, "syntax", B1)?;
+    target.hold(B1, WITH_BLOCK.as_bytes())?;
     target.hold(B3, UNSIZED.as_bytes())?;
     is_refused(&rt, &list, &mut target, "missing", VOLUME)?;
     target.hold(VOLUME, BACKED.as_bytes())?;
