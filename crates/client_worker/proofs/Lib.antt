@@ -10,3 +10,4 @@ pub mod Writing
 pub mod Calls
 pub mod ServedLaws
 pub mod Acked
+pub mod Parts

@@ -17,6 +17,7 @@ mod worker;
 pub use channel::{Channel, carry, next_exchange};
 pub use frames::put_header;
 pub use outer_traits::Line;
+pub use rooms::Rooms;
 pub use script_text::Frames;
 pub use stream_steps::{
     Admit, BlockRange, Blocks, Call, ClientSteps, Enrolled, Job, Mode, NotThis, TicketNumber,

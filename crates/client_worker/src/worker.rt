@@ -44,9 +44,17 @@ impl<C: ClientSteps + Drop, L: Line + Drop> Worker<C, L> {
         requires { IsIdle C.ready C.mine L.count L.carried (record { steps = steps; channels = channels.items }) }
         ensures { result ≡ record { steps = steps; channels = channels.items } }
     {
+        Worker::with_rooms(steps, channels, Rooms::new(alloc))
+    }
+
+    /// With the memory that the calls of another had.
+    pub fn with_rooms(steps: C, channels: Vec<Channel<L>>, rooms: Rooms) -> Worker<C, L>
+        requires { IsIdle C.ready C.mine L.count L.carried (record { steps = steps; channels = channels.items }) }
+        ensures { result ≡ record { steps = steps; channels = channels.items } }
+    {
         Worker {
             carrier: Carrier { steps, channels },
-            rooms: Rooms::new(alloc),
+            rooms,
         }
     }
 
@@ -55,8 +63,17 @@ impl<C: ClientSteps + Drop, L: Line + Drop> Worker<C, L> {
         ensures parts { self ≡ record { steps = result.0; channels = result.1.items } }
         ensures idle { IsIdle C.ready C.mine L.count L.carried self }
     {
-        let carrier = self.carrier;
-        (carrier.steps, carrier.channels)
+        let (steps, channels, _rooms) = self.into_all();
+        (steps, channels)
+    }
+
+    /// The same, and the memory of its calls for those of another.
+    pub fn into_all(self) -> (C, Vec<Channel<L>>, Rooms)
+        ensures parts { self ≡ record { steps = result.0; channels = result.1.items } }
+        ensures idle { IsIdle C.ready C.mine L.count L.carried self }
+    {
+        let Worker { carrier, rooms } = self;
+        (carrier.steps, carrier.channels, rooms)
     }
 
     /// Takes the calls of a stream's frames one after another, and carries each to the replicas. Out of memory leaves

@@ -10,7 +10,6 @@ pub mod Replicas
 pub mod Turned
 pub mod Asks
 pub mod Channels
-pub mod Parts
 pub mod ScriptLemmas
 pub mod Begun
 pub mod SoFar

@@ -27,7 +27,8 @@ use Rattle.stream_turns.proofs.Turned.{modes_many}
 use Rattle.frame_wire.specs.Spelling.{IsFrame}
 use Rattle.stream_workers.specs.Ended.{HasEnded}
 use Rattle.world_holder.proofs.Entries.{own_last}
-use Rattle.stream_workers.proofs.Own.{own_asked, answered}
+use Rattle.stream_workers.proofs.Own.{answered}
+use Rattle.world_holder.proofs.OwnCalls.{own_asked}
 
 -- ---- once it has served its stream
 

@@ -28,7 +28,7 @@ use Rattle.stream_turns.proofs.SoFar.{served_is}
 use Rattle.stream_workers.specs.Ended.{HaveEnded}
 use Rattle.world_holder.proofs.Entries.{own_last}
 use Rattle.world_holder.proofs.Grow.{began_at}
-use Rattle.stream_workers.proofs.Own.{own_asked}
+use Rattle.world_holder.proofs.OwnCalls.{own_asked}
 
 module _ (css : List (List Call)) (counts : ℕ → ℕ → ℕ) (told : ℕ → ℕ → Option (List (List ℕ))) (w w2 : World)
     (origin : KeepsOrigin w w2) (ended : HaveEnded css counts told (state_of w2)) where

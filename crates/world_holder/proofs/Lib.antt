@@ -6,3 +6,5 @@ pub mod Grow
 pub mod Open
 pub mod Taken
 pub mod Rests
+pub mod OwnCalls
+pub mod Since

@@ -2,3 +2,4 @@ pub mod Counted
 pub mod Laid
 pub mod View
 pub mod Rests
+pub mod Lent

@@ -81,7 +81,7 @@ impl<'d> Holder for AtSeat<'d> {
 }
 
 // Takes the World out of the hands of the turn, which goes on.
-fn take_out<'d, 's>(guard: Guard<'d, 's, WorldOnDesk>) -> Box<World>
+pub(crate) fn take_out<'d, 's>(guard: Guard<'d, 's, WorldOnDesk>) -> Box<World>
     ensures world { result ≡ guard.entry.state.world }
     ensures seat { guard.exit.1.0.now ≡ guard.entry.seat.now }
 {

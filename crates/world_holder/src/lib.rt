@@ -7,6 +7,7 @@ mod hand;
 mod holder;
 mod kept;
 mod lay;
+mod lent_seat;
 
 pub use at_seat::AtSeat;
 pub use desk_lock::{Desk, Seat};
@@ -14,4 +15,5 @@ pub use hand::Hand;
 pub use holder::Holder;
 pub use kept::WorldOnDesk;
 pub use lay::{lay_down, take_up};
+pub use lent_seat::LentSeat;
 pub use volume_core::World;

@@ -10,7 +10,7 @@ use Rattle.client_worker.specs.Serving.{Grew}
 use Rattle.client_worker.proofs.Told.{frames_none}
 use Rattle.control_worker.specs.Serving.{Commanded}
 use Rattle.stream_turns.proofs.Channels.{many_told}
-use Rattle.stream_turns.proofs.Parts.{stays_of, lines_of, home_of, idle_of, mine_of}
+use Rattle.client_worker.proofs.Parts.{stays_of, lines_of, home_of, idle_of, mine_of}
 use Rattle.control_worker.specs.Store.{StoreSoFar}
 use Rattle.stream_steps.specs.Mine.{Mine, Placed}
 use Rattle.stream_turns.proofs.Backups.{none_backed}

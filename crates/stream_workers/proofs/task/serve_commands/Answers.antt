@@ -10,7 +10,7 @@ use Rattle.stream_steps.specs.Mine.{Mine}
 use Rattle.stream_workers.specs.Tasks.{own_at}
 use Rattle.stream_turns.proofs.StoreLemmas.{far_none}
 use Rattle.client_worker.proofs.Told.{frames_none}
-use Rattle.stream_turns.proofs.Parts.{lines_of, home_of, idle_of, mine_of}
+use Rattle.client_worker.proofs.Parts.{lines_of, home_of, idle_of, mine_of}
 use Rattle.stream_workers.proofs.AtEnd.{ok_of, commands_at}
 use Rattle.stream_workers.proofs.task.serve_commands.Goals as goal
 

@@ -6,7 +6,7 @@ use Rattle.world_holder.specs.Laid.{laid}
 use Rattle.frame_stream.specs.Asked.{call_of}
 use Rattle.client_worker.specs.Serving.{Grew}
 use Rattle.client_worker.proofs.Told.{frames_none}
-use Rattle.stream_turns.proofs.Parts.{stays_of, idle_of, mine_of}
+use Rattle.client_worker.proofs.Parts.{stays_of, idle_of, mine_of}
 use Rattle.stream_workers.proofs.AtEnd.{frames_at}
 use Rattle.stream_workers.proofs.task.serve_frames.Goals as goal
 
