@@ -2,12 +2,12 @@
 use Rattle.std.specs.Prelude.{List, [], ◌∷◌, ◌++◌, Some}
 use Rattle.outer_memory.specs.declared.memory_source.MemorySource.{MemorySource}
 use Rattle.outer_memory.specs.declared.memory_sink.MemorySink.{MemorySink}
-use Rattle.door_traits.specs.declared.session.Session.{Session}
+use Rattle.door_traits.specs.declared.client.Client.{Client}
 use Rattle.door_traits.specs.Sessions.{Told, told}
 use Rattle.door_memory.specs.declared.taken_back.Pile.{Pile, Empty, On'}
 
 -- what one of them told
-abbrev pub told_of : Session MemorySource MemorySink → Told
+abbrev pub told_of : Client MemorySource MemorySink → Told
 told_of s = told (Some s.source.source.bytes) s.source.faults (Some s.sink.sink.bytes) s.sink.faults
 
 -- the first first: on top lies the last

@@ -7,7 +7,7 @@ ghost use Rattle.door_memory.specs.TakenBack.{told_in, told_of};
 use crate::door_source::DoorSource;
 use crate::taken_back::{Blank, Pile};
 use crate::visitor::Visitor;
-use door_traits::{Doors, Outer, OuterError, Session};
+use door_traits::{Client, Doors, Outer, OuterError};
 use outer_memory::{FaultPlan, MemorySink, MemorySource};
 use std::alloc::{AllocError, Global};
 use std::collections::VecDeque;
@@ -54,7 +54,7 @@ impl MemDoors {
     }
 
     /// Hands out the session that was taken back last.
-    pub fn give_last(&mut self) -> Option<Session<MemorySource, MemorySink>>
+    pub fn give_last(&mut self) -> Option<Client<MemorySource, MemorySink>>
         ensures { MatchOption result (⟦<MemDoors as Doors>⟧.back self.old ≡ [])
             (λ session. ⟦<MemDoors as Doors>⟧.back self.old
             ≡ ⟦<MemDoors as Doors>⟧.back self.new ++ told_of session ∷ []) }
@@ -116,6 +116,6 @@ impl Doors for MemDoors {
 
     fn take_back(&mut self, source: DoorSource, sink: MemorySink) {
         let DoorSource { source, blank } = source;
-        self.back.push(blank, Session { source, sink });
+        self.back.push(blank, Client { source, sink });
     }
 }

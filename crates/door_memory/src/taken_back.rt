@@ -3,7 +3,7 @@
 ghost use Rattle.std.specs.Prelude.{◌≡◌, ◌++◌, ◌∷◌, [], MatchOption};
 ghost use Rattle.door_memory.specs.TakenBack.{told_in, told_of};
 
-use door_traits::Session;
+use door_traits::Client;
 use outer_memory::{MemorySink, MemorySource};
 use std::alloc::{AllocError, Global};
 use std::mem;
@@ -11,7 +11,7 @@ use std::mem;
 #[derive(Debug, Drop)]
 pub(crate) enum Pile {
     Empty,
-    On(Session<MemorySource, MemorySink>, Box<Pile>),
+    On(Client<MemorySource, MemorySink>, Box<Pile>),
 }
 
 /// The memory of one session more.
@@ -29,7 +29,7 @@ impl Blank {
 
 impl Pile {
     /// Lays a session on top, in the memory that it brings for that.
-    pub(crate) fn push(&mut self, blank: Blank, session: Session<MemorySource, MemorySink>)
+    pub(crate) fn push(&mut self, blank: Blank, session: Client<MemorySource, MemorySink>)
         ensures { told_in self.new ≡ told_in self.old ++ told_of session ∷ [] }
     {
         let mut below = blank.blank;
@@ -38,7 +38,7 @@ impl Pile {
     }
 
     /// Takes the session off that was laid on last.
-    pub(crate) fn pop(&mut self) -> Option<Session<MemorySource, MemorySink>>
+    pub(crate) fn pop(&mut self) -> Option<Client<MemorySource, MemorySink>>
         ensures { MatchOption result ((told_in self.old ≡ []) × (told_in self.new ≡ []))
             (λ session. told_in self.old ≡ told_in self.new ++ told_of session ∷ []) }
     {

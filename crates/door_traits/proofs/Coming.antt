@@ -3,11 +3,11 @@ use Rattle.std.proofs.Common.{◌≡◌, ◌≤◌, ℕ, List, [], ◌∷◌, �
 use Rattle.std.proofs.Common.{append_assoc, append-nil, arith}
 use Rattle.std.proofs.lemmas.List.{map-append, length-map}
 use Rattle.std.proofs.lemmas.List.Elements.{All-push}
-use Rattle.door_traits.specs.declared.session.Session.{Session}
+use Rattle.door_traits.specs.declared.client.Client.{Client}
 use Rattle.door_traits.specs.Sessions.{AreUnfailed, Come, Comes, GoBack, Told, told, told_all, untouched}
 
 -- what a session tells
-abbrev pub tell : {I O : Type 0} → (I → Option (List ℕ)) → (I → ℕ) → (O → Option (List ℕ)) → (O → ℕ) → Session I O → Told
+abbrev pub tell : {I O : Type 0} → (I → Option (List ℕ)) → (I → ℕ) → (O → Option (List ℕ)) → (O → ℕ) → Client I O → Told
 tell left read_faults holds write_faults s = told (left s.source) (read_faults s.source) (holds s.sink) (write_faults s.sink)
 
 -- where none came, the same are to come
@@ -31,7 +31,7 @@ Come-more s t u ts left holds reads writes p q unread unwritten = (p.0 ++ q.0 �
 
 -- the same of a list of sessions
 pub Come-push : {I O : Type 0} (left : I → Option (List ℕ)) (read_faults : I → ℕ) (holds : O → Option (List ℕ))
-    (write_faults : O → ℕ) (s t u : List (List ℕ)) (sessions all : List (Session I O)) (x : Session I O)
+    (write_faults : O → ℕ) (s t u : List (List ℕ)) (sessions all : List (Client I O)) (x : Client I O)
     → all ≡ sessions ++ x ∷ [] → Come s t (told_all left read_faults holds write_faults sessions)
     → Comes t u (left x.source) (holds x.sink) → read_faults x.source ≡ 0 → write_faults x.sink ≡ 0
     → Come s u (told_all left read_faults holds write_faults all)
@@ -42,8 +42,8 @@ Come-push left read_faults holds write_faults s t u sessions all x is p q unread
     p q unread unwritten)
 
 -- one more of these sessions has not failed
-pub AreUnfailed-push : {I O : Type 0} (read_faults : I → ℕ) (write_faults : O → ℕ) (sessions all : List (Session I O))
-    (x : Session I O) → all ≡ sessions ++ x ∷ [] → AreUnfailed read_faults write_faults sessions
+pub AreUnfailed-push : {I O : Type 0} (read_faults : I → ℕ) (write_faults : O → ℕ) (sessions all : List (Client I O))
+    (x : Client I O) → all ≡ sessions ++ x ∷ [] → AreUnfailed read_faults write_faults sessions
     → (read_faults x.source ≡ 0) × (write_faults x.sink ≡ 0) → AreUnfailed read_faults write_faults all
 AreUnfailed-push read_faults write_faults sessions all x is before now =
     subst (AreUnfailed read_faults write_faults) (sym is)
@@ -51,7 +51,7 @@ AreUnfailed-push read_faults write_faults sessions all x is before now =
 
 -- one more session told of itself, behind those before it
 pub told-push : {I O : Type 0} (left : I → Option (List ℕ)) (read_faults : I → ℕ) (holds : O → Option (List ℕ))
-    (write_faults : O → ℕ) (s t u : List Told) (sessions : List (Session I O)) (x : Session I O)
+    (write_faults : O → ℕ) (s t u : List Told) (sessions : List (Client I O)) (x : Client I O)
     → t ≡ s ++ told_all left read_faults holds write_faults sessions
     → u ≡ t ++ tell left read_faults holds write_faults x ∷ []
     → u ≡ s ++ told_all left read_faults holds write_faults (sessions ++ x ∷ [])

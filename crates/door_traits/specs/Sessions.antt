@@ -1,6 +1,6 @@
 -- What doors tell of the sessions that come in and go back.
 use Rattle.std.specs.Prelude.{◌≡◌, ℕ, ◌≤◌, List, [], ◌∷◌, ◌++◌, map, length, Option, Some, All}
-use Rattle.door_traits.specs.declared.session.Session.{Session}
+use Rattle.door_traits.specs.declared.client.Client.{Client}
 
 -- what a session tells: what its source has left, what its sink holds, where they tell it, and how often each has failed
 pub record Told : Type 0 where
@@ -20,7 +20,7 @@ untouched input = told (Some input) 0 (Some []) 0
 
 -- what each of these sessions tells
 abbrev pub told_all : {I O : Type 0} → (I → Option (List ℕ)) → (I → ℕ) → (O → Option (List ℕ)) → (O → ℕ)
-    → List (Session I O) → List Told
+    → List (Client I O) → List Told
 told_all left read_faults holds write_faults sessions =
     map (λ s. told (left s.source) (read_faults s.source) (holds s.sink) (write_faults s.sink)) sessions
 
@@ -33,7 +33,7 @@ abbrev pub Come : (before now : List (List ℕ)) → List Told → Type 0
 Come before now ts = (inputs : List (List ℕ)) × (before ≡ inputs ++ now) × (ts ≡ map untouched inputs)
 
 -- neither end of any of these sessions has failed
-abbrev pub AreUnfailed : {I O : Type 0} → (I → ℕ) → (O → ℕ) → List (Session I O) → Type 0
+abbrev pub AreUnfailed : {I O : Type 0} → (I → ℕ) → (O → ℕ) → List (Client I O) → Type 0
 AreUnfailed read_faults write_faults sessions = All (λ s. (read_faults s.source ≡ 0) × (write_faults s.sink ≡ 0)) sessions
 
 -- At most so many sessions came, and each went back untouched.

@@ -2,11 +2,11 @@
 //! when it has ended. How all sessions of a run are let in first, and are taken back.
 #![tactic(auto)]
 
+mod client;
 mod doors;
-mod session;
 mod sessions;
 
+pub use client::Client;
 pub use doors::Doors;
 pub use outer_traits::{Failed, Outer, OuterError, Sink, Source};
-pub use session::Session;
 pub use sessions::{accept_all, take_back_all};

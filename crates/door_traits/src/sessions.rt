@@ -4,8 +4,8 @@ ghost use Rattle.std.specs.Prelude.{◌≡◌, ◌++◌, ◌≤◌, [], true, ve
 ghost use Rattle.outer_traits.specs.Causes.{HasOuterCause};
 ghost use Rattle.door_traits.specs.Sessions.{AreUnfailed, Come, GoBack, told_all};
 
+use crate::client::Client;
 use crate::doors::Doors;
-use crate::session::Session;
 use outer_traits::Outer;
 use std::alloc::Global;
 
@@ -16,7 +16,7 @@ pub fn accept_all<D: Doors>(
     doors: &mut D,
     address: &str,
     count: usize,
-) -> Outer<Vec<Session<D::In, D::Out>>>
+) -> Outer<Vec<Client<D::In, D::Out>>>
     ensures count { IfOk result (λ sessions. vec_len sessions ≡ count) }
     ensures unfailed { IfOk result (λ sessions. AreUnfailed D.In.faults D.Out.faults sessions.items) }
     ensures come { D.tells ≡ true → IfOk result (λ sessions. Come (D.coming doors.old) (D.coming doors.new)
@@ -41,7 +41,7 @@ pub fn accept_all<D: Doors>(
 fn let_in<D: Doors>(
     doors: &mut D,
     count: usize,
-    sessions: &mut Vec<Session<D::In, D::Out>>,
+    sessions: &mut Vec<Client<D::In, D::Out>>,
 ) -> Outer<()>
     requires none { sessions.old.items ≡ [] }
     requires room { count ≤ vec_capacity sessions.old }
@@ -55,13 +55,13 @@ fn let_in<D: Doors>(
 {
     for _ in 0..count {
         let (source, sink) = doors.accept()?;
-        sessions.push(Session { source, sink }).unwrap();
+        sessions.push(Client { source, sink }).unwrap();
     }
     Ok(())
 }
 
 /// Takes sessions back, in their order.
-pub fn take_back_all<D: Doors>(doors: &mut D, sessions: Vec<Session<D::In, D::Out>>)
+pub fn take_back_all<D: Doors>(doors: &mut D, sessions: Vec<Client<D::In, D::Out>>)
     ensures coming { D.coming doors.new ≡ D.coming doors.old }
     ensures back { D.tells ≡ true → D.back doors.new ≡ D.back doors.old
         ++ told_all D.In.left D.In.faults D.Out.contents D.Out.faults sessions.items }

@@ -1,6 +1,6 @@
 use Rattle.std.proofs.Common.{◌≡◌, ◌+◌, ◌++◌, ◌∷◌, [], arith, cond, subst, ◌∙◌, vec_len}
 use Rattle.std.specs.Result.{is_ok}
-use Rattle.door_traits.specs.declared.session.Session.{Session}
+use Rattle.door_traits.specs.declared.client.Client.{Client}
 use Rattle.door_traits.proofs.Coming.{AreUnfailed-push, Come-push}
 use Rattle.door_traits.proofs.sessions.let_in.Goals as goal
 
@@ -10,7 +10,7 @@ loop-preserved g c =
     let a = c.in_ok-source.ensures in
     let before = c.loop.sessions.items in
     let held = vec_len c.loop.sessions in
-    let new : Session _ _ = record { source = c.in_ok-source.source; sink = c.in_ok-source.sink } in
+    let new : Client _ _ = record { source = c.in_ok-source.source; sink = c.in_ok-source.sink } in
     let items : c.push.new.self.items ≡ before ++ new ∷ [] =
     subst (λ o. c.push.new.self.items ≡ cond (is_ok o) (before ++ new ∷ []) before) c.unwrap.ensures c.push.ensures.items in
     let grown : vec_len c.push.new.self ≡ held + 1 =
