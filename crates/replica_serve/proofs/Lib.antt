@@ -1,5 +1,4 @@
 pub mod PartLemmas
 pub mod FrameCalls
 pub mod Serving
-pub mod InputLemmas
 pub mod Ending

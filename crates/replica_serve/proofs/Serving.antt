@@ -1,19 +1,16 @@
 -- Calls that are answered one after another.
-use Rattle.std.proofs.Common.{◌≡◌, ◌∙◌, ℕ, ◌+◌, ◌%◌, ◌^◌, ◌<◌, ◌≤◌, List, [], ◌∷◌, ◌++◌, length, Option, Result, Ok, Err, OnErr}
-use Rattle.std.proofs.Common.{refl, sym, ap, subst, arith, append_assoc, append-nil, length-append}
+use Rattle.std.proofs.Common.{◌≡◌, ◌∙◌, ℕ, List, [], ◌∷◌, ◌++◌, Option, Result, Ok, Err, OnErr}
+use Rattle.std.proofs.Common.{refl, sym, ap, subst, append_assoc, append-nil}
 use Rattle.std.proofs.KnownBytes.{Appends-nil}
-use Rattle.std.proofs.lemmas.Grind.{flat_map-append}
-use Rattle.std.proofs.lemmas.List.Elements.{All-nil, All-cons, All-append}
 use Rattle.std.specs.Io.KnownBytes.{Appends}
 use Rattle.outer_traits.proofs.Passing.{Passes-trans, WritesPrefix-after, WritesPrefix-passed}
 use Rattle.outer_traits.specs.Passing.{Passes, WritesPrefix}
-use Rattle.frame_stream.proofs.FramesLemmas.{length_spelled}
-use Rattle.frame_stream.proofs.ReadingLaws.{given_stands}
-use Rattle.frame_stream.specs.Frames.{spelled, spellings, IsClose, IsCall}
-use Rattle.frame_stream.specs.Reading.{Fed, GivesNext, StandsFirst}
+use Rattle.frame_stream.specs.Frames.{IsClose}
+use Rattle.frame_stream.specs.Reading.{Fed, GivesNext}
 use Rattle.frame_stream.specs.declared.frame.Frame.{Frame}
 use Rattle.frame_stream.specs.declared.reader.Next.TheVariants as next
 use Rattle.volume_model.specs.PlainStep.{longest_call}
+use Rattle.client_input.proofs.GivenCalls as given_calls
 use Rattle.replica_serve.specs.Answers.{disk_with, disk_behind, reply_to, replies_to}
 use Rattle.replica_serve.specs.declared.serve.Turn.TheVariants as turn
 use Rattle.replica_serve.specs.Turns.{AnswersCalls, ServesSome, TakesTurn}
@@ -45,74 +42,36 @@ pub disk_behind-append : (disk : List ℕ) (fs gs : List Frame) → disk_behind 
 disk_behind-append disk [] gs = refl
 disk_behind-append disk (f ∷ fs) gs = disk_behind-append (disk_with disk f) fs gs
 
--- their bytes
-spellings-more : (fs : List Frame) (f : Frame) → spellings (fs ++ f ∷ []) ≡ spellings fs ++ spelled f
-spellings-more fs f = flat_map-append spelled fs (f ∷ []) ∙ ap (λ l. spellings fs ++ l) (append-nil (spelled f))
-
--- places that are counted modulo 2^64
-place_more : (at start done step : ℕ) → at % 2 ^ 64 ≡ (start + done) % 2 ^ 64
-    → (at + step) % 2 ^ 64 % 2 ^ 64 ≡ (start + (done + step)) % 2 ^ 64
-place_more at start done step so_far = omega (arith, so_far)
-
 -- ---- where it begins
 
 -- no call is answered yet
 pub none_yet : (fed : Fed) (disk had : List ℕ) (sink : Option (List ℕ)) → AnswersCalls fed fed disk disk had had sink sink []
 none_yet fed disk had sink = record {
-  calls = All-nil IsCall;
-  bytes = refl;
-  place = ap (λ n. n % 2 ^ 64) (omega arith);
-  fits = λ below. below;
-  most = refl;
+  gives = given_calls.none_yet fed;
   leaves = refl;
   replies = ([], append-nil had, Appends-nil sink);
 }
 
 -- ---- a step
 
--- a frame that stands first, within the limit of calls, and is no Close, is a call
-stands_call : (fed new : Fed) (f : Frame) → StandsFirst fed new f → fed.most ≡ longest_call → (IsClose f → ⊥) → IsCall f
-stands_call fed new f s most no_close =
-    (record { head = s.head; body = s.body; most = subst (λ n. f.head.len ≤ n) most s.fits }, no_close)
-
 module _ (fed at new : Fed) (disk now later had mid has : List ℕ) (s t : Option (List ℕ)) (fs : List Frame) (f : Frame) where
   -- one call more is answered
   pub one_answered : AnswersCalls fed at disk now had mid s t fs → fed.most ≡ longest_call → GivesNext at new (next.Frame f)
       → (IsClose f → ⊥) → has ≡ mid ++ reply_to now f → later ≡ disk_with now f
       → AnswersCalls fed new disk later had has s t (fs ++ f ∷ [])
-  one_answered a most given no_close reply behind =
-      let stands = given_stands at new f given in
-      let bytes = spellings-more fs f in
-      record {
-        calls = All-append IsCall fs (f ∷ []) a.calls
-            (All-cons IsCall f [] (stands_call at new f stands (a.most ∙ most) no_close) (All-nil IsCall));
-        bytes = a.bytes ∙ ap (λ l. spellings fs ++ l) stands.bytes ∙ sym (append_assoc (spellings fs) (spelled f) new.left)
-            ∙ ap (λ l. l ++ new.left) (sym bytes);
-        place = ap (λ n. n % 2 ^ 64) stands.place ∙ place_more at.place fed.place (length (spellings fs)) (length (spelled f)) a.place
-            ∙ ap (λ n. (fed.place + n) % 2 ^ 64) (sym (ap length bytes ∙ length-append (spellings fs) (spelled f)));
-        fits = λ below. omega (arith, stands.place);
-        most = stands.most ∙ a.most;
-        leaves = behind ∙ ap (λ d. disk_with d f) a.leaves ∙ sym (disk_behind-more disk fs f);
-        replies = subst (Passes s t had has)
-            (ap (λ d. replies_to disk fs ++ reply_to d f) a.leaves ∙ sym (replies_to-more disk fs f))
-            (Passes-trans s t t had mid has (replies_to disk fs) (reply_to now f) a.replies ([], sym reply, Appends-nil t));
-      }
-
-  -- each frame takes some bytes
-  pub fewer_left : GivesNext at new (next.Frame f) → length new.left < length at.left
-  fewer_left given =
-      let stands = given_stands at new f given in
-      omega (arith, ap length stands.bytes, length-append (spelled f) new.left, length_spelled f stands.body)
+  one_answered a most given no_close reply behind = record {
+    gives = given_calls.one_more fed at new fs f a.gives most given no_close;
+    leaves = behind ∙ ap (λ d. disk_with d f) a.leaves ∙ sym (disk_behind-more disk fs f);
+    replies = subst (Passes s t had has)
+        (ap (λ d. replies_to disk fs ++ reply_to d f) a.leaves ∙ sym (replies_to-more disk fs f))
+        (Passes-trans s t t had mid has (replies_to disk fs) (reply_to now f) a.replies ([], sym reply, Appends-nil t));
+  }
 
 module _ (fed at : Fed) (disk now had mid : List ℕ) (s t u : Option (List ℕ)) (fs : List Frame) where
   -- what waits is written
   pub written_out : AnswersCalls fed at disk now had mid s t fs → Appends t u mid → AnswersCalls fed at disk now had [] s u fs
   written_out a all = record {
-    calls = a.calls;
-    bytes = a.bytes;
-    place = a.place;
-    fits = a.fits;
-    most = a.most;
+    gives = a.gives;
     leaves = a.leaves;
     replies = subst (Passes s u had []) (append-nil (replies_to disk fs))
         (Passes-trans s t u had mid [] (replies_to disk fs) [] a.replies (mid, refl, all));
@@ -122,11 +81,11 @@ module _ (fed at : Fed) (disk now had mid : List ℕ) (s t u : Option (List ℕ)
   pub some_written : AnswersCalls fed at disk now had mid s t fs → WritesPrefix t u mid → ServesSome fed disk had s u
   some_written a part =
       let all = WritesPrefix-after s t u had mid (replies_to disk fs) [] a.replies (subst (WritesPrefix t u) (sym (append-nil mid)) part) in
-      (fs, at.left, a.calls, a.bytes, subst (λ l. WritesPrefix s u (had ++ l)) (append-nil (replies_to disk fs)) all)
+      (fs, at.left, a.gives.calls, a.gives.bytes, subst (λ l. WritesPrefix s u (had ++ l)) (append-nil (replies_to disk fs)) all)
 
   -- and where anything else fails
   pub some_answered : AnswersCalls fed at disk now had mid s t fs → ServesSome fed disk had s t
-  some_answered a = (fs, at.left, a.calls, a.bytes, WritesPrefix-passed s t had mid (replies_to disk fs) a.replies)
+  some_answered a = (fs, at.left, a.gives.calls, a.gives.bytes, WritesPrefix-passed s t had mid (replies_to disk fs) a.replies)
 
 -- one frame more is served, which asks a call
 pub one_served : (fed at new : Fed) (disk now later had mid has : List ℕ) (s t : Option (List ℕ)) (fs : List Frame) (f : Frame)

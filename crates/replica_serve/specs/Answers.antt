@@ -1,17 +1,14 @@
 -- What a client that sends frames is answered: what one plain disk answers, call after call.
-use Rattle.std.specs.Prelude.{ℕ, List, [], ◌∷◌, ◌++◌, length}
-use Rattle.frame_wire.specs.declared.head.Head.{Head}
+use Rattle.std.specs.Prelude.{ℕ, List, [], ◌∷◌, ◌++◌}
 use Rattle.frame_stream.specs.Asked.{call_of}
-use Rattle.frame_stream.specs.Replies.{head_bytes, reply_frame}
+use Rattle.frame_stream.specs.Replies.{reply_frame}
 use Rattle.frame_stream.specs.declared.frame.Frame.{Frame}
 use Rattle.volume_model.specs.declared.call.Call.{Call}
 use Rattle.volume_model.specs.declared.call.Call.TheVariants as call
-use Rattle.volume_model.specs.declared.call.Refusal.{Refusal}
 use Rattle.volume_model.specs.declared.call.Reply.{Reply}
 use Rattle.volume_model.specs.declared.mode.Mode.TheVariants.{Rw}
 use Rattle.volume_model.specs.PlainState.{PlainState, state_of}
 use Rattle.volume_model.specs.PlainStep.{plain_step}
-use Rattle.volume_model.specs.Texts.{refusal_text}
 
 -- the plain step of a call on a disk of which no snapshot was taken, with one replica, that is read and written
 abbrev pub step_on : List ℕ → Call → PlainState × Reply
@@ -29,11 +26,6 @@ disk_past disk c = (step_on disk c).0.volume.disk
 abbrev pub IsOfFrame : Call → Type 0
 IsOfFrame (call.Command c) = ⊥
 IsOfFrame c = Unit {0}
-
--- the frame of a refusal: its header, and its text
-abbrev pub refusal_frame : Head → Refusal → List ℕ
-refusal_frame asked why =
-    let len = length (refusal_text why) in head_bytes (record asked { kind = 3; size = len; len = len }) ++ refusal_text why
 
 -- ---- what frames ask, one after another
 

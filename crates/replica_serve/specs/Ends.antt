@@ -8,7 +8,7 @@ use Rattle.frame_stream.specs.declared.frame.Frame.{Frame}
 use Rattle.replica_serve.specs.declared.error.ServeError.{ServeError}
 use Rattle.replica_serve.specs.declared.error.ServeError.TheVariants as error
 use Rattle.replica_serve.specs.Answers.{replies_to}
-use Rattle.replica_serve.specs.Inputs.{IsCalls, IsCutOff}
+use Rattle.client_input.specs.Inputs.{IsCalls, IsCutOff}
 
 -- the sink has got the replies to these calls, and nothing else
 abbrev pub HasReplies : List ℕ → List Frame → (old new : Option (List ℕ)) → Type 0

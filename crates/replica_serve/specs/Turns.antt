@@ -1,21 +1,19 @@
 -- What the parts of serving a client say to each other.
-use Rattle.std.specs.Prelude.{◌≡◌, ℕ, ◌+◌, ◌%◌, ◌^◌, ◌<◌, List, [], ◌++◌, length, All, Option, Result, Ok, Err}
-use Rattle.std.specs.Io.KnownBytes.{Appends, Consumes, IsAtEnd}
+use Rattle.std.specs.Prelude.{◌≡◌, ℕ, List, ◌++◌, All, Option, Result, Ok, Err}
+use Rattle.std.specs.Io.KnownBytes.{Appends}
 use Rattle.outer_traits.specs.Causes.{Rose}
 use Rattle.outer_traits.specs.Passing.{Passes, WritesPrefix}
 use Rattle.frame_stream.specs.Frames.{spellings, IsCall, IsClose}
-use Rattle.frame_stream.specs.Reading.{Fed, GivesNext, fed_more}
+use Rattle.frame_stream.specs.Reading.{Fed, GivesNext}
 use Rattle.frame_stream.specs.declared.frame.Frame.{Frame}
 use Rattle.frame_stream.specs.declared.reader.Next.TheVariants as next
+use Rattle.client_input.specs.Giving.{GivesCalls, HasGiven}
 use Rattle.replica_serve.specs.declared.error.ServeError.{ServeError}
 use Rattle.replica_serve.specs.declared.error.ServeError.TheVariants as error
 use Rattle.replica_serve.specs.declared.serve.Served.{Served}
 use Rattle.replica_serve.specs.declared.serve.Served.TheVariants as served
 use Rattle.replica_serve.specs.declared.serve.Turn.{Turn}
 use Rattle.replica_serve.specs.declared.serve.Turn.TheVariants as turn
-use Rattle.replica_serve.specs.declared.serve.Input.{Input}
-use Rattle.replica_serve.specs.declared.serve.Input.TheVariants as input
-use Rattle.volume_model.specs.PlainStep.{longest_call}
 use Rattle.replica_serve.specs.Answers.{disk_with, disk_behind, reply_to, replies_to}
 
 -- ---- one frame
@@ -28,15 +26,11 @@ TakesTurn f disk now had has turn.Closed = IsClose f × (has ≡ had) × (now �
 
 -- ---- all frames that are there
 
--- Calls stood first of what was fed, and were answered: the disk is behind them, and the replies stand behind those that a
--- buffer had, of which a prefix went to the sink.
+-- Calls stood first of what was fed, and were given and answered: the disk is behind them, and the replies stand behind
+-- those that a buffer had, of which a prefix went to the sink.
 pub record AnswersCalls (fed at : Fed) (disk now had has : List ℕ) (sink0 sink1 : Option (List ℕ)) (frames : List Frame)
     : Type 0 where
-  pub calls : All IsCall frames
-  pub bytes : fed.left ≡ spellings frames ++ at.left
-  pub place : at.place % 2 ^ 64 ≡ (fed.place + length (spellings frames)) % 2 ^ 64
-  pub fits : fed.place < 2 ^ 64 → at.place < 2 ^ 64
-  pub most : at.most ≡ fed.most
+  pub gives : GivesCalls fed at frames
   pub leaves : now ≡ disk_behind disk frames
   pub replies : Passes sink0 sink1 had has (replies_to disk frames)
 
@@ -74,21 +68,12 @@ ReadCounts (Err error.WriteFault) s t = ⊥
 ReadCounts (Err (error.Frame place)) s t = ⊥
 ReadCounts (Err error.NoMemory) s t = t ≡ s
 
--- ---- more input
-
--- more bytes were read and fed, or the input is at its end
-abbrev pub FeedsMore : (left0 left1 : Option (List ℕ)) (fed new : Fed) → Input → Type 0
-FeedsMore left0 left1 fed new input.More = (bytes : List ℕ) × Consumes left0 left1 bytes × (new ≡ fed_more fed bytes)
-FeedsMore left0 left1 fed new input.End = Consumes left0 left1 [] × IsAtEnd left1 × (new ≡ fed)
-
 -- ---- so far
 
--- The source gave these calls' frames and what the reader has left, and they were answered: the sink has all their replies.
+-- The source gave these calls' frames and what the reader has left, and the calls were answered: the sink has all their
+-- replies.
 pub record HasAnswered (disk now : List ℕ) (left0 left1 sink0 sink1 : Option (List ℕ)) (fed : Fed) (frames : List Frame)
     : Type 0 where
-  pub calls : All IsCall frames
-  pub given : Consumes left0 left1 (spellings frames ++ fed.left)
-  pub place : fed.place ≡ length (spellings frames) % 2 ^ 64
-  pub most : fed.most ≡ longest_call
+  pub came : HasGiven left0 left1 fed frames
   pub leaves : now ≡ disk_behind disk frames
   pub replies : Appends sink0 sink1 (replies_to disk frames)

@@ -1,13 +1,14 @@
 //! One call of a client, answered on a replica.
 
 ghost use Rattle.std.specs.Prelude.{◌≡◌, ◌+◌, ◌++◌, ◌≤◌, OnOk};
-ghost use Rattle.frame_stream.specs.Replies.{head_bytes, reply_frame};
+ghost use Rattle.frame_stream.specs.Replies.{reply_frame};
 ghost use Rattle.volume_model.specs.declared.call.Call.TheVariants.{Read, Write};
-ghost use Rattle.replica_serve.specs.Answers.{answer_on, disk_past, refusal_frame, IsOfFrame};
+ghost use Rattle.replica_serve.specs.Answers.{answer_on, disk_past, IsOfFrame};
 
 use crate::volume_bytes::{append_bytes, put_bytes};
-use frame_stream::{ERROR, RESPONSE};
-use frame_wire::{Head, encode_header};
+use client_input::{append_head, append_refusal};
+use frame_stream::RESPONSE;
+use frame_wire::Head;
 use replica_node::ReplicaNode;
 use std::alloc::{AllocError, Global};
 use vol_units::{LONGEST_CALL, place_within};
@@ -30,7 +31,7 @@ pub(crate) fn answer_call(
         Call::Read { offset, length } => read(node, asked, *offset, *length, into),
         Call::Write { offset, bytes } => write(alloc, node, asked, *offset, bytes.as_slice(), into),
         Call::Ping => append_head(asked, RESPONSE, 0, 0, into),
-        Call::Other(_) => refuse(asked, Refusal::Unsupported, into),
+        Call::Other(_) => append_refusal(asked, Refusal::Unsupported, into),
         Call::Command(_) => unreachable!(),
     }
 }
@@ -48,11 +49,11 @@ fn read(
     ensures disk { node.now.disk ≡ disk_past node.now.disk (Read offset length) }
 {
     if length > LONGEST_CALL {
-        return refuse(asked, Refusal::TooLong, into);
+        return append_refusal(asked, Refusal::TooLong, into);
     }
     let count = length as usize;
     let Some(at) = place_within(offset, count, node.size()) else {
-        return refuse(asked, Refusal::OutOfRange, into);
+        return append_refusal(asked, Refusal::OutOfRange, into);
     };
     append_head(asked, RESPONSE, length, length, into)?;
     append_bytes(node, at, count, into)
@@ -72,50 +73,8 @@ fn write(
     ensures disk { OnOk result (node.new.disk ≡ disk_past node.old.disk (Write offset bytes.now)) }
 {
     let Some(at) = place_within(offset, bytes.len(), node.size()) else {
-        return refuse(asked, Refusal::OutOfRange, into);
+        return append_refusal(asked, Refusal::OutOfRange, into);
     };
     put_bytes(alloc, node, at, bytes)?;
     append_head(asked, RESPONSE, bytes.len() as u32, 0, into)
-}
-
-/// Appends the frame of a refusal, with its text.
-fn refuse(asked: &Head, why: Refusal, into: &mut Vec<u8>) -> Result<(), AllocError>
-    ensures { OnOk result (into.new.items ≡ into.old.items ++ refusal_frame asked.now why) }
-{
-    let text = why.text().as_bytes();
-    let len = text.len() as u32;
-    append_head(asked, ERROR, len, len, into)?;
-    into.extend_from_slice(text)
-}
-
-/// Appends the header of the frame that replies to one with this header.
-fn append_head(
-    asked: &Head,
-    kind: u32,
-    size: u32,
-    len: u32,
-    into: &mut Vec<u8>,
-) -> Result<(), AllocError>
-    ensures { OnOk result (into.new.items ≡ into.old.items ++ head_bytes (record asked.now {
-      kind = kind;
-      size = size;
-      len = len;
-    })) }
-{
-    let head = Head {
-        kind,
-        size,
-        len,
-        ..*asked
-    };
-    append_header(&head, into)
-}
-
-/// Appends a header.
-fn append_header(head: &Head, into: &mut Vec<u8>) -> Result<(), AllocError>
-    ensures { OnOk result (into.new.items ≡ into.old.items ++ head_bytes head.now) }
-{
-    let bytes = encode_header(head);
-    into.extend_from_slice(&bytes)?;
-    Ok(())
 }

@@ -3,7 +3,6 @@
 
 mod answer;
 mod error;
-pub mod laws;
 mod serve;
 mod volume_bytes;
 

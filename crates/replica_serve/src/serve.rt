@@ -1,22 +1,24 @@
 //! The frames of a client, served until it closes, or its input ends.
 
-ghost use Rattle.std.specs.Prelude.{◌≡◌, ◌<◌, ◌≤◌, [], take, vec_len, IfOk, OnOk, OnErr};
-ghost use Rattle.std.specs.Io.KnownBytes.{Appends, Consumes, IsAtEnd};
+ghost use Rattle.std.specs.Prelude.{◌≡◌, [], IfOk, OnOk, OnErr};
+ghost use Rattle.std.specs.Io.KnownBytes.{Appends};
 ghost use Rattle.outer_traits.specs.Passing.{WritesPrefix};
 ghost use Rattle.volume_model.specs.PlainStep.{longest_call};
+ghost use Rattle.client_input.specs.Feeding.{FeedsMore};
 ghost use Rattle.replica_serve.specs.Ends.{HasServed, ServeCounts};
-ghost use Rattle.replica_serve.specs.Turns.{TakesTurn, ServesAll, ServesSome, WriteCounts, ReadCounts, FeedsMore};
+ghost use Rattle.replica_serve.specs.Turns.{TakesTurn, ServesAll, ServesSome, WriteCounts, ReadCounts};
 
 use crate::answer::answer_call;
 use crate::error::ServeError;
-use frame_stream::{Asked, Bytes, Frame, FrameReader, Next, of_frame};
+use client_input::{Input, feed_more};
+use frame_stream::{Asked, Frame, FrameReader, Next, of_frame};
 use outer_traits::{OuterError, Sink, Source, write_all};
 use replica_node::ReplicaNode;
 use std::alloc::{AllocError, Global};
 use std::sync::Wait;
 use vol_units::LONGEST_CALL;
 
-/// How many bytes are read at once at most, and how many bytes of replies wait at most until they are written.
+/// How many bytes of replies wait at most until they are written.
 const PIECE: usize = 65_536;
 
 /// What became of one frame.
@@ -35,13 +37,6 @@ pub enum Served {
     Closed,
     /// No whole frame stands at this place, whatever comes behind it.
     Bad(u64),
-}
-
-/// What reading came to.
-#[derive(Clone, Copy, Debug, PartialEq, Eq)]
-pub enum Input {
-    More,
-    End,
 }
 
 /// Serves a replica to the client whose frames the source gives, and writes the replies to the sink: until a Close, the
@@ -70,7 +65,7 @@ pub fn serve_replica<R: Wait, S: Source, K: Sink>(
             Served::Closed => return Ok(()),
             Served::Bad(place) => return Err(ServeError::Frame(place)),
         }
-        match feed_more(alloc, source, &mut piece, &mut reader)? {
+        match read_on(alloc, source, &mut piece, &mut reader)? {
             Input::More => {}
             Input::End if reader.is_empty() => return Ok(()),
             Input::End => return Err(ServeError::Frame(reader.place())),
@@ -146,9 +141,8 @@ fn write_out<K: Sink>(sink: &mut K, replies: &mut Vec<u8>) -> Result<(), ServeEr
     }
 }
 
-/// Reads once into a piece, and feeds the reader with a copy of what came. A client that sends few bytes and waits would
-/// else have a whole new piece made each time.
-fn feed_more<S: Source>(
+/// Feeds the reader with more of the input.
+fn read_on<S: Source>(
     alloc: Global,
     source: &mut S,
     piece: &mut Vec<u8>,
@@ -157,34 +151,9 @@ fn feed_more<S: Source>(
     ensures fed { IfOk result (FeedsMore (S.left source.old) (S.left source.new) reader.old reader.new) }
     ensures counts { ReadCounts result (S.faults source.old) (S.faults source.new) }
 {
-    let count = read_piece(source, piece)?;
-    if count == 0 {
-        return Ok(Input::End);
+    match feed_more(alloc, source, piece, reader) {
+        Ok(input) => Ok(input),
+        Err(OuterError::Failed) => Err(ServeError::ReadFault),
+        Err(OuterError::NoMemory) => Err(ServeError::NoMemory),
     }
-    reader.feed(Bytes::copy_from_slice(alloc, &piece[..count])?)?;
-    Ok(Input::More)
-}
-
-/// Reads once to the front of a piece, and says how many bytes came. None are the end of the input.
-fn read_piece<S: Source>(source: &mut S, piece: &mut Vec<u8>) -> Result<usize, ServeError>
-    ensures within { IfOk result (λ count. count ≤ vec_len piece.new) }
-    ensures bytes { IfOk result (λ count. Consumes (S.left source.old) (S.left source.new) (take count piece.new.items)) }
-    ensures end { IfOk result (λ count. count ≡ 0 → IsAtEnd (S.left source.new)) }
-    ensures counts { ReadCounts result (S.faults source.old) (S.faults source.new) }
-{
-    make_piece(piece)?;
-    match source.read(piece) {
-        Ok(count) => Ok(count),
-        Err(_) => Err(ServeError::ReadFault),
-    }
-}
-
-/// Makes a piece, unless there is one.
-fn make_piece(piece: &mut Vec<u8>) -> Result<(), AllocError>
-    ensures { OnOk result (0 < vec_len piece.new) }
-{
-    if piece.is_empty() {
-        piece.resize(PIECE, 0)?;
-    }
-    Ok(())
 }

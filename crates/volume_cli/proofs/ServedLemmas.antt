@@ -11,8 +11,8 @@ use Rattle.target_traits.specs.Objects.{Objects}
 use Rattle.replica_serve.specs.declared.error.ServeError.{ServeError}
 use Rattle.replica_serve.specs.declared.error.ServeError.TheVariants as serve_error
 use Rattle.replica_serve.specs.Ends.{HasServed, HasSomeReplies, ServeCounts}
-use Rattle.replica_serve.specs.Inputs.{IsCalls, IsCutOff}
-use Rattle.replica_serve.proofs.InputLemmas.{one_cut, calls_or_cut}
+use Rattle.client_input.specs.Inputs.{IsCalls, IsCutOff}
+use Rattle.client_input.proofs.OneWay.{one_cut, calls_or_cut}
 use Rattle.volume_cli.specs.declared.status.Status.TheVariants as status
 use Rattle.volume_cli.specs.Ends.{Counts}
 use Rattle.volume_cli.specs.Headline.{AskReplica, IsStatus, RefusedOnly}

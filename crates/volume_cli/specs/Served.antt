@@ -4,7 +4,7 @@ use Rattle.frame_stream.specs.declared.frame.Frame.{Frame}
 use Rattle.replica_serve.specs.declared.error.ServeError.{ServeError}
 use Rattle.replica_serve.specs.declared.error.ServeError.TheVariants as serve_error
 use Rattle.replica_serve.specs.Ends.{HasServed}
-use Rattle.replica_serve.specs.Inputs.{IsCalls, IsCutOff}
+use Rattle.client_input.specs.Inputs.{IsCalls, IsCutOff}
 use Rattle.volume_cli.specs.declared.status.Status.{Status}
 use Rattle.volume_cli.specs.declared.status.Status.TheVariants as status
 

@@ -1,42 +1,12 @@
--- An input ends one way.
-use Rattle.std.proofs.Common.{◌≡◌, ◌≢◌, ◌∙◌, ◌⊎◌, ◌≤◌, ℕ, ◌+◌, ◌%◌, ◌^◌, List, [], ◌∷◌, ◌++◌, length, refl, sym, ap, subst, arith, inl, inr}
+-- An input begins, and ends, one way.
+use Rattle.std.proofs.Common.{◌≡◌, ◌≢◌, ◌∙◌, ◌⊎◌, ℕ, ◌%◌, ◌^◌, List, [], ◌∷◌, ◌++◌, length, refl, sym, ap, subst, arith, inl, inr}
 use Rattle.std.proofs.Common.{append_assoc, length-append}
 use Rattle.std.proofs.lemmas.List.Elements.{All-head, All-tail}
 use Rattle.frame_stream.proofs.FramesLemmas.{length_spelled}
-use Rattle.frame_stream.proofs.ReadingLaws.{one_next, standing_given}
 use Rattle.frame_stream.specs.Frames.{spelled, spellings, IsCall, IsClose, BeginsWithFrame, BeginWithCalls, HasNoFrame}
-use Rattle.frame_stream.specs.Reading.{Fed, GivesNext}
 use Rattle.frame_stream.specs.declared.frame.Frame.{Frame}
-use Rattle.frame_stream.specs.declared.reader.Next.TheVariants as next
-use Rattle.volume_model.specs.PlainStep.{longest_call}
-use Rattle.replica_serve.specs.Inputs.{HasClose, IsCalls, IsCutOff}
-
--- ---- a whole frame that stands first
-
--- what is left behind it
-abbrev pub past : Fed → Frame → List ℕ → Fed
-past fed f rest = record { left = rest; place = (fed.place + length (spelled f)) % 2 ^ 64; most = fed.most }
-
--- it is given
-pub whole_given : (fed : Fed) (f : Frame) (rest : List ℕ) → fed.most ≡ longest_call → BeginsWithFrame fed.left f rest
-    → GivesNext fed (past fed f rest) (next.Frame f)
-whole_given fed f rest most begins = standing_given fed (past fed f rest) f (record {
-  head = begins.whole.head;
-  body = begins.whole.body;
-  fits = subst (λ n. f.head.len ≤ n) (sym most) begins.whole.most;
-  bytes = begins.text;
-  place = refl;
-  most = refl;
-})
-
--- and it is the only one
-one_first : (bytes : List ℕ) (f g : Frame) (rest more : List ℕ) → BeginsWithFrame bytes f rest → BeginsWithFrame bytes g more
-    → (f ≡ g) × (rest ≡ more)
-one_first bytes f g rest more p q =
-    let fed : Fed = record { left = bytes; place = 0; most = longest_call } in
-    let same = one_next fed (past fed f rest) (past fed g more) (next.Frame f) (next.Frame g)
-    (whole_given fed f rest refl p) (whole_given fed g more refl q) in
-    (cc same.0, ap (λ (n : Fed). n.left) same.1)
+use Rattle.client_input.specs.Inputs.{HasClose, IsCalls, IsCutOff}
+use Rattle.client_input.proofs.FirstFrame.{one_first}
 
 -- ---- the calls that an input begins with
 
@@ -55,6 +25,18 @@ first_of input f fs rest p =
 others_of : (input : List ℕ) (f : Frame) (fs : List Frame) (rest : List ℕ) → BeginWithCalls input (f ∷ fs) rest
     → BeginWithCalls (spellings fs ++ rest) fs rest
 others_of input f fs rest p = record { calls = All-tail IsCall f fs p.calls; text = refl }
+
+-- several calls that it begins with are the same as as many others, and so is what stands behind them
+pub one_beginning : (input r s : List ℕ) (fs gs : List Frame) → BeginWithCalls input fs r → BeginWithCalls input gs s
+    → length fs ≡ length gs → (fs ≡ gs) × (r ≡ s)
+one_beginning input r s [] [] p q long = (refl, sym p.text ∙ q.text)
+one_beginning input r s [] (g ∷ gs) p q long = absurd (omega (arith, long))
+one_beginning input r s (f ∷ fs) [] p q long = absurd (omega (arith, long))
+one_beginning input r s (f ∷ fs) (g ∷ gs) p q long =
+    let same = one_first input f g (spellings fs ++ r) (spellings gs ++ s) (first_of input f fs r p).0 (first_of input g gs s q).0 in
+    let others = one_beginning (spellings fs ++ r) r s fs gs (others_of input f fs r p)
+    (subst (λ l. BeginWithCalls l gs s) (sym same.1) (others_of input g gs s q)) (omega (arith, long)) in
+    (cc (same.0, others.0), others.1)
 
 -- as far as calls go, they are one list, and so is what stands behind them
 one_list : (input r s : List ℕ) (fs gs : List Frame) → BeginWithCalls input fs r → BeginWithCalls input gs s → Stops r → Stops s

@@ -1,6 +1,6 @@
 use Rattle.std.proofs.Common.{◌∙◌, ◌++◌, ap}
 use Rattle.frame_stream.specs.Replies.{head_bytes}
-use Rattle.replica_serve.proofs.answer.append_header.Goals as goal
+use Rattle.client_input.proofs.replies.append_header.Goals as goal
 
 pub returns : goal.returns
 unfolding head_bytes

@@ -1,5 +1,5 @@
-use Rattle.replica_serve.proofs.InputLemmas.{one_input, one_cut, calls_or_cut}
-use Rattle.replica_serve.proofs.laws.an_input_ends_one_way.Goals as goal
+use Rattle.client_input.proofs.OneWay.{one_input, one_cut, calls_or_cut}
+use Rattle.client_input.proofs.laws.an_input_ends_one_way.Goals as goal
 
 pub returns-clause-calls : goal.returns-clause-calls
 returns-clause-calls c = one_input

@@ -1,0 +1,4 @@
+pub mod FirstFrame
+pub mod OneWay
+pub mod GivenCalls
+pub mod InputEnds

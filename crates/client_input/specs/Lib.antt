@@ -1,0 +1,4 @@
+pub mod Feeding
+pub mod Giving
+pub mod Inputs
+pub mod Replies
