@@ -19,7 +19,7 @@ use Rattle.volume_core.specs.State.{State, opening_of}
 use Rattle.stream_steps.specs.Mine.{Mine}
 use Rattle.world_holder.specs.View.{own_entries, view, IsFound}
 use Rattle.world_holder.proofs.Grow.{found_same}
-use Rattle.session_serve.specs.Replies.{HasRoomFor, HasPlace, EndsWith, HasPlaceForLast}
+use Rattle.session_serve.specs.Replies.{HasRoomFor, HasPlaceFor, EndsWithCall, HasPlaceForLast}
 use Rattle.session_serve.proofs.Last.{has_answer, same_answer, answered_there}
 
 -- no more bytes are read than were asked
@@ -37,7 +37,7 @@ short_read n o false is none = ltb-false longest_call n is
 
 module _ (modes : List Mode) (state : PlainState) (room : ℕ) where
   write_place : (c : Call) (o : Option Refusal) → IsFrameCall c → ((offset : ℤ) (n : ℕ) → c ≡ call.Read offset n → ⊥)
-      → HasPlace room (step_unless o modes state c).1
+      → HasPlaceFor room (step_unless o modes state c).1
   write_place c (Some why) frame other = tt
   write_place (call.Read offset n) None frame other = absurd (other offset n refl)
   write_place (call.Write offset bytes) None frame other = tt
@@ -46,11 +46,11 @@ module _ (modes : List Mode) (state : PlainState) (room : ℕ) where
   write_place (call.Command c) None frame other = absurd frame
 
   read_place : (offset : ℤ) (n : ℕ) (o : Option Refusal) → (o ≡ None → n ≤ longest_call) → HasRoomFor (call.Read offset n) room
-      → HasPlace room (step_unless o modes state (call.Read offset n)).1
+      → HasPlaceFor room (step_unless o modes state (call.Read offset n)).1
   read_place offset n (Some why) short has = tt
   read_place offset n None short has = omega (arith, few_bytes state.volume.disk (place_of offset) n, has (short refl))
 
-  step_place : (c : Call) → IsFrameCall c → HasRoomFor c room → HasPlace room (plain_step modes state c).1
+  step_place : (c : Call) → IsFrameCall c → HasRoomFor c room → HasPlaceFor room (plain_step modes state c).1
   step_place (call.Read offset n) frame has =
       read_place offset n (refusal_of modes state (call.Read offset n))
       (short_read n (range_refusal state.volume offset n) (ltb longest_call n) refl) has
@@ -62,23 +62,23 @@ module _ (modes : List Mode) (state : PlainState) (room : ℕ) where
 
 -- ---- of an answer
 
-reply_place : (modes : List Mode) (state : PlainState) (a : Answer) (room : ℕ) → IsAnswered state modes a → IsFrameCall a.call
-    → HasRoomFor a.call room → HasPlace room a.reply
+pub reply_place : (modes : List Mode) (state : PlainState) (a : Answer) (room : ℕ) → IsAnswered state modes a → IsFrameCall a.call
+    → HasRoomFor a.call room → HasPlaceFor room a.reply
 reply_place modes state a room is frame has = by a.reply refl
   where
-    plain : subject_of a.reply ≡ OfVolume → HasPlace room a.reply
-    plain of = subst (HasPlace room) (sym (is.reply of)) (step_place modes state room a.call frame has)
+    plain : subject_of a.reply ≡ OfVolume → HasPlaceFor room a.reply
+    plain of = subst (HasPlaceFor room) (sym (is.reply of)) (step_place modes state room a.call frame has)
 
-    by : (r : Reply) → a.reply ≡ r → HasPlace room r
+    by : (r : Reply) → a.reply ≡ r → HasPlaceFor room r
     by reply.Done e = tt
-    by (reply.Read bytes) e = subst (HasPlace room) e (plain (ap subject_of e))
-    by (reply.Status layers modes) e = subst (HasPlace room) e (plain (ap subject_of e))
+    by (reply.Read bytes) e = subst (HasPlaceFor room) e (plain (ap subject_of e))
+    by (reply.Status layers modes) e = subst (HasPlaceFor room) e (plain (ap subject_of e))
     by (reply.Refused why) e = tt
-    by (reply.Aborted place) e = tt
+    by (reply.Aborted place) e = subst (HasPlaceFor room) e (plain (ap subject_of e))
 
 -- of the last answer of the stream, where that is of a frame's call
 pub last_place : (n : ℕ) (spot : Spot) (es : List Entry) (c : Call) (room : ℕ) → IsLegal spot es → IsFrameCall c → HasRoomFor c room
-    → EndsWith n c (own_entries n spot es) → HasPlaceForLast n room es
+    → EndsWithCall n c (own_entries n spot es) → HasPlaceForLast n room es
 last_place n spot es c room legal frame has ends = record {
   some = has_answer n spot es ends.front ends.spot ends.answer ends.is;
   place = λ a last.
@@ -89,7 +89,7 @@ last_place n spot es c room legal frame has ends = record {
 
 -- so it is in the World that a stream finds
 pub place_found : (a : Bool) (n : ℕ) (s x : State) (c : Call) (room : ℕ) → IsFound a n s x → IsFrameCall c → HasRoomFor c room
-    → EndsWith n c (view a n s).entries → HasPlaceForLast n room x.book.entries
+    → EndsWithCall n c (view a n s).entries → HasPlaceForLast n room x.book.entries
 place_found a n s x c room found frame has ends =
     last_place n (opening_of x) x.book.entries c room found.sound.on.told.legal frame has
-    (subst (λ (m : Mine). EndsWith n c m.entries) (sym (found_same a n s x found)) ends)
+    (subst (λ (m : Mine). EndsWithCall n c m.entries) (sym (found_same a n s x found)) ends)

@@ -21,7 +21,7 @@ use Rattle.world_holder.specs.View.{view, own_entries}
 use Rattle.world_holder.proofs.Entries.{own-append, own_answer}
 use Rattle.world_holder.proofs.Grow.{same_opening}
 use Rattle.world_holder.proofs.OwnCalls.{calls_at, own_asked}
-use Rattle.session_serve.specs.Replies.{IsLastReply, EndsWith}
+use Rattle.session_serve.specs.Replies.{IsLastReply, EndsWithCall}
 use Rattle.session_serve.specs.Sessions.{own_of, IsReplied}
 use Rattle.session_serve.proofs.Lists.{before_or_behind, last_image}
 use Rattle.session_serve.proofs.Last.{own_there, same_answer, answered_there}
@@ -66,7 +66,7 @@ module _ (n : ℕ) (c : Call) (m m2 : Mine) (grew : GrewBy c m m2) (stream : m.s
   place_of_last q e = λ i. record { spot = q.spot; entry = e i }
 
   -- they end with its answer
-  pub ends_with : EndsWith n c m2.entries
+  pub ends_with : EndsWithCall n c m2.entries
   ends_with = record {
     front = m.entries ++ last.0;
     spot = last.1.spot;
@@ -97,7 +97,7 @@ module _ (n : ℕ) (c : Call) (r : Reply) (s u t : State) (frame : IsFrameCall c
   own : own_of n t ≡ own_of n u
   own = ap (λ (m : Mine). m.entries) same
 
-  ends : EndsWith n c (own_of n u)
+  ends : EndsWithCall n c (own_of n u)
   ends = ends_with n c (view false n s) (view false n u) grew refl
 
   is_own : own_of n t ≡ ends.front ++ answer_placed ends.spot ends.answer ∷ []

@@ -36,7 +36,7 @@ pub record IsLastReply (n : ℕ) (r : Reply) (es : List Entry) : Type 0 where
   pub is : answer.reply ≡ r
 
 -- of a stream's own entries, the last answers that call
-pub record EndsWith (n : ℕ) (c : Call) (ps : List Placed) : Type 0 where
+pub record EndsWithCall (n : ℕ) (c : Call) (ps : List Placed) : Type 0 where
   pub front : List Placed
   pub spot : Spot
   pub answer : Answer
@@ -52,12 +52,13 @@ HasRoomFor (call.Read offset n) room = n ≤ longest_call → n ≤ room
 HasRoomFor c room = Unit {0}
 
 -- the reply has place there
-abbrev pub HasPlace : ℕ → Reply → Type 0
-HasPlace room (reply.Read bytes) = length bytes ≤ room
-HasPlace room (reply.Status layers modes) = ⊥
-HasPlace room r = Unit {0}
+abbrev pub HasPlaceFor : ℕ → Reply → Type 0
+HasPlaceFor room (reply.Read bytes) = length bytes ≤ room
+HasPlaceFor room (reply.Status layers modes) = ⊥
+HasPlaceFor room (reply.Aborted place) = ⊥
+HasPlaceFor room r = Unit {0}
 
 -- the stream has a last answer, whose reply has
 pub record HasPlaceForLast (n room : ℕ) (es : List Entry) : Type 0 where
   pub some : HasNoAnswer n es → ⊥
-  pub place : (a : Answer) → IsLastOf n a es → HasPlace room a.reply
+  pub place : (a : Answer) → IsLastOf n a es → HasPlaceFor room a.reply

@@ -6,7 +6,8 @@ ghost use Rattle.stream_steps.specs.Steps.{IsFrameCall};
 ghost use Rattle.volume_core.specs.Sound.{IsSound};
 ghost use Rattle.volume_model.specs.declared.call.Call.{Call};
 ghost use Rattle.world_holder.specs.View.{view, IsFree};
-ghost use Rattle.session_serve.specs.Replies.{IsLastOf, HasNoAnswer, IsNoAnswer, EndsWith, HasRoomFor, HasPlace, HasPlaceForLast, IsLastReply};
+ghost use Rattle.session_serve.specs.Replies.{IsLastOf, HasNoAnswer, IsNoAnswer, EndsWithCall, IsLastReply};
+ghost use Rattle.session_serve.specs.Replies.{HasRoomFor, HasPlaceFor, HasPlaceForLast};
 
 use crate::copy::copied;
 use journal_book::{AnswerView, EntryView, Journal, ReplyView};
@@ -25,7 +26,7 @@ pub(crate) fn last_reply<R: Wait, H: Holder>(
     requires rests { H.rests holder.old stream }
     requires empty { room.items ≡ [] }
     requires asked { (c : Call) × IsFrameCall c × HasRoomFor c (vec_capacity room)
-        × EndsWith stream c (view H.alone stream (H.seen holder.old)).entries }
+        × EndsWithCall stream c (view H.alone stream (H.seen holder.old)).entries }
     ensures rests { H.rests holder.new stream }
     ensures home { H.home holder.new ≡ H.home holder.old }
     ensures same { view H.alone stream (H.seen holder.new) ≡ view H.alone stream (H.seen holder.old) }
@@ -80,14 +81,13 @@ fn own_answer<'a>(seen: EntryView<'a>, stream: u8) -> Option<AnswerView<'a>>
 /// The reply, in room that was made for it.
 fn reply_of(reply: ReplyView<'_>, room: Vec<u8>) -> Reply
     requires empty { room.items ≡ [] }
-    requires place { HasPlace (vec_capacity room) (reply_seen reply) }
+    requires place { HasPlaceFor (vec_capacity room) (reply_seen reply) }
     ensures { result ≡ reply_seen reply.entry }
 {
     match reply {
         ReplyView::Done => Reply::Done,
         ReplyView::Read(bytes) => Reply::Read(Sequence::of(copied(&bytes, room))),
         ReplyView::Refused(why) => Reply::Refused(why),
-        ReplyView::Aborted(place) => Reply::Aborted(place),
-        ReplyView::Status { .. } => unreachable!(),
+        ReplyView::Status { .. } | ReplyView::Aborted(_) => unreachable!(),
     }
 }

@@ -5,7 +5,7 @@ use Rattle.world_holder.specs.Laid.{laid}
 use Rattle.world_holder.specs.View.{view}
 use Rattle.client_worker.specs.Serving.{GrewBy}
 use Rattle.client_worker.proofs.Parts.{stays_of, idle_of, mine_of}
-use Rattle.session_serve.specs.Replies.{EndsWith}
+use Rattle.session_serve.specs.Replies.{EndsWithCall}
 use Rattle.session_serve.specs.Sessions.{IsReplied}
 use Rattle.session_serve.proofs.Replied.{ends_with}
 use Rattle.session_serve.proofs.Seats.{idle_free, idle_runs}
@@ -35,7 +35,7 @@ last_reply-requires-clause-asked g c =
       c.args.call,
       c.requires.frame,
       c.requires.room,
-      subst (λ k. EndsWith c.args.number c.args.call (view false k (laid (last_of u))).entries) (ap (λ p. p.1) stays.home)
+      subst (λ k. EndsWithCall c.args.number c.args.call (view false k (laid (last_of u))).entries) (ap (λ p. p.1) stays.home)
           (ends_with c.args.number c.args.call _ _ grew refl),
     )
 
