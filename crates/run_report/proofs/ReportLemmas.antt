@@ -12,6 +12,8 @@ use Rattle.volume_model.specs.Marks.{IsMark}
 use Rattle.frame_wire.specs.declared.head.Head.{Head}
 use Rattle.run_report.specs.Lines.{entry_line}
 use Rattle.run_report.specs.Report.{journal_lines, reply_lines, replies_from}
+use Rattle.run_report.specs.Sessions.{session_line, session_lines}
+use Rattle.run_report.specs.declared.session_line.EndedSession.{EndedSession}
 
 cond_is_true : {A : Type 0} (b : Bool) (x y : A) → b ≡ true → cond b x y ≡ x
 cond_is_true b x y e = rw e refl
@@ -29,6 +31,16 @@ next_line into whole place entries e inside is text =
     append_assoc into (entry_line place e) _
     ∙ ap (λ n. into ++ (entry_line place e ++ journal_lines n (drop n entries))) (add-one place)
     ∙ ap (λ l. into ++ journal_lines place l) (sym cut) ∙ text
+
+-- the line of the next session, and those of the sessions behind it
+pub next_session : (into whole : List ℕ) (k : ℕ) (sessions : List EndedSession) (s : EndedSession) → k < length sessions
+    → get_or sessions k s ≡ s → into ++ session_lines k (drop k sessions) ≡ whole
+    → (into ++ session_line k s) ++ session_lines (k + 1) (drop (k + 1) sessions) ≡ whole
+next_session into whole k sessions s inside is text =
+    let cut : drop k sessions ≡ s ∷ drop (suc k) sessions = drop-cons sessions k s inside ∙ ap (λ x. x ∷ drop (suc k) sessions) is in
+    append_assoc into (session_line k s) _
+    ∙ ap (λ n. into ++ (session_line k s ++ session_lines n (drop n sessions))) (add-one k)
+    ∙ ap (λ l. into ++ session_lines k l) (sym cut) ∙ text
 
 -- the answers of a stream from an entry on
 answers-cut : (stream place : ℕ) (entries : List Entry) (a : Answer) → place < length entries

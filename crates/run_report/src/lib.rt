@@ -11,6 +11,7 @@ mod reason;
 mod reply_frame;
 mod reply_line;
 pub mod rows;
+mod session_line;
 mod summary_lines;
 mod words;
 
@@ -20,4 +21,5 @@ pub use opening_line::print_opening;
 pub use reason::Reason;
 pub use reply_frame::digest_reply;
 pub use reply_line::print_reply;
+pub use session_line::{EndedSession, SessionEnd, print_session};
 pub use summary_lines::{print_control, print_disk, print_modes, print_stream};

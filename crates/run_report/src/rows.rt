@@ -1,7 +1,8 @@
 //! Worked rows of the report, computed by the checker: of replicas that were opened, of calls on small disks, and of what a run
-//! leaves.
+//! leaves; and of served sessions.
 
-ghost use Rattle.std.specs.Prelude.{◌≡◌, ◌∷◌, [], map, codes, pos, true, false, Some, None};
+ghost use Rattle.std.specs.Prelude.{◌≡◌, ◌∷◌, ◌++◌, [], map, codes, pos, replicate, true, false, Some, None};
+ghost use Rattle.digest.specs.Digest.{digest_text};
 ghost use Rattle.volume_model.specs.declared.command.Command.TheVariants as command;
 ghost use Rattle.volume_model.specs.declared.call.Call.TheVariants as call;
 ghost use Rattle.volume_model.specs.declared.call.Reply.TheVariants as reply;
@@ -15,8 +16,11 @@ ghost use Rattle.volume_model.specs.declared.mark.FoldOrDrop.TheVariants as part
 ghost use Rattle.volume_model.specs.declared.mark.Mark.TheVariants as mark;
 ghost use Rattle.volume_model.specs.declared.mode.Mode.TheVariants as mode;
 ghost use Rattle.run_report.specs.declared.reason.Reason.TheVariants as reason;
+ghost use Rattle.run_report.specs.declared.session_line.SessionEnd.TheVariants as end;
 ghost use Rattle.run_report.specs.Lines.{reason_text, opening_line, call_text, reply_text, reply_line, mode_line, chain_line};
+ghost use Rattle.run_report.specs.Lines.{head_line};
 ghost use Rattle.run_report.specs.Report.{opening_lines, journal_lines, call_lines};
+ghost use Rattle.run_report.specs.Sessions.{session_line, session_lines, sessions_report};
 ghost use Rattle.run_report.specs.Summary.{stream_line, control_line, modes_line, disk_line, summary_of, frames_from, summary_in};
 
 use crate::reason::Reason;
@@ -140,4 +144,33 @@ pub fn the_summary_reads()
     ensures journal { summary_in [] (record { state = state_of (0 ∷ []); modes = mode.Rw ∷ [] })
         (served no_store (record { state = state_of (0 ∷ []); modes = mode.Rw ∷ [] })
         ((call.Command (command.Fail 0) ∷ []) ∷ [])) ≡ codes "control ok\nmodes ERR\n" }
+{}
+
+/// What is printed of a session, by how it ended.
+pub fn the_sessions_read()
+    ensures closed { session_line 1 (record { end = end.Closed; calls = 0; seen = 0 })
+        ≡ codes "session 1 closed 0 0\n" }
+    ensures ended { session_line 0 (record { end = end.Ended; calls = 1; seen = 1 })
+        ≡ codes "session 0 ended 1 1\n" }
+    ensures frame { session_line 0 (record { end = end.Frame 26; calls = 1; seen = 1 })
+        ≡ codes "session 0 frame 26 1 1\n" }
+    ensures full { session_line 15 (record { end = end.Full; calls = 4096; seen = 65536 })
+        ≡ codes "session 15 full 4096 65536\n" }
+    ensures read_fault { session_line 2 (record { end = end.ReadFault; calls = 3; seen = 20 })
+        ≡ codes "session 2 read fault 3 20\n" }
+    ensures write_fault { session_line 3 (record { end = end.WriteFault; calls = 10; seen = 12 })
+        ≡ codes "session 3 write fault 10 12\n" }
+    ensures two { session_lines 0 ((record { end = end.Closed; calls = 2; seen = 3 })
+        ∷ (record { end = end.Ended; calls = 1; seen = 2 }) ∷ [])
+        ≡ codes "session 0 closed 2 3\nsession 1 ended 1 2\n" }
+{}
+
+/// What is printed of one session that reads a block of zeros, on one replica.
+pub fn a_served_read_reads()
+    ensures { sessions_report ((record { end = end.Ended; calls = 1; seen = 1 }) ∷ [])
+        (record { state = state_of (replicate 4096 0); modes = mode.Rw ∷ [] })
+        (served no_store (record { state = state_of (replicate 4096 0); modes = mode.Rw ∷ [] })
+        ((call.Read (pos 0) 4096 ∷ []) ∷ []))
+        ≡ codes "0 0 0 0 read 0 4096 ok 00*4096\nsession 0 ended 1 1\nmode r0 RW\nchain r0 head\n"
+        ++ head_line 0 (digest_text (replicate 4096 0)) }
 {}
