@@ -14,6 +14,10 @@ Begins-append Is (x ∷ xs) ys p q = p
 abbrev pub BeginsLater : List ℕ → Type 0
 BeginsLater text = Begins (λ b. 97 ≤ b) text
 
+-- as no line of a session does: 115 is the first byte of each
+abbrev pub BeginsUnserved : List ℕ → Type 0
+BeginsUnserved text = Begins (λ b. b ≢ 115) text
+
 -- as no line of an opening does: 111 is the first byte of each
 abbrev pub BeginsUnopened : List ℕ → Type 0
 BeginsUnopened text = Begins (λ b. b ≢ 111) text

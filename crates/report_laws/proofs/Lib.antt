@@ -7,4 +7,5 @@ mod Begins
 mod JournalTells
 mod OpeningTells
 mod ReportTells
+mod SessionTells
 pub mod Knowing

@@ -46,7 +46,7 @@ module _ (Is : ℕ → Type 0) (is_r : Is 114) (is_m : Is 109) (is_c : Is 99) (i
   sources-begin line lines r (Wo ∷ ms) = sources-begin line lines (suc r) ms
   sources-begin line lines r (Err ∷ ms) = sources-begin line lines (suc r) ms
 
-  end-begins : (modes : List Mode) (volume : Volume) → Begins Is (end_lines modes volume)
+  pub end-begins : (modes : List Mode) (volume : Volume) → Begins Is (end_lines modes volume)
   end-begins modes volume =
       let chain : ℕ → List ℕ = λ r. chain_line (Some r) (chain_of volume.snapshots) in
       let head : ℕ → List ℕ = λ r. head_line r (digest_text volume.disk) in

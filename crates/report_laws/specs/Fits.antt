@@ -1,4 +1,5 @@
--- Entries as a program holds them: names are names, no number has more than 64 bits, and bytes are bytes.
+-- Entries, and sessions that have ended, as a program holds them: names are names, no number has more than 64 bits, and bytes
+-- are bytes.
 use Rattle.std.specs.Prelude.{ℕ, ◌^◌, ◌<◌, List, length, FitsSigned}
 use Rattle.std.specs.Int.{w64}
 use Rattle.std.specs.List.{All}
@@ -16,6 +17,9 @@ use Rattle.volume_model.specs.declared.mark.FoldOrDrop.{FoldOrDrop}
 use Rattle.volume_model.specs.declared.mark.FoldOrDrop.TheVariants as part
 use Rattle.volume_model.specs.declared.mark.Mark.{Mark}
 use Rattle.volume_model.specs.declared.mark.Mark.TheVariants as mark
+use Rattle.run_report.specs.declared.session_line.EndedSession.{EndedSession}
+use Rattle.run_report.specs.declared.session_line.SessionEnd.{SessionEnd}
+use Rattle.run_report.specs.declared.session_line.SessionEnd.TheVariants as end
 
 -- a number of at most 64 bits
 abbrev pub Fits64 : ℕ → Type 0
@@ -81,3 +85,18 @@ EntryFits (entry.Mark m) = MarkFits m
 -- what each of these entries holds
 abbrev pub AllFit : List Entry → Type 0
 AllFit entries = All EntryFits entries
+
+-- the place where a session met no whole frame
+abbrev pub EndFits : SessionEnd → Type 0
+EndFits (end.Frame place) = Fits64 place
+EndFits e = Unit {0}
+
+-- what is told of a session that has ended
+pub record SessionFits (s : EndedSession) : Type 0 where
+  pub place : EndFits s.end
+  pub calls : Fits64 s.calls
+  pub seen : Fits64 s.seen
+
+-- what is told of each of these sessions
+abbrev pub SessionsFit : List EndedSession → Type 0
+SessionsFit sessions = All SessionFits sessions
