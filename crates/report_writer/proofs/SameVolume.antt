@@ -18,9 +18,12 @@ use Rattle.volume_model.specs.Replay.{replay}
 use Rattle.replica_node.specs.Node.{Node}
 use Rattle.replica_node.specs.Volume.{volume_of_node}
 use Rattle.load_laws.specs.Result.{replies_of}
-use Rattle.run_report.specs.Report.{opening_lines, call_lines, mode_lines, source_lines, end_lines, report_of}
+use Rattle.run_report.specs.Report.{opening_lines, journal_lines, call_lines, mode_lines, source_lines, end_lines, report_of}
+use Rattle.run_report.specs.Sessions.{session_lines, sessions_report}
+use Rattle.run_report.specs.declared.session_line.EndedSession.{EndedSession}
 use Rattle.run_report.specs.Summary.{frames_from, summary_of, volume_if_read, summary_in}
-use Rattle.report_writer.specs.Written.{replica_line, replica_lines, end_text, written_text, source_volume, written_summary}
+use Rattle.report_writer.specs.Written.{replica_line, replica_lines, end_text, written_text, sessions_text, source_volume}
+use Rattle.report_writer.specs.Written.{written_summary}
 use Rattle.report_writer.specs.declared.end.EndLine.{EndLine}
 use Rattle.report_writer.specs.declared.end.EndLine.TheVariants.{Chain, Digest}
 
@@ -69,6 +72,19 @@ written_is_report reasons opened heads book opening nodes other lines began many
     (each_volume (modes_of book) nodes other v many each))
     ∙ ap (λ l. l ++ call_lines heads book.entries ++ end_lines (modes_of book) v) lines
     ∙ ap (λ ms. opening_lines 0 reasons ++ call_lines heads book.entries ++ end_lines (modes_after ms book.entries) v) began
+
+-- The same of what is written of sessions.
+pub sessions_are_report : (sessions : List EndedSession) (book : Book) (opening : Spot) (nodes : List Node) (other : Node)
+    → book.opening.modes ≡ opening.modes → length nodes ≡ length (modes_of book)
+    → EachNodeIs (modes_of book) nodes other (replay opening.state book.entries).volume
+    → sessions_text sessions book (map volume_of_node nodes) ≡ sessions_report sessions opening book.entries
+sessions_are_report sessions book opening nodes other began many each =
+    let v = (replay opening.state book.entries).volume in
+    let before : List ℕ = journal_lines 0 book.entries ++ session_lines 0 sessions in
+    ap (λ l. before ++ l)
+    (same_end (modes_of book) (map volume_of_node nodes) v (length-map nodes volume_of_node ∙ many)
+    (each_volume (modes_of book) nodes other v many each))
+    ∙ ap (λ ms. before ++ end_lines (modes_after ms book.entries) v) began
 
 -- The lowest of them is this volume too, if there is one.
 same_source : (ms : List Mode) (vs : List Volume) (v : Volume) → length vs ≡ length ms → EachIs ms vs v

@@ -1,4 +1,4 @@
--- The four parts of the written text: what was opened, the entries, the replies and the end.
+-- The four parts of a written text: what was opened, the entries, the replies or the sessions, and the end.
 use Rattle.std.proofs.Common.{◌≡◌, ℕ, List, [], ◌++◌, sym, ap, subst, ◌∙◌, append_assoc, Option}
 use Rattle.outer_traits.specs.Passing.{WritesPrefix, Passes}
 use Rattle.outer_traits.proofs.Passing.{WritesPrefix-more}
@@ -20,3 +20,8 @@ pub whole_passes : (s t : Option (List ℕ)) (opened has all entries replies end
     → Passes s t opened has (entries ++ replies) → Passes s t [] all (opened ++ (entries ++ replies) ++ end)
 whole_passes s t opened has all entries replies end put p =
     (p.0, ap (λ l. l ++ end) p.1 ∙ append_assoc p.0 has end ∙ ap (λ l. p.0 ++ l) (sym put), p.2)
+
+-- where nothing was opened, the text has three parts
+pub nothing_opened : (opened entries sessions end : List ℕ) → opened ≡ []
+    → opened ++ (entries ++ sessions) ++ end ≡ entries ++ sessions ++ end
+nothing_opened opened entries sessions end none = ap (λ l. l ++ (entries ++ sessions) ++ end) none

@@ -1,7 +1,8 @@
 -- What is written of a run.
-use Rattle.std.specs.Prelude.{ℕ, suc, List, [], ◌∷◌, ◌++◌, length, Option, Some, option_and_then, slice_get}
+use Rattle.std.specs.Prelude.{⊤, ℕ, suc, ◌<◌, List, [], ◌∷◌, ◌++◌, length, Option, Some, option_and_then, slice_get}
 use Rattle.frame_wire.specs.declared.head.Head.{Head}
 use Rattle.journal_book.specs.Book.{Book, modes_of}
+use Rattle.volume_model.specs.declared.entry.Entry.{Entry}
 use Rattle.volume_model.specs.declared.mode.Mode.{Mode}
 use Rattle.volume_model.specs.declared.mode.Mode.TheVariants as mode
 use Rattle.volume_model.specs.Modes.{source_of}
@@ -10,10 +11,14 @@ use Rattle.volume_model.specs.Snapshots.{chain_of}
 use Rattle.digest.specs.Digest.{digest_text}
 use Rattle.run_report.specs.Lines.{chain_line, head_line}
 use Rattle.load_laws.specs.Result.{replies_of}
-use Rattle.run_report.specs.Report.{call_lines, mode_lines}
+use Rattle.run_report.specs.Report.{call_lines, journal_lines, mode_lines, replies_from}
+use Rattle.run_report.specs.Sessions.{session_lines}
 use Rattle.run_report.specs.Summary.{stream_lines, control_line, modes_line, frames_from, summary_of}
+use Rattle.run_report.specs.declared.session_line.EndedSession.{EndedSession}
 use Rattle.report_writer.specs.declared.end.EndLine.{EndLine}
 use Rattle.report_writer.specs.declared.end.EndLine.TheVariants.{Chain, Digest}
+use Rattle.report_writer.specs.declared.report.Between.{Between}
+use Rattle.report_writer.specs.declared.report.Between.TheVariants.{Replies, Sessions}
 
 -- what such a line tells of a replica that is this volume
 abbrev pub replica_line : EndLine → ℕ → Volume → List ℕ
@@ -36,6 +41,25 @@ end_text modes volumes =
 -- these volumes
 abbrev pub written_text : List ℕ → List (List Head) → Book → List Volume → List ℕ
 written_text opened heads book volumes = opened ++ call_lines heads book.entries ++ end_text (modes_of book) volumes
+
+-- the lines of the entries, those of these sessions, and then of the replicas, which are these volumes
+abbrev pub sessions_text : List EndedSession → Book → List Volume → List ℕ
+sessions_text sessions book volumes =
+    journal_lines 0 book.entries ++ session_lines 0 sessions ++ end_text (modes_of book) volumes
+
+-- what stands between the lines of these entries and those of the replicas
+abbrev pub between_text : Between → List Entry → List ℕ
+between_text (Replies heads) entries = replies_from 0 heads.now entries
+between_text (Sessions sessions) entries = session_lines 0 sessions.now
+
+-- the lines of these entries, and what stands behind them
+abbrev pub entries_text : Between → List Entry → List ℕ
+entries_text between entries = journal_lines 0 entries ++ between_text between entries
+
+-- sessions are few enough that each has a number of a byte
+abbrev pub HasFewSessions : Between → Type 0
+HasFewSessions (Replies heads) = ⊤
+HasFewSessions (Sessions sessions) = length sessions.now < 256
 
 -- of replicas that are these volumes, the lowest that is read and written
 abbrev pub source_volume : List Mode → List Volume → Option Volume

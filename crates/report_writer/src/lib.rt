@@ -7,5 +7,5 @@ mod heads;
 mod report;
 mod summary;
 
-pub use report::write_report;
+pub use report::{write_report, write_sessions};
 pub use summary::write_summary;
