@@ -1,0 +1,11 @@
+pub mod Answers
+pub mod Replies
+pub mod Comes
+pub mod Ending
+pub mod Asking
+pub mod Stays
+pub mod Begun
+pub mod Dealing
+pub mod Working
+pub mod Taking
+pub mod Outcome

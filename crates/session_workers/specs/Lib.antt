@@ -1,0 +1,4 @@
+pub mod Clients
+pub mod Talking
+pub mod Served
+pub mod Tasks
