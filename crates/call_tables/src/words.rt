@@ -1,5 +1,5 @@
 use crate::told::same;
-use program_words::{Words, WordsError, Workers, read_words};
+use program_words::{Address, Words, WordsError, Workers, read_words};
 use std::alloc::{AllocError, Global};
 use std::process::Abort;
 use std::test::Fail;
@@ -41,6 +41,29 @@ fn load_of(number: u64, streams: u8, calls: u32) -> Read {
     })
 }
 
+fn restore_of(backup: PlainName, volume: PlainName) -> Read {
+    Ok(Words::Restore { backup, volume })
+}
+
+fn backups_of(volume: PlainName) -> Read {
+    Ok(Words::Backups { volume })
+}
+
+fn serve_at(
+    alloc: Global,
+    address: &str,
+    size: VolumeSize,
+    replicas: u8,
+    sessions: u8,
+) -> Result<Read, AllocError> {
+    Ok(Ok(Words::Serve {
+        address: Address::of(alloc, address)?,
+        size,
+        replicas,
+        sessions,
+    }))
+}
+
 fn usage_error() -> Read {
     Err(WordsError::Usage)
 }
@@ -69,23 +92,20 @@ fn words_are_read(rt: HostRuntime) -> Result<(), Fail> {
 #[test]
 fn words_of_backups_are_read(rt: HostRuntime) -> Result<(), Fail> {
     let (backup, volume) = (PlainName::read(b"b-1")?, PlainName::read(b"v.2")?);
-    let restore = Ok(Words::Restore { backup, volume });
-    let backups = Ok(Words::Backups { volume });
-    let usage = Err(WordsError::Usage);
     let rows = [
-        ("restore b-1 v.2", restore),
-        ("restore -- b-1 v.2", restore),
-        ("restore b-1 -- v.2", restore),
-        ("backups v.2", backups),
-        ("backups v.2 --", backups),
-        ("restore b-1", usage),
-        ("restore b-1 v.2 w", usage),
-        ("restore _b v.2", usage),
-        ("restore b-1 a/v", usage),
-        ("restore --help", usage),
-        ("backups", usage),
-        ("backups b-1 v.2", usage),
-        ("backups -- -v", usage),
+        ("restore b-1 v.2", restore_of(backup, volume)),
+        ("restore -- b-1 v.2", restore_of(backup, volume)),
+        ("restore b-1 -- v.2", restore_of(backup, volume)),
+        ("backups v.2", backups_of(volume)),
+        ("backups v.2 --", backups_of(volume)),
+        ("restore b-1", usage_error()),
+        ("restore b-1 v.2 w", usage_error()),
+        ("restore _b v.2", usage_error()),
+        ("restore b-1 a/v", usage_error()),
+        ("restore --help", usage_error()),
+        ("backups", usage_error()),
+        ("backups b-1 v.2", usage_error()),
+        ("backups -- -v", usage_error()),
     ];
     read_lines(&rt, rt.alloc(), &rows)
 }
@@ -122,4 +142,33 @@ fn words_of_loads_are_read(rt: HostRuntime) -> Result<(), Fail> {
         ("gen -7 1 1", usage_error()),
     ];
     read_lines(&rt, rt.alloc(), &rows)
+}
+
+#[test]
+fn words_of_served_volumes_are_read(rt: HostRuntime) -> Result<(), Fail> {
+    let alloc = rt.alloc();
+    let size = VolumeSize::new(2_097_152)?;
+    let rows = [
+        ("serve x 2097152 1 1", serve_at(alloc, "x", size, 1, 1)?),
+        (
+            "serve 127.0.0.1:0 2097152 8 16",
+            serve_at(alloc, "127.0.0.1:0", size, 8, 16)?,
+        ),
+        (
+            "serve -- -x 2097152 2 3",
+            serve_at(alloc, "-x", size, 2, 3)?,
+        ),
+        ("serve x 2097152 1", usage_error()),
+        ("serve 2097152 1 1", usage_error()),
+        ("serve x 2097152 1 1 1", usage_error()),
+        ("serve -x 2097152 1 1", usage_error()),
+        ("serve x 2097153 1 1", usage_error()),
+        ("serve x 2097152 0 1", usage_error()),
+        ("serve x 2097152 9 1", usage_error()),
+        ("serve x 2097152 1 0", usage_error()),
+        ("serve x 2097152 1 17", usage_error()),
+        ("serve x 2097152 01 1", usage_error()),
+        ("serve --help", usage_error()),
+    ];
+    read_lines(&rt, alloc, &rows)
 }

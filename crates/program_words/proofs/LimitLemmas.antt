@@ -6,11 +6,12 @@ use Rattle.vol_units.specs.Name.{IsPlainName}
 use Rattle.vol_units.specs.Size.{IsVolumeSize}
 use Rattle.clap.specs.Words.{Row, Text, first_of, subcommand_of, takes}
 use Rattle.program_words.specs.Asked.{KeepsLimits, asked_at, asked_by, asked_named, backups_of, generate_of, is_plain_name, load_of}
-use Rattle.program_words.specs.Asked.{name_at, number_at, plain_name, replica_of, restore_of, run_of, workers_of}
-use Rattle.program_words.specs.Numbers.{calls_of, number_of, size_of, streams_of}
+use Rattle.program_words.specs.Asked.{name_at, number_at, plain_name, replica_of, replicas_at, restore_of, run_of, serve_at, serve_of}
+use Rattle.program_words.specs.Asked.{sessions_at, workers_of}
+use Rattle.program_words.specs.Numbers.{calls_of, number_of, replicas_of, sessions_of, size_of, streams_of}
 use Rattle.program_words.specs.Program.{program}
 use Rattle.program_words.specs.declared.words.Words.{Words}
-use Rattle.program_words.specs.declared.words.Words.TheVariants.{Run, Restore, Backups, Replica, Generate}
+use Rattle.program_words.specs.declared.words.Words.TheVariants.{Run, Restore, Backups, Replica, Generate, Serve}
 use Rattle.program_words.proofs.NumberLemmas.{decimal-number_of, is_of_size, is_within, kept_where}
 
 -- what each value that is there keeps to
@@ -90,13 +91,46 @@ generate_keeps rows =
     (of_last (λ n. (1 ≤ n) × (n ≤ 15)) streams_of (number_at (codes "streams") rows) (is_within 1 15))
     (λ streams few. load_keeps number streams rows small few))
 
+-- `serve`, from its count of replicas on
+sessions_keep : (address : List ℕ) (size replicas : ℕ) (rows : List Row) → IsVolumeSize size → (1 ≤ replicas) × (replicas ≤ 8)
+    → Keeps (sessions_at address size replicas rows)
+sessions_keep address size replicas rows good few = mapped (λ n. (1 ≤ n) × (n ≤ 16)) (Serve address size replicas)
+    (option_and_then sessions_of (number_at (codes "sessions") rows))
+    (of_last (λ n. (1 ≤ n) × (n ≤ 16)) sessions_of (number_at (codes "sessions") rows) (is_within 1 16))
+    (λ sessions fine. record {
+      good_size = good;
+      some_replicas = few.0;
+      few_replicas = few.1;
+      some_sessions = fine.0;
+      few_sessions = fine.1;
+    })
+
+-- from its size on
+replicas_keep : (address : List ℕ) (size : ℕ) (rows : List Row) → IsVolumeSize size → Keeps (replicas_at address size rows)
+replicas_keep address size rows good = chained (λ n. (1 ≤ n) × (n ≤ 8)) (λ replicas. sessions_at address size replicas rows)
+    (option_and_then replicas_of (number_at (codes "replicas") rows))
+    (of_last (λ n. (1 ≤ n) × (n ≤ 8)) replicas_of (number_at (codes "replicas") rows) (is_within 1 8))
+    (λ replicas few. sessions_keep address size replicas rows good few)
+
+-- from its address on
+serve_at_keeps : (address : List ℕ) (rows : List Row) → Keeps (serve_at address rows)
+serve_at_keeps address rows = chained IsVolumeSize (λ size. replicas_at address size rows)
+    (option_and_then size_of (number_at (codes "size") rows))
+    (of_last IsVolumeSize size_of (number_at (codes "size") rows) is_of_size) (λ size good. replicas_keep address size rows good)
+
+-- `serve`
+serve_keeps : (rows : List Row) → Keeps (serve_of rows)
+serve_keeps rows = chained (λ _. ⊤) (λ address. serve_at address rows) (first_of (codes "address") rows) (λ _ _. tt)
+    (λ address _. serve_at_keeps address rows)
+
 -- whichever word is named
 at_keeps : (name : Text) (rows : List Row) → Keeps (asked_at name rows)
 at_keeps name rows = chosen (bytes_eq name (codes "run")) _ _ (run_keeps rows)
     (chosen (bytes_eq name (codes "restore")) _ _ (restore_keeps rows)
     (chosen (bytes_eq name (codes "backups")) _ _ (backups_keeps rows)
     (chosen (bytes_eq name (codes "replica")) _ _ (replica_keeps rows)
-    (chosen (bytes_eq name (codes "gen")) _ _ (generate_keeps rows) tt))))
+    (chosen (bytes_eq name (codes "gen")) _ _ (generate_keeps rows)
+    (chosen (bytes_eq name (codes "serve")) _ _ (serve_keeps rows) tt)))))
 
 -- and where none may be named
 named_keeps : (named : Option (Text × List Row)) → Keeps (asked_named named)

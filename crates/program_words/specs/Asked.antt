@@ -9,12 +9,12 @@ use Rattle.clap.specs.declared.error.kind.ErrorKind.{ErrorKind}
 use Rattle.clap.specs.declared.error.kind.ErrorKind.TheVariants.{OutOfMemory}
 use Rattle.vol_units.specs.Name.{IsPlainName, is_name_byte}
 use Rattle.vol_units.specs.Size.{IsVolumeSize}
-use Rattle.program_words.specs.Numbers.{AreLoadNumbers, number_of, size_of, streams_of, calls_of}
+use Rattle.program_words.specs.Numbers.{AreLoadNumbers, AreServeNumbers, number_of, size_of, streams_of, calls_of, replicas_of, sessions_of}
 use Rattle.program_words.specs.Program.{program}
 use Rattle.program_words.specs.declared.words.Workers.{Workers}
 use Rattle.program_words.specs.declared.words.Workers.TheVariants.{One, Each}
 use Rattle.program_words.specs.declared.words.Words.{Words}
-use Rattle.program_words.specs.declared.words.Words.TheVariants.{Run, Restore, Backups, Replica, Generate}
+use Rattle.program_words.specs.declared.words.Words.TheVariants.{Run, Restore, Backups, Replica, Generate, Serve}
 use Rattle.program_words.specs.declared.words.WordsError.{WordsError}
 use Rattle.program_words.specs.declared.words.WordsError.TheVariants.{Usage, NoMemory}
 
@@ -72,13 +72,33 @@ abbrev pub generate_of : List Row → Option Words
 generate_of rows = option_and_then (λ number. option_and_then (λ streams. load_of number streams rows)
     (option_and_then streams_of (number_at (codes "streams") rows))) (number_at (codes "number") rows)
 
+-- `serve`, at an address, of a size and of so many replicas, by how many sessions there are
+abbrev pub sessions_at : List ℕ → ℕ → ℕ → List Row → Option Words
+sessions_at address size replicas rows =
+    option_map (Serve address size replicas) (option_and_then sessions_of (number_at (codes "sessions") rows))
+
+-- the same at an address and of a size, by how many replicas and sessions there are
+abbrev pub replicas_at : List ℕ → ℕ → List Row → Option Words
+replicas_at address size rows = option_and_then (λ replicas. sessions_at address size replicas rows)
+    (option_and_then replicas_of (number_at (codes "replicas") rows))
+
+-- the same at an address, by the size and those counts
+abbrev pub serve_at : List ℕ → List Row → Option Words
+serve_at address rows = option_and_then (λ size. replicas_at address size rows)
+    (option_and_then size_of (number_at (codes "size") rows))
+
+-- `serve`, at an address, which is any text, by the size and those counts
+abbrev pub serve_of : List Row → Option Words
+serve_of rows = option_and_then (λ address. serve_at address rows) (first_of (codes "address") rows)
+
 -- what a subcommand of this name asks for, by what `clap` reads of its arguments
 abbrev pub asked_at : Text → List Row → Option Words
 asked_at name rows = if bytes_eq name (codes "run") then run_of rows
     else (if bytes_eq name (codes "restore") then restore_of rows
     else (if bytes_eq name (codes "backups") then backups_of rows
     else (if bytes_eq name (codes "replica") then replica_of rows
-    else (if bytes_eq name (codes "gen") then generate_of rows else None))))
+    else (if bytes_eq name (codes "gen") then generate_of rows
+    else (if bytes_eq name (codes "serve") then serve_of rows else None)))))
 
 -- the same of the subcommand that is named, if one is
 abbrev pub asked_named : Option (Text × List Row) → Option Words
@@ -95,6 +115,7 @@ KeepsLimits (Restore backup volume) = IsPlainName backup × IsPlainName volume
 KeepsLimits (Backups volume) = IsPlainName volume
 KeepsLimits (Replica size) = IsVolumeSize size
 KeepsLimits (Generate number streams calls) = AreLoadNumbers number streams calls
+KeepsLimits (Serve address size replicas sessions) = AreServeNumbers size replicas sessions
 
 -- the error that a refusal of this kind is
 abbrev pub IsErrorOf : ErrorKind → WordsError → Type 0

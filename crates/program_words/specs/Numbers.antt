@@ -4,6 +4,7 @@ use Rattle.std.specs.Prelude.{Option, Some, None}
 use Rattle.std.specs.Str.{bytes_eq}
 use Rattle.std.specs.Str.Parse.{digits_value}
 use Rattle.clap.specs.Words.{Text}
+use Rattle.vol_units.specs.Size.{IsVolumeSize}
 
 -- the number below 2^64 whose decimal text that is, if there is one
 abbrev pub number_of : Text → Option ℕ
@@ -30,6 +31,14 @@ streams_of = within 1 15
 abbrev pub calls_of : ℕ → Option ℕ
 calls_of = within 1 4096
 
+-- the number as a count of replicas: 1 to 8
+abbrev pub replicas_of : ℕ → Option ℕ
+replicas_of = within 1 8
+
+-- the number as a count of sessions: 1 to 16
+abbrev pub sessions_of : ℕ → Option ℕ
+sessions_of = within 1 16
+
 -- the numbers of a load that may be asked for: any number below 2^64, 1 to 15 streams, and 1 to 4,096 calls in each
 pub record AreLoadNumbers (number streams calls : ℕ) : Type 0 where
   pub small_number : number < 2 ^ 64
@@ -37,3 +46,11 @@ pub record AreLoadNumbers (number streams calls : ℕ) : Type 0 where
   pub few_streams : streams ≤ 15
   pub some_calls : 1 ≤ calls
   pub few_calls : calls ≤ 4096
+
+-- the numbers of what may be served: a size of a volume, 1 to 8 replicas, and 1 to 16 sessions
+pub record AreServeNumbers (size replicas sessions : ℕ) : Type 0 where
+  pub good_size : IsVolumeSize size
+  pub some_replicas : 1 ≤ replicas
+  pub few_replicas : replicas ≤ 8
+  pub some_sessions : 1 ≤ sessions
+  pub few_sessions : sessions ≤ 16

@@ -28,11 +28,16 @@ abbrev pub generate_app : App
 generate_app = with_rule (with_rule (with_rule (new_app (codes "gen")) (positional (codes "number"))) (positional (codes "streams")))
     (positional (codes "calls"))
 
+-- `serve ADDRESS SIZE REPLICAS SESSIONS`
+abbrev pub serve_app : App
+serve_app = with_rule (with_rule (with_rule (with_rule (new_app (codes "serve")) (positional (codes "address")))
+    (positional (codes "size"))) (positional (codes "replicas"))) (positional (codes "sessions"))
+
 -- no subcommand yet: the words do not begin with the program's name, and one of its subcommands is named
 abbrev pub bare_program : App
 bare_program = on_top (λ s. record s { no_binary_name = true; subcommand_required = true }) (new_app (codes "longhorn"))
 
--- the program, with its five subcommands
+-- the program, with its six subcommands
 abbrev pub program : App
 program = fold (λ a sub. with_subcommand a sub.top) bare_program
-    (run_app ∷ restore_app ∷ backups_app ∷ replica_app ∷ generate_app ∷ [])
+    (run_app ∷ restore_app ∷ backups_app ∷ replica_app ∷ generate_app ∷ serve_app ∷ [])

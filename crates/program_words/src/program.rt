@@ -2,7 +2,7 @@ ghost use Rattle.std.specs.Prelude.{◌≡◌, IfOk, false};
 ghost use Rattle.clap.specs.Words.{app_of, rule_of};
 ghost use Rattle.clap.specs.declared.builder.Command.TheViews.{out-Command as fields_of};
 ghost use Rattle.program_words.specs.Program.{backups_app, generate_app, positional, program};
-ghost use Rattle.program_words.specs.Program.{replica_app, restore_app, run_app};
+ghost use Rattle.program_words.specs.Program.{replica_app, restore_app, run_app, serve_app};
 
 use clap::{Arg, Command};
 use std::alloc::{AllocError, Global};
@@ -18,7 +18,8 @@ pub fn command<'a>(alloc: Global) -> Result<Command<'a>, AllocError>
         .subcommand(restore_command(alloc)?)?
         .subcommand(backups_command(alloc)?)?
         .subcommand(replica_command(alloc)?)?
-        .subcommand(generate_command(alloc)?)
+        .subcommand(generate_command(alloc)?)?
+        .subcommand(serve_command(alloc)?)
 }
 
 fn run_command<'a>(alloc: Global) -> Result<Command<'a>, AllocError>
@@ -65,4 +66,19 @@ fn generate_command<'a>(alloc: Global) -> Result<Command<'a>, AllocError>
         .arg(number)?
         .arg(streams)?
         .arg(calls)
+}
+
+fn serve_command<'a>(alloc: Global) -> Result<Command<'a>, AllocError>
+    ensures shape { IfOk result (λ c. app_of c ≡ serve_app) }
+    ensures local { IfOk result (λ c. (fields_of c).has_globals ≡ false) }
+{
+    let address = Arg::new(alloc, "address").required(true);
+    let size = Arg::new(alloc, "size").required(true);
+    let replicas = Arg::new(alloc, "replicas").required(true);
+    let sessions = Arg::new(alloc, "sessions").required(true);
+    Command::new(alloc, "serve")
+        .arg(address)?
+        .arg(size)?
+        .arg(replicas)?
+        .arg(sessions)
 }

@@ -3,7 +3,7 @@
 
 ghost use Rattle.std.specs.Prelude.{◌≡◌, [], ◌∷◌, Some, None, codes, replicate};
 ghost use Rattle.program_words.specs.Asked.{asked_by};
-ghost use Rattle.program_words.specs.declared.words.Words.TheVariants.{Run, Restore, Backups, Replica, Generate};
+ghost use Rattle.program_words.specs.declared.words.Words.TheVariants.{Run, Restore, Backups, Replica, Generate, Serve};
 ghost use Rattle.program_words.specs.declared.words.Workers.TheVariants.{One, Each};
 
 /// The ways to ask for a run.
@@ -235,5 +235,110 @@ pub fn other_numbers_are_refused()
     ensures blanks_between { asked_by (codes "gen" ∷ codes "0 1 1" ∷ []) ≡ None }
     ensures point { asked_by (codes "gen" ∷ codes "0" ∷ codes "1" ∷ codes "1.0" ∷ []) ≡ None }
     ensures not_ascii { asked_by (codes "gen" ∷ codes "0" ∷ (217 ∷ 161 ∷ []) ∷ codes "1" ∷ [])
+        ≡ None }
+{}
+
+/// The ways to ask for a volume that is served.
+pub fn a_served_volume_is_asked_for()
+    ensures least { asked_by (codes "serve" ∷ codes "x" ∷ codes "2097152" ∷ codes "1" ∷ codes "1"
+        ∷ []) ≡ Some (Serve (codes "x") 2097152 1 1) }
+    ensures most { asked_by (codes "serve" ∷ codes "127.0.0.1:0" ∷ codes "1073741824" ∷ codes "8"
+        ∷ codes "16" ∷ []) ≡ Some (Serve (codes "127.0.0.1:0") 1073741824 8 16) }
+    ensures in_this_order { asked_by (codes "serve" ∷ codes "x" ∷ codes "6291456" ∷ codes "2"
+        ∷ codes "3" ∷ []) ≡ Some (Serve (codes "x") 6291456 2 3) }
+    ensures dashes_first { asked_by (codes "serve" ∷ codes "--" ∷ codes "x" ∷ codes "2097152"
+        ∷ codes "2" ∷ codes "3" ∷ []) ≡ Some (Serve (codes "x") 2097152 2 3) }
+    ensures dashes_between { asked_by (codes "serve" ∷ codes "x" ∷ codes "2097152" ∷ codes "--"
+        ∷ codes "2" ∷ codes "3" ∷ []) ≡ Some (Serve (codes "x") 2097152 2 3) }
+    ensures dashes_last { asked_by (codes "serve" ∷ codes "x" ∷ codes "2097152" ∷ codes "2"
+        ∷ codes "3" ∷ codes "--" ∷ []) ≡ Some (Serve (codes "x") 2097152 2 3) }
+{}
+
+/// An address is any text.
+pub fn an_address_is_any_text()
+    ensures empty { asked_by (codes "serve" ∷ codes "" ∷ codes "2097152" ∷ codes "1" ∷ codes "1"
+        ∷ []) ≡ Some (Serve [] 2097152 1 1) }
+    ensures with_blanks { asked_by (codes "serve" ∷ codes " a b/c:d " ∷ codes "2097152" ∷ codes "1"
+        ∷ codes "1" ∷ []) ≡ Some (Serve (codes " a b/c:d ") 2097152 1 1) }
+    ensures word_of_the_program { asked_by (codes "serve" ∷ codes "run" ∷ codes "2097152"
+        ∷ codes "1" ∷ codes "1" ∷ []) ≡ Some (Serve (codes "run") 2097152 1 1) }
+    ensures long { asked_by (codes "serve" ∷ replicate 300 97 ∷ codes "2097152" ∷ codes "1"
+        ∷ codes "1" ∷ []) ≡ Some (Serve (replicate 300 97) 2097152 1 1) }
+    ensures not_ascii { asked_by (codes "serve" ∷ (195 ∷ 169 ∷ []) ∷ codes "2097152" ∷ codes "1"
+        ∷ codes "1" ∷ []) ≡ Some (Serve (195 ∷ 169 ∷ []) 2097152 1 1) }
+    ensures dash_behind_dashes { asked_by (codes "serve" ∷ codes "--" ∷ codes "-x" ∷ codes "2097152"
+        ∷ codes "1" ∷ codes "1" ∷ []) ≡ Some (Serve (codes "-x") 2097152 1 1) }
+    ensures dash_first { asked_by (codes "serve" ∷ codes "-x" ∷ codes "2097152" ∷ codes "1"
+        ∷ codes "1" ∷ []) ≡ None }
+{}
+
+/// `serve` has an address, a size and two counts, and nothing else.
+pub fn serve_has_four_words()
+    ensures none { asked_by (codes "serve" ∷ []) ≡ None }
+    ensures none_behind_dashes { asked_by (codes "serve" ∷ codes "--" ∷ []) ≡ None }
+    ensures one { asked_by (codes "serve" ∷ codes "x" ∷ []) ≡ None }
+    ensures two { asked_by (codes "serve" ∷ codes "x" ∷ codes "2097152" ∷ []) ≡ None }
+    ensures three { asked_by (codes "serve" ∷ codes "x" ∷ codes "2097152" ∷ codes "1" ∷ []) ≡ None }
+    ensures no_address { asked_by (codes "serve" ∷ codes "2097152" ∷ codes "1" ∷ codes "1" ∷ [])
+        ≡ None }
+    ensures five { asked_by (codes "serve" ∷ codes "x" ∷ codes "2097152" ∷ codes "1" ∷ codes "1"
+        ∷ codes "1" ∷ []) ≡ None }
+    ensures option { asked_by (codes "serve" ∷ codes "x" ∷ codes "2097152" ∷ codes "1"
+        ∷ codes "--sessions=1" ∷ []) ≡ None }
+    ensures option_of_run { asked_by (codes "serve" ∷ codes "--workers" ∷ codes "one" ∷ codes "x"
+        ∷ codes "2097152" ∷ codes "1" ∷ codes "1" ∷ []) ≡ None }
+    ensures short { asked_by (codes "serve" ∷ codes "-a" ∷ codes "x" ∷ codes "2097152" ∷ codes "1"
+        ∷ codes "1" ∷ []) ≡ None }
+    ensures help { asked_by (codes "serve" ∷ codes "--help" ∷ []) ≡ None }
+    ensures help_behind { asked_by (codes "serve" ∷ codes "x" ∷ codes "2097152" ∷ codes "1"
+        ∷ codes "1" ∷ codes "-h" ∷ []) ≡ None }
+    ensures help_first { asked_by (codes "help" ∷ codes "serve" ∷ []) ≡ None }
+    ensures shorter_word { asked_by (codes "serv" ∷ codes "x" ∷ codes "2097152" ∷ codes "1"
+        ∷ codes "1" ∷ []) ≡ None }
+    ensures longer_word { asked_by (codes "serves" ∷ codes "x" ∷ codes "2097152" ∷ codes "1"
+        ∷ codes "1" ∷ []) ≡ None }
+{}
+
+/// Numbers past the limits of what is served.
+pub fn a_served_volume_past_its_limits_is_refused()
+    ensures no_replica { asked_by (codes "serve" ∷ codes "x" ∷ codes "2097152" ∷ codes "0"
+        ∷ codes "1" ∷ []) ≡ None }
+    ensures nine_replicas { asked_by (codes "serve" ∷ codes "x" ∷ codes "2097152" ∷ codes "9"
+        ∷ codes "1" ∷ []) ≡ None }
+    ensures replicas_past_a_byte { asked_by (codes "serve" ∷ codes "x" ∷ codes "2097152"
+        ∷ codes "257" ∷ codes "1" ∷ []) ≡ None }
+    ensures no_session { asked_by (codes "serve" ∷ codes "x" ∷ codes "2097152" ∷ codes "1"
+        ∷ codes "0" ∷ []) ≡ None }
+    ensures seventeen_sessions { asked_by (codes "serve" ∷ codes "x" ∷ codes "2097152" ∷ codes "1"
+        ∷ codes "17" ∷ []) ≡ None }
+    ensures sessions_past_a_byte { asked_by (codes "serve" ∷ codes "x" ∷ codes "2097152" ∷ codes "1"
+        ∷ codes "272" ∷ []) ≡ None }
+    ensures sessions_first { asked_by (codes "serve" ∷ codes "x" ∷ codes "2097152" ∷ codes "16"
+        ∷ codes "8" ∷ []) ≡ None }
+    ensures no_size { asked_by (codes "serve" ∷ codes "x" ∷ codes "0" ∷ codes "1" ∷ codes "1" ∷ [])
+        ≡ None }
+    ensures a_byte_more { asked_by (codes "serve" ∷ codes "x" ∷ codes "2097153" ∷ codes "1"
+        ∷ codes "1" ∷ []) ≡ None }
+    ensures a_page_more_than_the_most { asked_by (codes "serve" ∷ codes "x" ∷ codes "1075838976"
+        ∷ codes "1" ∷ codes "1" ∷ []) ≡ None }
+{}
+
+/// What is no number of what is served.
+pub fn other_numbers_of_a_served_volume_are_refused()
+    ensures zero_before_size { asked_by (codes "serve" ∷ codes "x" ∷ codes "02097152" ∷ codes "1"
+        ∷ codes "1" ∷ []) ≡ None }
+    ensures zero_before_replicas { asked_by (codes "serve" ∷ codes "x" ∷ codes "2097152"
+        ∷ codes "01" ∷ codes "1" ∷ []) ≡ None }
+    ensures zero_before_sessions { asked_by (codes "serve" ∷ codes "x" ∷ codes "2097152" ∷ codes "1"
+        ∷ codes "01" ∷ []) ≡ None }
+    ensures plus { asked_by (codes "serve" ∷ codes "x" ∷ codes "2097152" ∷ codes "+1" ∷ codes "1"
+        ∷ []) ≡ None }
+    ensures minus_behind_dashes { asked_by (codes "serve" ∷ codes "--" ∷ codes "x" ∷ codes "2097152"
+        ∷ codes "-1" ∷ codes "1" ∷ []) ≡ None }
+    ensures blank { asked_by (codes "serve" ∷ codes "x" ∷ codes "2097152" ∷ codes "1" ∷ codes "1 "
+        ∷ []) ≡ None }
+    ensures empty { asked_by (codes "serve" ∷ codes "x" ∷ codes "2097152" ∷ codes "1" ∷ codes ""
+        ∷ []) ≡ None }
+    ensures unit { asked_by (codes "serve" ∷ codes "x" ∷ codes "2MiB" ∷ codes "1" ∷ codes "1" ∷ [])
         ≡ None }
 {}

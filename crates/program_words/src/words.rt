@@ -1,10 +1,12 @@
 ghost use Rattle.std.specs.Prelude.{◌≡◌, None, Some, map, IfOk, IsErrOf, codes, string_bytes};
 ghost use Rattle.clap.specs.Words.{first_of, found_of, kind_of, rows_of, subcommand_rows_of};
 ghost use Rattle.program_words.specs.Asked.{asked_at, asked_by, asked_named, backups_of, generate_of, name_at, number_at};
-ghost use Rattle.program_words.specs.Asked.{plain_name, replica_of, restore_of, run_of, workers_named, workers_of, IsErrorOf};
+ghost use Rattle.program_words.specs.Asked.{plain_name, replica_of, restore_of, run_of, serve_at, serve_of, workers_named};
+ghost use Rattle.program_words.specs.Asked.{workers_of, IsErrorOf};
 ghost use Rattle.program_words.specs.declared.words.WordsError.TheVariants.{NoMemory};
 
-use crate::numbers::{calls_of, number_of, size_of, streams_of};
+use crate::address::Address;
+use crate::numbers::{calls_of, number_of, replicas_of, sessions_of, size_of, streams_of};
 use crate::program::command;
 use clap::ArgMatches;
 use clap::error::ErrorKind;
@@ -21,7 +23,7 @@ pub enum Workers {
 }
 
 /// What the program is asked to do.
-#[derive(Clone, Copy, Debug, PartialEq, Eq)]
+#[derive(Debug, Drop, PartialEq, Eq)]
 pub enum Words {
     /// To run a script.
     Run {
@@ -45,6 +47,13 @@ pub enum Words {
         number: u64,
         streams: u8,
         calls: u32,
+    },
+    /// To serve a fresh volume of so many replicas to so many sessions.
+    Serve {
+        address: Address,
+        size: VolumeSize,
+        replicas: u8,
+        sessions: u8,
     },
 }
 
@@ -82,31 +91,38 @@ pub fn read_words(alloc: Global, words: &[String]) -> Result<Words, WordsError>
     ensures usage { IsErrOf result WordsError.Usage → asked_by (map string_bytes words.now) ≡ None }
 {
     let matches = command(alloc)?.try_get_matches_from(words)?;
-    match words_in(&matches) {
+    match words_in(alloc, &matches)? {
         Some(asked) => Ok(asked),
         None => Err(WordsError::Usage),
     }
 }
 
 /// What the matches of the program ask for.
-fn words_in(matches: &ArgMatches<'_>) -> Option<Words>
-    ensures { result ≡ asked_named (subcommand_rows_of matches.now) }
+fn words_in(alloc: Global, matches: &ArgMatches<'_>) -> Result<Option<Words>, AllocError>
+    ensures { IfOk result (λ asked. asked ≡ asked_named (subcommand_rows_of matches.now)) }
 {
-    let (name, arguments) = matches.subcommand()?;
-    asked_at(name, arguments)
+    match matches.subcommand() {
+        None => Ok(None),
+        Some((name, arguments)) => asked_at(alloc, name, arguments),
+    }
 }
 
 /// What the subcommand of this name asks for, with these arguments.
-fn asked_at(name: &str, arguments: &ArgMatches<'_>) -> Option<Words>
-    ensures { result ≡ asked_at name.now (rows_of (found_of arguments.now)) }
+fn asked_at(
+    alloc: Global,
+    name: &str,
+    arguments: &ArgMatches<'_>,
+) -> Result<Option<Words>, AllocError>
+    ensures { IfOk result (λ asked. asked ≡ asked_at name.now (rows_of (found_of arguments.now))) }
 {
     match name {
-        "run" => run_in(arguments),
-        "restore" => restore_in(arguments),
-        "backups" => backups_in(arguments),
-        "replica" => replica_in(arguments),
-        "gen" => generate_in(arguments),
-        _ => None,
+        "run" => Ok(run_in(arguments)),
+        "restore" => Ok(restore_in(arguments)),
+        "backups" => Ok(backups_in(arguments)),
+        "replica" => Ok(replica_in(arguments)),
+        "gen" => Ok(generate_in(arguments)),
+        "serve" => serve_in(alloc, arguments),
+        _ => Ok(None),
     }
 }
 
@@ -150,6 +166,33 @@ fn generate_in(arguments: &ArgMatches<'_>) -> Option<Words>
         number,
         streams,
         calls,
+    })
+}
+
+#[tactic(auto, using(crate::proofs::AskedLemmas::first_values))]
+fn serve_in(alloc: Global, arguments: &ArgMatches<'_>) -> Result<Option<Words>, AllocError>
+    ensures { IfOk result (λ asked. asked ≡ serve_of (rows_of (found_of arguments.now))) }
+{
+    match arguments.get_str("address") {
+        None => Ok(None),
+        Some(text) => {
+            let address = Address::of(alloc, text)?;
+            Ok(serve_at(address, arguments))
+        }
+    }
+}
+
+fn serve_at(address: Address, arguments: &ArgMatches<'_>) -> Option<Words>
+    ensures { result ≡ serve_at address (rows_of (found_of arguments.now)) }
+{
+    let size = size_of(number_in(arguments, "size")?)?;
+    let replicas = replicas_of(number_in(arguments, "replicas")?)?;
+    let sessions = sessions_of(number_in(arguments, "sessions")?)?;
+    Some(Words::Serve {
+        address,
+        size,
+        replicas,
+        sessions,
     })
 }
 

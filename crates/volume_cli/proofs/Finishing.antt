@@ -103,6 +103,7 @@ run_counts status.NoMemory lost s t k l h i m n read c tells = (read, c.0, c.1, 
 run_counts (status.NoCleanShelf reasons) lost s t k l h i m n read c tells = absurd c
 run_counts (status.Refused kind name) lost s t k l h i m n read c tells = absurd c
 run_counts (status.Frame place) lost s t k l h i m n read c tells = absurd c
+run_counts status.DoorFault lost s t k l h i m n read c tells = absurd c
 
 pub run_found : (left : Option (List ℕ)) (held : Option Files) (script : Script) (begin : Begin) (st : Status) (lost : Bool)
     (k l h i : ℕ) → HadScript left script → HasBegun held script begin → FinishCounts st lost k l h i → Found left held st
@@ -117,6 +118,7 @@ run_found left held script begin status.NoMemory lost k l h i had begun c = tt
 run_found left held script begin (status.NoCleanShelf reasons) lost k l h i had begun c = absurd c
 run_found left held script begin (status.Refused kind name) lost k l h i had begun c = absurd c
 run_found left held script begin (status.Frame place) lost k l h i had begun c = absurd c
+run_found left held script begin status.DoorFault lost k l h i had begun c = absurd c
 
 -- what is left of a run that was served
 module _ (purpose : Purpose) (Runs : RunFact) (same untouched still spared : Type 0) (old new : Option (List ℕ)) (script : Script)
@@ -154,3 +156,4 @@ module _ (purpose : Purpose) (Runs : RunFact) (same untouched still spared : Typ
   run_leaves (status.NoCleanShelf reasons) lost k l h i runs whole prefix c = absurd c
   run_leaves (status.Refused kind name) lost k l h i runs whole prefix c = absurd c
   run_leaves (status.Frame place) lost k l h i runs whole prefix c = absurd c
+  run_leaves status.DoorFault lost k l h i runs whole prefix c = absurd c

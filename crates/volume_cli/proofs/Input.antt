@@ -1,10 +1,11 @@
 -- What a run says that ended before its streams were served.
-use Rattle.std.proofs.Common.{◌≡◌, ◌⊎◌, ℕ, ◌<◌, ◌≤◌, List, length, Option, Some, None, IfSome, Result, Ok}
+use Rattle.std.proofs.Common.{◌≡◌, ◌⊎◌, ℕ, ◌<◌, ◌≤◌, List, [], length, Option, Some, None, IfSome, Result, Ok}
 use Rattle.std.proofs.Common.{Err, IsErrAnd, refl, sym, ap, subst, inl, inr, arith, length-append}
 use Rattle.std.proofs.lemmas.Bool.{cases_lt}
 use Rattle.std.specs.Io.KnownBytes.{Consumes, IsAtEnd}
 use Rattle.std.proofs.KnownBytes.{Consumes-whole}
 use Rattle.outer_traits.specs.Causes.{Rose}
+use Rattle.outer_traits.specs.Passing.{GivesAtMost}
 use Rattle.shelf_traits.specs.Files.{Files}
 use Rattle.script_text.specs.declared.error.ScriptError.{ScriptError}
 use Rattle.script_text.specs.declared.error.ScriptError.TheVariants as script_error
@@ -30,6 +31,11 @@ too_long None rest input place given is = tt
 too_long (Some told) None input place given is = absurd given
 too_long (Some told) (Some more) input place given is =
     (omega (arith, is.0, ap length given, length-append input more), is.1)
+
+-- nothing came of what was left
+pub gives_nothing : (left : Option (List ℕ)) (n : ℕ) → GivesAtMost left left n
+gives_nothing None n = ([], tt, omega arith)
+gives_nothing (Some told) n = ([], refl, omega arith)
 
 -- What of the input is no script is so of all that the source had.
 pub had_no_script : (left rest : Option (List ℕ)) (input : List ℕ) (place : ℕ) (why : What) → Consumes left rest input → IsWhole rest input
@@ -75,6 +81,7 @@ read_counts status.NoMemory s t k h m end = (end, inr refl, refl, inr refl)
 read_counts (status.NoCleanShelf reasons) s t k h m end = absurd end
 read_counts (status.Refused kind name) s t k h m end = absurd end
 read_counts (status.Frame place) s t k h m end = absurd end
+read_counts status.DoorFault s t k h m end = absurd end
 
 pub read_found : (left : Option (List ℕ)) (held : Option Files) (st : Status) (s t : ℕ) → ReadEnd s t st → Found left held st
 read_found left held status.Done s t end = absurd end
@@ -88,6 +95,7 @@ read_found left held status.NoMemory s t end = tt
 read_found left held (status.NoCleanShelf reasons) s t end = absurd end
 read_found left held (status.Refused kind name) s t end = absurd end
 read_found left held (status.Frame place) s t end = absurd end
+read_found left held status.DoorFault s t end = absurd end
 
 pub read_not_done : (st : Status) (s t : ℕ) → ReadEnd s t st → st ≡ status.Done → ⊥
 read_not_done st s t end is = subst (ReadEnd s t) is end
@@ -108,6 +116,7 @@ module _ (purpose : Purpose) (Runs : RunFact) (same untouched still spared fell 
   read_leaves (status.NoCleanShelf reasons) s t kept whole held spares end = absurd end
   read_leaves (status.Refused kind name) s t kept whole held spares end = absurd end
   read_leaves (status.Frame place) s t kept whole held spares end = absurd end
+  read_leaves status.DoorFault s t kept whole held spares end = absurd end
 
   -- a script was refused so
   pub refused_leaves : (fault : ScriptError) → same → untouched → still → spared → IsLeft (status_of fault)
@@ -128,6 +137,7 @@ module _ (purpose : Purpose) (Runs : RunFact) (same untouched still spared fell 
   begin_leaves held script (status.NoCleanShelf reasons) h i kept stays spares end = (kept, stays, spares)
   begin_leaves held script (status.Refused kind name) h i kept stays spares end = absurd end
   begin_leaves held script (status.Frame place) h i kept stays spares end = absurd end
+  begin_leaves held script status.DoorFault h i kept stays spares end = absurd end
 
 -- ---- a script was refused so
 
@@ -160,6 +170,7 @@ begin_counts held script status.NoMemory s t k h i m read end = (read, inr refl,
 begin_counts held script (status.NoCleanShelf reasons) s t k h i m read end = (read, refl, end.0, refl)
 begin_counts held script (status.Refused kind name) s t k h i m read end = absurd end
 begin_counts held script (status.Frame place) s t k h i m read end = absurd end
+begin_counts held script status.DoorFault s t k h i m read end = absurd end
 
 pub begin_found : (left : Option (List ℕ)) (held : Option Files) (script : Script) (st : Status) (h i : ℕ) → HadScript left script
     → BeginEnd held script h i st → Found left held st
@@ -174,6 +185,7 @@ begin_found left held script status.NoMemory h i had end = tt
 begin_found left held script (status.NoCleanShelf reasons) h i had end = (script, had, end.1)
 begin_found left held script (status.Refused kind name) h i had end = absurd end
 begin_found left held script (status.Frame place) h i had end = absurd end
+begin_found left held script status.DoorFault h i had end = absurd end
 
 pub begin_not_done : (held : Option Files) (script : Script) (st : Status) (h i : ℕ) → BeginEnd held script h i st → st ≡ status.Done → ⊥
 begin_not_done held script st h i end is = subst (BeginEnd held script h i) is end

@@ -8,3 +8,4 @@ pub mod StoreLemmas
 pub mod Restorable
 pub mod LoadLemmas
 pub mod ServedLemmas
+pub mod HostedLemmas

@@ -16,7 +16,7 @@ use Rattle.volume_cli.specs.Headline.{AskRun, IsStatus, ExactlyWhere, TellsNoCle
 use Rattle.volume_cli.proofs.Beginnings.{had_no_refusal, had_begun, had_not_begun}
 
 -- a count below its type's end that rose is greater
-rose_more : (h i : ℕ) → h < 2 ^ 64 - 1 → Rose h i → h < i
+pub rose_more : (h i : ℕ) → h < 2 ^ 64 - 1 → Rose h i → h < i
 rose_more h i low rose = omega (arith, low, rose)
 
 more_rose : (h i : ℕ) → h < i → Rose h i
@@ -25,7 +25,7 @@ more_rose h i more = omega (arith, more)
 pub rose_not_same : (h i : ℕ) → h < 2 ^ 64 - 1 → Rose h i → i ≡ h → ⊥
 rose_not_same h i low rose same = omega (arith, low, rose, same)
 
-same_not_more : (h i : ℕ) → i ≡ h → h < i → ⊥
+pub same_not_more : (h i : ℕ) → i ≡ h → h < i → ⊥
 same_not_more h i same more = omega (arith, same, more)
 
 -- what the counts are of: source (s, then t), sink (k, then l), shelves (h, then i), target (m, then n)
@@ -62,6 +62,7 @@ module _ (s t k l h i m n : ℕ) (low_s : s < 2 ^ 64 - 1) (low_k : k < 2 ^ 64 - 
   read_by (status.NoCleanShelf reasons) c more = absurd (same_not_more s t c.0 more)
   read_by (status.Refused kind name) c more = absurd (same_not_more s t c.0 more)
   read_by (status.Frame place) c more = absurd (same_not_more s t c.0 more)
+  read_by status.DoorFault c more = absurd (same_not_more s t c.0 more)
 
   write_by : (st : Status) → HasCounts st → (k < l) × (n ≡ m) → IsStatus st status.WriteFault
   write_by status.Done c more = absurd (same_not_more k l c.1 more.0)
@@ -75,6 +76,7 @@ module _ (s t k l h i m n : ℕ) (low_s : s < 2 ^ 64 - 1) (low_k : k < 2 ^ 64 - 
   write_by (status.NoCleanShelf reasons) c more = absurd (same_not_more k l c.1 more.0)
   write_by (status.Refused kind name) c more = absurd (same_not_more k l c.1 more.0)
   write_by (status.Frame place) c more = absurd (same_not_more k l c.1 more.0)
+  write_by status.DoorFault c more = absurd (same_not_more k l c.1 more.0)
 
   shelf_by : (st : Status) → HasCounts st → (h < i) × (l ≡ k) × (n ≡ m) → st ≡ status.ShelfFault
   shelf_by status.Done c more = absurd (same_not_more h i c.2 more.0)
@@ -88,6 +90,7 @@ module _ (s t k l h i m n : ℕ) (low_s : s < 2 ^ 64 - 1) (low_k : k < 2 ^ 64 - 
   shelf_by (status.NoCleanShelf reasons) c more = absurd (same_not_more h i c.2 more.0)
   shelf_by (status.Refused kind name) c more = absurd (same_not_more h i c.2 more.0)
   shelf_by (status.Frame place) c more = absurd (same_not_more h i c.2 more.0)
+  shelf_by status.DoorFault c more = absurd (same_not_more h i c.2 more.0)
 
   target_by : (st : Status) → HasCounts st → m < n → IsStatus st status.TargetFault
   target_by status.Done c more = absurd (same_not_more m n c.3 more)
@@ -101,6 +104,7 @@ module _ (s t k l h i m n : ℕ) (low_s : s < 2 ^ 64 - 1) (low_k : k < 2 ^ 64 - 
   target_by (status.NoCleanShelf reasons) c more = absurd (same_not_more m n c.3 more)
   target_by (status.Refused kind name) c more = absurd (same_not_more m n c.3 more)
   target_by (status.Frame place) c more = absurd (same_not_more m n c.3 more)
+  target_by status.DoorFault c more = absurd (same_not_more m n c.3 more)
 
   -- the clauses of the top call
 
@@ -140,6 +144,7 @@ module _ (s t k l h i m n : ℕ) (low_s : s < 2 ^ 64 - 1) (low_k : k < 2 ^ 64 - 
         absurd (had_no_refusal told script place what had bad)
     refuses (status.Refused kind name) c found same place what bad = absurd found
     refuses (status.Frame place) c found same at what bad = absurd found
+    refuses status.DoorFault c found same at what bad = absurd found
 
     -- of folders of which none is clean, that is told
     pub tells_none : (st : Status) → HasCounts st → Found (Some told) held st → t ≡ s → i ≡ h
@@ -158,6 +163,7 @@ module _ (s t k l h i m n : ℕ) (low_s : s < 2 ^ 64 - 1) (low_k : k < 2 ^ 64 - 
     tells_none (status.NoCleanShelf reasons) c found same still script is cannot = (reasons, inl refl)
     tells_none (status.Refused kind name) c found same still script is cannot = absurd found
     tells_none (status.Frame place) c found same still script is cannot = absurd found
+    tells_none status.DoorFault c found same still script is cannot = absurd found
 
     -- and what can be run is done, where nothing fails
     pub completes : (st : Status) → HasCounts st → Found (Some told) held st → t ≡ s → l ≡ k → i ≡ h → n ≡ m
@@ -174,6 +180,7 @@ module _ (s t k l h i m n : ℕ) (low_s : s < 2 ^ 64 - 1) (low_k : k < 2 ^ 64 - 
         absurd (had_not_begun told held other script reasons had none is can)
     completes (status.Refused kind name) c found same dry still well script is can = absurd found
     completes (status.Frame place) c found same dry still well script is can = absurd found
+    completes status.DoorFault c found same dry still well script is can = absurd found
 
   -- the same where the source may tell nothing
   module _ (left : Option (List ℕ)) (held : Option Files) (st : Status) (c : HasCounts st)
@@ -219,6 +226,7 @@ refused_only words left held tells objects status.NoMemory asks found = tt
 refused_only words left held tells objects (status.NoCleanShelf reasons) asks found = (asks, found)
 refused_only words left held tells objects (status.Refused kind name) asks found = absurd found
 refused_only words left held tells objects (status.Frame place) asks found = absurd found
+refused_only words left held tells objects status.DoorFault asks found = absurd found
 
 -- a run is no usage error
 pub no_usage : (left : Option (List ℕ)) (held : Option Files) (st : Status) → Found left held st → st ≡ status.Usage → ⊥

@@ -5,7 +5,7 @@ use Rattle.std.proofs.Common.{refl, sym, ap, subst, ◌∙◌, inl, inr}
 use Rattle.shelf_traits.specs.Files.{Files}
 use Rattle.target_traits.specs.Objects.{Objects}
 use Rattle.program_words.specs.declared.words.Words.{Words}
-use Rattle.program_words.specs.declared.words.Words.TheVariants.{Run, Restore, Backups, Replica, Generate}
+use Rattle.program_words.specs.declared.words.Words.TheVariants.{Run, Restore, Backups, Replica, Generate, Serve}
 use Rattle.backup_restore.specs.declared.error.Refusal.{Refusal}
 use Rattle.backup_restore.specs.declared.error.RestoreError.{RestoreError}
 use Rattle.backup_restore.specs.declared.error.RestoreError.TheVariants as restore_error
@@ -64,6 +64,7 @@ store_refused_only words left held tells objects status.NoMemory k l m n asked i
 store_refused_only words left held tells objects (status.NoCleanShelf reasons) k l m n asked is of c says = absurd c
 store_refused_only words left held tells objects (status.Refused kind name) k l m n asked is of c says = (asked, is, of, says)
 store_refused_only words left held tells objects (status.Frame place) k l m n asked is of c says = absurd c
+store_refused_only words left held tells objects status.DoorFault k l m n asked is of c says = absurd c
 
 -- ---- of what is asked for, the objects give one answer
 
@@ -77,6 +78,7 @@ module _ (objects : Objects) where
       not_both objects volume backup kind object has refuses
   not_both_asked (Backups volume) kind name has (object, refuses, is) =
       not_both_lists objects volume kind object has refuses
+  not_both_asked (Serve address size replicas sessions) kind name has refuses = has
 
   one_asked : (asked : Words) (kind other : Refusal) (name also : List ℕ) → RefusesObject objects asked kind name
       → RefusesObject objects asked other also → status.Refused kind name ≡ status.Refused other also
@@ -89,6 +91,7 @@ module _ (objects : Objects) where
   one_asked (Backups volume) kind other name also (x, refuses, is) (y, too, at) =
       let one = one_list_refusal objects volume kind other x y refuses too in
       ap (λ k. status.Refused k name) one.0 ∙ ap (status.Refused other) (is ∙ ap (name_of volume) one.1 ∙ sym at)
+  one_asked (Serve address size replicas sessions) kind other name also refuses too = absurd refuses
 
   module _ (asked : Words) (k l m n : ℕ) (low_k : k < 2 ^ 64 - 1) (low_m : m < 2 ^ 64 - 1) (dry : l ≡ k)
       (well : n ≡ m) where
@@ -107,6 +110,7 @@ module _ (objects : Objects) where
     store_refuses (status.Refused other also) c says kind name refuses =
         inl (one_asked asked other kind also name says refuses)
     store_refuses (status.Frame place) c says kind name refuses = absurd says
+    store_refuses status.DoorFault c says kind name refuses = absurd says
 
     -- and where all are, they are written
     pub store_answers : (st : Status) → StoreCounts st k l m n → AnswersStore objects asked st
@@ -122,3 +126,4 @@ module _ (objects : Objects) where
     store_answers (status.NoCleanShelf reasons) c says has = absurd says
     store_answers (status.Refused other also) c says has = absurd (not_both_asked asked other also has says)
     store_answers (status.Frame place) c says has = absurd says
+    store_answers status.DoorFault c says has = absurd says

@@ -36,6 +36,7 @@ Counts status.NoMemory s t k l h i m n = (t ≡ s) × (Rose k l ⊎ (l ≡ k)) �
 Counts (status.NoCleanShelf reasons) s t k l h i m n = (t ≡ s) × (l ≡ k) × (i ≡ h) × (n ≡ m)
 Counts (status.Refused kind name) s t k l h i m n = (t ≡ s) × (l ≡ k) × (i ≡ h) × (n ≡ m)
 Counts (status.Frame place) s t k l h i m n = (t ≡ s) × (l ≡ k) × (i ≡ h) × (n ≡ m)
+Counts status.DoorFault s t k l h i m n = (t ≡ s) × (l ≡ k) × (i ≡ h) × (n ≡ m)
 
 -- The source had a script that opens folders of which none is clean, each for its reason.
 abbrev pub HadNoCleanShelf : Option (List ℕ) → Option Files → List Reason → Type 0
@@ -58,6 +59,7 @@ Found left held status.NoMemory = Unit {0}
 Found left held (status.NoCleanShelf reasons) = HadNoCleanShelf left held reasons
 Found left held (status.Refused kind name) = ⊥
 Found left held (status.Frame place) = ⊥
+Found left held status.DoorFault = ⊥
 
 -- What is left then: `same` says that the sink is as it was, `untouched` that the shelves are, `still` that they hold what
 -- they held, `spared` that the target is as it was, and `fell` that the sink failed.
@@ -75,3 +77,4 @@ module _ (purpose : Purpose) (Runs : RunFact) (same untouched still spared fell 
   Leaves (status.NoCleanShelf reasons) = same × still × spared
   Leaves (status.Refused kind name) = ⊥
   Leaves (status.Frame place) = ⊥
+  Leaves status.DoorFault = ⊥

@@ -3,7 +3,7 @@ use Rattle.std.specs.Prelude.{◌≡◌, ℕ, ◌⊎◌, Bool, true, List, map, 
 use Rattle.target_traits.specs.Objects.{Objects}
 use Rattle.program_words.specs.declared.words.Workers.{Workers}
 use Rattle.program_words.specs.declared.words.Words.{Words}
-use Rattle.program_words.specs.declared.words.Words.TheVariants.{Run, Replica, Generate}
+use Rattle.program_words.specs.declared.words.Words.TheVariants.{Run, Replica, Generate, Serve}
 use Rattle.program_words.specs.Asked.{asked_by}
 use Rattle.shelf_traits.specs.Files.{Files}
 use Rattle.volume_folders.specs.declared.reason.Reason.{Reason}
@@ -30,6 +30,11 @@ AskReplica words = (size : ℕ) × (asked_for words ≡ Some (Replica size))
 abbrev pub AskLoad : {A : Type 0} → List (String A) → Type 0
 AskLoad words = (number streams calls : ℕ) × (asked_for words ≡ Some (Generate number streams calls))
 
+-- the words ask that sessions are served
+abbrev pub AskServe : {A : Type 0} → List (String A) → Type 0
+AskServe words =
+    (address : List ℕ) × (size replicas sessions : ℕ) × (asked_for words ≡ Some (Serve address size replicas sessions))
+
 -- the words ask for what is in a store of backups
 abbrev pub AskStore : {A : Type 0} → List (String A) → Type 0
 AskStore words = (asked : Words) × (asked_for words ≡ Some asked) × IsOfStore asked
@@ -54,7 +59,7 @@ TellsNoCleanShelf answer = (reasons : List Reason) × IsStatus answer (status.No
 -- That no folder is clean is told only where they ask for one, of a script that opens them, each for its reason. A target
 -- fails only a run that has begun, or where they ask for what is in a store. An object is refused only where they ask for
 -- that, and it is the first that is not as it has to be. A place without a frame is told only where they ask for a replica,
--- and what the source had is cut off there.
+-- and what the source had is cut off there. Doors fail only where they ask that sessions are served.
 abbrev pub RefusedOnly : {A : Type 0} → List (String A) → Option (List ℕ) → Option Files → Bool → Objects → Status → Type 0
 RefusedOnly words left held tells objects status.Done = Unit {0}
 RefusedOnly words left held tells objects status.Usage = Unit {0}
@@ -69,3 +74,4 @@ RefusedOnly words left held tells objects (status.Refused kind name) =
     (asked : Words) × (asked_for words ≡ Some asked) × IsOfStore asked
     × (tells ≡ true → RefusesObject objects asked kind name)
 RefusedOnly words left held tells objects (status.Frame place) = AskReplica words × WasCutOff left place
+RefusedOnly words left held tells objects status.DoorFault = AskServe words

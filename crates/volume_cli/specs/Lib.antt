@@ -7,3 +7,4 @@ pub mod Headline
 pub mod Stores
 pub mod Served
 pub mod Loads
+pub mod Hosted

@@ -35,6 +35,7 @@ ReadEnd before now status.NoMemory = now ≡ before
 ReadEnd before now (status.NoCleanShelf reasons) = ⊥
 ReadEnd before now (status.Refused kind name) = ⊥
 ReadEnd before now (status.Frame place) = ⊥
+ReadEnd before now status.DoorFault = ⊥
 
 abbrev pub ReadCounts : {T : Type 0} → Result T Status → ℕ → ℕ → Type 0
 ReadCounts (Ok x) before now = now ≡ before
@@ -63,6 +64,7 @@ BeginEnd held script before now status.NoMemory = now ≡ before
 BeginEnd held script before now (status.NoCleanShelf reasons) = (now ≡ before) × HasNoCleanShelf held script reasons
 BeginEnd held script before now (status.Refused kind name) = ⊥
 BeginEnd held script before now (status.Frame place) = ⊥
+BeginEnd held script before now status.DoorFault = ⊥
 
 abbrev pub IsBeginEnd : {T : Type 0} → Option Files → Script → ℕ → ℕ → Result T Status → Type 0
 IsBeginEnd held script before now (Ok x) = now ≡ before
@@ -113,6 +115,7 @@ HasPrinted status.NoMemory k l P = Unit {0}
 HasPrinted (status.NoCleanShelf reasons) k l P = Unit {0}
 HasPrinted (status.Refused kind name) k l P = Unit {0}
 HasPrinted (status.Frame place) k l P = Unit {0}
+HasPrinted status.DoorFault k l P = Unit {0}
 
 -- What the counts of the sink (k, then l) and of the shelves (h, then i) say of how a run ended that was served, whose target
 -- failed, or not.
@@ -128,3 +131,4 @@ FinishCounts status.NoMemory lost k l h i = (Rose k l ⊎ (l ≡ k)) × (i ≡ h
 FinishCounts (status.NoCleanShelf reasons) lost k l h i = ⊥
 FinishCounts (status.Refused kind name) lost k l h i = ⊥
 FinishCounts (status.Frame place) lost k l h i = ⊥
+FinishCounts status.DoorFault lost k l h i = ⊥

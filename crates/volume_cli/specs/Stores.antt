@@ -23,6 +23,7 @@ IsOfStore (words.Replica size) = ⊥
 IsOfStore (words.Generate number streams calls) = ⊥
 IsOfStore (words.Restore backup volume) = Unit {0}
 IsOfStore (words.Backups volume) = Unit {0}
+IsOfStore (words.Serve address size replicas sessions) = ⊥
 
 -- the bytes that are asked for: the disk of a backup, or the lines of a volume's backups
 abbrev pub IsAnswer : Objects → Words → List ℕ → Type 0
@@ -31,6 +32,7 @@ IsAnswer objects (words.Replica size) bytes = ⊥
 IsAnswer objects (words.Generate number streams calls) bytes = ⊥
 IsAnswer objects (words.Restore backup volume) bytes = IsDiskOf objects volume backup bytes
 IsAnswer objects (words.Backups volume) bytes = IsListOf objects volume bytes
+IsAnswer objects (words.Serve address size replicas sessions) bytes = ⊥
 
 -- all objects that it stands on are as they have to be
 abbrev pub HasAnswer : Objects → Words → Type 0
@@ -39,6 +41,7 @@ HasAnswer objects (words.Replica size) = ⊥
 HasAnswer objects (words.Generate number streams calls) = ⊥
 HasAnswer objects (words.Restore backup volume) = IsRestorable objects volume backup
 HasAnswer objects (words.Backups volume) = IsListed objects volume
+HasAnswer objects (words.Serve address size replicas sessions) = ⊥
 
 -- this is the first object that is not, as they are tried, and what is wrong with it
 abbrev pub RefusesObject : Objects → Words → Refusal → List ℕ → Type 0
@@ -49,6 +52,7 @@ RefusesObject objects (words.Restore backup volume) kind name =
     (object : StoredObject) × RefusesBackup objects volume backup kind object × (name ≡ name_of volume object)
 RefusesObject objects (words.Backups volume) kind name =
     (object : StoredObject) × RefusesList objects volume kind object × (name ≡ name_of volume object)
+RefusesObject objects (words.Serve address size replicas sessions) kind name = ⊥
 
 -- ---- what each status says
 
@@ -65,6 +69,7 @@ AnswersStore objects asked status.NoMemory = Unit {0}
 AnswersStore objects asked (status.NoCleanShelf reasons) = ⊥
 AnswersStore objects asked (status.Refused kind name) = RefusesObject objects asked kind name
 AnswersStore objects asked (status.Frame place) = ⊥
+AnswersStore objects asked status.DoorFault = ⊥
 
 -- of what was written: all, some of it, or nothing where an object is refused; `same` says that the sink is as it was
 abbrev pub WritesAnswer : Objects → Words → (old new : Option (List ℕ)) → Type 0
@@ -86,6 +91,7 @@ LeavesAnswer objects asked same old new status.NoMemory = WritesSomeOf objects a
 LeavesAnswer objects asked same old new (status.NoCleanShelf reasons) = ⊥
 LeavesAnswer objects asked same old new (status.Refused kind name) = same
 LeavesAnswer objects asked same old new (status.Frame place) = ⊥
+LeavesAnswer objects asked same old new status.DoorFault = ⊥
 
 -- of the counts of faults of the sink (k, then l) and of the target (m, then n)
 abbrev pub StoreCounts : Status → ℕ → ℕ → ℕ → ℕ → Type 0
@@ -100,6 +106,7 @@ StoreCounts status.NoMemory k l m n = (l ≡ k) × (n ≡ m)
 StoreCounts (status.NoCleanShelf reasons) k l m n = ⊥
 StoreCounts (status.Refused kind name) k l m n = (l ≡ k) × (n ≡ m)
 StoreCounts (status.Frame place) k l m n = ⊥
+StoreCounts status.DoorFault k l m n = ⊥
 
 -- the status of a restore, or of a list, that ended so; the name of an object takes memory
 abbrev pub IsEndOf : {T : Type 0} → List ℕ → Result T RestoreError → Status → Type 0

@@ -1,6 +1,6 @@
 //! `longhorn`: serves the streams of a script on a replicated volume, and prints the journal of the run
-//! with the replies; runs a load that generates itself, and sums it up; serves one replica by frames; or writes what a
-//! store of backups holds.
+//! with the replies; runs a load that generates itself, and sums it up; serves one replica by frames; serves sessions that
+//! come by a port, side by side, on a fresh volume; or writes what a store of backups holds.
 #![tactic(auto)]
 
 mod begin;
@@ -9,6 +9,7 @@ mod finish;
 mod laws;
 mod load;
 mod replica;
+mod serve;
 mod standard;
 mod status;
 mod stores;
@@ -22,6 +23,7 @@ use folder_target::FolderTarget;
 use outer_real::{FolderShelves, OpenGate, StdSink, StdSource};
 use std::io;
 use std::process::ExitCode;
+use tcp_doors::TcpEnds;
 
 /// The folder that the replicas' folders lie in.
 const REPLICAS: &str = "replicas";
@@ -39,6 +41,7 @@ fn main(rt: HostRuntime) -> ExitCode {
                 let mut source = StdSource::new(rt.reader());
                 let mut sink = StdSink::new(io::writer(&rt));
                 let mut wiring = PlanWiring::new(rt.alloc());
+                let mut doors = TcpEnds::new(&rt);
                 top::longhorn(
                     &rt,
                     rt.alloc(),
@@ -49,6 +52,7 @@ fn main(rt: HostRuntime) -> ExitCode {
                     &mut shelves,
                     &mut target,
                     &OpenGate,
+                    &mut doors,
                 )
             }
             _ => Status::NoMemory,

@@ -11,4 +11,5 @@ mod row;
 mod runs;
 mod script;
 mod served;
+mod sessions;
 mod stores;

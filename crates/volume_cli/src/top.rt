@@ -11,7 +11,7 @@ ghost use Rattle.script_text.specs.declared.script.Script.{Script};
 ghost use Rattle.script_text.specs.declared.what.What.{What};
 ghost use Rattle.program_words.specs.declared.words.Workers.{Workers};
 ghost use Rattle.program_words.specs.declared.words.Words.{Words};
-ghost use Rattle.program_words.specs.declared.words.Words.TheVariants.{Run, Replica, Generate};
+ghost use Rattle.program_words.specs.declared.words.Words.TheVariants.{Run, Replica, Generate, Serve};
 ghost use Rattle.volume_model.specs.Disk.{zeros};
 ghost use Rattle.volume_model.specs.History.{Spot};
 ghost use Rattle.stream_turns.specs.Run.{HaveNotFailed};
@@ -22,8 +22,9 @@ ghost use Rattle.summary_laws.specs.LoadText.{load_text};
 ghost use Rattle.volume_cli.specs.Begun.{CanBegin, CannotBegin};
 ghost use Rattle.volume_cli.specs.Left.{IsRunOf, script_purpose, purpose_of};
 ghost use Rattle.volume_cli.specs.Ends.{ended, Counts, Found, Leaves};
-ghost use Rattle.volume_cli.specs.Headline.{asked_for, AskRun, AskLoad, AskReplica, AskStore, IsUsageError, IsStatus};
+ghost use Rattle.volume_cli.specs.Headline.{asked_for, AskRun, AskLoad, AskReplica, AskServe, AskStore, IsUsageError, IsStatus};
 ghost use Rattle.volume_cli.specs.Headline.{ExactlyWhere, TellsNoCleanShelf, RefusedOnly};
+ghost use Rattle.volume_cli.specs.Hosted.{HavePassed, Hosts};
 ghost use Rattle.volume_cli.specs.Served.{EndsAsInput, Serves};
 ghost use Rattle.volume_cli.specs.Stores.{IsOfStore, HasAnswer, RefusesObject, LeavesAnswer};
 ghost use Rattle.backup_restore.specs.declared.error.Refusal.{Refusal};
@@ -33,8 +34,10 @@ use crate::edge::read_input;
 use crate::finish::{ServedRun, finish};
 use crate::load::{how_loaded, run_load};
 use crate::replica::{how_served, serve_blank};
+use crate::serve::{how_hosted, serve_doors};
 use crate::status::Status;
 use crate::stores::{print_backups, restore_backup};
+use door_traits::Doors;
 use outer_traits::{Gate, Sink, Source, Wiring};
 use program_words::{Words, WordsError, Workers, read_words};
 use script_text::{Script, read_script};
@@ -55,7 +58,9 @@ use vol_units::TimeText;
 /// worker, which passes none. `gen` does the same with a script that it generates from three numbers, on zeros, and
 /// writes a summary. `replica` serves one blank replica to the client whose frames the source gives, and writes the
 /// replies to the sink. `restore` writes the disk of a backup to the sink, and `backups` a line for each backup of a
-/// volume, by what the target holds; neither changes it.
+/// volume, by what the target holds; neither changes it. `serve` lets sessions in by the doors, serves them side by side
+/// on a blank volume, a worker for each, lets them out, and writes the journal, how each ended, and the replicas' last
+/// lines to the sink.
 pub fn longhorn<
     R: Threads + Wait + Sync,
     S: Source,
@@ -64,6 +69,7 @@ pub fn longhorn<
     H: Shelves,
     T: Target + Send,
     G: Gate + Sync,
+    D: Doors,
 >(
     rt: &R,
     alloc: Global,
@@ -74,16 +80,18 @@ pub fn longhorn<
     shelves: &mut H,
     target: &mut T,
     gate: &G,
+    doors: &mut D,
 ) -> Status
     requires source_count { S.faults source.old < 2 ^ 64 - 1 }
     requires sink_count { K.faults sink.old < 2 ^ 64 - 1 }
     requires shelf_count { H.faults shelves.old < 2 ^ 64 - 1 }
     requires target_count { T.faults target.old < 2 ^ 64 - 1 }
+    requires door_count { D.faults doors.old < 2 ^ 64 - 1 }
 
     // When each status comes. Out of memory alone is free: but a fault of the source is told in any case, one of the
     // target unless memory runs out behind it, one of the sink unless the target failed before or memory runs out
     // behind it, and one of the shelves unless one of these came before. Of what is in a store a fault of the target
-    // is told in any case.
+    // is told in any case, and so is one of the doors. What fails in a session that was let in changes no status.
     ensures usage { ExactlyWhere result Status.Usage (IsUsageError words.now) }
     ensures read_fault { result ≡ Status.ReadFault ↔ S.faults source.old < S.faults source.new }
     ensures write_fault { ExactlyWhere result Status.WriteFault
@@ -92,6 +100,7 @@ pub fn longhorn<
         ↔ (H.faults shelves.old < H.faults shelves.new) × (K.faults sink.new ≡ K.faults sink.old)
         × (T.faults target.new ≡ T.faults target.old) }
     ensures target_fault { ExactlyWhere result Status.TargetFault (T.faults target.old < T.faults target.new) }
+    ensures door_fault { result ≡ Status.DoorFault ↔ D.faults doors.old < D.faults doors.new }
     ensures store_fault { AskStore words.now → T.faults target.old < T.faults target.new → result ≡ Status.TargetFault }
     ensures refused_only { RefusedOnly words.now (S.left source.old) (H.holds shelves.old)
         T.tells (T.holds target.old) result }
@@ -108,7 +117,8 @@ pub fn longhorn<
         → IsStatus result (Status.Refused kind name) }
     ensures done { result ≡ Status.Done → (S.faults source.new ≡ S.faults source.old)
         × (K.faults sink.new ≡ K.faults sink.old) × (H.faults shelves.new ≡ H.faults shelves.old)
-        × (T.faults target.new ≡ T.faults target.old) × (AskRun words.now → IsAtEnd (S.left source.new)) }
+        × (T.faults target.new ≡ T.faults target.old) × (D.faults doors.new ≡ D.faults doors.old)
+        × (AskRun words.now → IsAtEnd (S.left source.new)) }
 
     // Where a run is asked for, the input is a script, some folder is clean where folders are opened, and neither
     // source nor sink nor shelves nor target fail, the run is done, whichever lines fail.
@@ -124,6 +134,10 @@ pub fn longhorn<
     ensures serves { AskReplica words.now → S.faults source.new ≡ S.faults source.old
         → K.faults sink.new ≡ K.faults sink.old → IfSome (S.left source.old) (EndsAsInput (IsStatus result)) }
 
+    // Sessions are served, and told of, where neither doors nor sink fail.
+    ensures sessions { AskServe words.now → D.faults doors.new ≡ D.faults doors.old
+        → K.faults sink.new ≡ K.faults sink.old → IsStatus result Status.Done }
+
     // Where the objects that are asked for are as they have to be, and neither sink nor target fails, they are written.
     ensures answered { T.tells ≡ true → K.faults sink.new ≡ K.faults sink.old → T.faults target.new ≡ T.faults target.old
         → (asked : Words) → asked_for words.now ≡ Some asked → HasAnswer (T.holds target.old) asked
@@ -131,7 +145,8 @@ pub fn longhorn<
 
     // Only a run and a replica read the source, and a run at most one byte more than an input may have. Only a run and a
     // load ask for lines, and only a run uses the shelves. The target is used only where what is in a store is asked for,
-    // and by a run of a script in which a stream backs up; and what it holds only such a run changes.
+    // and by a run of a script in which a stream backs up; and what it holds only such a run changes. The doors are opened
+    // only where sessions are to be served.
     ensures unread { (AskRun words.now → ⊥) → (AskReplica words.now → ⊥) → source.new ≡ source.old }
     ensures unasked { (AskRun words.now → ⊥) → (AskLoad words.now → ⊥) → wiring.new ≡ wiring.old }
     ensures unused { (AskRun words.now → ⊥) → shelves.new ≡ shelves.old }
@@ -139,6 +154,7 @@ pub fn longhorn<
     ensures spared { AskRun words.now → IfSome (S.left source.old) (λ input. (script : Script)
         → IsScript input script → All (λ s. backs_up s ≡ false) script.streams → target.new ≡ target.old) }
     ensures held { (AskRun words.now → ⊥) → T.holds target.new ≡ T.holds target.old }
+    ensures unopened { (AskServe words.now → ⊥) → doors.new ≡ doors.old }
     ensures most { (AskReplica words.now → ⊥) → GivesAtMost (S.left source.old) (S.left source.new) 268435457 }
 
     // However the workers' steps interleave, at Done the sink has the report of one journal, or the summary of one where a
@@ -158,7 +174,7 @@ pub fn longhorn<
     // there at first or was made; and each that was there stays, and each block, and all that is none of the volume's.
     // After a fault of the target the rest is printed and saved all the same. After a write fault the sink has a
     // prefix of the report, and the folders are saved all the same; after a refusal and a read fault all is as it was.
-    ensures printed { (AskStore words.now → ⊥) → (AskReplica words.now → ⊥)
+    ensures printed { (AskStore words.now → ⊥) → (AskReplica words.now → ⊥) → (AskServe words.now → ⊥)
         → Leaves (purpose_of (asked_for words.now) (S.left source.old))
         (IsRunOf (asked_for words.now) (W.asked wiring.old) (W.asked wiring.new)
         (W.counts wiring.new) (W.carried wiring.new) (H.holds shelves.old) (H.holds shelves.new)
@@ -179,6 +195,21 @@ pub fn longhorn<
     // no whole frame stands; after a fault, and where memory runs out, the sink has a prefix of such replies.
     ensures served { (size : ℕ) → asked_for words.now ≡ Some (Replica size)
         → Serves (zeros size) (S.left source.old) (K.contents sink.old) (K.contents sink.new) result }
+
+    // However the sessions' steps interleave, at Done the sink has the report of one journal, and of how each session
+    // ended. So many sessions passed the doors: where these tell, they were the first of those that were to come, and have
+    // gone back behind those that had gone before. The journal is one legal history, over lines that never failed, and its
+    // entries of a session are the calls of the first whole frames that the session gave: all before its Close, its end,
+    // the place where no whole frame stands or the fault of its source, the first 4,096 where it gave more, and where its
+    // sink failed those up to the one whose reply met that. Its sink has their replies in order, or then a prefix of them.
+    // After a write fault the sink has a prefix of the report of sessions that were served so. After a door fault the sink
+    // is as it was, and who had come went back untouched. Where memory ran out the sink is as it was, or has such a
+    // prefix, and who had come went back: untouched, or from a session that had ended or was cut short.
+    ensures hosted { (address : List ℕ) (size replicas sessions : ℕ)
+        → asked_for words.now ≡ Some (Serve address size replicas sessions)
+        → Hosts size replicas sessions (λ before now. D.tells ≡ true
+        → HavePassed (D.coming doors.old) (D.coming doors.new) (D.back doors.old) (D.back doors.new) before now)
+        (sink.new ≡ sink.old) (K.contents sink.old) (K.contents sink.new) result }
 
     // What is in a store is written whole at Done: the disk of a backup, or the lines of a volume's backups. After a
     // fault of the sink or of the target, and where memory runs out, the sink has a prefix of it; where an object is
@@ -205,6 +236,21 @@ pub fn longhorn<
         Words::Replica { size } => how_served(serve_blank(rt, alloc, *size, source, sink)),
         Words::Restore { backup, volume } => restore_backup(alloc, target, volume, backup, sink),
         Words::Backups { volume } => print_backups(alloc, target, volume, sink),
+        Words::Serve {
+            address,
+            size,
+            replicas,
+            sessions,
+        } => how_hosted(serve_doors(
+            rt,
+            alloc,
+            address.as_str(),
+            *size,
+            *replicas,
+            *sessions,
+            sink,
+            doors,
+        )),
     }
 }
 

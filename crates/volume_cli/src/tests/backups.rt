@@ -6,6 +6,7 @@ use super::script::{Asks, Frame, script};
 use super::stores::{answer, is_told, page_of};
 use crate::status::Status;
 use crate::top::longhorn;
+use door_memory::NoFaultDoors;
 use fault_lines::PlanWiring;
 use outer_memory::{NoFaultSink, NoFaultSource};
 use outer_real::OpenGate;
@@ -41,6 +42,7 @@ pub(crate) fn run_over<T: Target + Send>(
     let mut sink = NoFaultSink::new(rt.alloc(), 4_096);
     let mut wiring = PlanWiring::new(rt.alloc());
     let mut shelves = NoFaultShelves::new(rt.alloc());
+    let mut doors = NoFaultDoors { alloc: rt.alloc() };
     let status = longhorn(
         rt,
         rt.alloc(),
@@ -51,6 +53,7 @@ pub(crate) fn run_over<T: Target + Send>(
         &mut shelves,
         target,
         &OpenGate,
+        &mut doors,
     );
     Ok((status, sink))
 }

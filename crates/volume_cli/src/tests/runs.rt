@@ -3,6 +3,7 @@ ghost use Rattle.std.specs.Prelude.{◌<◌, ◌-◌, ◌^◌};
 
 use crate::status::Status;
 use crate::top::longhorn;
+use door_memory::NoFaultDoors;
 use fault_lines::PlanWiring;
 use outer_memory::{NoFaultSink, NoFaultSource};
 use outer_traits::{Gate, Sink, Source};
@@ -37,6 +38,7 @@ pub(crate) fn ends<S: Source, K: Sink, H: Shelves, G: Gate + Sync>(
     let words = owned(rt.alloc(), words)?;
     let mut wiring = PlanWiring::new(rt.alloc());
     let mut target = NoFaultTarget::new(rt.alloc());
+    let mut doors = NoFaultDoors { alloc: rt.alloc() };
     Ok(longhorn(
         rt,
         rt.alloc(),
@@ -47,6 +49,7 @@ pub(crate) fn ends<S: Source, K: Sink, H: Shelves, G: Gate + Sync>(
         shelves,
         &mut target,
         gate,
+        &mut doors,
     ))
 }
 

@@ -12,22 +12,22 @@ use std::test::Fail;
 use std::thread::Threads;
 
 /// Reads 4,096 bytes from the begin on.
-const READ: [u8; 26] = [
+pub(crate) const READ: [u8; 26] = [
     0x01, 0x1b, 1, 0, 0, 0, 0, 0, 0, 0, 0, 0, 0, 0, 0, 0, 0, 0, 0, 0x10, 0, 0, 0, 0, 0, 0,
 ];
 
 /// The header of the reply: as many bytes.
-const REPLY: [u8; 26] = [
+pub(crate) const REPLY: [u8; 26] = [
     0x01, 0x1b, 1, 0, 0, 0, 2, 0, 0, 0, 0, 0, 0, 0, 0, 0, 0, 0, 0, 0x10, 0, 0, 0, 0x10, 0, 0,
 ];
 
 /// Ends it, with no bytes.
-const CLOSE: [u8; 26] = [
+pub(crate) const CLOSE: [u8; 26] = [
     0x01, 0x1b, 2, 0, 0, 0, 5, 0, 0, 0, 0, 0, 0, 0, 0, 0, 0, 0, 0, 0, 0, 0, 0, 0, 0, 0,
 ];
 
 /// An input of these parts, and what a replica replies to the read with which it begins.
-fn joined(alloc: Global, parts: &[&[u8]]) -> Result<Vec<u8>, AllocError> {
+pub(crate) fn joined(alloc: Global, parts: &[&[u8]]) -> Result<Vec<u8>, AllocError> {
     let mut input = Vec::new(alloc);
     for part in parts {
         input.extend_from_slice(part)?;

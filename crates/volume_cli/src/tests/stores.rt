@@ -4,6 +4,7 @@ ghost use Rattle.std.specs.Prelude.{◌≡◌, ◌<◌, ◌-◌, ◌^◌, IfOk};
 use super::runs::owned;
 use crate::status::Status;
 use crate::top::longhorn;
+use door_memory::NoFaultDoors;
 use fault_lines::PlanWiring;
 use outer_memory::{NoFaultSink, NoFaultSource};
 use outer_real::OpenGate;
@@ -90,6 +91,7 @@ pub(crate) fn answer<T: Target + Send>(
     let mut sink = NoFaultSink::new(rt.alloc(), 70_000);
     let mut wiring = PlanWiring::new(rt.alloc());
     let mut shelves = NoFaultShelves::new(rt.alloc());
+    let mut doors = NoFaultDoors { alloc: rt.alloc() };
     let status = longhorn(
         rt,
         rt.alloc(),
@@ -100,6 +102,7 @@ pub(crate) fn answer<T: Target + Send>(
         &mut shelves,
         target,
         &OpenGate,
+        &mut doors,
     );
     Ok((status, sink))
 }

@@ -24,4 +24,6 @@ returns c =
     let two = one_more _ _ _ _ _ one restore.shape restore.local c.in_ok-subcommand-2.ensures in
     let three = one_more _ _ _ _ _ two backups.shape backups.local c.in_ok-subcommand-3.ensures in
     let four = one_more _ _ _ _ _ three replica.shape replica.local c.in_ok-subcommand-4.ensures in
-    IfOk-weaker c.subcommand-5.result _ _ (λ new adds. one_more _ _ _ _ _ four generate.shape generate.local adds) c.subcommand-5.ensures
+    let serve = c.in_ok-serve_command.ensures in
+    let five = one_more _ _ _ _ _ four generate.shape generate.local c.in_ok-subcommand-5.ensures in
+    IfOk-weaker c.subcommand-6.result _ _ (λ new adds. one_more _ _ _ _ _ five serve.shape serve.local adds) c.subcommand-6.ensures

@@ -11,8 +11,10 @@ returns-in_err-matches-clause-usage c =
 
 pub returns-in-Some-clause-found : goal.returns-in-Some-clause-found
 returns-in-Some-clause-found c =
-    sym (c.in-Some.ensures ∙ matches_tell _ _ _ c.in_ok-command.ensures c.in_ok-matches.ensures.kinds c.in_ok-matches.ensures.matches)
+    sym (sym c.in-Some.is ∙ c.in_ok-asked.ensures
+    ∙ matches_tell _ _ _ c.in_ok-command.ensures c.in_ok-matches.ensures.kinds c.in_ok-matches.ensures.matches)
 
 pub returns-clause-usage : goal.returns-clause-usage
 returns-clause-usage c =
-    λ _. sym (c.in-None.ensures ∙ matches_tell _ _ _ c.in_ok-command.ensures c.in_ok-matches.ensures.kinds c.in_ok-matches.ensures.matches)
+    λ _. sym (sym c.in-None.is ∙ c.in_ok-asked.ensures
+    ∙ matches_tell _ _ _ c.in_ok-command.ensures c.in_ok-matches.ensures.kinds c.in_ok-matches.ensures.matches)

@@ -1,9 +1,11 @@
 use Rattle.std.proofs.Common.{refl, sym, subst, ◌∙◌, map}
 use Rattle.std.specs.Prelude.{string_bytes}
-use Rattle.program_words.specs.declared.words.Words.TheVariants.{Run, Restore, Backups, Generate}
+use Rattle.program_words.specs.declared.words.Words.TheVariants.{Run, Restore, Backups, Generate, Serve}
 use Rattle.volume_cli.specs.Ends.{ended}
 use Rattle.volume_cli.specs.Stores.{AnswersStore}
 use Rattle.volume_cli.proofs.Asked.{asks_that, one_words}
+use Rattle.volume_cli.proofs.HostedLemmas.{can_host, hosts_as, hosts_nobody}
+use Rattle.volume_cli.proofs.Input.{gives_nothing}
 use Rattle.volume_cli.proofs.LoadLemmas.{can_generate, load_leaves, load_runs, summed_as}
 use Rattle.volume_cli.proofs.ServedLemmas.{ends_as_input, serves_nothing}
 use Rattle.volume_cli.proofs.StoreLemmas.{store_refused_only, store_refuses, store_answers}
@@ -41,7 +43,7 @@ pub returns-in-Run-clause-printed : goal.returns-in-Run-clause-printed
 returns-in-Run-clause-printed g c =
     let read = asks_that _ c.read_words.result c.in-Ok.asked (Run c.in-Run.workers) c.in-Ok.is c.in-Run.is
     c.read_words.ensures.found in
-    rw c.how_ended.ensures (rw read (λ other none. c.run.ensures.printed))
+    rw c.how_ended.ensures (rw read (λ other none nobody. c.run.ensures.printed))
 
 pub returns-in-Restore-clause-refused_only : goal.returns-in-Restore-clause-refused_only
 returns-in-Restore-clause-refused_only g c =
@@ -109,8 +111,11 @@ returns-in-Generate-clause-printed g c =
     let s = c.in-Generate.streams in
     let k = c.in-Generate.calls in
     let read = asks_that _ c.read_words.result c.in-Ok.asked (Generate n s k) c.in-Ok.is c.in-Generate.is c.read_words.ensures.found in
-    rw c.how_loaded.ensures (rw read (λ other none. load_leaves n s k _ _ _ _ _ _ _ _ _ refl
+    rw c.how_loaded.ensures (rw read (λ other none nobody. load_leaves n s k _ _ _ _ _ _ _ _ _ refl
     (λ st journal. load_runs n s k _ _ _ _ _ _ _ _ c.run_load.ensures.unasked st journal) c.run_load.result c.run_load.ensures.left))
+
+pub returns-in-Generate-clause-most : goal.returns-in-Generate-clause-most
+returns-in-Generate-clause-most g c = λ none. gives_nothing _ _
 
 pub returns-in-Generate-clause-summed : goal.returns-in-Generate-clause-summed
 returns-in-Generate-clause-summed g c =
@@ -130,3 +135,33 @@ pub returns-in-Replica-clause-serves : goal.returns-in-Replica-clause-serves
 returns-in-Replica-clause-serves g c =
     rw c.how_served.ensures (λ asks read dry. ends_as_input _ _ _ _ _ _ _ _ c.requires.source_count c.requires.sink_count read dry
     c.serve_blank.result c.serve_blank.ensures.served c.serve_blank.ensures.counts)
+
+-- ---- sessions
+
+pub serve_doors-requires-clause-replicas : goal.serve_doors-requires-clause-replicas
+serve_doors-requires-clause-replicas g c κs within =
+    let words = Serve c.in-Serve.address c.in-Serve.size c.in-Serve.replicas c.in-Serve.sessions in
+    let can = can_host (map string_bytes c.args.words.now) _ _ _ _ (asks_that _ c.read_words.result c.in-Ok.asked words c.in-Ok.is
+    c.in-Serve.is c.read_words.ensures.found) in
+    (can.some_replicas, can.few_replicas)
+
+pub serve_doors-requires-clause-sessions : goal.serve_doors-requires-clause-sessions
+serve_doors-requires-clause-sessions g c κs within =
+    let words = Serve c.in-Serve.address c.in-Serve.size c.in-Serve.replicas c.in-Serve.sessions in
+    let can = can_host (map string_bytes c.args.words.now) _ _ _ _ (asks_that _ c.read_words.result c.in-Ok.asked words c.in-Ok.is
+    c.in-Serve.is c.read_words.ensures.found) in
+    (can.some_sessions, can.few_sessions)
+
+pub returns-in-Err-NoMemory-clause-hosted : goal.returns-in-Err-NoMemory-clause-hosted
+returns-in-Err-NoMemory-clause-hosted g c =
+    λ address size replicas sessions asks. hosts_nobody size replicas sessions g.D.Doors.tells _ _ _ _ refl
+
+pub returns-clause-most : goal.returns-clause-most
+returns-clause-most g c = λ none. gives_nothing _ _
+
+pub returns-clause-hosted : goal.returns-clause-hosted
+returns-clause-hosted g c =
+    let words = Serve c.in-Serve.address c.in-Serve.size c.in-Serve.replicas c.in-Serve.sessions in
+    let read = asks_that _ c.read_words.result c.in-Ok.asked words c.in-Ok.is c.in-Serve.is c.read_words.ensures.found in
+    rw c.how_hosted.ensures (λ address size replicas sessions is. hosts_as _ _ _ _ address size replicas sessions _ _ _ _
+    c.serve_doors.result c.serve_doors.ensures.left (sym read ∙ is))
