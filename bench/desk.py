@@ -1,12 +1,13 @@
 #!/usr/bin/env python3
-"""desk.py PROGRAM [REPEATS]
+"""desk.py PROGRAM [REPEATS [BEFORE]]
 
 Times turns at a desk, by the built program of the crate `desk_trial`, and beside it the same work in C under a mutex of the C
 library, and under a lock of tickets that waits as the desk does. Each call is two turns: in the first it is begun, in the second
 it is noted. One thread alone, two that want it all the time, and sixteen. Nanoseconds of the clock for each turn, of all turns of
 a run together; by turns, medians with the least and the greatest. Beside them looks at how long the journal is: while a thread
 has the state, and while none has. Then sixteen threads make a thousand calls each, a hundred times. The C program is compiled
-by `cc`.
+by `cc`. With BEFORE, the program of `desk_trial` as it was once, which has its turns too, also what a turn takes of its time then:
+the ratio in the same turn, and that of the least of all turns.
 """
 import os
 import statistics
@@ -118,18 +119,28 @@ def told(times):
     return '%6.0f (%.0f to %.0f)' % (statistics.median(times), min(times), max(times))
 
 
+def compared(now, before):
+    """How turns compare with those of before."""
+    ratios = [one / other for one, other in zip(now, before)]
+    return '%.3f (%.3f to %.3f), of the least %.3f' % (statistics.median(ratios), min(ratios), max(ratios), min(now) / min(before))
+
+
 def main():
     program, repeats = sys.argv[1], int(sys.argv[2]) if len(sys.argv) > 2 else 7
     with tempfile.TemporaryDirectory() as folder:
         locks = compiled(folder)
-        forms = {'desk': [program], 'mutex in C': [locks, 'mutex'], 'tickets in C': [locks, 'tickets']}
+        forms = {'desk': [program], **{'desk before': [path] for path in sys.argv[3:]}}
+        forms |= {'mutex in C': [locks, 'mutex'], 'tickets in C': [locks, 'tickets']}
         for threads in CALLS:
             taken = {name: [] for name in forms}
-            for _ in range(repeats):
-                for name, words in forms.items():
-                    taken[name].append(turn(words, threads))
+            for number in range(repeats):
+                for name in list(forms)[::1 if number % 2 else -1]:
+                    taken[name].append(turn(forms[name], threads))
             for name in forms:
-                print('%2d threads, %-12s ns a turn %s' % (threads, name, told(taken[name])))
+                print('%2d threads, %-12s ns a turn %s' % (threads, name, told(taken[name])), flush=True)
+            if 'desk before' in taken:
+                ratio = compared(taken['desk'], taken['desk before'])
+                print('%2d threads, a turn takes of its time before %s' % (threads, ratio), flush=True)
     looks = {'hold': [], 'wait': []}
     for _ in range(repeats):
         for beside in looks:

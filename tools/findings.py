@@ -2,6 +2,7 @@
 import re
 
 import asked
+import ended_sessions
 import rebuilds
 from plain_disk import PlainDisk
 from replay import ERR, MOST_LAYERS, RW, Replay
@@ -9,7 +10,7 @@ from report import (FRAME_CALLS, LAYER_MARKS, Entry, FrameReply, Mark, OfReplica
                     shorten, shorten_runs, spell_runs)
 
 MOST_LENGTH = 1 << 20
-GROUPS = ('open', 'journal', 'reply', 'mode', 'chain', 'head')
+GROUPS = ('open', 'journal', 'reply', 'session', 'mode', 'chain', 'head')
 # The refusals of each call.
 REFUSALS = {
     'read': ('too long', 'out of range', 'no replica'),
@@ -91,7 +92,10 @@ class Checker:
             else:
                 self.check_mark(line)
         self.check_askers()
-        self.check_replies()
+        if self.report.sessions:
+            self.findings += ended_sessions.odd_sessions(self.report, self.is_whole)
+        else:
+            self.check_replies()
         self.check_end()
 
     def check_groups(self):
@@ -408,4 +412,6 @@ def group_of(line):
     """The group of a line."""
     if isinstance(line, (Entry, Mark)):
         return 'journal'
-    return 'reply' if isinstance(line, FrameReply) else line.group
+    if isinstance(line, OfReplica):
+        return line.group
+    return 'reply' if isinstance(line, FrameReply) else 'session'

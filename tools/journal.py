@@ -1,5 +1,5 @@
 #!/usr/bin/env python3
-"""Looks at what `longhorn run` printed: checks it, prints its journal as a table, or draws it."""
+"""Looks at what `longhorn run` or `serve` printed: checks it, prints its journal as a table, or draws it."""
 import argparse
 import os
 import sys
@@ -17,8 +17,10 @@ saw its own future or was taken up before the call before it in its stream had e
 does not give what one plain disk has at its place, a call without its reply line, a reply line without its call or of other
 contents, answers that do not fit the names, layers and modes that the journal has made, marks that may not stand where they
 do, rebuilds that begin, end or are answered as they may not be, and modes, chains and heads at the end that are missing or do
-not agree. Where a line of the journal is missing, nothing is said of what would follow from all lines; and nothing of bytes
-where the run began with saved replicas, unless --opened tells them.
+not agree. What `serve` printed has lines of sessions in place of replies: odd are sessions out of order, calls that no session
+makes, marks, counts of calls that are not those of the journal, a journal that was shorter when a session looked at it last than
+its last call, or is shorter now, and ends that do not fit the calls. Where a line of the journal is missing, nothing is said of
+what would follow from all lines; and nothing of bytes where the run began with saved replicas, unless --opened tells them.
 
 With --script SCRIPT, what was run, odd are also: calls that are not those of their stream, each once and in order, ranges
 that the volume does not have, replies to other frames, more faults of a line than are planned, replicas and streams that there
@@ -79,7 +81,7 @@ def read_words():
                               ('picture', 'draws the run as one SVG', PICTURE_HELP)):
         added[verb] = verbs.add_parser(verb, help=short, description=text, formatter_class=formatter)
         added[verb].add_argument('report', nargs='?', default='-',
-                                 help='a file with what `run` printed; standard input where it is left out or `-`')
+                                 help='a file with what `run` or `serve` printed; standard input where it is left out or `-`')
     added['check'].add_argument('--script', metavar='SCRIPT', help='a file with the script that was run')
     added['check'].add_argument('--opened', metavar='FOLDER', help='the folder `replicas` as it stood before the run; with --script')
     added['picture'].add_argument('--most', type=whole_number, metavar='COUNT', help='draw at most so many entries and marks')

@@ -1,6 +1,7 @@
 // Has one call to the system fail of a program before which it is loaded: the Nth of those below, counted from 1, where FAILED_CALL
 // is N. Where SHORT_CALL is N, the Nth read or write of several bytes moves one byte instead. It writes to the handle CALL_TOLD which
-// call that was, and to which handle or file. What makes a file longer finds the disk full, and all else an error of the disk.
+// call that was, and to which handle or file. What makes a file longer finds the disk full, what makes a handle finds none left, a
+// connection is reset, and all else finds an error of the disk.
 #define _GNU_SOURCE
 #include <dirent.h>
 #include <dlfcn.h>
@@ -11,6 +12,7 @@
 #include <stdio.h>
 #include <stdlib.h>
 #include <string.h>
+#include <sys/socket.h>
 #include <sys/stat.h>
 #include <unistd.h>
 
@@ -135,4 +137,41 @@ int fsync(int handle) {
 
 int fdatasync(int handle) {
     return has_failed("fdatasync", handle, NULL, EIO) ? -1 : NEXT(fdatasync)(handle);
+}
+
+int socket(int domain, int type, int protocol) {
+    return has_failed("socket", -1, "socket", EMFILE) ? -1 : NEXT(socket)(domain, type, protocol);
+}
+
+int setsockopt(int handle, int level, int option, const void *value, socklen_t length) {
+    return has_failed("setsockopt", handle, NULL, EIO) ? -1 : NEXT(setsockopt)(handle, level, option, value, length);
+}
+
+int bind(int handle, const struct sockaddr *address, socklen_t length) {
+    return has_failed("bind", handle, NULL, EADDRINUSE) ? -1 : NEXT(bind)(handle, address, length);
+}
+
+int listen(int handle, int most) {
+    return has_failed("listen", handle, NULL, EADDRINUSE) ? -1 : NEXT(listen)(handle, most);
+}
+
+int accept4(int handle, struct sockaddr *restrict address, socklen_t *restrict length, int flags) {
+    return has_failed("accept4", handle, NULL, EMFILE) ? -1 : NEXT(accept4)(handle, address, length, flags);
+}
+
+int fcntl(int handle, int command, ...) {
+    va_list more;
+    va_start(more, command);
+    void *given = va_arg(more, void *);
+    va_end(more);
+    int makes = command == F_DUPFD || command == F_DUPFD_CLOEXEC;
+    return makes && has_failed("fcntl", handle, NULL, EMFILE) ? -1 : NEXT(fcntl)(handle, command, given);
+}
+
+ssize_t recv(int handle, void *into, size_t count, int flags) {
+    return has_failed("recv", handle, NULL, ECONNRESET) ? -1 : NEXT(recv)(handle, into, moved("recv", handle, count), flags);
+}
+
+ssize_t send(int handle, const void *from, size_t count, int flags) {
+    return has_failed("send", handle, NULL, ECONNRESET) ? -1 : NEXT(send)(handle, from, moved("send", handle, count), flags);
 }

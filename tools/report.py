@@ -1,4 +1,4 @@
-"""What `run` prints, read line by line."""
+"""What `run` and `serve` print, read line by line."""
 import re
 from typing import NamedTuple
 
@@ -47,6 +47,7 @@ ENTRY_LINE = re.compile('(%s) (%s) (%s) (%s) (%s) (ok|ok %s|ok layers %s modes (
                         % (NUMBER, NUMBER, NUMBER, NUMBER, one_of(CALLS), RUNS, NUMBER))
 MARK_LINE = re.compile('(%s) mark (%s)' % (NUMBER, one_of(MARKS)))
 REPLY_LINE = re.compile('reply (%s) (%s) (%s) (%s) (-?%s) (%s) (%s)' % (NUMBER, NUMBER, NUMBER, NUMBER, NUMBER, NUMBER, RUNS))
+SESSION_LINE = re.compile('session (%s) (closed|ended|frame %s|full|read fault|write fault) (%s) (%s)' % (NUMBER, NUMBER, NUMBER, NUMBER))
 OPEN_LINE = re.compile('open (%s) (RW|ERR .+)' % REPLICA)
 MODE_LINE = re.compile('mode (%s) (RW|ERR)' % REPLICA)
 CHAIN_LINE = re.compile('chain (%s) head((?: %s\\*?)*)' % (REPLICA, NAME))
@@ -103,6 +104,15 @@ class FrameReply(NamedTuple):
     runs: str
 
 
+class Session(NamedTuple):
+    """A line of a session: how it ended, the number of its calls, and how long the journal was when it looked last."""
+    line: int
+    number: int
+    end: str
+    calls: int
+    seen: int
+
+
 class OfReplica(NamedTuple):
     """A line that says something of one replica: its group, and what it says."""
     line: int
@@ -125,6 +135,11 @@ class Report(NamedTuple):
     def entries(self):
         """The calls of the journal."""
         return [line for line in self.lines if isinstance(line, Entry)]
+
+    @property
+    def sessions(self):
+        """The sessions that ended. A report that has some is one of `serve`."""
+        return [line for line in self.lines if isinstance(line, Session)]
 
     def of_replicas(self, group):
         """What the lines of a group say, by the replicas' numbers."""
@@ -149,7 +164,7 @@ def replica_number(word):
 
 
 def read_report(text):
-    """The report that `run` printed."""
+    """The report that `run` or `serve` printed."""
     lines, unread = [], []
     for number, line in enumerate(text.split('\n'), 1):
         if line:
@@ -173,6 +188,9 @@ def read_line(number, line):
     found = REPLY_LINE.fullmatch(line)
     if found:
         return FrameReply(number, *map(int, found.group(1, 2, 3, 4, 5, 6)), found[7])
+    found = SESSION_LINE.fullmatch(line)
+    if found:
+        return Session(number, int(found[1]), found[2], int(found[3]), int(found[4]))
     for group, pattern in (('open', OPEN_LINE), ('mode', MODE_LINE), ('chain', CHAIN_LINE), ('head', HEAD_LINE)):
         found = pattern.fullmatch(line)
         if found:

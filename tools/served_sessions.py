@@ -1,4 +1,5 @@
 """Sessions of `longhorn serve`: connections on which calls go out as frames, and are answered in their order."""
+import random
 import socket
 import threading
 import time
@@ -9,6 +10,8 @@ RESPONSE, ERROR = 2, 3
 # So many calls of a session are answered.
 MOST_CALLS = 4096
 SEQS = 1 << 32
+# Ports that the system gives to nobody who asks for any: who connects again and again cannot meet itself there.
+PORTS = range(20000, 32000)
 
 
 class Broken(Exception):
@@ -17,6 +20,18 @@ class Broken(Exception):
 
 class Refused(Exception):
     """What a call was answered that was not done."""
+
+
+def free_port():
+    """A port of this machine at which nobody listens."""
+    while True:
+        port = random.SystemRandom().choice(PORTS)
+        with socket.socket() as probe:
+            try:
+                probe.bind(('127.0.0.1', port))
+                return port
+            except OSError:
+                pass
 
 
 def connect(address, wait):

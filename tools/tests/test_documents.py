@@ -260,7 +260,7 @@ class Texts(unittest.TestCase):
         import journal
         from report import read_report
         reports = [report for report in blocks(read(TOP, 'docs/FORMATS.md')) if '\nmode r0 ' in report]
-        self.assertEqual(len(reports), 2)
+        self.assertGreater(len(reports), 1)
         for report in reports:
             self.assertEqual(journal.check(read_report(report)), '', report)
 

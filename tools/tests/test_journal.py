@@ -152,7 +152,20 @@ chain r0 head sys-0
 head r0 %s
 ''' % HEAD
 
-GOOD = (ONE_STREAM, COMMANDS, REBUILD, ABORTED, SAVED, SIDE_BY_SIDE, OTHER_ADD)
+# Three sessions: of one the client closed, of one a bad frame came, and one had no client that called.
+SESSIONS = '''0 0 0 0 write 4095 1 61*1 ok
+1 0 1 0 read 4095 1 ok 61*1
+2 2 0 1 ping ok
+3 2 1 1 other 9 error unsupported
+session 0 closed 2 4
+session 1 frame 52 2 4
+session 2 ended 0 0
+mode r0 RW
+chain r0 head
+head r0 %s
+''' % OTHER_HEAD
+
+GOOD = (ONE_STREAM, COMMANDS, REBUILD, ABORTED, SAVED, SIDE_BY_SIDE, OTHER_ADD, SESSIONS)
 # A report, a text of it, what stands there instead, and what is found, with the number of its line.
 BREAKS = [
     (ONE_STREAM, '2 2 0 2 ping', '3 2 0 2 ping', 'line 3: has place 3, where 2 comes next'),
@@ -239,6 +252,21 @@ BREAKS = [
     (SIDE_BY_SIDE, '2 0 1 0 write 1 1 62*1 ok', '2 0 1 0 write 1 1048577 62*1048577 ok', 'line 3: writes 1048577 bytes, and a frame'),
     (SAVED, 'salvaged r0 2', 'salvaged r0 -\n4 mark salvaged r0 -', 'line 7: begins with r0 as RW, and not as ERR'),
     (SAVED, 'chain r0 head old\n', 'chain r0 head old\nchain r1 head\n', 'line 11: has `chain` of r0, r1, and in mode RW is r0'),
+    (SESSIONS, 'read 4095 1 ok 61*1', 'read 4095 1 ok 00*1', 'line 2: reads `00*1`, and a plain disk has `61*1` there'),
+    (SESSIONS, '2 2 0 1 ping ok', '2 2 0 1 snapshot s ok', 'line 3: is `snapshot`, and a session makes calls of frames alone'),
+    (SESSIONS, '2 2 0 1 ping', '2 2 3 0 ping', 'line 3: is of session 3, and 3 have ended'),
+    (SESSIONS, '3 2 1 1 other 9 error unsupported', '3 mark fault 1 r0 1', 'line 4: is a line that no report of sessions has'),
+    (SESSIONS, 'session 2', 'reply 0 1 2 2 0 0 -\nsession 2', 'line 7: is a line that no report of sessions has'),
+    (SESSIONS, 'session 2', 'session 3', 'line 7: is of session 3, where session 2 comes next'),
+    (SESSIONS, 'session 0 closed 2 4\n', '', 'line 5: is of session 1, where session 0 comes next'),
+    (SESSIONS, 'mode r0 RW\n', 'mode r0 RW\nsession 3 ended 0 0\n', 'line 9: stands behind a line of the group `mode`'),
+    (SESSIONS, 'closed 2 4', 'closed 1 4', 'line 5: tells 1 calls, and the journal has 2 of session 0'),
+    (SESSIONS, 'closed 2 4', 'closed 2 2', 'line 5: saw 2 at last, and its last call ended at place 2'),
+    (SESSIONS, 'closed 2 4', 'closed 2 5', 'line 5: saw 5 at last, and the journal has 4 lines'),
+    (SESSIONS, 'closed 2 4', 'full 2 4', 'line 5: ends `full` with 2 calls, and a session makes 4096 at most'),
+    (SESSIONS, 'closed 2 4', 'shut 2 4', 'line 5: is no line of a report: `session 0 shut 2 4`'),
+    (SESSIONS, 'ended 0 0', 'write fault 0 0', 'line 7: ends `write fault` without a call that it replied to'),
+    (SESSIONS, 'frame 52', 'frame 51', 'line 6: has a bad frame at 51, and the frames of its calls have 52 bytes'),
 ]
 # What is odd beside the script of SIDE_BY_SIDE: a text of the report, what stands there instead, and what is found.
 NOT_OF_THE_SCRIPT = [
