@@ -41,20 +41,31 @@ static note *notes;
 static unsigned long noted, room, begun[16], calls;
 static int tickets;
 
+static _Atomic unsigned long looking, asleep, woken;
+
 static void enter(void) {
     if (!tickets) { pthread_mutex_lock(&mutex); return; }
     struct timespec pause = {0, 1000000};
-    for (int looks = 0;;) {
-        unsigned long seen = atomic_load(&drawn);
-        if (seen == atomic_load(&served) && atomic_compare_exchange_strong(&drawn, &seen, seen + 1)) return;
-        if (looks < 10000) looks++;
-        else { looks = 0; syscall(SYS_futex, &drawn, FUTEX_WAIT_PRIVATE, (int)seen, &pause, 0, 0); }
+    for (int looks = 0, waits = 0;;) {
+        unsigned long ended = atomic_load(&served), seen = atomic_load(&drawn);
+        if (seen == ended && atomic_compare_exchange_strong(&drawn, &seen, seen + 1)) {
+            if (waits) atomic_fetch_sub(&looking, 1);
+            return;
+        }
+        if (!waits) { waits = 1; atomic_fetch_add(&looking, 1); }
+        if (looks < 4000) { looks++; continue; }
+        looks = 0;
+        atomic_fetch_add(&asleep, 1), atomic_fetch_sub(&looking, 1);
+        syscall(SYS_futex, &served, FUTEX_WAIT_PRIVATE, (int)ended, &pause, 0, 0);
+        atomic_fetch_add(&looking, 1), atomic_fetch_sub(&asleep, 1), atomic_store(&woken, 0);
     }
 }
 
 static void leave(void) {
     if (!tickets) { pthread_mutex_unlock(&mutex); return; }
     atomic_fetch_add(&served, 1);
+    if (atomic_load(&asleep) && !atomic_load(&looking) && !atomic_exchange(&woken, 1))
+        syscall(SYS_futex, &served, FUTEX_WAKE_PRIVATE, 1, 0, 0, 0);
 }
 
 static void *serve(void *given) {

@@ -12,6 +12,7 @@ use crate::plays::{Cut, Glue, Learn, Recall};
 use crate::seats::{Desk, Seat};
 use crate::turns::{LENGTH, SERVED};
 use crate::views::Start;
+use crate::waiters::Waiters;
 use atomic_table::Table;
 use std::alloc::{AllocError, Global};
 use std::snapshot::Snapshot;
@@ -39,7 +40,10 @@ impl<S: Kept> Desk<S> {
             Err(_) => return Err(AllocError),
         };
         Ok((
-            Desk { table },
+            Desk {
+                table,
+                waiters: Waiters::new(),
+            },
             Seat {
                 pass,
                 number: None,
@@ -98,7 +102,7 @@ impl<S: Kept> Desk<S> {
             number: _,
             made: _,
         } = seat;
-        let Desk { table } = self;
+        let Desk { table, .. } = self;
         let mut closed = table.close_with(pass);
         let state = closed.take(0);
         closed.free();

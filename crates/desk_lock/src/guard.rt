@@ -31,4 +31,5 @@ fn put_in<S: Kept>(desk: &Desk<S>, seat: &mut Seat<S>, state: S)
     ensures { HasLeft seat.old state seat.new }
 {
     desk.put(&mut seat.pass, state);
+    desk.wake_next();
 }

@@ -8,6 +8,7 @@ mod plays;
 mod seats;
 mod turns;
 mod views;
+mod waiters;
 
 pub use guard::Guard;
 pub use kept::Kept;

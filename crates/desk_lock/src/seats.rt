@@ -5,6 +5,7 @@ ghost use Rattle.desk_lock.specs.Rule.{is_live, number_in, made_in};
 use crate::kept::Kept;
 use crate::plays::InTurn;
 use crate::views::{Start, View};
+use crate::waiters::Waiters;
 use atomic_table::Table;
 use std::alloc::Global;
 
@@ -15,6 +16,7 @@ pub(crate) type Pass<S> = atomic_table::Seat<Option<S>, View<S>>;
 #[derive(Drop)]
 pub struct Desk<S: Kept> {
     pub(crate) table: Table<Option<S>, View<S>, Start<S>, InTurn, Global>,
+    pub(crate) waiters: Waiters,
     ghost sized: { (table.shared.table_id.words ≡ 3) × (table.shared.table_id.slots ≡ 1) },
     ghost few: { table.shared.key.seats < 2 ^ 64 },
 }

@@ -22,11 +22,11 @@ pub(crate) const SERVED: usize = 1;
 
 pub(crate) const LENGTH: usize = 2;
 
-// How often one who waits looks before it sleeps: some 30 microseconds, which is longer than most turns take.
-const LOOKS: u32 = 10_000;
+// How often one who waits looks before it sleeps: some fifteen microseconds, which is longer than most turns take. To look for
+// longer keeps the processor from whoever has the turn, where there are more threads than processors.
+const LOOKS: u32 = 4_000;
 
-// How many microseconds one sleeps who found no rest. Those who sleep leave the desk to a few, which then hand it over
-// less often, and handing it over is what costs.
+// How many microseconds one sleeps at most whom nobody wakes.
 const PAUSE: u64 = 1_000;
 
 impl<S: Kept> Desk<S> {
@@ -50,8 +50,7 @@ impl<S: Kept> Desk<S> {
     }
 
     // Draws a ticket where none is out, and waits until it can. Who drew one while another's turn is on would have the
-    // desk handed over, and a sleeper woken, at each turn of streams that take turn after turn. Nobody wakes who sleeps
-    // here, on the word of tickets.
+    // desk handed over at each turn of streams that take turn after turn. Who sleeps is woken by who ends a turn.
     fn draw<R: Wait>(&self, rt: &R, pass: &mut Pass<S>) -> u64
         requires { (pass.old.table_id ≡ self.now.table.shared.table_id) × IsIdle pass.old.me }
         ensures same { (pass.new.table_id ≡ pass.old.table_id) × (pass.new.id ≡ pass.old.id) }
@@ -59,21 +58,33 @@ impl<S: Kept> Desk<S> {
     {
         let shared = &self.table.shared;
         let pause = Duration::from_micros(PAUSE);
+        let mut waits = false;
         let mut looks = 0;
         for _ in rt.forever() {
+            let served = shared.peek(SERVED);
             let drawn = shared.peek(DRAWN);
-            if drawn == shared.peek(SERVED) {
+            if drawn == served {
                 let next = drawn.wrapping_add(1);
                 if shared.compare_exchange::<Draw>(pass, DRAWN, drawn, next) == drawn {
+                    if waits {
+                        self.waiters.end_to_look();
+                    }
                     return drawn;
                 }
+            }
+            if !waits {
+                waits = true;
+                self.waiters.begin_to_look();
             }
             if looks < LOOKS {
                 looks += 1;
                 spin_loop();
             } else {
                 looks = 0;
-                shared.park_timeout(rt, DRAWN, (drawn & 0xffff_ffff) as u32, pause);
+                self.waiters.lie_down();
+                // A turn that ended meanwhile has changed the word, and then nobody sleeps.
+                shared.park_timeout(rt, SERVED, (served & 0xffff_ffff) as u32, pause);
+                self.waiters.get_up();
             }
         }
         unreachable!()
@@ -100,6 +111,13 @@ impl<S: Kept> Desk<S> {
         } else {
             shared.store::<Publish>(pass, LENGTH, length);
             shared.fetch_add::<End>(pass, SERVED, 1);
+        }
+    }
+
+    // Wakes one who sleeps, if that is needed, once a turn has ended.
+    pub(crate) fn wake_next(&self) {
+        if self.waiters.must_wake() {
+            self.table.shared.wake_one(SERVED);
         }
     }
 }
