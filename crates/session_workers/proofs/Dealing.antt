@@ -11,7 +11,7 @@ use Rattle.world_holder.specs.Laid.{laid}
 use Rattle.world_holder.specs.View.{runs, IsFree}
 use Rattle.world_holder.specs.Rests.{IsSeated}
 use Rattle.session_serve.specs.Sessions.{own_of}
-use Rattle.stream_workers.proofs.Lists.{each_snoc}
+use Rattle.stream_turns.proofs.Lists.{each_snoc}
 use Rattle.session_workers.specs.declared.task.Task.{Task}
 use Rattle.session_workers.specs.Tasks.{IsTask, AreNumbered}
 

@@ -40,13 +40,12 @@ use Rattle.world_holder.proofs.Grow.{same_opening}
 use Rattle.world_holder.proofs.OwnCalls.{own_asked}
 use Rattle.world_holder.proofs.Rests.{seat_none}
 use Rattle.session_workers.specs.Clients.{HasEnded, HasServed}
+use Rattle.stream_turns.specs.Joined.{HasPair}
 use Rattle.stream_turns.proofs.Counted.{faults_shown}
+use Rattle.stream_turns.proofs.Joined.{has_number}
+use Rattle.stream_turns.proofs.Lists.{element, map_at, some_same}
 use Rattle.stream_turns.proofs.Replicas.{replicas_are, as_many}
-use Rattle.stream_workers.specs.Tasks.{HasPair}
-use Rattle.stream_workers.proofs.All.{has_number}
-use Rattle.stream_workers.proofs.AtEnd.{some_same}
-use Rattle.stream_workers.proofs.Lists.{element, map_at}
-use Rattle.stream_workers.proofs.Rest.{rest_is, turns_are, none_gave_up}
+use Rattle.stream_turns.proofs.Rest.{rest_is, turns_are, none_gave_up}
 use Rattle.session_workers.specs.declared.serving.ServedSessions.{ServedSessions}
 use Rattle.session_workers.specs.declared.task.Task.{Task}
 use Rattle.session_workers.specs.Served.{blank_spot, IsSession, AreServed, IsCutShort, AreCutShort}

@@ -6,8 +6,8 @@ use Rattle.desk_lock.specs.declared.views.Known.{Known}
 use Rattle.desk_lock.specs.Known.{keeping}
 use Rattle.desk_lock.specs.Seats.{last_of, told_of}
 use Rattle.world_holder.specs.declared.kept.WorldOnDesk.{WorldOnDesk}
-use Rattle.stream_workers.specs.Tasks.{HasPair}
-use Rattle.stream_workers.proofs.Lists.{each_snoc}
+use Rattle.stream_turns.specs.Joined.{HasPair}
+use Rattle.stream_turns.proofs.Lists.{each_snoc}
 use Rattle.session_workers.specs.declared.task.Task.{Task}
 use Rattle.session_workers.specs.Tasks.{IsIn}
 

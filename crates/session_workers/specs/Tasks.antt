@@ -16,7 +16,7 @@ use Rattle.world_holder.specs.Rests.{IsSeated}
 use Rattle.world_holder.specs.View.{runs, IsFree}
 use Rattle.session_serve.specs.Sessions.{own_of}
 use Rattle.session_workers.specs.Clients.{HasServed}
-use Rattle.stream_workers.specs.Tasks.{HasPair}
+use Rattle.stream_turns.specs.Joined.{HasPair}
 use Rattle.session_workers.specs.declared.table.Table.{Table}
 use Rattle.session_workers.specs.declared.task.Task.{Task}
 

@@ -15,3 +15,6 @@ pub mod Begun
 pub mod SoFar
 pub mod StoreLemmas
 pub mod Backups
+pub mod Lists
+pub mod Rest
+pub mod Joined

@@ -4,3 +4,4 @@ pub mod Run
 pub mod Turn
 pub mod Serving
 pub mod Store
+pub mod Joined

@@ -29,21 +29,18 @@ use Rattle.world_holder.specs.View.{IsFound, own_entries}
 use Rattle.world_holder.proofs.Grow.{found_same}
 use Rattle.world_holder.proofs.Found.{found_later}
 use Rattle.world_holder.proofs.Rests.{seat_none}
+use Rattle.stream_turns.specs.Joined.{HasPair}
 use Rattle.stream_turns.specs.Volume.{stream_calls}
 use Rattle.stream_turns.specs.Turn.{IsBetween}
+use Rattle.stream_turns.proofs.Joined.{has_number}
+use Rattle.stream_turns.proofs.Lists.{element, map_at, some_same}
+use Rattle.stream_turns.proofs.Rest.{rest_is, turns_are, none_gave_up}
 use Rattle.stream_workers.specs.declared.task.Task.{Task}
 use Rattle.stream_workers.specs.Ended.{HasEnded, HaveEnded}
-use Rattle.stream_workers.specs.Tasks.{HasPair, IsBack, IsIn, IsLent, AreNumbered, own_at, counts_in, carried_in}
-use Rattle.stream_workers.proofs.Lists.{element, map_at}
+use Rattle.stream_workers.specs.Tasks.{IsBack, IsIn, IsLent, AreNumbered, own_at, counts_in, carried_in}
 use Rattle.stream_workers.proofs.Ends.{ended_later, ended_noted}
-use Rattle.stream_workers.proofs.Rest.{rest_is, turns_are, none_gave_up}
 
 -- ---- one pair of number and state
-
-pub has_number : (n : ℕ) (x : WorldOnDesk) (js : List (ℕ × WorldOnDesk)) → HasPair n x js → HasNumber n js
-has_number n x [] has = has
-has_number n x (p ∷ ps) (inl e) = inl e.0
-has_number n x (p ∷ ps) (inr has) = inr (has_number n x ps has)
 
 pair_finds : (w : WorldOnDesk) (js : List (ℕ × WorldOnDesk)) (n : ℕ) (x : WorldOnDesk) → FindsEach world_account w js
     → HasPair n x js → Finds world_account (Some n) w x
@@ -67,9 +64,6 @@ module _ {L : Type 0} (ends : L → Ends) (count : L → ℕ) (told : L → Opti
     (counts : ℕ → ℕ → ℕ) (carried : ℕ → ℕ → Option (List (List ℕ))) (first : v.number ≡ None)
     (fits : Fits world_account w v) (numbered : AreNumbered tasks) (back : All (IsBack ends count told d) tasks)
     (joined : All (IsIn count told v.joined counts carried) tasks) where
-  some_same : {A : Type 0} (x y : A) (o : Option A) → o ≡ Some x → o ≡ Some y → x ≡ y
-  some_same x y o e f = let g : Some x ≡ Some y = sym e ∙ f in cc
-
   -- the task at a place has ended
   one_ended : (j : Task L) → IsBack ends count told d j → IsIn count told v.joined counts carried j
       → j.number < length (laid w).indices → HasEnded j.number (stream_calls j.stream) (counts j.number) (carried j.number) (laid w)

@@ -1,5 +1,5 @@
 -- What a worker's loop leaves at a desk, for the seat that it was lent.
-use Rattle.std.proofs.Common.{◌≡◌, ℕ, false, true, List, [], map, Option, Some, Result, Ok, OnOk, sym, subst, ◌∙◌}
+use Rattle.std.proofs.Common.{◌≡◌, ℕ, false, true, List, [], map, Option, Result, Ok, OnOk, subst}
 use Rattle.std.proofs.Common.{Err as Failed}
 use Rattle.std.specs.Prelude.{is_ok}
 use Rattle.volume_model.specs.declared.command.Command.{Command}
@@ -18,9 +18,6 @@ use Rattle.control_worker.specs.Serving.{Commanded}
 use Rattle.std.specs.Prelude.{slice_index_or}
 use Rattle.stream_workers.specs.Ended.{HasEnded}
 use Rattle.stream_workers.proofs.Ends.{frames_ended, commands_ended}
-
-pub some_same : {A : Type 0} (x y : A) (o : Option A) → o ≡ Some x → o ≡ Some y → x ≡ y
-some_same x y o e f = let g : Some x ≡ Some y = sym e ∙ f in cc
 
 pub ok_of : {A E P : Type 0} (res : Result A E) → OnOk res P → is_ok res ≡ true → P
 ok_of (Ok a) h e = h

@@ -20,8 +20,8 @@ use Rattle.world_holder.specs.View.{own_entries}
 use Rattle.stream_turns.specs.Store.{StoreOfRun}
 use Rattle.stream_turns.specs.Volume.{stream_calls}
 use Rattle.stream_turns.proofs.Backups.{called, none_called}
+use Rattle.stream_turns.proofs.Lists.{element, map_at}
 use Rattle.stream_turns.proofs.StoreLemmas.{store_more, store_idle, store_none}
-use Rattle.stream_workers.proofs.Lists.{element, map_at}
 
 -- Of streams of which none but the one at p has backups, and of entries that answer their calls.
 module _ (streams : List Stream) (p : ℕ) (entries : List Entry)

@@ -4,9 +4,9 @@ use Rattle.std.proofs.lemmas.List.Elements.{All-tail}
 use Rattle.desk_lock.specs.declared.seats.Desk.{Desk}
 use Rattle.outer_traits.specs.declared.ends.Ends.{Ends}
 use Rattle.world_holder.specs.declared.kept.WorldOnDesk.{WorldOnDesk}
+use Rattle.stream_turns.proofs.Lists.{at_next}
 use Rattle.stream_workers.specs.declared.task.Task.{Task}
 use Rattle.stream_workers.specs.Tasks.{IsDone, AreDone}
-use Rattle.stream_workers.proofs.Lists.{at_next}
 
 module _ {A : Type 0} (P : A → Type 0) where
   right_of : (xs ys : List A) → All P (xs ++ ys) → All P ys

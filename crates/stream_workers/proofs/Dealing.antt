@@ -1,9 +1,9 @@
 -- The tasks of all streams: dealt out, and done.
-use Rattle.std.proofs.Common.{◌≡◌, ℕ, suc, ◌+◌, ◌<◌, ◌≤◌, true, false, List, [], ◌∷◌, ◌++◌, length, map, get_or}
+use Rattle.std.proofs.Common.{◌≡◌, ℕ, suc, ◌<◌, ◌≤◌, true, false, List, [], ◌∷◌, ◌++◌, length, map, get_or}
 use Rattle.std.proofs.Common.{Option, Some, Result, Ok, OnOk, All, refl, sym, ap, subst, ◌∙◌, arith}
 use Rattle.std.proofs.Common.{Err as Failed}
 use Rattle.std.specs.Prelude.{is_err}
-use Rattle.std.proofs.lemmas.List.{map-append, length-append}
+use Rattle.std.proofs.lemmas.List.{map-append}
 use Rattle.desk_lock.specs.declared.seats.Desk.{Desk}
 use Rattle.desk_lock.specs.declared.seats.Seat.{Seat}
 use Rattle.desk_lock.specs.Seats.{last_of}
@@ -15,9 +15,9 @@ use Rattle.world_holder.specs.View.{view, IsFree}
 use Rattle.world_holder.specs.Rests.{IsSeated}
 use Rattle.stream_turns.specs.Turn.{IsTaken, AreNewLines}
 use Rattle.stream_turns.specs.Volume.{heads_of}
+use Rattle.stream_turns.proofs.Lists.{each_snoc, element}
 use Rattle.stream_workers.specs.declared.task.Task.{Task}
 use Rattle.stream_workers.specs.Tasks.{IsTask, IsBack, AreDone, AreNumbered, ends_in, counts_in, carried_in}
-use Rattle.stream_workers.proofs.Lists.{each_snoc, element}
 
 pub not_err : {A E P : Type 0} (res : Result A E) → is_err res ≡ false → OnOk res P → P
 not_err (Ok a) e h = h
@@ -26,9 +26,6 @@ not_err (Failed x) e h = absurd cc
 pub map_twice : {A B C : Type 0} (f : A → B) (h : B → C) (xs : List A) → map (λ x. h (f x)) xs ≡ map h (map f xs)
 map_twice f h [] = refl
 map_twice f h (x ∷ xs) = ap (λ l. h (f x) ∷ l) (map_twice f h xs)
-
-pub many_more : {A : Type 0} (xs more : List A) (x : A) (k : ℕ) → more ≡ xs ++ x ∷ [] → length xs ≡ k → length more ≡ k + 1
-many_more xs more x k is many = omega (arith, ap length is, length-append xs (x ∷ []), many)
 
 -- two lists with the same at each place
 same_map : {A B : Type 0} (f : A → B) (xs ys : List A) → length ys ≡ length xs

@@ -5,9 +5,9 @@ use Rattle.target_traits.specs.Objects.{Objects}
 use Rattle.control_worker.specs.Store.{TellsFault}
 use Rattle.script_text.specs.declared.script.Stream.{Stream}
 use Rattle.script_text.specs.Good.{backs_up}
+use Rattle.stream_turns.proofs.Lists.{element}
 use Rattle.stream_workers.specs.declared.task.Task.{Task}
 use Rattle.stream_workers.specs.Tasks.{IsLent}
-use Rattle.stream_workers.proofs.Lists.{element}
 
 module _ {L T : Type 0} (tells : Bool) (holds : T → Objects) (faults : T → ℕ) (volume : List ℕ) (old now : T) (fault : Bool)
     (tasks : List (Task L)) (many p : ℕ) (as_many : length tasks ≡ many)

@@ -1,5 +1,3 @@
-pub mod Rest
-pub mod Lists
 pub mod Own
 pub mod Wrapped
 pub mod Ends

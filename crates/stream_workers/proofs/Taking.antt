@@ -7,9 +7,10 @@ use Rattle.desk_lock.specs.declared.views.Known.{Known}
 use Rattle.desk_lock.specs.Seats.{last_of}
 use Rattle.outer_traits.specs.Lines.{RecordsOf}
 use Rattle.world_holder.specs.declared.kept.WorldOnDesk.{WorldOnDesk}
+use Rattle.stream_turns.specs.Joined.{HasPair}
+use Rattle.stream_turns.proofs.Lists.{each_snoc}
 use Rattle.stream_workers.specs.declared.task.Task.{Task}
-use Rattle.stream_workers.specs.Tasks.{HasPair, IsIn, IsJoinedIn, counts_in, carried_in}
-use Rattle.stream_workers.proofs.Lists.{each_snoc}
+use Rattle.stream_workers.specs.Tasks.{IsIn, IsJoinedIn, counts_in, carried_in}
 
 module _ {L : Type 0} (count : L → ℕ) (told : L → Option (List (List ℕ))) (j : Task L) (v v2 : Known WorldOnDesk)
     (counts counts' : ℕ → ℕ → ℕ) (carried carried' : ℕ → ℕ → Option (List (List ℕ)))

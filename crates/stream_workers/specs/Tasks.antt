@@ -1,5 +1,5 @@
 -- What a worker is given, what it leaves, and what is taken in of it.
-use Rattle.std.specs.Prelude.{◌≡◌, ◌⊎◌, ℕ, ◌<◌, ◌≤◌, Bool, true, false, List, [], ◌∷◌, length, map, slice_index_or, Option, Some}
+use Rattle.std.specs.Prelude.{◌≡◌, ℕ, ◌<◌, ◌≤◌, Bool, true, false, List, [], length, map, slice_index_or, Option, Some}
 use Rattle.desk_lock.specs.declared.seats.Desk.{Desk}
 use Rattle.desk_lock.specs.declared.seats.Seat.{Seat}
 use Rattle.desk_lock.specs.declared.views.Known.{Known}
@@ -18,6 +18,7 @@ use Rattle.stream_steps.specs.Mine.{Placed}
 use Rattle.volume_core.specs.State.{opening_of}
 use Rattle.world_holder.specs.View.{view, own_entries, IsFree}
 use Rattle.world_holder.specs.Rests.{IsSeated}
+use Rattle.stream_turns.specs.Joined.{HasPair}
 use Rattle.stream_turns.specs.Turn.{IsTaken, AreNewLines}
 use Rattle.stream_turns.specs.Volume.{stream_calls}
 use Rattle.stream_workers.specs.declared.task.Task.{Task}
@@ -33,11 +34,6 @@ pub record Begins (d : Desk WorldOnDesk) (s : Seat WorldOnDesk) (n : ℕ) : Type
 -- the stream's own entries of what the seat saw last
 abbrev pub own_at : ℕ → Seat WorldOnDesk → List Placed
 own_at n s = own_entries n (opening_of (laid (last_of s))) (laid (last_of s)).book.entries
-
--- the number was joined with that state
-abbrev pub HasPair : ℕ → WorldOnDesk → List (ℕ × WorldOnDesk) → Type 0
-HasPair n x [] = ⊥
-HasPair n x (p ∷ ps) = ((p.0 ≡ n) × (p.1 ≡ x)) ⊎ HasPair n x ps
 
 -- what the lines tell: between whom they are, how often each has failed, and what it carried
 abbrev pub ends_in : {L : Type 0} → (L → Ends) → List (Channel L) → List Ends

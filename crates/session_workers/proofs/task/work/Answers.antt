@@ -6,7 +6,7 @@ use Rattle.world_holder.specs.declared.kept.WorldOnDesk.{WorldOnDesk}
 use Rattle.world_holder.specs.Laid.{laid}
 use Rattle.session_serve.specs.Sessions.{own_of}
 use Rattle.session_workers.specs.Clients.{HasServed}
-use Rattle.stream_workers.proofs.AtEnd.{some_same}
+use Rattle.stream_turns.proofs.Lists.{some_same}
 use Rattle.session_workers.proofs.Stays.{no_answers}
 use Rattle.session_workers.proofs.Working.{stopped_at_once, may_call, is_back, is_back_unserved}
 use Rattle.session_workers.proofs.task.work.Goals as goal

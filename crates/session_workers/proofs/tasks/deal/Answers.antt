@@ -2,8 +2,7 @@ use Rattle.std.proofs.Common.{◌+◌, [], ◌∷◌, length, refl, sym, ap, ◌
 use Rattle.std.proofs.lemmas.List.{length-append}
 use Rattle.desk_lock.specs.Seats.{last_of}
 use Rattle.world_holder.specs.Laid.{laid}
-use Rattle.stream_workers.proofs.Dealing.{many_more}
-use Rattle.stream_workers.proofs.Lists.{whole_next}
+use Rattle.stream_turns.proofs.Lists.{many_more, whole_next}
 use Rattle.session_workers.proofs.Dealing.{pushed, is_task, tasks_more, numbers_more, clients_more}
 use Rattle.session_workers.proofs.tasks.deal.Goals as goal
 

@@ -1,7 +1,6 @@
 use Rattle.std.proofs.Common.{rules, ◌≡◌, length, ap, sym, subst, ◌∙◌, All, arith}
 use Rattle.desk_lock.specs.Seats.{known, number_of, told_of}
-use Rattle.stream_workers.proofs.AtEnd.{some_same}
-use Rattle.stream_workers.proofs.Lists.{at_next, whole_next, whole_end, map_snoc}
+use Rattle.stream_turns.proofs.Lists.{at_next, whole_next, whole_end, map_snoc, some_same}
 use Rattle.session_workers.specs.Tasks.{IsBack, IsIn}
 use Rattle.session_workers.proofs.Dealing.{pushed}
 use Rattle.session_workers.proofs.Taking.{more_in, ends_more}

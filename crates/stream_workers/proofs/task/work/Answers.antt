@@ -4,9 +4,9 @@ use Rattle.outer_traits.specs.Lines.{AreLinesOf}
 use Rattle.desk_lock.specs.Seats.{last_of}
 use Rattle.world_holder.specs.Laid.{laid}
 use Rattle.stream_turns.specs.Turn.{AreNewLines}
+use Rattle.stream_turns.proofs.Lists.{some_same}
 use Rattle.control_worker.specs.Store.{StoreSoFar}
 use Rattle.stream_workers.specs.Tasks.{own_at}
-use Rattle.stream_workers.proofs.AtEnd.{some_same}
 use Rattle.stream_workers.proofs.task.work.Goals as goal
 
 pub serve_stream-seat-requires-clause-lines : goal.serve_stream-seat-requires-clause-lines

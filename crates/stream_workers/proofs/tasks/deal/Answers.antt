@@ -4,8 +4,8 @@ use Rattle.desk_lock.specs.Seats.{last_of}
 use Rattle.stream_turns.specs.Turn.{IsTaken}
 use Rattle.world_holder.specs.Laid.{laid}
 use Rattle.stream_turns.proofs.Asks.{all_asked, one_worker_more}
-use Rattle.stream_workers.proofs.Lists.{at_next, whole_next, whole_end}
-use Rattle.stream_workers.proofs.Dealing.{many_more, is_task, tasks_more, numbers_more, streams_more}
+use Rattle.stream_turns.proofs.Lists.{at_next, many_more, whole_next, whole_end}
+use Rattle.stream_workers.proofs.Dealing.{is_task, tasks_more, numbers_more, streams_more}
 use Rattle.stream_workers.proofs.tasks.deal.Goals as goal
 
 pub loop-stream-preserved : goal.loop-stream-preserved

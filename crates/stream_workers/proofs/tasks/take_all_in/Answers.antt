@@ -1,8 +1,8 @@
 use Rattle.std.proofs.Common.{rules, ◌≡◌, [], ◌∷◌, ◌++◌, length, ap, subst, ◌∙◌, All}
 use Rattle.desk_lock.specs.Seats.{known}
 use Rattle.stream_turns.specs.Volume.{heads_of}
+use Rattle.stream_turns.proofs.Lists.{at_next, whole_next, whole_end, map_snoc}
 use Rattle.stream_workers.specs.Tasks.{IsBack, IsIn}
-use Rattle.stream_workers.proofs.Lists.{at_next, whole_next, whole_end, map_snoc}
 use Rattle.stream_workers.proofs.Taking.{more_in, first_of}
 use Rattle.stream_workers.proofs.tasks.take_all_in.Goals as goal
 

@@ -1,6 +1,6 @@
 use Rattle.std.proofs.Common.{◌∙◌, ap, sym}
 use Rattle.desk_lock.specs.Seats.{number_of}
-use Rattle.stream_workers.proofs.AtEnd.{some_same}
+use Rattle.stream_turns.proofs.Lists.{some_same}
 use Rattle.stream_workers.proofs.tasks.take_in.Goals as goal
 
 pub returns-clause-joined : goal.returns-clause-joined

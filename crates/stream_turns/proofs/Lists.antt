@@ -1,7 +1,7 @@
--- Lists that are gone through one after another.
-use Rattle.std.proofs.Common.{◌≡◌, ℕ, zero, suc, ◌<◌, List, [], ◌∷◌, ◌++◌, length, map, get_or, refl, sym, ap, ◌∙◌}
+-- Lists that are gone through one after another, and what an option holds.
+use Rattle.std.proofs.Common.{◌≡◌, ℕ, zero, suc, ◌+◌, ◌<◌, List, [], ◌∷◌, ◌++◌, length, map, get_or, Option, Some, refl, sym, ap, ◌∙◌}
 use Rattle.std.proofs.Common.{subst, arith, append-nil, append_assoc}
-use Rattle.std.proofs.lemmas.List.{map-append}
+use Rattle.std.proofs.lemmas.List.{length-append, map-append}
 
 module _ {A : Type 0} where
   -- what holds of each element by its place, and of one more
@@ -36,6 +36,9 @@ module _ {A : Type 0} where
   whole_end all xs [] whole none = sym (append-nil xs) ∙ whole
   whole_end all xs (x ∷ rest) whole none = absurd (omega arith)
 
+  pub many_more : (xs more : List A) (x : A) (k : ℕ) → more ≡ xs ++ x ∷ [] → length xs ≡ k → length more ≡ k + 1
+  many_more xs more x k is many = omega (arith, ap length is, length-append xs (x ∷ []), many)
+
   pub map_snoc : {B : Type 0} (f : A → B) (xs : List A) (x : A) (ys more : List B) → more ≡ ys ++ f x ∷ [] → ys ≡ map f xs
       → more ≡ map f (xs ++ x ∷ [])
   map_snoc f xs x ys more pushed so_far = pushed ∙ ap (λ l. l ++ f x ∷ []) so_far ∙ sym (map-append f xs (x ∷ []))
@@ -49,3 +52,7 @@ module _ {A : Type 0} where
   map_at f [] n x d low = absurd (omega arith)
   map_at f (y ∷ ys) zero x d low = refl
   map_at f (y ∷ ys) (suc n) x d low = map_at f ys n x d (omega arith)
+
+  -- an option that is some value is no other
+  pub some_same : (x y : A) (o : Option A) → o ≡ Some x → o ≡ Some y → x ≡ y
+  some_same x y o e f = let g : Some x ≡ Some y = sym e ∙ f in cc
