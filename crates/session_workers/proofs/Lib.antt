@@ -4,7 +4,6 @@ pub mod Comes
 pub mod Ending
 pub mod Asking
 pub mod Stays
-pub mod Begun
 pub mod Dealing
 pub mod Working
 pub mod Taking

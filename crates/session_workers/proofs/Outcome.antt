@@ -41,6 +41,8 @@ use Rattle.world_holder.proofs.OwnCalls.{own_asked}
 use Rattle.world_holder.proofs.Rests.{seat_none}
 use Rattle.session_workers.specs.Clients.{HasEnded, HasServed}
 use Rattle.stream_turns.specs.Joined.{HasPair}
+use Rattle.stream_turns.specs.Volume.{spot_of_zeros}
+use Rattle.stream_turns.proofs.Begun.{begins_blank, as_many_nodes}
 use Rattle.stream_turns.proofs.Counted.{faults_shown}
 use Rattle.stream_turns.proofs.Joined.{has_number}
 use Rattle.stream_turns.proofs.Lists.{element, map_at, some_same}
@@ -48,9 +50,8 @@ use Rattle.stream_turns.proofs.Replicas.{replicas_are, as_many}
 use Rattle.stream_turns.proofs.Rest.{rest_is, turns_are, none_gave_up}
 use Rattle.session_workers.specs.declared.serving.ServedSessions.{ServedSessions}
 use Rattle.session_workers.specs.declared.task.Task.{Task}
-use Rattle.session_workers.specs.Served.{blank_spot, IsSession, AreServed, IsCutShort, AreCutShort}
+use Rattle.session_workers.specs.Served.{IsSession, AreServed, IsCutShort, AreCutShort}
 use Rattle.session_workers.specs.Tasks.{IsBack, IsIn, IsDone, AreDone, AreNumbered}
-use Rattle.session_workers.proofs.Begun.{begins_blank, as_many_nodes}
 use Rattle.session_workers.proofs.Working.{stopped_at_once}
 use Rattle.session_workers.proofs.Stays.{answers_below, answers_stay, faults_stay, ended_stays}
 
@@ -288,7 +289,7 @@ module _ {I O : Type 0} (left : I → Option (List ℕ)) (read_faults : I → �
     caused : AreCaused (laid x).maint (laid x).commands entries
     caused = fits.sound.caused kept
 
-    spot_is : opening_of (laid x) ≡ blank_spot size replicas
+    spot_is : opening_of (laid x) ≡ spot_of_zeros size replicas
     spot_is = same_opening (laid v.last) (laid x) fits.finds.same_origin
         ∙ begins_blank size replicas (length clients) (laid v.last) begun
 
@@ -296,7 +297,7 @@ module _ {I O : Type 0} (left : I → Option (List ℕ)) (read_faults : I → �
     nodes_are = ap (λ (o : Origin). o.replicas) fits.finds.same_origin
         ∙ as_many_nodes size replicas (length clients) (laid v.last) begun
 
-    history : IsHistory (blank_spot size replicas) (λ n r. 0) (λ n. calls_of n entries) entries
+    history : IsHistory (spot_of_zeros size replicas) (λ n r. 0) (λ n. calls_of n entries) entries
     history = record {
       legal = subst (λ (o : Spot). IsLegal o entries) spot_is fits.sound.on.told.legal;
       fell = caused.fell;
@@ -314,7 +315,8 @@ module _ {I O : Type 0} (left : I → Option (List ℕ)) (read_faults : I → �
 
       tasks_are_served : AreServed size replicas (map tell clients) (map tell (map (λ (j : Task I O). j.client) tasks)) s
       tasks_are_served = record {
-        history = to (λ w. IsHistory (blank_spot size replicas) (λ n r. 0) (λ n. calls_of n w.journal.entries) w.journal.entries) history;
+        history = to (λ w. IsHistory (spot_of_zeros size replicas) (λ n r. 0) (λ n. calls_of n w.journal.entries) w.journal.entries)
+            history;
         none = λ n past. to (λ w. calls_of n w.journal.entries ≡ []) (none_called n (omega (arith, past, length-map clients tell)));
         each = ends_many (λ (j : Task I O). j.ended) s.ended.items tasks ends ∙ as_many_tasks ∙ sym (length-map clients tell);
         sessions = λ n t u e low.
@@ -325,7 +327,7 @@ module _ {I O : Type 0} (left : I → Option (List ℕ)) (read_faults : I → �
         many = to (λ w. length w.nodes.items ≡ length (modes_of w.journal)) (as_many (laid x) fits.sound);
         few = to (λ w. length (modes_of w.journal) ≡ replicas) (sym (as_many (laid x) fits.sound) ∙ nodes_are);
         volumes = to (λ w. (r : ℕ) → mode_of (modes_of w.journal) r ≡ Rw → volume_of_node (node_at w.nodes.items r)
-            ≡ (replay (blank_spot size replicas).state w.journal.entries).volume)
+            ≡ (replay (spot_of_zeros size replicas).state w.journal.entries).volume)
             (λ r up. replicas_are (laid x) fits.sound rest r up ∙ ap (λ (o : Spot). (replay o.state entries).volume) spot_is);
       }
 

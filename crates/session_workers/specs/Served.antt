@@ -4,21 +4,16 @@ use Rattle.door_traits.specs.Sessions.{Told}
 use Rattle.volume_model.specs.declared.entry.Answer.{Answer}
 use Rattle.volume_model.specs.declared.entry.Entry.{Entry}
 use Rattle.volume_model.specs.declared.mode.Mode.TheVariants.{Rw}
-use Rattle.volume_model.specs.Disk.{zeros}
-use Rattle.volume_model.specs.History.{Spot, IsHistory, answers_of, calls_of}
+use Rattle.volume_model.specs.History.{IsHistory, answers_of, calls_of}
 use Rattle.volume_model.specs.Modes.{mode_of}
-use Rattle.volume_model.specs.PlainState.{state_of}
 use Rattle.volume_model.specs.Replay.{replay}
 use Rattle.journal_book.specs.Book.{modes_of}
 use Rattle.replica_node.specs.Volume.{volume_of_node}
 use Rattle.open_calls.specs.Calls.{node_at}
 use Rattle.run_report.specs.declared.session_line.EndedSession.{EndedSession}
+use Rattle.stream_turns.specs.Volume.{spot_of_zeros}
 use Rattle.session_workers.specs.Clients.{HasEnded, HasStopped}
 use Rattle.session_workers.specs.declared.serving.ServedSessions.{ServedSessions}
-
--- where a volume of that size begins, on so many replicas: zeros, all of them read and written
-abbrev pub blank_spot : ℕ → ℕ → Spot
-blank_spot size replicas = record { state = state_of (zeros size); modes = replicate replicas Rw }
 
 -- The session n has ended so, in this journal, of a client that told the first before and the last now. What it saw reaches
 -- behind each of its calls, and not past the end.
@@ -31,7 +26,7 @@ pub record IsSession (n : ℕ) (before now : Told) (journal : List Entry) (e : E
 -- of that size that began blank on so many replicas, over lines that never failed. Each session has ended so. Each replica
 -- that is read and written is then the volume that the journal leaves.
 pub record AreServed (size replicas : ℕ) (before now : List Told) (s : ServedSessions) : Type 0 where
-  pub history : IsHistory (blank_spot size replicas) (λ n r. 0) (λ n. calls_of n s.world.journal.entries)
+  pub history : IsHistory (spot_of_zeros size replicas) (λ n r. 0) (λ n. calls_of n s.world.journal.entries)
       s.world.journal.entries
   pub none : (n : ℕ) → length before ≤ n → calls_of n s.world.journal.entries ≡ []
   pub each : length s.ended.items ≡ length before
@@ -43,7 +38,7 @@ pub record AreServed (size replicas : ℕ) (before now : List Told) (s : ServedS
   pub few : length (modes_of s.world.journal) ≡ replicas
   pub volumes : (r : ℕ) → mode_of (modes_of s.world.journal) r ≡ Rw
       → volume_of_node (node_at s.world.nodes.items r)
-      ≡ (replay (blank_spot size replicas).state s.world.journal.entries).volume
+      ≡ (replay (spot_of_zeros size replicas).state s.world.journal.entries).volume
 
 -- the session n has ended or stopped so, in some journal
 abbrev pub IsCutShort : ℕ → (before now : Told) → Type 0

@@ -4,23 +4,27 @@ use Rattle.std.proofs.Common.{sym, refl, ap, subst, ◌∙◌, arith}
 use Rattle.std.proofs.lemmas.Bool.{cases_lt}
 use Rattle.std.proofs.lemmas.List.{length-replicate, get_or-replicate, get_or_past}
 use Rattle.volume_model.specs.declared.mode.Mode.TheVariants.{Rw, Err}
-use Rattle.volume_model.specs.Disk.{zeros}
-use Rattle.volume_model.specs.PlainState.{state_of as plain_of}
 use Rattle.journal_book.specs.declared.opening.Opening.{Opening}
 use Rattle.replica_node.specs.Node.{Node, blank}
 use Rattle.replica_node.specs.Volume.{volume_of_node}
 use Rattle.volume_core.specs.declared.world.World.{World}
 use Rattle.volume_core.specs.Opened.{IsOpenedOn, blank_opening}
 use Rattle.volume_core.specs.State.{State, state_of, opening_of, gave_up_at}
-use Rattle.volume_core.specs.Sound.{IsSound}
+use Rattle.volume_core.specs.Sound.{IsSound, NoneGaveUp}
 use Rattle.script_text.specs.declared.script.Script.{Script}
 use Rattle.stream_turns.specs.Serving.{IsBegun}
-use Rattle.stream_turns.specs.Volume.{blank_spot}
+use Rattle.stream_turns.specs.Volume.{blank_spot, spot_of_zeros}
 
 all_false : (n i : ℕ) → gave_up_at (replicate n false) i ≡ false
 all_false zero i = refl
 all_false (suc n) zero = refl
 all_false (suc n) (suc i) = all_false n i
+
+-- no command was given up in it
+pub none_gave_up_yet : (size streams : ℕ) (opening : Opening) (nodes : List Node) (s : State) → IsOpenedOn size opening nodes streams s
+    → NoneGaveUp s.gave_up
+none_gave_up_yet size streams opening nodes s opened n =
+    ap (λ (x : State). gave_up_at x.gave_up n) opened.state ∙ all_false streams n
 
 -- it begins at the spot where it was opened
 pub begun_opened : (script : Script) (size streams : ℕ) (opening : Opening) (nodes : List Node) (w : World) → IsSound (state_of w)
@@ -33,7 +37,7 @@ begun_opened script size streams opening nodes w sound opened few as_many_stream
         sound = sound;
         rest = ap (λ (x : State). x.tickets) opened.state;
         turns = ap (λ (x : State). x.commands) opened.state;
-        gave_up = λ stream. ap (λ (x : State). gave_up_at x.gave_up stream) opened.state ∙ all_false streams stream;
+        gave_up = none_gave_up_yet size streams opening nodes (state_of w) opened;
         few = omega (arith, many, few);
       };
       none = ap (λ (x : State). x.book.entries) opened.state;
@@ -57,11 +61,14 @@ module _ (size replicas streams : ℕ) (s : State)
         ∙ opened.first.read))
   ]
 
-  begins_blank : opening_of s ≡ record { state = plain_of (zeros size); modes = replicate replicas Rw }
+  pub begins_blank : opening_of s ≡ spot_of_zeros size replicas
   begins_blank =
       ap opening_of opened.state
       ∙ ap (λ (n : Node). record { state = record { volume = volume_of_node n; used = [] }; modes = replicate replicas Rw })
       (get_or-replicate replicas opened.source (blank size) (blank 0) there)
+
+  pub as_many_nodes : length s.nodes ≡ replicas
+  as_many_nodes = ap (λ (x : State). length x.nodes) opened.state ∙ length-replicate replicas (blank size)
 
 -- of as many streams as the script has
 pub begun_blank : (script : Script) (streams : ℕ) (w : World) → IsSound (state_of w)

@@ -15,9 +15,13 @@ use Rattle.script_text.specs.declared.script.Script.{Script}
 use Rattle.script_text.specs.declared.script.Stream.{Stream}
 use Rattle.script_text.specs.declared.script.Stream.TheVariants as stream
 
--- where a run begins that opens nothing: zeros, on replicas that are all read and written
+-- where a volume of that size begins that is blank: zeros, on so many replicas that are all read and written
+abbrev pub spot_of_zeros : ℕ → ℕ → Spot
+spot_of_zeros size replicas = record { state = state_of (zeros size); modes = replicate replicas Rw }
+
+-- where a run of the script begins that opens nothing
 abbrev pub blank_spot : Script → Spot
-blank_spot script = record { state = state_of (zeros script.size); modes = replicate script.replicas Rw }
+blank_spot script = spot_of_zeros script.size script.replicas
 
 -- what a stream calls
 abbrev pub stream_calls : Stream → List Call

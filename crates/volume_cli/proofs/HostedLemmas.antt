@@ -21,8 +21,9 @@ use Rattle.report_laws.specs.Fits.{AllFit}
 use Rattle.report_writer.proofs.SameVolume.{each_volume, same_end}
 use Rattle.run_report.specs.Report.{end_lines, journal_lines}
 use Rattle.run_report.specs.Sessions.{session_lines}
-use Rattle.session_workers.specs.Served.{AreServed, blank_spot}
+use Rattle.session_workers.specs.Served.{AreServed}
 use Rattle.session_workers.specs.declared.serving.ServedSessions.{ServedSessions}
+use Rattle.stream_turns.specs.Volume.{spot_of_zeros}
 use Rattle.volume_model.specs.Modes.{modes_after}
 use Rattle.volume_model.specs.Replay.{replay}
 use Rattle.volume_cli.specs.declared.serve.HostError.{HostError}
@@ -42,7 +43,7 @@ pub written_hosted : (size replicas : ℕ) (before now : List Told) (s : ServedS
 written_hosted size replicas before now s served =
     let book = s.world.journal in
     let nodes = s.world.nodes.items in
-    let v = (replay (blank_spot size replicas).state book.entries).volume in
+    let v = (replay (spot_of_zeros size replicas).state book.entries).volume in
     ap (λ l. journal_lines 0 book.entries ++ session_lines 0 s.ended.items ++ l)
     (same_end (modes_of book) (map volume_of_node nodes) v (length-map nodes volume_of_node ∙ served.many)
     (each_volume (modes_of book) nodes (blank 0) v served.many served.volumes))

@@ -8,8 +8,9 @@ use Rattle.replica_node.specs.Volume.{volume_of_node}
 use Rattle.report_laws.specs.Fits.{AllFit}
 use Rattle.report_writer.specs.Written.{sessions_text}
 use Rattle.run_report.specs.Sessions.{sessions_report}
-use Rattle.session_workers.specs.Served.{AreCutShort, AreServed, blank_spot}
+use Rattle.session_workers.specs.Served.{AreCutShort, AreServed}
 use Rattle.session_workers.specs.declared.serving.ServedSessions.{ServedSessions}
+use Rattle.stream_turns.specs.Volume.{spot_of_zeros}
 use Rattle.volume_cli.specs.declared.serve.HostError.{HostError}
 use Rattle.volume_cli.specs.declared.serve.HostError.TheVariants as host_error
 use Rattle.volume_cli.specs.declared.status.Status.{Status}
@@ -45,7 +46,7 @@ pub record AreHosted (size replicas sessions : ℕ) (Pass : PassFact) (s : Serve
 
 -- what is printed of them: the report of their journal
 abbrev pub hosted_text : ℕ → ℕ → ServedSessions → List ℕ
-hosted_text size replicas s = sessions_report s.ended.items (blank_spot size replicas) s.world.journal.entries
+hosted_text size replicas s = sessions_report s.ended.items (spot_of_zeros size replicas) s.world.journal.entries
 
 -- What is left of so many sessions whose serving ended so. The sink has got the whole report, or a prefix; `same` says that
 -- it is as it was. Where the doors failed, those that had come went back as they came; where memory ran out, too, or all had

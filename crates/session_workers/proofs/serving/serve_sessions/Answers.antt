@@ -6,8 +6,8 @@ use Rattle.replica_node.specs.Node.{blank}
 use Rattle.volume_core.specs.Opened.{IsOpenedOn, blank_opening}
 use Rattle.world_holder.specs.declared.kept.WorldOnDesk.{WorldOnDesk}
 use Rattle.world_holder.specs.Laid.{laid}
+use Rattle.stream_turns.proofs.Begun.{as_many_nodes}
 use Rattle.session_workers.specs.Tasks.{IsTask}
-use Rattle.session_workers.proofs.Begun.{as_many_nodes}
 use Rattle.session_workers.proofs.Outcome.{all_back, all_numbered, has_all, none_begun, are_cut_short, are_served}
 use Rattle.session_workers.proofs.serving.serve_sessions.Goals as goal
 
