@@ -24,7 +24,7 @@ use Rattle.session_serve.specs.Sessions.{IsReplied, own_of}
 use Rattle.session_serve.proofs.Place.{reply_place}
 use Rattle.session_workers.specs.declared.answer.Written.{Written}
 use Rattle.session_workers.specs.declared.answer.Written.TheVariants as written
-use Rattle.session_workers.specs.Talking.{AnswersCall, WritesReply}
+use Rattle.session_workers.specs.Talking.{MakesCall, WritesReply}
 use Rattle.session_workers.proofs.Answers.{none_made, one_made}
 
 -- ---- a frame's call
@@ -96,7 +96,7 @@ module _ (n : ℕ) (f : Frame) (r : Reply) (s t : State) (out0 out1 : Option (Li
 
   -- a call with its reply, written so
   pub answers_call : {E : Type 0} (w : Result Written E) → WritesReply (reply_frame f.head (call_of f) r) out0 out1 k l w
-      → AnswersCall n f s.book.entries t.book.entries out0 out1 k l w
+      → MakesCall n f s.book.entries t.book.entries out0 out1 k l w
   answers_call (Ok written.Whole) wrote =
       (is.answer, one_made n f r s t is, (subst (λ b. Appends out0 out1 b) same wrote.0, wrote.1))
   answers_call {E = E} (Ok written.Cut) wrote =
@@ -106,7 +106,7 @@ module _ (n : ℕ) (f : Frame) (r : Reply) (s t : State) (out0 out1 : Option (Li
 
 -- a call that was not made
 pub asks_nothing : {E : Type 0} (n : ℕ) (f : Frame) (s t : State) (out : Option (List ℕ)) (k : ℕ) (e : E) → IsSince s t
-    → own_of n t ≡ own_of n s → AnswersCall n f s.book.entries t.book.entries out out k k (Err e)
+    → own_of n t ≡ own_of n s → MakesCall n f s.book.entries t.book.entries out out k k (Err e)
 asks_nothing n f s t out k e since same = inl (record {
   answers = none_made n s t since same;
   none = Appends-nil out;

@@ -10,11 +10,11 @@ use Rattle.run_report.specs.declared.session_line.SessionEnd.{SessionEnd}
 use Rattle.run_report.specs.declared.session_line.SessionEnd.TheVariants as end
 use Rattle.session_workers.specs.declared.coming.Coming.{Coming}
 use Rattle.session_workers.specs.declared.coming.Coming.TheVariants as coming
-use Rattle.session_workers.specs.Talking.{ComesBehind, IsOfFrame, IsEndOf}
+use Rattle.session_workers.specs.Talking.{ComesBehind, IsWhatFrameAsks, IsEndOfInput}
 
 module _ (calls : ℕ) (left now : Option (List ℕ)) (fed : Fed) (fs : List Frame) (h : HasGiven left now fed fs) where
   -- a whole frame
-  pub comes_frame : (new : Fed) (f : Frame) (c : Coming) → GivesNext fed new (next.Frame f) → IsOfFrame calls f c
+  pub comes_frame : (new : Fed) (f : Frame) (c : Coming) → GivesNext fed new (next.Frame f) → IsWhatFrameAsks calls f c
       → ComesBehind calls left now new fs c
   comes_frame new f (coming.Call g) given (is, no_close, more) =
       (more, subst (λ (x : Frame). HasGiven left now new (fs ++ x ∷ [])) (sym is) (one_more_given left now fed new fs f h given no_close))
@@ -31,7 +31,7 @@ module _ (calls : ℕ) (left now : Option (List ℕ)) (fed : Fed) (fs : List Fra
   comes_bad new any place bad = (fed, h, inl (new, bad))
 
   -- the end of the input, where what is left is short
-  pub comes_end : (new any : Fed) (e : SessionEnd) → GivesNext fed new next.Short → IsAtEnd now → IsEndOf fed e
+  pub comes_end : (new any : Fed) (e : SessionEnd) → GivesNext fed new next.Short → IsAtEnd now → IsEndOfInput fed e
       → ComesBehind calls left now any fs (coming.End e)
   comes_end new any end.Closed short over is = absurd is
   comes_end new any end.Ended short over none = (fed, h, (none, over))

@@ -26,10 +26,11 @@ use Rattle.run_report.specs.declared.session_line.SessionEnd.{SessionEnd}
 use Rattle.run_report.specs.declared.session_line.SessionEnd.TheVariants as end
 use Rattle.volume_core.specs.State.{State}
 use Rattle.world_holder.specs.Lent.{IsSince}
-use Rattle.session_workers.specs.Clients.{most_calls, HasCalled, HasEnded, HasStopped, StopsSo, CountsSo, TakesReplies, replies_in}
+use Rattle.session_workers.specs.Clients.{most_session_calls, HasCalled, SessionEnds, HasStopped, CallsNoMore, CountsSo}
+use Rattle.session_workers.specs.Clients.{TakesReplies, replies_in}
 use Rattle.session_workers.specs.declared.answer.Written.{Written}
 use Rattle.session_workers.specs.declared.coming.Coming.TheVariants as coming
-use Rattle.session_workers.specs.Talking.{AnswersCall, ComingCount, EndsThere, GetsReply, HasOneMore, HasReplied}
+use Rattle.session_workers.specs.Talking.{MakesCall, ComingCount, EndsThere, GetsReply, HasOneMore, HasReplied}
 use Rattle.session_workers.proofs.Replies.{asked_more, asked_stay, replies_more, replies_stay}
 
 -- ---- so far
@@ -47,7 +48,7 @@ none_replied n left out fed j new none = record {
 -- one call more was made, and replied to
 pub one_replied : (n : ℕ) (left0 left1 left2 out0 out1 out2 : Option (List ℕ)) (fed new : Fed) (i j : List Entry) (fs : List Frame)
     (f : Frame) (a : Answer) → HasReplied n left0 left1 out0 out1 fed i fs → HasGiven left0 left2 new (fs ++ f ∷ [])
-    → length fs ≢ most_calls → HasOneMore n f i j a → Appends out1 out2 (reply_frame f.head a.call a.reply)
+    → length fs ≢ most_session_calls → HasOneMore n f i j a → Appends out1 out2 (reply_frame f.head a.call a.reply)
     → HasReplied n left0 left2 out0 out2 new j (fs ++ f ∷ [])
 one_replied n left0 left1 left2 out0 out1 out2 fed new i j fs f a so given more one reply = record {
   given = given;
@@ -74,7 +75,7 @@ told_as : (o : Option (List ℕ)) (x y : List ℕ) → x ≡ y → IfSome o (λ 
 told_as o x y e is = subst (λ z. IfSome o (λ told. told ≡ z)) e is
 
 module _ (n : ℕ) (before : Told) (left : Option (List ℕ)) (fed : Fed) (j : List Entry) (fs : List Frame)
-    (h : HasGiven before.left left fed fs) (asked : calls_of n j ≡ map call_of fs) (few : length fs ≤ most_calls) where
+    (h : HasGiven before.left left fed fs) (asked : calls_of n j ≡ map call_of fs) (few : length fs ≤ most_session_calls) where
   pub called : HasCalled n before j fs (behind before.left left fed fs h)
   called =
       let input = input_of before.left left fed fs h in
@@ -89,7 +90,7 @@ module _ (n : ℕ) (before : Told) (left : Option (List ℕ)) (fed : Fed) (j : L
 -- ---- why no more is called
 
 stops : (e : SessionEnd) (calls : ℕ) (left now : Option (List ℕ)) (fed : Fed) (fs : List Frame) (h : HasGiven left now fed fs)
-    → calls ≡ length fs → EndsThere e calls fed now → StopsSo e fs (behind left now fed fs h) now
+    → calls ≡ length fs → EndsThere e calls fed now → CallsNoMore e fs (behind left now fed fs h) now
 stops end.Closed calls left now fed fs h many (new, f, given, close) =
     given_close fed new f (input_of left now fed fs h).rest h.most given close
 stops end.Ended calls left now fed fs h many (none, over) = at_end left now fed fs h over ∙ none
@@ -132,7 +133,7 @@ pub ended_there : (n : ℕ) (before now : Told) (left : Option (List ℕ)) (old 
     (e : SessionEnd) (calls : ℕ) → HasReplied n before.left left before.holds now.holds old j fs
     → (h : HasGiven before.left now.left fed fs) → calls ≡ length fs → EndsThere e calls fed now.left
     → ComingCount (coming.End e) before.read_faults now.read_faults → now.write_faults ≡ before.write_faults
-    → HasEnded n before now j (record { end = e; calls = calls; seen = 0 })
+    → SessionEnds n before now j (record { end = e; calls = calls; seen = 0 })
 ended_there n before now left old fed j fs e calls so h many is read written = record {
   frames = fs;
   rest = behind before.left now.left fed fs h;
@@ -149,9 +150,9 @@ not_empty (g ∷ gs) f e = cc
 
 module _ (n : ℕ) (before now : Told) (left out : Option (List ℕ)) (old new : Fed) (i j : List Entry) (fs : List Frame) (f : Frame)
     (a : Answer) (so : HasReplied n before.left left before.holds out old i fs) (h : HasGiven before.left now.left new (fs ++ f ∷ []))
-    (more : length fs ≢ most_calls) (one : HasOneMore n f i j a)
+    (more : length fs ≢ most_session_calls) (one : HasOneMore n f i j a)
     (part : WritesPrefix out now.holds (reply_frame f.head a.call a.reply)) where
-  few_more : length (fs ++ f ∷ []) ≤ most_calls
+  few_more : length (fs ++ f ∷ []) ≤ most_session_calls
   few_more = omega (arith, length-append fs (f ∷ []), so.few, more)
 
   called_more : HasCalled n before j (fs ++ f ∷ []) (behind before.left now.left new (fs ++ f ∷ []) h)
@@ -164,7 +165,7 @@ module _ (n : ℕ) (before now : Told) (left out : Option (List ℕ)) (old new :
   -- the reply to the last call met a fault of the sink
   pub ended_cut : (calls : ℕ) → calls ≡ length fs + 1 → now.read_faults ≡ before.read_faults
       → now.write_faults ≡ one_more before.write_faults
-      → HasEnded n before now j (record { end = end.WriteFault; calls = calls; seen = 0 })
+      → SessionEnds n before now j (record { end = end.WriteFault; calls = calls; seen = 0 })
   ended_cut calls many read written = record {
     frames = fs ++ f ∷ [];
     rest = behind before.left now.left new (fs ++ f ∷ []) h;
@@ -204,8 +205,8 @@ stopped_there n before now left out old i j fs so same none read written = recor
 -- memory ran out in a call, or behind it
 stopped_by : {E : Type 0} (n m : ℕ) → m ≡ n → (before now : Told) (left out : Option (List ℕ)) (old new : Fed)
     (i j : List Entry) (fs : List Frame) (f : Frame) (writes : ℕ) → HasReplied n before.left left before.holds out old i fs
-    → (h : HasGiven before.left now.left new (fs ++ f ∷ [])) → length fs ≢ most_calls
-    → (e : E) → AnswersCall {E = E} m f i j out now.holds writes now.write_faults (Err e)
+    → (h : HasGiven before.left now.left new (fs ++ f ∷ [])) → length fs ≢ most_session_calls
+    → (e : E) → MakesCall {E = E} m f i j out now.holds writes now.write_faults (Err e)
     → now.read_faults ≡ before.read_faults → writes ≡ before.write_faults → HasStopped n before now j
 stopped_by n m same before now left out old new i j fs f writes so h more e (inl none) read written =
     stopped_there n before now left out old i j fs so (subst (λ k. answers_of k j ≡ answers_of k i) same none.answers) none.none read
@@ -216,19 +217,19 @@ stopped_by n m same before now left out old new i j fs f writes so h more e (inr
 
 pub stopped_written : {E : Type 0} (n m : ℕ) → m ≡ n → (before now : Told) (left out : Option (List ℕ)) (old new : Fed)
     (i j : List Entry) (fs : List Frame) (f : Frame) (writes : ℕ) → HasReplied n before.left left before.holds out old i fs
-    → (h : HasGiven before.left now.left new (fs ++ f ∷ [])) → length fs ≢ most_calls
-    → (res : Result Written E) (e : E) → res ≡ Err e → AnswersCall m f i j out now.holds writes now.write_faults res
+    → (h : HasGiven before.left now.left new (fs ++ f ∷ [])) → length fs ≢ most_session_calls
+    → (res : Result Written E) (e : E) → res ≡ Err e → MakesCall m f i j out now.holds writes now.write_faults res
     → now.read_faults ≡ before.read_faults → writes ≡ before.write_faults → HasStopped n before now j
 stopped_written n m same before now left out old new i j fs f writes so h more res e is made read written =
     stopped_by n m same before now left out old new i j fs f writes so h more e
-    (subst (AnswersCall m f i j out now.holds writes now.write_faults) is made) read written
+    (subst (MakesCall m f i j out now.holds writes now.write_faults) is made) read written
 
 -- a call that was replied to
 pub was_replied : {E : Type 0} (n : ℕ) (f : Frame) (i j : List Entry) (out0 out1 : Option (List ℕ)) (k l : ℕ)
-    (res : Result Written E) (w x : Written) → res ≡ Ok w → w ≡ x → AnswersCall n f i j out0 out1 k l res
+    (res : Result Written E) (w x : Written) → res ≡ Ok w → w ≡ x → MakesCall n f i j out0 out1 k l res
     → GetsReply {E = Unit {0}} n f i j out0 out1 k l (Ok x)
 was_replied n f i j out0 out1 k l res w x is same made =
-    subst (λ y. GetsReply {E = Unit {0}} n f i j out0 out1 k l (Ok y)) same (subst (AnswersCall n f i j out0 out1 k l) is made)
+    subst (λ y. GetsReply {E = Unit {0}} n f i j out0 out1 k l (Ok y)) same (subst (MakesCall n f i j out0 out1 k l) is made)
 
 -- ---- what stays
 

@@ -39,7 +39,7 @@ use Rattle.world_holder.proofs.Found.{found_later, none_turning, none_running, g
 use Rattle.world_holder.proofs.Grow.{same_opening}
 use Rattle.world_holder.proofs.OwnCalls.{own_asked}
 use Rattle.world_holder.proofs.Rests.{seat_none}
-use Rattle.session_workers.specs.Clients.{HasEnded, HasServed}
+use Rattle.session_workers.specs.Clients.{SessionEnds, SessionComesTo}
 use Rattle.stream_turns.specs.Joined.{HasPair}
 use Rattle.stream_turns.specs.Volume.{spot_of_zeros}
 use Rattle.stream_turns.proofs.Begun.{begins_blank, as_many_nodes}
@@ -50,7 +50,7 @@ use Rattle.stream_turns.proofs.Replicas.{replicas_are, as_many}
 use Rattle.stream_turns.proofs.Rest.{rest_is, turns_are, none_gave_up}
 use Rattle.session_workers.specs.declared.serving.ServedSessions.{ServedSessions}
 use Rattle.session_workers.specs.declared.task.Task.{Task}
-use Rattle.session_workers.specs.Served.{IsSession, AreServed, IsCutShort, AreCutShort}
+use Rattle.session_workers.specs.Served.{IsSession, AreSessionsServed, IsCutShort, AreCutShort}
 use Rattle.session_workers.specs.Tasks.{IsBack, IsIn, IsDone, AreDone, AreNumbered}
 use Rattle.session_workers.proofs.Working.{stopped_at_once}
 use Rattle.session_workers.proofs.Stays.{answers_below, answers_stay, faults_stay, ended_stays}
@@ -90,7 +90,7 @@ module _ {I O : Type 0} (left : I → Option (List ℕ)) (read_faults : I → �
       (done.each k (element dealt k there) y there).number ∙ numbered k (element dealt k there) there
 
 -- a session that was served has ended or stopped
-cut_short : {E : Type 0} (n : ℕ) (before now : Told) (es : List Entry) (r : Result EndedSession E) → HasServed n before now es r
+cut_short : {E : Type 0} (n : ℕ) (before now : Told) (es : List Entry) (r : Result EndedSession E) → SessionComesTo n before now es r
     → IsCutShort n before now
 cut_short n before now es (Ok e) served = (es, inr (e, served))
 cut_short n before now es (Failed why) served = (es, inl served)
@@ -114,7 +114,7 @@ module _ (n told : ℕ) (x : WorldOnDesk) (seat : Seat WorldOnDesk) (finds : Fin
   later : IsLater n (laid (last_of seat)) (laid x)
   later = found_later n x (last_of seat) finds
 
-  pub is_session : (before now : Told) (e : EndedSession) → HasEnded n before now (laid (last_of seat)).book.entries e
+  pub is_session : (before now : Told) (e : EndedSession) → SessionEnds n before now (laid (last_of seat)).book.entries e
       → (length (laid (last_of seat)).book.entries ≤ e.seen) × (told_of seat ≡ e.seen)
       → IsSession n before now (laid x).book.entries e
   is_session before now e ended seen =
@@ -177,8 +177,9 @@ module _ {I O : Type 0} (left : I → Option (List ℕ)) (read_faults : I → �
         (omega (arith, in_tasks, length-map tasks (λ (j : Task I O). j.client)))
         ∙ ap tell (map_at (λ (j : Task I O). j.client) tasks n (element tasks n in_tasks) task.client in_tasks)
 
-    here_served : HasServed n (tell given.client) (tell task.client) (laid (last_of seat)).book.entries task.ended
-    here_served = subst (λ k. HasServed k (tell given.client) (tell task.client) (laid (last_of seat)).book.entries task.ended) number_is
+    here_served : SessionComesTo n (tell given.client) (tell task.client) (laid (last_of seat)).book.entries task.ended
+    here_served =
+        subst (λ k. SessionComesTo k (tell given.client) (tell task.client) (laid (last_of seat)).book.entries task.ended) number_is
         (is_done.served seat is_done.back.has)
 
     here_cut_short : (t u : Told) → IsCutShort n (get_or (map tell clients) n t)
@@ -245,7 +246,7 @@ module _ {I O : Type 0} (left : I → Option (List ℕ)) (read_faults : I → �
           let before = tell (given n low).client in
           let now = tell (task n low).client in
           let is = here_ended ended ends e in
-          let has_ended = subst (HasServed n before now (laid (last_of seat)).book.entries) is (here_served n low) in
+          let has_ended = subst (SessionComesTo n before now (laid (last_of seat)).book.entries) is (here_served n low) in
           let seen = subst (λ r. IfOk r (λ e. (length (laid (last_of seat)).book.entries ≤ e.seen) × (told_of seat ≡ e.seen))) is
           (is_done n low).back.seen in
           subst (λ b. IsSession n b (get_or (map tell (map (λ (j : Task I O). j.client) tasks)) n u) entries end)
@@ -313,7 +314,7 @@ module _ {I O : Type 0} (left : I → Option (List ℕ)) (read_faults : I → �
       to : (P : World → Type 0) → P x.world.value → P s.world
       to P = subst P (sym world)
 
-      tasks_are_served : AreServed size replicas (map tell clients) (map tell (map (λ (j : Task I O). j.client) tasks)) s
+      tasks_are_served : AreSessionsServed size replicas (map tell clients) (map tell (map (λ (j : Task I O). j.client) tasks)) s
       tasks_are_served = record {
         history = to (λ w. IsHistory (spot_of_zeros size replicas) (λ n r. 0) (λ n. calls_of n w.journal.entries) w.journal.entries)
             history;
@@ -332,6 +333,6 @@ module _ {I O : Type 0} (left : I → Option (List ℕ)) (read_faults : I → �
       }
 
       pub are_served : (back : List (Client I O)) → back ≡ map (λ (j : Task I O). j.client) tasks
-          → AreServed size replicas (told_all left read_faults holds write_faults clients)
+          → AreSessionsServed size replicas (told_all left read_faults holds write_faults clients)
           (told_all left read_faults holds write_faults back) s
-      are_served back is = subst (λ cs. AreServed size replicas (map tell clients) (map tell cs) s) (sym is) tasks_are_served
+      are_served back is = subst (λ cs. AreSessionsServed size replicas (map tell clients) (map tell cs) s) (sym is) tasks_are_served

@@ -17,7 +17,7 @@ use Rattle.world_holder.specs.Laid.{IsLater}
 use Rattle.world_holder.specs.View.{own_entries}
 use Rattle.world_holder.proofs.Entries.{own-append, own_last, none_shown}
 use Rattle.session_serve.specs.Sessions.{own_of}
-use Rattle.session_workers.specs.Clients.{HasEnded, TakesReplies}
+use Rattle.session_workers.specs.Clients.{SessionEnds, TakesReplies}
 use Rattle.session_workers.proofs.Answers.{none_answered, adds_none}
 
 -- ---- a session that has no entry
@@ -62,7 +62,7 @@ module _ (n : ℕ) (s t : State) (later : IsLater n s t) where
 -- ---- how it has ended
 
 pub ended_stays : (n : ℕ) (before now : Told) (es more : List Entry) (e : EndedSession) → answers_of n more ≡ answers_of n es
-    → HasEnded n before now es e → HasEnded n before now more e
+    → SessionEnds n before now es e → SessionEnds n before now more e
 ended_stays n before now es more e same ended = record {
   frames = ended.frames;
   rest = ended.rest;

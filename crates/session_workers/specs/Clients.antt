@@ -16,12 +16,12 @@ use Rattle.run_report.specs.declared.session_line.SessionEnd.TheVariants as end
 use Rattle.run_report.specs.declared.session_line.EndedSession.{EndedSession}
 
 -- how many calls a session may make
-abbrev pub most_calls : ℕ
-most_calls = 4096
+abbrev pub most_session_calls : ℕ
+most_session_calls = 4096
 
 -- a call stands first
-abbrev pub HasCall : List ℕ → Type 0
-HasCall bytes = (f : Frame) × (rest : List ℕ) × BeginsWithFrame bytes f rest × (IsClose f → ⊥)
+abbrev pub CallStandsFirst : List ℕ → Type 0
+CallStandsFirst bytes = (f : Frame) × (rest : List ℕ) × BeginsWithFrame bytes f rest × (IsClose f → ⊥)
 
 -- Of the session n: its client's input begins with these frames, the rest stands behind them. All are calls, and they are
 -- just the session's calls in the journal, each once and in order.
@@ -29,7 +29,7 @@ pub record HasCalled (n : ℕ) (before : Told) (journal : List Entry) (frames : 
   pub input : IfSome before.left (λ told. told ≡ spellings frames ++ rest)
   pub calls : All IsCall frames
   pub asked : calls_of n journal ≡ map call_of frames
-  pub few : length frames ≤ most_calls
+  pub few : length frames ≤ most_session_calls
 
 -- the frames that reply to these, one behind another, as bytes
 abbrev pub replies_in : ℕ → List Frame → List Entry → List ℕ
@@ -37,15 +37,15 @@ replies_in n frames journal = replying_frames (map (λ f. f.head) frames) (answe
 
 -- Why no more is called behind these frames, where the input goes on so, of which the source has this left: a Close, the
 -- end, no whole frame, a call too many, a fault of the source before a frame was whole, or one of the sink.
-abbrev pub StopsSo : SessionEnd → List Frame → List ℕ → Option (List ℕ) → Type 0
-StopsSo end.Closed frames rest left = HasClose rest
-StopsSo end.Ended frames rest left = rest ≡ []
-StopsSo (end.Frame place) frames rest left =
+abbrev pub CallsNoMore : SessionEnd → List Frame → List ℕ → Option (List ℕ) → Type 0
+CallsNoMore end.Closed frames rest left = HasClose rest
+CallsNoMore end.Ended frames rest left = rest ≡ []
+CallsNoMore (end.Frame place) frames rest left =
     HasNoFrame rest × (rest ≢ []) × (place ≡ length (spellings frames) % 2 ^ 64)
-StopsSo end.Full frames rest left = (length frames ≡ most_calls) × HasCall rest
-StopsSo end.ReadFault frames rest left =
+CallsNoMore end.Full frames rest left = (length frames ≡ most_session_calls) × CallStandsFirst rest
+CallsNoMore end.ReadFault frames rest left =
     (came more : List ℕ) × (rest ≡ came ++ more) × IfSome left (λ told. told ≡ more) × HasNoFrame came
-StopsSo end.WriteFault frames rest left = frames ≢ []
+CallsNoMore end.WriteFault frames rest left = frames ≢ []
 
 -- what the counts of faults say of an end
 abbrev pub CountsSo : SessionEnd → (before now : Told) → Type 0
@@ -61,12 +61,12 @@ TakesReplies end.WriteFault before now replies = WritesPrefix before.holds now.h
 TakesReplies e before now replies = Appends before.holds now.holds replies
 
 -- The session n has ended so, of a client that told the first before it, and the last now.
-pub record HasEnded (n : ℕ) (before now : Told) (journal : List Entry) (e : EndedSession) : Type 0 where
+pub record SessionEnds (n : ℕ) (before now : Told) (journal : List Entry) (e : EndedSession) : Type 0 where
   pub frames : List Frame
   pub rest : List ℕ
   pub called : HasCalled n before journal frames rest
   pub count : e.calls ≡ length frames
-  pub stops : StopsSo e.end frames rest now.left
+  pub stops : CallsNoMore e.end frames rest now.left
   pub counts : CountsSo e.end before now
   pub replies : TakesReplies e.end before now (replies_in n frames journal)
 
@@ -80,6 +80,6 @@ pub record HasStopped (n : ℕ) (before now : Told) (journal : List Entry) : Typ
   pub replies : WritesPrefix before.holds now.holds (replies_in n frames journal)
 
 -- one of the two
-abbrev pub HasServed : {E : Type 0} → ℕ → (before now : Told) → List Entry → Result EndedSession E → Type 0
-HasServed n before now journal (Ok e) = HasEnded n before now journal e
-HasServed n before now journal (Err why) = HasStopped n before now journal
+abbrev pub SessionComesTo : {E : Type 0} → ℕ → (before now : Told) → List Entry → Result EndedSession E → Type 0
+SessionComesTo n before now journal (Ok e) = SessionEnds n before now journal e
+SessionComesTo n before now journal (Err why) = HasStopped n before now journal

@@ -20,7 +20,7 @@ use Rattle.session_workers.specs.declared.coming.Coming.{Coming}
 use Rattle.session_workers.specs.declared.coming.Coming.TheVariants as coming
 use Rattle.session_workers.specs.declared.answer.Written.{Written}
 use Rattle.session_workers.specs.declared.answer.Written.TheVariants as written
-use Rattle.session_workers.specs.Clients.{most_calls, HasEnded, HasStopped, replies_in}
+use Rattle.session_workers.specs.Clients.{most_session_calls, SessionEnds, HasStopped, replies_in}
 
 -- ---- what comes next
 
@@ -38,27 +38,27 @@ abbrev pub EndsThere : SessionEnd → ℕ → Fed → Option (List ℕ) → Type
 EndsThere end.Closed calls fed left = HasNext IsClose fed
 EndsThere end.Ended calls fed left = (fed.left ≡ []) × IsAtEnd left
 EndsThere (end.Frame place) calls fed left = IsCutThere place fed left
-EndsThere end.Full calls fed left = (calls ≡ most_calls) × HasNext (λ f. IsClose f → ⊥) fed
+EndsThere end.Full calls fed left = (calls ≡ most_session_calls) × HasNext (λ f. IsClose f → ⊥) fed
 EndsThere end.ReadFault calls fed left = (new : Fed) × GivesNext fed new next.Short
 EndsThere end.WriteFault calls fed left = ⊥
 
 -- what a whole frame asks, where so many calls were made
-abbrev pub IsOfFrame : ℕ → Frame → Coming → Type 0
-IsOfFrame calls frame (coming.Call f) = (f ≡ frame) × (IsClose frame → ⊥) × (calls ≢ most_calls)
-IsOfFrame calls frame (coming.End end.Closed) = IsClose frame
-IsOfFrame calls frame (coming.End end.Full) = (IsClose frame → ⊥) × (calls ≡ most_calls)
-IsOfFrame calls frame (coming.End e) = ⊥
+abbrev pub IsWhatFrameAsks : ℕ → Frame → Coming → Type 0
+IsWhatFrameAsks calls frame (coming.Call f) = (f ≡ frame) × (IsClose frame → ⊥) × (calls ≢ most_session_calls)
+IsWhatFrameAsks calls frame (coming.End end.Closed) = IsClose frame
+IsWhatFrameAsks calls frame (coming.End end.Full) = (IsClose frame → ⊥) × (calls ≡ most_session_calls)
+IsWhatFrameAsks calls frame (coming.End e) = ⊥
 
 -- how an input ends of which the reader has that left
-abbrev pub IsEndOf : Fed → SessionEnd → Type 0
-IsEndOf fed end.Ended = fed.left ≡ []
-IsEndOf fed (end.Frame place) = (place ≡ fed.place) × (fed.left ≢ [])
-IsEndOf fed e = ⊥
+abbrev pub IsEndOfInput : Fed → SessionEnd → Type 0
+IsEndOfInput fed end.Ended = fed.left ≡ []
+IsEndOfInput fed (end.Frame place) = (place ≡ fed.place) × (fed.left ≢ [])
+IsEndOfInput fed e = ⊥
 
 -- Behind these calls comes one more, or the end, where so many were made.
 abbrev pub ComesBehind : ℕ → (left0 left1 : Option (List ℕ)) → Fed → List Frame → Coming → Type 0
 ComesBehind calls left0 left1 new frames (coming.Call f) =
-    (calls ≢ most_calls) × HasGiven left0 left1 new (frames ++ f ∷ [])
+    (calls ≢ most_session_calls) × HasGiven left0 left1 new (frames ++ f ∷ [])
 ComesBehind calls left0 left1 new frames (coming.End e) =
     (fed : Fed) × HasGiven left0 left1 fed frames × EndsThere e calls fed left1
 
@@ -99,10 +99,10 @@ pub record IsUnasked (n : ℕ) (old new : List Entry) (out0 out1 : Option (List 
   pub count : l ≡ k
 
 -- either of both, where memory ran out
-abbrev pub AnswersCall : {E : Type 0} → ℕ → Frame → (old new : List Entry) → (out0 out1 : Option (List ℕ)) → (k l : ℕ)
+abbrev pub MakesCall : {E : Type 0} → ℕ → Frame → (old new : List Entry) → (out0 out1 : Option (List ℕ)) → (k l : ℕ)
     → Result Written E → Type 0
-AnswersCall n f old new out0 out1 k l (Ok w) = GetsReply {E = Unit {0}} n f old new out0 out1 k l (Ok w)
-AnswersCall n f old new out0 out1 k l (Err e) =
+MakesCall n f old new out0 out1 k l (Ok w) = GetsReply {E = Unit {0}} n f old new out0 out1 k l (Ok w)
+MakesCall n f old new out0 out1 k l (Err e) =
     IsUnasked n old new out0 out1 k l ⊎ GetsReply n f old new out0 out1 k l (Err e)
 
 -- ---- so far
@@ -112,11 +112,11 @@ pub record HasReplied (n : ℕ) (left0 left1 out0 out1 : Option (List ℕ)) (fed
     (frames : List Frame) : Type 0 where
   pub given : HasGiven left0 left1 fed frames
   pub asked : calls_of n journal ≡ map call_of frames
-  pub few : length frames ≤ most_calls
+  pub few : length frames ≤ most_session_calls
   pub replies : Appends out0 out1 (replies_in n frames journal)
 
 -- The calls are served: the session has ended so, behind so many. What it saw is not told yet.
 abbrev pub HasServedCalls : {E : Type 0} → ℕ → (before now : Told) → List Entry → Result (SessionEnd × ℕ) E → Type 0
 HasServedCalls n before now journal (Ok p) =
-    HasEnded n before now journal (record { end = p.0; calls = p.1; seen = 0 })
+    SessionEnds n before now journal (record { end = p.0; calls = p.1; seen = 0 })
 HasServedCalls n before now journal (Err why) = HasStopped n before now journal

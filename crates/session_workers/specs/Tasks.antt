@@ -15,7 +15,7 @@ use Rattle.world_holder.specs.Laid.{laid, running_of}
 use Rattle.world_holder.specs.Rests.{IsSeated}
 use Rattle.world_holder.specs.View.{runs, IsFree}
 use Rattle.session_serve.specs.Sessions.{own_of}
-use Rattle.session_workers.specs.Clients.{HasServed}
+use Rattle.session_workers.specs.Clients.{SessionComesTo}
 use Rattle.stream_turns.specs.Joined.{HasPair}
 use Rattle.session_workers.specs.declared.table.Table.{Table}
 use Rattle.session_workers.specs.declared.task.Task.{Task}
@@ -23,7 +23,7 @@ use Rattle.session_workers.specs.declared.task.Task.{Task}
 module _ {I O : Type 0} where
   -- A desk for so many sessions, on which a volume lies that has just begun, and its first seat. Nobody sits there yet, and
   -- there is room for a task and a client of each.
-  pub record IsTable (size replicas sessions : ℕ) (t : Table I O) : Type 0 where
+  pub record IsLaidTable (size replicas sessions : ℕ) (t : Table I O) : Type 0 where
     pub seat : IsSeatOf t.desk t.first
     pub first : known t.first ≡ known_with None (last_of t.first) Idle 0 []
     pub seats : seats_of t.desk ≡ sessions
@@ -67,8 +67,8 @@ module _ {I O : Type 0} where
 module _ {I O : Type 0} (left : I → Option (List ℕ)) (read_faults : I → ℕ) (holds : O → Option (List ℕ))
     (write_faults : O → ℕ) where
   -- what the session came to, in the eyes of its seat
-  abbrev pub IsServed : Client I O → Task I O → Seat WorldOnDesk → Type 0
-  IsServed before j seat = HasServed j.number
+  abbrev pub IsSessionServed : Client I O → Task I O → Seat WorldOnDesk → Type 0
+  IsSessionServed before j seat = SessionComesTo j.number
       (told (left before.source) (read_faults before.source) (holds before.sink) (write_faults before.sink))
       (told (left j.client.source) (read_faults j.client.source) (holds j.client.sink) (write_faults j.client.sink))
       (laid (last_of seat)).book.entries j.ended
@@ -77,7 +77,7 @@ module _ {I O : Type 0} (left : I → Option (List ℕ)) (read_faults : I → �
   pub record IsDone (d : Desk WorldOnDesk) (before j : Task I O) : Type 0 where
     pub back : IsBack d j
     pub number : j.number ≡ before.number
-    pub served : (seat : Seat WorldOnDesk) → j.seat ≡ Some seat → IsServed before.client j seat
+    pub served : (seat : Seat WorldOnDesk) → j.seat ≡ Some seat → IsSessionServed before.client j seat
 
   -- the same of each of these
   pub record AreDone (d : Desk WorldOnDesk) (before tasks : List (Task I O)) : Type 0 where

@@ -7,7 +7,7 @@ ghost use Rattle.frame_stream.specs.Frames.{IsCall};
 ghost use Rattle.frame_stream.specs.Replies.{reply_frame};
 ghost use Rattle.frame_stream.specs.declared.frame.Frame.{Frame};
 ghost use Rattle.client_input.specs.Replies.{IsToFrame};
-ghost use Rattle.session_workers.specs.Talking.{AnswersCall, WritesReply};
+ghost use Rattle.session_workers.specs.Talking.{MakesCall, WritesReply};
 ghost use Rattle.session_serve.specs.Sessions.{MayCall};
 ghost use Rattle.world_holder.specs.Laid.{laid};
 ghost use Rattle.world_holder.specs.Lent.{IsSince};
@@ -44,7 +44,7 @@ pub(crate) fn answer<R: Wait, L: Line + Drop, O: Sink>(
     ensures again { MayCall L.count L.carried desk.now result.0 session.new }
     ensures number { session.new.number ≡ session.old.number }
     ensures since { IsSince (laid (last_of seat)) (laid (last_of result.0)) }
-    ensures answered { AnswersCall session.old.number frame (laid (last_of seat)).book.entries
+    ensures answered { MakesCall session.old.number frame (laid (last_of seat)).book.entries
         (laid (last_of result.0)).book.entries (O.contents sink.old) (O.contents sink.new)
         (O.faults sink.old) (O.faults sink.new) result.1 }
 {

@@ -4,7 +4,7 @@ ghost use Rattle.std.specs.Prelude.{◌≡◌, ℕ, List, Option, IfOk};
 ghost use Rattle.client_input.specs.Giving.{HasGiven};
 ghost use Rattle.frame_stream.specs.declared.frame.Frame.{Frame};
 ghost use Rattle.volume_model.specs.PlainStep.{longest_call};
-ghost use Rattle.session_workers.specs.Talking.{ComesBehind, IsEndOf, IsOfFrame, ReadCount};
+ghost use Rattle.session_workers.specs.Talking.{ComesBehind, IsEndOfInput, IsWhatFrameAsks, ReadCount};
 
 use crate::serve::MOST_CALLS;
 use client_input::{Input, feed_more};
@@ -55,7 +55,7 @@ pub(crate) fn next_of<R: Wait, I: Source>(
 
 /// What a whole frame asks, where so many calls were made.
 fn of_frame(frame: Frame, calls: u64) -> Coming
-    ensures { IsOfFrame calls frame result }
+    ensures { IsWhatFrameAsks calls frame result }
 {
     if frame.head.kind == CLOSE {
         Coming::End(SessionEnd::Closed)
@@ -68,7 +68,7 @@ fn of_frame(frame: Frame, calls: u64) -> Coming
 
 /// How an input ends of which that is left.
 fn end_at(reader: &FrameReader) -> SessionEnd
-    ensures { IsEndOf reader.now result }
+    ensures { IsEndOfInput reader.now result }
 {
     if reader.is_empty() {
         SessionEnd::Ended

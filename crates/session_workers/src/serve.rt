@@ -3,7 +3,7 @@
 ghost use Rattle.std.specs.Prelude.{◌≡◌, ◌≤◌, [], length, IfOk};
 ghost use Rattle.desk_lock.specs.Seats.{last_of, told_of};
 ghost use Rattle.door_traits.specs.Sessions.{told};
-ghost use Rattle.session_workers.specs.Clients.{HasServed};
+ghost use Rattle.session_workers.specs.Clients.{SessionComesTo};
 ghost use Rattle.session_workers.specs.Talking.{HasServedCalls};
 ghost use Rattle.session_serve.specs.Sessions.{MayCall};
 ghost use Rattle.volume_model.specs.History.{answers_of};
@@ -40,7 +40,7 @@ pub(crate) fn serve_client<R: Wait, I: Source + Drop, O: Sink + Drop, L: Line + 
     ensures again { MayCall L.count L.carried desk.now result.0 session.new }
     ensures number { session.new.number ≡ session.old.number }
     ensures since { IsSince (laid (last_of seat)) (laid (last_of result.0)) }
-    ensures served { HasServed session.old.number
+    ensures served { SessionComesTo session.old.number
         (told (I.left client.old.source) (I.faults client.old.source) (O.contents client.old.sink) (O.faults client.old.sink))
         (told (I.left client.new.source) (I.faults client.new.source) (O.contents client.new.sink) (O.faults client.new.sink))
         (laid (last_of result.0)).book.entries result.1 }

@@ -1,6 +1,6 @@
 ghost use Rattle.std.specs.Prelude.{◌≡◌, ◌≤◌, length, IfOk, OnErr};
 ghost use Rattle.door_traits.specs.Sessions.{told_all};
-ghost use Rattle.session_workers.specs.Served.{AreServed, AreCutShort};
+ghost use Rattle.session_workers.specs.Served.{AreSessionsServed, AreCutShort};
 
 use crate::table::{Table, lay_table};
 use crate::tasks::{deal, do_tasks, take_all_in};
@@ -32,7 +32,7 @@ pub fn serve_sessions<R: Threads + Wait + Sync, I: Source + Send + Drop, O: Sink
     requires replicas { (1 ≤ replicas) × (replicas ≤ 8) }
     requires sessions { (1 ≤ length clients.items) × (length clients.items ≤ 16) }
     ensures many { length result.0.items ≡ length clients.items }
-    ensures served { IfOk result.1 (AreServed size replicas
+    ensures served { IfOk result.1 (AreSessionsServed size replicas
         (told_all I.left I.faults O.contents O.faults clients.items)
         (told_all I.left I.faults O.contents O.faults result.0.items)) }
     ensures stopped { OnErr result.1 (AreCutShort

@@ -1,7 +1,7 @@
 //! A desk with a blank volume, and room for all that is made of the clients.
 
 ghost use Rattle.std.specs.Prelude.{◌≤◌, IfOk};
-ghost use Rattle.session_workers.specs.Tasks.{IsTable};
+ghost use Rattle.session_workers.specs.Tasks.{IsLaidTable};
 
 use crate::task::Task;
 use door_traits::Client;
@@ -29,7 +29,7 @@ pub(crate) fn lay_table<I: Drop, O: Drop>(
 ) -> Result<Table<I, O>, AllocError>
     requires replicas { (1 ≤ replicas) × (replicas ≤ 8) }
     requires sessions { 1 ≤ sessions }
-    ensures { IfOk result (IsTable size replicas sessions) }
+    ensures { IfOk result (IsLaidTable size replicas sessions) }
 {
     let world = World::blank(alloc, size, replicas, sessions)?;
     let held = Box::new(alloc, world)?;

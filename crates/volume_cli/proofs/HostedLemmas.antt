@@ -21,7 +21,7 @@ use Rattle.report_laws.specs.Fits.{AllFit}
 use Rattle.report_writer.proofs.SameVolume.{each_volume, same_end}
 use Rattle.run_report.specs.Report.{end_lines, journal_lines}
 use Rattle.run_report.specs.Sessions.{session_lines}
-use Rattle.session_workers.specs.Served.{AreServed}
+use Rattle.session_workers.specs.Served.{AreSessionsServed}
 use Rattle.session_workers.specs.declared.serving.ServedSessions.{ServedSessions}
 use Rattle.stream_turns.specs.Volume.{spot_of_zeros}
 use Rattle.volume_model.specs.Modes.{modes_after}
@@ -38,7 +38,7 @@ use Rattle.volume_cli.proofs.Statuses.{rose_more, rose_not_same, same_not_more}
 -- ---- what is written
 
 -- what is written of sessions that were served is their report
-pub written_hosted : (size replicas : ℕ) (before now : List Told) (s : ServedSessions) → AreServed size replicas before now s
+pub written_hosted : (size replicas : ℕ) (before now : List Told) (s : ServedSessions) → AreSessionsServed size replicas before now s
     → served_text s ≡ hosted_text size replicas s
 written_hosted size replicas before now s served =
     let book = s.world.journal in
@@ -94,7 +94,7 @@ nobody_passed coming back = (([], refl, refl), sym (append-nil back))
 pub clients_hosted : {I O : Type 0} (left : I → Option (List ℕ)) (read : I → ℕ) (holds : O → Option (List ℕ)) (write : O → ℕ)
     (came went : List (Client I O)) (size replicas sessions : ℕ) (Pass : PassFact) (served : Result ServedSessions AllocError)
     (s : ServedSessions) → length came ≡ sessions → length went ≡ length came → AreUnfailed read write came → served ≡ Ok s
-    → IfOk served (AreServed size replicas (told_all left read holds write came) (told_all left read holds write went))
+    → IfOk served (AreSessionsServed size replicas (told_all left read holds write came) (told_all left read holds write went))
     → AllFit s.world.journal.entries → Pass (told_all left read holds write came) (told_all left read holds write went)
     → AreHosted size replicas sessions Pass s
 clients_hosted left read holds write came went size replicas sessions Pass served s many same well is fact fits passed = record {
@@ -104,7 +104,7 @@ clients_hosted left read holds write came went size replicas sessions Pass serve
   came = told_many left read holds write came ∙ many;
   went = told_many left read holds write went ∙ same ∙ many;
   unfailed = told_unfailed left read holds write came well;
-  served = subst (λ r. IfOk r (AreServed size replicas (told_all left read holds write came) (told_all left read holds write went)))
+  served = subst (λ r. IfOk r (AreSessionsServed size replicas (told_all left read holds write came) (told_all left read holds write went)))
       is fact;
   fits = fits;
 }

@@ -8,7 +8,7 @@ use Rattle.replica_node.specs.Volume.{volume_of_node}
 use Rattle.report_laws.specs.Fits.{AllFit}
 use Rattle.report_writer.specs.Written.{sessions_text}
 use Rattle.run_report.specs.Sessions.{sessions_report}
-use Rattle.session_workers.specs.Served.{AreCutShort, AreServed}
+use Rattle.session_workers.specs.Served.{AreCutShort, AreSessionsServed}
 use Rattle.session_workers.specs.declared.serving.ServedSessions.{ServedSessions}
 use Rattle.stream_turns.specs.Volume.{spot_of_zeros}
 use Rattle.volume_cli.specs.declared.serve.HostError.{HostError}
@@ -41,7 +41,7 @@ pub record AreHosted (size replicas sessions : ℕ) (Pass : PassFact) (s : Serve
   pub came : length before ≡ sessions
   pub went : length now ≡ sessions
   pub unfailed : All HasNotFailed before
-  pub served : AreServed size replicas before now s
+  pub served : AreSessionsServed size replicas before now s
   pub fits : AllFit s.world.journal.entries
 
 -- what is printed of them: the report of their journal

@@ -5,7 +5,7 @@ use Rattle.door_traits.specs.Sessions.{told}
 use Rattle.world_holder.specs.declared.kept.WorldOnDesk.{WorldOnDesk}
 use Rattle.world_holder.specs.Laid.{laid}
 use Rattle.session_serve.specs.Sessions.{own_of}
-use Rattle.session_workers.specs.Clients.{HasServed}
+use Rattle.session_workers.specs.Clients.{SessionComesTo}
 use Rattle.stream_turns.proofs.Lists.{some_same}
 use Rattle.session_workers.proofs.Stays.{no_answers}
 use Rattle.session_workers.proofs.Working.{stopped_at_once, may_call, is_back, is_back_unserved}
@@ -56,7 +56,7 @@ returns g c =
           served.ensures.seen;
       number = refl;
       served = λ s has.
-          subst (λ (s : Seat WorldOnDesk). HasServed task.number before now (laid (last_of s)).book.entries served.result.1)
+          subst (λ (s : Seat WorldOnDesk). SessionComesTo task.number before now (laid (last_of s)).book.entries served.result.1)
           (some_same seat s (Some seat) refl has)
-          (subst (λ n. HasServed n before now (laid (last_of seat)).book.entries served.result.1) number served.ensures.served);
+          (subst (λ n. SessionComesTo n before now (laid (last_of seat)).book.entries served.result.1) number served.ensures.served);
     }
