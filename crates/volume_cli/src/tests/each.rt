@@ -1,37 +1,11 @@
 //! Runs in which each stream has a worker of its own.
 
+use super::flag::Flag;
 use super::runs::end_of;
 use super::script::{Asks, Frame, script};
 use outer_real::OpenGate;
 use outer_traits::{Gate, Point};
-use std::sync::atomic::{AtomicU64, Ordering};
 use std::test::Fail;
-use std::thread;
-
-/// How often a worker that is held looks before it goes on alone.
-const LOOKS: u32 = 1_000_000_000;
-
-/// Whether something has come to pass.
-#[derive(Drop)]
-struct Flag {
-    raised: AtomicU64,
-}
-
-impl Flag {
-    fn new() -> Flag {
-        Flag {
-            raised: AtomicU64::new(0),
-        }
-    }
-
-    fn raise(&self) {
-        self.raised.fetch_add(1, Ordering::SeqCst);
-    }
-
-    fn is_raised(&self) -> bool {
-        self.raised.load(Ordering::SeqCst) != 0
-    }
-}
 
 /// Holds worker 1 before it carries until worker 0 has carried, and worker 0 there until a call of worker 1 was answered.
 #[derive(Drop)]
@@ -52,13 +26,9 @@ impl Crossing {
 
     /// Waits for the flag, or notes that the hold ran out.
     fn hold(&self, flag: &Flag) {
-        for _ in 0..LOOKS {
-            if flag.is_raised() {
-                return;
-            }
-            thread::yield_now();
+        if !flag.comes() {
+            self.ran_out.raise();
         }
-        self.ran_out.raise();
     }
 }
 

@@ -25,7 +25,7 @@ use target_memory::NoFaultTarget;
 const ONE: &[&str] = &["serve", "x", "2097152", "1", "1"];
 
 /// What is printed of the replica that nobody has written.
-const BLANK: &str = "mode r0 RW\nchain r0 head\n\
+pub(crate) const BLANK: &str = "mode r0 RW\nchain r0 head\n\
     head r0 731859029215873fdac1c9f2f8bd25a334abf0f3a9e1b057cf2cacc2826d86b0\n";
 
 /// The line of a read.
@@ -42,7 +42,7 @@ const WRITE: [u8; 27] = [
 ];
 
 /// Doors at which those of these inputs are expected, of whose calls these fail.
-fn doors(alloc: Global, inputs: &[&[u8]], fails: &[u64]) -> Result<MemDoors, AllocError>
+pub(crate) fn doors(alloc: Global, inputs: &[&[u8]], fails: &[u64]) -> Result<MemDoors, AllocError>
     ensures { IfOk result (λ d. ⟦<MemDoors as Doors>⟧.faults d ≡ 0) }
 {
     let mut doors = MemDoors::new(alloc, FaultPlan::new(Vec::from_slice(alloc, fails)?));
@@ -56,13 +56,13 @@ fn doors(alloc: Global, inputs: &[&[u8]], fails: &[u64]) -> Result<MemDoors, All
 }
 
 /// How the words end over these doors, with this sink.
-fn serve_to<K: Sink>(
+fn serve_to<K: Sink, D: Doors>(
     rt: &(impl AllocGlobal + Threads + Wait + Sync),
     words: &[&str],
-    doors: &mut MemDoors,
+    doors: &mut D,
     sink: &mut K,
 ) -> Result<Status, AllocError>
-    requires doors { ⟦<MemDoors as Doors>⟧.faults doors.old < 2 ^ 64 - 1 }
+    requires doors { D.faults doors.old < 2 ^ 64 - 1 }
     requires sink { K.faults sink.old < 2 ^ 64 - 1 }
 {
     let words = owned(rt.alloc(), words)?;
@@ -85,14 +85,14 @@ fn serve_to<K: Sink>(
 }
 
 /// The same with a sink that does not fail, where that is the note.
-fn serve(
+pub(crate) fn serve<D: Doors>(
     rt: &(impl AllocGlobal + Abort + Threads + Wait + Sync),
     words: &[&str],
-    doors: &mut MemDoors,
+    doors: &mut D,
     note: &str,
     code: u8,
 ) -> Result<NoFaultSink, AllocError>
-    requires { ⟦<MemDoors as Doors>⟧.faults doors.old < 2 ^ 64 - 1 }
+    requires { D.faults doors.old < 2 ^ 64 - 1 }
 {
     let mut sink = NoFaultSink::new(rt.alloc(), 70_000);
     let status = serve_to(rt, words, doors, &mut sink)?;
