@@ -21,6 +21,11 @@ pub fn put_decimal(n: u64, text: &mut [u8], end: usize) -> usize
     ensures start { (result ≤ end) × (end ≤ result + DIGITS) }
     ensures written { drop result text.new ≡ decimal n ++ drop end text.old }
 {
+    // Most numbers have one digit.
+    if n < 10 {
+        text[end - 1] = b'0' + n as u8;
+        return end - 1;
+    }
     write_digits(n, text, end)
 }
 
