@@ -1,13 +1,11 @@
 //! Backups that a run makes, and what is restored of them.
 ghost use Rattle.std.specs.Prelude.{◌≡◌, ◌<◌, ◌-◌, ◌^◌, OnOk};
 
-use super::runs::owned;
+use super::runs::ends_over;
 use super::script::{Asks, Frame, script};
 use super::stores::{answer, is_told, page_of};
 use crate::status::Status;
-use crate::top::longhorn;
 use door_memory::NoFaultDoors;
-use fault_lines::PlanWiring;
 use outer_memory::{NoFaultSink, NoFaultSource};
 use outer_real::OpenGate;
 use shelf_memory::NoFaultShelves;
@@ -36,25 +34,18 @@ pub(crate) fn run_over<T: Target + Send>(
 ) -> Result<(Status, NoFaultSink), AllocError>
     requires { T.faults target.old < 2 ^ 64 - 1 }
 {
-    let words = owned(rt.alloc(), &["run", "--workers=one"])?;
     let input = script(rt.alloc(), replicas, STREAMS)?;
-    let mut source = NoFaultSource::new(input, 4_096);
     let mut sink = NoFaultSink::new(rt.alloc(), 4_096);
-    let mut wiring = PlanWiring::new(rt.alloc());
-    let mut shelves = NoFaultShelves::new(rt.alloc());
-    let mut doors = NoFaultDoors { alloc: rt.alloc() };
-    let status = longhorn(
+    let status = ends_over(
         rt,
-        rt.alloc(),
-        &words,
-        &mut source,
+        &["run", "--workers=one"],
+        &mut NoFaultSource::new(input, 4_096),
         &mut sink,
-        &mut wiring,
-        &mut shelves,
+        &mut NoFaultShelves::new(rt.alloc()),
         target,
         &OpenGate,
-        &mut doors,
-    );
+        &mut NoFaultDoors { alloc: rt.alloc() },
+    )?;
     Ok((status, sink))
 }
 

@@ -1,6 +1,6 @@
 //! One replica that is served, and loads that generate themselves.
 
-use super::runs::{ends, owned};
+use super::runs::ends;
 use crate::status::Status;
 use outer_memory::{LimitedSink, NoFaultSink, NoFaultSource};
 use outer_real::OpenGate;

@@ -3,13 +3,11 @@
 ghost use Rattle.std.specs.Prelude.{◌≡◌, ◌<◌, ◌-◌, ◌^◌, IfOk};
 
 use super::faults::is_told;
-use super::runs::owned;
+use super::runs::ends_over;
 use super::served::{CLOSE, READ, REPLY, joined};
 use crate::status::Status;
-use crate::top::longhorn;
 use door_memory::{MemDoors, Visitor};
 use door_traits::Doors;
-use fault_lines::PlanWiring;
 use outer_memory::{FaultPlan, LimitedSink, NoFaultSink, NoFaultSource};
 use outer_real::OpenGate;
 use outer_traits::Sink;
@@ -65,23 +63,16 @@ fn serve_to<K: Sink, D: Doors>(
     requires doors { D.faults doors.old < 2 ^ 64 - 1 }
     requires sink { K.faults sink.old < 2 ^ 64 - 1 }
 {
-    let words = owned(rt.alloc(), words)?;
-    let mut source = NoFaultSource::new(Vec::new(rt.alloc()), 1);
-    let mut wiring = PlanWiring::new(rt.alloc());
-    let mut shelves = NoFaultShelves::new(rt.alloc());
-    let mut target = NoFaultTarget::new(rt.alloc());
-    Ok(longhorn(
+    ends_over(
         rt,
-        rt.alloc(),
-        &words,
-        &mut source,
+        words,
+        &mut NoFaultSource::new(Vec::new(rt.alloc()), 1),
         sink,
-        &mut wiring,
-        &mut shelves,
-        &mut target,
+        &mut NoFaultShelves::new(rt.alloc()),
+        &mut NoFaultTarget::new(rt.alloc()),
         &OpenGate,
         doors,
-    ))
+    )
 }
 
 /// The same with a sink that does not fail, where that is the note.

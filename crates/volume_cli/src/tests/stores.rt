@@ -1,11 +1,9 @@
 //! What is asked of a store of backups.
 ghost use Rattle.std.specs.Prelude.{◌≡◌, ◌<◌, ◌-◌, ◌^◌, IfOk};
 
-use super::runs::owned;
+use super::runs::ends_over;
 use crate::status::Status;
-use crate::top::longhorn;
 use door_memory::NoFaultDoors;
-use fault_lines::PlanWiring;
 use outer_memory::{NoFaultSink, NoFaultSource};
 use outer_real::OpenGate;
 use shelf_memory::NoFaultShelves;
@@ -86,24 +84,17 @@ pub(crate) fn answer<T: Target + Send>(
     ensures { IfOk result (λ ended. ended.0 ≡ Status.Done
         → T.faults target.new ≡ T.faults target.old) }
 {
-    let words = owned(rt.alloc(), words)?;
-    let mut source = NoFaultSource::new(Vec::new(rt.alloc()), 1);
     let mut sink = NoFaultSink::new(rt.alloc(), 70_000);
-    let mut wiring = PlanWiring::new(rt.alloc());
-    let mut shelves = NoFaultShelves::new(rt.alloc());
-    let mut doors = NoFaultDoors { alloc: rt.alloc() };
-    let status = longhorn(
+    let status = ends_over(
         rt,
-        rt.alloc(),
-        &words,
-        &mut source,
+        words,
+        &mut NoFaultSource::new(Vec::new(rt.alloc()), 1),
         &mut sink,
-        &mut wiring,
-        &mut shelves,
+        &mut NoFaultShelves::new(rt.alloc()),
         target,
         &OpenGate,
-        &mut doors,
-    );
+        &mut NoFaultDoors { alloc: rt.alloc() },
+    )?;
     Ok((status, sink))
 }
 
