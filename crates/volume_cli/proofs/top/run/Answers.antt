@@ -151,5 +151,6 @@ returns-clause-printed g c =
     (subst (λ text. HasPrinted ends (g.K.Sink.faults c.args.sink.now) (g.K.Sink.faults c.finish-finished.new.sink)
     (Appends (g.K.Sink.contents c.args.sink.now) (g.K.Sink.contents c.finish-finished.new.sink) text)) same
     c.finish-finished.ensures.whole)
-    (subst (WritesPrefix (g.K.Sink.contents c.args.sink.now) (g.K.Sink.contents c.finish-finished.new.sink)) same c.finish-finished.ensures.prefix)
+    (subst (WritesPrefix (g.K.Sink.contents c.args.sink.now) (g.K.Sink.contents c.finish-finished.new.sink)) same
+    c.finish-finished.ensures.prefix)
     c.finish-finished.ensures.counts
